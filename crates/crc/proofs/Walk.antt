@@ -1,0 +1,96 @@
+-- The check of a string, walked some bytes a turn: what a loop knows of its register, where it starts, its turns, and where it ends.
+use mathlib.Core.Bool.{Bool, false}
+use mathlib.Core.List.{List, [], _∷_, _++_, append-nil}
+use mathlib.Core.Path.{_≡_, refl, sym, ap, ap₂, _∙_, subst}
+use Prim.Native.Nat.{ℕ, suc, _+_, _-_, _*_, _/_, _^_, _<_, _≤_}
+use native.Mathlib.Nat.{add-assoc}
+use native.Mathlib.Numerals.{add-one}
+use native.Mathlib.Omega.{arith}
+use lib.Bits.{bitXor}
+use lib.ListN.{length, getD, take, drop, replicate, take-append-drop, length-drop}
+use lib.Seq.{drop-cons, take-add, take-all}
+use Rattle.crc.specs.Crc.{bitsOf, bytesBits, crc}
+use Rattle.crc.proofs.Bits.{length-bits, bits-above, bits-append}
+use Rattle.crc.proofs.Laws.{crc-none, crc-append, crc-bytes-append, crc-apart, crc-whole}
+
+-- r is the check of the first i bytes of xs
+pub record Walk (w p s : ℕ) (xs : List ℕ) (i r : ℕ) : Type 0 where
+  pub is : r ≡ crc w p s (bytesBits (take i xs))
+
+pub walk-start : {w p s : ℕ} {xs : List ℕ} → s < 2 ^ w → Walk w p s xs 0 s
+unfolding bytesBits
+walk-start {w} {p} {s} h = record { is = sym (crc-none w p s h) }
+
+pub walk-end : {w p s : ℕ} {xs : List ℕ} {i r : ℕ} → Walk w p s xs i r → length xs ≤ i → r ≡ crc w p s (bytesBits xs)
+walk-end {w} {p} {s} {xs} {i} v h = v .is ∙ ap (λ (l : List ℕ). crc w p s (bytesBits l)) (take-all i xs h)
+
+-- the rest, as a function over a part of the string leaves it
+pub walk-rest : {w p s : ℕ} {xs : List ℕ} {i r r′ : ℕ} → Walk w p s xs i r → r′ ≡ crc w p r (bytesBits (take (length xs - i) (drop i xs))) → r′ ≡ crc w p s (bytesBits xs)
+walk-rest {w} {p} {s} {xs} {i} {r} v e =
+    e ∙ ap₂ (λ (x : ℕ) (l : List ℕ). crc w p x (bytesBits l)) (v .is) (take-all (length xs - i) (drop i xs) (rw length-drop (omega arith)))
+    ∙ sym (crc-bytes-append w p s (take i xs) (drop i xs)) ∙ ap (λ (l : List ℕ). crc w p s (bytesBits l)) (take-append-drop i xs)
+
+-- ---- turns
+
+-- k bytes
+pub walk-more : {w p s : ℕ} {xs : List ℕ} {i r : ℕ} (k r′ : ℕ) → Walk w p s xs i r → r′ ≡ crc w p r (bytesBits (take k (drop i xs))) → Walk w p s xs (i + k) r′
+walk-more {w} {p} {s} {xs} {i} k r′ v e =
+    record {
+      is =
+          e ∙ ap (λ (x : ℕ). crc w p x (bytesBits (take k (drop i xs)))) (v .is)
+          ∙ sym (ap (λ (l : List ℕ). crc w p s (bytesBits l)) (take-add i k xs) ∙ crc-bytes-append w p s (take i xs) (take k (drop i xs)));
+    }
+
+-- the byte at i, before the k that follow it
+part-cons : (k i i′ : ℕ) (xs : List ℕ) → i < length xs → i′ ≡ i + 1 → take (suc k) (drop i xs) ≡ getD xs i 0 ∷ take k (drop i′ xs)
+part-cons k i i′ xs h e = ap (take (suc k)) (drop-cons xs i 0 h) ∙ ap (λ (n : ℕ). getD xs i 0 ∷ take k (drop n xs)) (sym (e ∙ add-one i))
+
+-- one byte
+pub walk-byte : {w p s : ℕ} {xs : List ℕ} {i r : ℕ} (r′ : ℕ) → Walk w p s xs i r → i < length xs → r′ ≡ crc w p r (bitsOf 8 (getD xs i 0)) → Walk w p s xs (i + 1) r′
+unfolding bytesBits
+walk-byte {w} {p} {s} {xs} {i} {r} r′ v h e =
+    walk-more 1 r′ v (e ∙ ap (crc w p r) (sym (ap bytesBits (part-cons 0 i (i + 1) xs h refl) ∙ append-nil (bitsOf 8 (getD xs i 0)))))
+
+-- one byte as its two nibbles
+pub walk-nibbles : {w p s : ℕ} {xs : List ℕ} {i r q : ℕ} (r′ : ℕ) → Walk w p s xs i r → i < length xs
+    → q ≡ crc w p r (bitsOf 4 (getD xs i 0 / 16)) → r′ ≡ crc w p q (bitsOf 4 (getD xs i 0)) → Walk w p s xs (i + 1) r′
+walk-nibbles {w} {p} {s} {xs} {i} {r} r′ v h e e′ =
+    let b : ℕ = getD xs i 0 in
+    walk-byte r′ v h
+    (e′ ∙ ap (λ (x : ℕ). crc w p x (bitsOf 4 b)) e ∙ sym (ap (crc w p r) (bits-append 4 4 b) ∙ crc-append w p r (bitsOf 4 (b / 16)) (bitsOf 4 b)))
+
+-- as many bytes as the register has, as the number d
+pub walk-word : (k : ℕ) {p s : ℕ} {xs : List ℕ} {i r : ℕ} (d r′ : ℕ) → Walk (8 * k) p s xs i r → bitsOf (8 * k) d ≡ bytesBits (take k (drop i xs))
+    → r′ ≡ crc (8 * k) p 0 (bitsOf (8 * k) (bitXor r d)) → Walk (8 * k) p s xs (i + k) r′
+walk-word k {p} {s} {xs} {i} {r} d r′ v h e = walk-more k r′ v (e ∙ sym (crc-whole (8 * k) p r d) ∙ ap (crc (8 * k) p r) h)
+
+-- twice as many, as the numbers d and e
+pub walk-words : (k : ℕ) {p s : ℕ} {xs : List ℕ} {i r : ℕ} (d e a b : ℕ) → Walk (8 * k) p s xs i r
+    → bitsOf (8 * k) d ≡ bytesBits (take k (drop i xs)) → bitsOf (8 * k) e ≡ bytesBits (take k (drop (i + k) xs))
+    → a ≡ crc (8 * k) p 0 (bitsOf (8 * k) (bitXor r d) ++ replicate (8 * k) false) → b ≡ crc (8 * k) p 0 (bitsOf (8 * k) e ++ [])
+    → Walk (8 * k) p s xs (i + (k + k)) (bitXor a b)
+walk-words k {p} {s} {xs} {i} {r} d e a b v hd he ea eb =
+    let w : ℕ = 8 * k in
+    let x : List Bool = bitsOf w (bitXor r d) in
+    subst (λ (n : ℕ). Walk w p s xs n (bitXor a b)) (add-assoc i k k)
+    (walk-more k (bitXor a b) (walk-word k d (crc w p 0 x) v hd refl)
+    (ap₂ bitXor (ea ∙ ap (λ (n : ℕ). crc w p 0 (x ++ replicate n false)) (sym (length-bits w e))) (eb ∙ ap (crc w p 0) (append-nil (bitsOf w e)))
+    ∙ sym (crc-apart w p 0 x (bitsOf w e)) ∙ crc-append w p 0 x (bitsOf w e) ∙ ap (crc w p (crc w p 0 x)) he))
+
+-- ---- four bytes as one number
+
+pub four-bytes-at : (i : ℕ) (xs : List ℕ) → i + 4 ≤ length xs
+    → take 4 (drop i xs) ≡ getD xs i 0 ∷ getD xs (i + 1) 0 ∷ getD xs (i + 2) 0 ∷ getD xs (i + 3) 0 ∷ []
+four-bytes-at i xs h =
+    part-cons 3 i (i + 1) xs (omega arith) refl
+    ∙ ap (λ (l : List ℕ). getD xs i 0 ∷ l) (part-cons 2 (i + 1) (i + 2) xs (omega arith) (omega arith)
+    ∙ ap (λ (l : List ℕ). getD xs (i + 1) 0 ∷ l) (part-cons 1 (i + 2) (i + 3) xs (omega arith) (omega arith)
+    ∙ ap (λ (l : List ℕ). getD xs (i + 2) 0 ∷ l) (part-cons 0 (i + 3) (i + 4) xs (omega arith) (omega arith))))
+
+pub bits-joined : (a b c d : ℕ) → b < 256 → c < 256 → d < 256 → bitsOf 32 (a * 16777216 + (b * 65536 + (c * 256 + d))) ≡ bytesBits (a ∷ b ∷ c ∷ d ∷ [])
+unfolding bytesBits
+bits-joined a b c d hb hc hd =
+    bits-above 8 24 a (b * 65536 + (c * 256 + d)) (omega arith)
+    ∙ ap (λ (l : List Bool). bitsOf 8 a ++ l) (bits-above 8 16 b (c * 256 + d) (omega arith)
+    ∙ ap (λ (l : List Bool). bitsOf 8 b ++ l) (bits-above 8 8 c d hd
+    ∙ ap (λ (l : List Bool). bitsOf 8 c ++ l) (sym (append-nil (bitsOf 8 d)))))
