@@ -1,0 +1,2 @@
+-- The definitions that the contracts of `days` cite.
+pub mod Calendar
