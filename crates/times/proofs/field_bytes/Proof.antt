@@ -1,0 +1,15 @@
+-- `times::field_bytes` meets its contract: it divides as the definition does.
+use mathlib.Core.Path.{refl}
+use borrow.Author.Needs.{needs}
+use Rattle.times.specs.Field.{fieldBytes}
+use Rattle.times.proofs.field_bytes.Statement.{statement}
+use Rattle.times.proofs.field_bytes.Tie as tie
+
+returns : tie.Need-returns
+unfolding fieldBytes
+returns c = refl
+
+pub field-bytes-spec : {M : Type 1} → statement M
+field-bytes-spec =
+    tie.close
+    (tie.spec (λ c. search needs) (λ c. search needs) (λ c. search needs) (λ c. search needs) (λ c. search needs) returns)
