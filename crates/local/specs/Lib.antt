@@ -1,0 +1,3 @@
+-- The definitions that the contracts of `local` cite.
+pub mod Clock
+pub mod Text

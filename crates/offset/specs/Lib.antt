@@ -1,0 +1,2 @@
+-- The definitions that the contracts of `offset` cite.
+pub mod Offset
