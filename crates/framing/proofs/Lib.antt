@@ -1,0 +1,10 @@
+-- The laws that the functions' proofs and later crates cite.
+pub mod Bytes
+pub mod Reading
+pub mod Accepting
+pub mod Printing
+pub mod RoundTrip
+pub mod Damage
+pub mod Counting
+pub mod Cuts
+pub mod Sections

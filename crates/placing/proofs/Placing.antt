@@ -1,0 +1,71 @@
+-- Laws of bytes laid into a list: a run of stores, a copy under way, and one part after another.
+use Prim.Native.Nat.{ℕ, _+_, _≤_, _<_}
+use mathlib.Core.List.{List, _++_, append-assoc}
+use mathlib.Core.Path.{_≡_, refl, sym, ap, _∙_}
+use native.Mathlib.Nat.{le-antisymm, add-assoc}
+use native.Mathlib.Numerals.{add-one}
+use native.Mathlib.Omega.{arith}
+use lib.ListN.{length, getD, set, take, drop, length-append, length-drop}
+use lib.Seq.{sets, sets-eq, paste, paste-zero, paste-suc, length-take-le, take-at, drop-at, take-length, drop-drop}
+use Rattle.placing.specs.Placed.{placed}
+
+-- ---- stores one after the other
+
+pub stored : (d : List ℕ) (at : ℕ) (s : List ℕ) → at + length s ≤ length d → sets d at s ≡ placed d at s
+unfolding placed
+stored d at s h = sets-eq s d at h
+
+-- ---- a copy under way: d with the first i bytes of s from index at on
+
+unfoldable pub copying : List ℕ → ℕ → List ℕ → ℕ → List ℕ
+copying d at s i = paste d at s i
+
+pub copy-start : (d : List ℕ) (at : ℕ) (s : List ℕ) → d ≡ copying d at s 0
+unfolding copying
+copy-start d at s = paste-zero d at s
+
+module _ (d : List ℕ) (at : ℕ) (s : List ℕ) (i : ℕ) (d′ : List ℕ) (e : d′ ≡ copying d at s i) where
+  pub copy-step : at + length s ≤ length d → i < length s → set d′ (at + i) (getD s i 0) ≡ copying d at s (i + 1)
+  unfolding copying
+  copy-step room h = rw (e, add-one) (paste-suc d at s i 0 (omega arith) h)
+
+  pub copy-end : i ≤ length s → length s ≤ i → d′ ≡ placed d at s
+  unfolding copying placed
+  copy-end h h′ = rw (e, le-antisymm h h′, take-length)
+
+-- ---- one part after another
+
+module _ (d : List ℕ) (at : ℕ) (s : List ℕ) (room : at + length s ≤ length d) where
+  front : length (take at d ++ s) ≡ at + length s
+  front = length-append (take at d) s ∙ ap (λ (n : ℕ). n + length s) (length-take-le at d (omega arith))
+
+  pub placed-front : take (at + length s) (placed d at s) ≡ take at d ++ s
+  unfolding placed
+  placed-front = take-at (take at d ++ s) (drop (at + length s) d) (at + length s) front
+
+  pub placed-back : drop (at + length s) (placed d at s) ≡ drop (at + length s) d
+  unfolding placed
+  placed-back = drop-at (take at d ++ s) (drop (at + length s) d) (at + length s) front
+
+  pub placed-length : length (placed d at s) ≡ length d
+  unfolding placed
+  placed-length = length-append (take at d ++ s) (drop (at + length s) d) ∙ rw (front, length-drop) (omega arith)
+
+  unfold-placed : (t : List ℕ) (k : ℕ) → placed (placed d at s) k t ≡ take k (placed d at s) ++ t ++ drop (k + length t) (placed d at s)
+  unfolding placed
+  unfold-placed t k = refl
+
+  laid : (t : List ℕ) → take at d ++ s ++ t ++ drop (at + length s + length t) d ≡ placed d at (s ++ t)
+  unfolding placed
+  laid t = rw (append-assoc (take at d) s t, length-append s t, add-assoc)
+
+  pub placed-next : (t : List ℕ) (k : ℕ) → k ≡ at + length s → placed (placed d at s) k t ≡ placed d at (s ++ t)
+  placed-next t k e =
+      rw e
+      (unfold-placed t (at + length s)
+      ∙ rw (placed-front, ← (drop-drop (length t) (at + length s) (placed d at s)), placed-back, drop-drop (length t) (at + length s) d) (laid t))
+
+-- the bytes at the start
+pub placed-start : (d s : List ℕ) (k : ℕ) → k ≡ length s → take k (placed d 0 s) ≡ s
+unfolding placed
+placed-start d s k e = take-at s (drop (0 + length s) d) k (sym e)
