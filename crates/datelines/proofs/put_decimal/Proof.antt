@@ -1,0 +1,18 @@
+-- `datelines::put_decimal` meets its contract: it puts as many digits as the number has.
+use native.Mathlib.Omega.{arith}
+use borrow.Author.Needs.{needs}
+use Rattle.datelines.specs.Report.{placesOf}
+use Rattle.datelines.proofs.Digits.{digits-length}
+use Rattle.datelines.proofs.put_decimal.Statement.{statement}
+use Rattle.datelines.proofs.put_decimal.Tie as tie
+
+put-digits-requires : tie.Need-put-digits-requires
+put-digits-requires c κs =
+    let n = c .before .before .before .args .number in
+    omega (arith, digits-length 10 (placesOf n) n, c .places .ensures)
+
+returns : tie.Need-returns
+returns c = rw (c .before .before .before .places .ensures) at (c .before .before .put-digits .ensures)
+
+pub put-decimal-spec : {M : Type 1} → statement M
+put-decimal-spec = tie.close (tie.spec (λ c κs. search needs) put-digits-requires (λ c. search needs) returns)

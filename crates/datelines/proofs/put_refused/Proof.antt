@@ -1,0 +1,39 @@
+-- `datelines::put_refused` meets its contract: the word and the number, one after the other.
+use borrow.Author.Needs.{needs}
+use Rattle.refusal.specs.Numbers.{toldOf}
+use Rattle.datelines.specs.Report.{ascii, decimalOf, refusedText}
+use Rattle.datelines.proofs.Laying.{room-first, put-room, put-then}
+use Rattle.datelines.proofs.put_refused.Statement.{statement}
+use Rattle.datelines.proofs.put_refused.Tie as tie
+
+put-bytes-requires : tie.Need-put-bytes-requires
+unfolding refusedText
+put-bytes-requires c κs =
+    let start = c .before .before .before in
+    room-first (start .args .at) (ascii "refused ") (decimalOf (toldOf (start .args .r) .number)) (start .pre)
+
+put-decimal-requires : tie.Need-put-decimal-requires
+unfolding refusedText
+put-decimal-requires c κs =
+    let word = c .before .before .before .before in
+    let start = word .before .before .before .before in
+    rw (c .number .ensures) (put-room (decimalOf (toldOf (start .args .r) .number)) (word .put-bytes .ensures) (start .pre))
+
+returns : tie.Need-returns
+unfolding refusedText
+returns c =
+    let told = c .before .before in
+    let word = told .before .before .before .before .before in
+    put-then (word .put-bytes .ensures) (rw (told .before .number .ensures) at (told .put-decimal .ensures))
+
+pub put-refused-spec : {M : Type 1} → statement M
+put-refused-spec =
+    tie.close
+    (tie.spec
+    (λ c. search needs)
+    put-bytes-requires
+    (λ c κs. search needs)
+    (λ c. search needs)
+    put-decimal-requires
+    (λ c. search needs)
+    returns)
