@@ -1,0 +1,19 @@
+-- `neapwillow::nw_day_of` meets its contract: in either arm the inner answer is the arm's case, and is packed as that case is.
+use mathlib.Core.Path.{sym, ap, _∙_}
+use borrow.Author.Needs.{needs}
+use Rattle.neapwillow.specs.Answers.{dayAnswer}
+use Rattle.neapwillow.proofs.calendar.nw_day_of.Statement.{statement}
+use Rattle.neapwillow.proofs.calendar.nw_day_of.Tie as tie
+
+pub nw-day-of-spec : {M : Type 1} → statement M
+nw-day-of-spec =
+    tie.close
+    (tie.spec
+    (λ c κs. search needs)
+    (λ c. search needs)
+    (λ c. search needs)
+    (λ c κs. search needs)
+    (λ c. search needs)
+    (λ c κs. search needs)
+    (λ c. c .answered .ensures ∙ ap dayAnswer (sym (c .before .before .n .given .1) ∙ c .before .before .before .before .day-of .ensures))
+    (λ c. c .refused .ensures ∙ ap dayAnswer (sym (c .before .before .why .given .1) ∙ c .before .before .before .before .day-of .ensures)))

@@ -1,0 +1,90 @@
+-- What a reader has to believe of the answers to C: which value each answer of the library becomes; a refusal is always `refusedOf`.
+use Prim.Native.Nat.{ℕ, _+_, _*_, _%_, _^_}
+use Rattle.refusal.specs.Answers.{answerOf, refusedOf}
+use Rattle.crc.specs.Crc.{digit}
+use Rattle.days.specs.declared.Date.{Date}
+use Rattle.days.specs.declared.DayAnswer.{DayAnswer}
+use Rattle.days.specs.declared.DayAnswer.the-variants as day
+use Rattle.days.specs.declared.DateAnswer.{DateAnswer}
+use Rattle.days.specs.declared.DateAnswer.the-variants as date
+use Rattle.days.specs.declared.WeekdayAnswer.{WeekdayAnswer}
+use Rattle.days.specs.declared.WeekdayAnswer.the-variants as weekday
+use Rattle.times.specs.declared.Fielded.{Fielded}
+use Rattle.times.specs.declared.Fielded.the-variants as fielded
+use Rattle.times.specs.declared.Showing.{Showing}
+use Rattle.times.specs.declared.Showing.the-variants as showing
+use Rattle.local.specs.declared.LocalTime.{LocalTime}
+use Rattle.local.specs.declared.Unpacked.{Unpacked}
+use Rattle.local.specs.declared.Unpacked.the-variants as unpacked
+use Rattle.framing.specs.declared.Heading.{Heading}
+use Rattle.framing.specs.declared.Sectioned.{Sectioned}
+use Rattle.framing.specs.declared.Sectioned.the-variants as section
+use Rattle.framing.specs.declared.Counted.{Counted}
+use Rattle.framing.specs.declared.Counted.the-variants as counted
+use Rattle.framing.specs.declared.Cut.{Cut}
+use Rattle.framing.specs.declared.Cut.the-variants as cut
+
+-- ---- days
+
+abbrev pub dayAnswer : DayAnswer → ℕ
+dayAnswer (day.Day n) = answerOf 0 n
+dayAnswer (day.Refused why) = refusedOf why
+
+-- the year above 16 bits, the month above 8, the day in the lowest
+abbrev pub dateAnswer : DateAnswer → ℕ
+dateAnswer (date.On d) = answerOf 0 (d .year * 65536 + d .month * 256 + d .day)
+dateAnswer (date.Refused why) = refusedOf why
+
+abbrev pub weekdayAnswer : WeekdayAnswer → ℕ
+weekdayAnswer (weekday.Weekday w) = answerOf 0 w
+weekdayAnswer (weekday.Refused why) = refusedOf why
+
+-- ---- times
+
+abbrev pub fieldAnswer : Fielded → ℕ
+fieldAnswer (fielded.Field f) = answerOf 0 f
+fieldAnswer (fielded.Refused why) = refusedOf why
+
+-- a byte for each part of a local time but two for the year, which is at most 2038
+unfoldable pub packedTime : LocalTime → ℕ
+packedTime t =
+    t .year % 65536 * 2 ^ 40
+    + t .month % 256 * 2 ^ 32
+    + t .day % 256 * 2 ^ 24
+    + t .hour % 256 * 2 ^ 16
+    + t .minute % 256 * 2 ^ 8
+    + t .second % 256
+
+abbrev pub localAnswer : Unpacked → ℕ
+localAnswer (unpacked.At t) = answerOf 0 (packedTime t)
+localAnswer (unpacked.Refused why) = refusedOf why
+
+abbrev pub showingAnswer : Showing → ℕ
+showingAnswer showing.Before = answerOf 0 0
+showingAnswer showing.On = answerOf 0 1
+showingAnswer showing.Ended = answerOf 0 2
+showingAnswer (showing.Refused why) = refusedOf why
+
+-- ---- sections
+
+-- a byte for each field of a heading but two for the extension
+unfoldable pub headingPacked : Heading → ℕ
+headingPacked h =
+    h .kind * 2 ^ 48
+    + h .extension * 2 ^ 32
+    + h .version * 2 ^ 24
+    + digit (h .current) * 2 ^ 16
+    + h .number * 2 ^ 8
+    + h .last
+
+abbrev pub sectionAnswer : Sectioned → ℕ
+sectionAnswer (section.Good h n) = answerOf 0 (headingPacked h)
+sectionAnswer (section.Refused why) = refusedOf why
+
+abbrev pub countAnswer : Counted → ℕ
+countAnswer (counted.Sections n) = answerOf 0 n
+countAnswer (counted.Refused why) = refusedOf why
+
+abbrev pub lengthAnswer : Cut → ℕ
+lengthAnswer (cut.Written n) = answerOf 0 n
+lengthAnswer (cut.Refused why) = refusedOf why

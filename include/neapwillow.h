@@ -1,0 +1,162 @@
+/* neapwillow.h: the emergency tables of GD/J 086-2018 for adapters and set-top boxes.
+ *
+ * Every function here takes every input of every length, finishes, keeps nothing between calls and
+ * allocates nothing. It is proved (in Rattle) to do what the comment above it says; this file itself
+ * is not, so a test holds each declaration to the source.
+ *
+ * A byte string goes in as a pointer and a length; with length 0 nothing is read behind the pointer.
+ *
+ * Link with libneapwillow.a (x86-64 Linux). */
+#ifndef NEAPWILLOW_H
+#define NEAPWILLOW_H
+
+#include <stddef.h>
+#include <stdint.h>
+
+#ifdef __cplusplus
+extern "C" {
+#endif
+
+/* ---- Answers ----------------------------------------------------------------------------------
+ *
+ * One convention for every function that can refuse: the low byte is the refusal's number, 0 for
+ * none; what stands above it is the refusal's place, or, where nothing was refused, the value. */
+typedef uint64_t nw_answer;
+
+#define NW_REFUSAL(answer) ((unsigned)((answer) & 0xFFu))
+#define NW_PLACE(answer) ((uint64_t)(answer) >> 8)
+#define NW_VALUE(answer) ((uint64_t)(answer) >> 8)
+
+/* The refusals, by their numbers. A refused call writes nothing. The place is the offset, in the
+ * body, of the byte where the refused field begins (14 to 20), the smallest missing section number
+ * (13), and else 0. */
+enum nw_refusal {
+    NW_TAKEN = 0,                   /* no refusal */
+    NW_SECTION_TOO_SHORT = 1,       /* a section shorter than 12 bytes */
+    NW_OTHER_KIND = 2,              /* table_id not FB to FE, or not the kind this reader takes */
+    NW_FIXED_BIT_ZERO = 3,          /* one of the six fixed bits of the heading is 0 */
+    NW_SECTION_LENGTH_OUTSIDE = 4,  /* section_length below 9 or above 4,093 */
+    NW_OTHER_LENGTH = 5,            /* the byte string is not section_length + 3 long */
+    NW_NUMBER_ABOVE_LAST = 6,       /* section_number above last; the cutter is asked past the last */
+    NW_CHECK_NOT_ZERO = 7,          /* the CRC_32 register over the section is not zero */
+    NW_NOT_CURRENT = 8,             /* current is 0 */
+    NW_OTHER_HEADING = 9,           /* the heading differs from the gathering's */
+    NW_STORE_TOO_SHORT = 10,        /* the store is shorter than (last + 1) x 4,084 bytes */
+    NW_CONTRADICTION = 11,          /* same heading and number, other payload; or spoiled already */
+    NW_IMPOSSIBLE_STATE = 12,       /* not a possible gathering state */
+    NW_MISSING = 13,                /* a section is missing; the place is the smallest number */
+    NW_PAST_BODY = 14,              /* the body ends inside a field or part; the cutter's is empty */
+    NW_PAST_PART = 15,              /* a field passes the end of its part, or bytes are left in it */
+    NW_LEFT_OVER = 16,              /* bytes left after the signature */
+    NW_RESERVED_BIT_ZERO = 17,      /* a reserved bit is 0 */
+    NW_DIGIT_ABOVE_NINE = 18,       /* a decimal digit above 9 */
+    NW_OUTSIDE_SET = 19,            /* a value outside its stated set */
+    NW_IMPOSSIBLE_DAY = 20,         /* an impossible day or time, or a day outside 15079 to 65535 */
+    NW_OUTPUT_TOO_SMALL = 21,       /* the output buffer or the record list is too small */
+    NW_TOO_LARGE = 22,              /* a length or count too large for its field; a body too long */
+    NW_OTHER_CHECKSUM = 23,         /* the extension is not the CRC-16 of the identifier */
+    NW_NOT_OF_THE_FORM = 24,        /* date text not of the exact form */
+    NW_BODY_TOO_LONG = 25           /* the joined body is above 1,045,504 bytes */
+};
+
+/* ---- Checksums --------------------------------------------------------------------------------
+ *
+ * High bit first, no final change. Neither refuses anything. */
+
+/* CRC_32 of the n bytes at s: polynomial 0x04C11DB7, register of all ones at the start. Over a whole
+ * section, its last four bytes included, it is 0 exactly if the section's check is right. */
+uint32_t nw_crc32(const uint8_t *s, size_t n);
+
+/* CRC-16 of the n bytes at s: polynomial 0x1021, register of all ones at the start. */
+uint16_t nw_crc16(const uint8_t *s, size_t n);
+
+/* ---- Days -------------------------------------------------------------------------------------
+ *
+ * A day is its Modified Julian Day number (MJD), from 15079, 1 March 1900, to 65535, 22 April 2038. */
+
+/* The day of a date of the Gregorian calendar.
+ * Value: the MJD. Refusal 20: no such day in the calendar, or one outside the range. */
+nw_answer nw_day_of(uint32_t year, uint32_t month, uint32_t day);
+
+/* The date of a day: what nw_day_of turns back into it.
+ * Value: see the macros. Refusal 20: a day outside the range. */
+nw_answer nw_date_of(uint32_t day);
+#define NW_DATE_YEAR(answer) ((unsigned)(NW_VALUE(answer) >> 16))
+#define NW_DATE_MONTH(answer) ((unsigned)(NW_VALUE(answer) >> 8 & 0xFFu))
+#define NW_DATE_DAY(answer) ((unsigned)(NW_VALUE(answer) & 0xFFu))
+
+/* The weekday of a day. Value: 1 for Monday to 7 for Sunday. Refusal 20: a day outside the range. */
+nw_answer nw_weekday(uint32_t day);
+
+/* ---- Times ------------------------------------------------------------------------------------
+ *
+ * A time field is 40 bits, UTC: the MJD in 16 bits, then six decimal digits hhmmss. 40 one bits in
+ * the end field mean that a message is live. An offset is in minutes, east positive, from -720 to
+ * 840: UTC is local time less the offset. */
+#define NW_LIVE UINT64_C(0xFFFFFFFFFF)
+
+/* The UTC field of a local date and time. Value: the field.
+ * Refusals, in this order: 19, the offset is outside its range; 20, the date or the time is
+ * impossible, or the local or the UTC day lies outside the range of days. */
+nw_answer nw_time_pack(uint32_t year, uint32_t month, uint32_t day, uint32_t hour, uint32_t minute,
+                       uint32_t second, int32_t offset);
+
+/* The local date and time of a UTC field. Value: see the macros.
+ * Refusals, in this order: 19, the offset is outside its range, or the field has more than 40 bits;
+ * 18, a digit is above 9; 20, as for nw_time_pack. */
+nw_answer nw_time_unpack(uint64_t field, int32_t offset);
+#define NW_TIME_YEAR(answer) ((unsigned)(NW_VALUE(answer) >> 40))
+#define NW_TIME_MONTH(answer) ((unsigned)(NW_VALUE(answer) >> 32 & 0xFFu))
+#define NW_TIME_DAY(answer) ((unsigned)(NW_VALUE(answer) >> 24 & 0xFFu))
+#define NW_TIME_HOUR(answer) ((unsigned)(NW_VALUE(answer) >> 16 & 0xFFu))
+#define NW_TIME_MINUTE(answer) ((unsigned)(NW_VALUE(answer) >> 8 & 0xFFu))
+#define NW_TIME_SECOND(answer) ((unsigned)(NW_VALUE(answer) & 0xFFu))
+
+/* The UTC field of a local time in text: exactly dd/mm/yyyy hh:mm:ss, 19 bytes, day first.
+ * Value: the field. Refusals, in this order: 19, the offset; 24, not of this form; 20, as for
+ * nw_time_pack. 11/13/2024 is 20: it has no thirteenth month. */
+nw_answer nw_time_read_text(const uint8_t *text, size_t n, int32_t offset);
+
+/* How a message with these start and end fields stands at a second of a day, both UTC.
+ * Value: one of enum nw_showing; a live message never ends. Refusals, in this order: 20, the day is
+ * outside its range or the second above 86,399; then those of the start field, then of the end field
+ * (19, more than 40 bits; 18, a digit above 9; 20, impossible). The start may not be live (18). */
+nw_answer nw_time_showing(uint64_t start, uint64_t end, uint32_t day, uint32_t second);
+enum nw_showing { NW_BEFORE = 0, NW_ON = 1, NW_ENDED = 2 };
+
+/* ---- Sections ---------------------------------------------------------------------------------
+ *
+ * A section is 12 to 4,096 bytes: eight of heading, the payload, four of check. */
+#define NW_SECTION_MOST 4096u   /* bytes of the longest section */
+#define NW_PAYLOAD_MOST 4084u   /* bytes of its payload */
+#define NW_BODY_MOST 1045504u   /* bytes of the longest body: 256 such payloads */
+
+enum nw_kind { NW_CONFIGURATION = 0xFB, NW_CERTIFICATE = 0xFC, NW_INDEX = 0xFD, NW_CONTENT = 0xFE };
+
+/* Judges any byte string. Value: the heading, see the macros; the payload is the n - 12 bytes from
+ * s + 8 on. Refusals 1 to 7, in this order. A section that is not current is good all the same. */
+nw_answer nw_section_read(const uint8_t *s, size_t n);
+#define NW_SECTION_KIND(answer) ((unsigned)(NW_VALUE(answer) >> 48))
+#define NW_SECTION_EXTENSION(answer) ((unsigned)(NW_VALUE(answer) >> 32 & 0xFFFFu))
+#define NW_SECTION_VERSION(answer) ((unsigned)(NW_VALUE(answer) >> 24 & 0xFFu))
+#define NW_SECTION_CURRENT(answer) ((unsigned)(NW_VALUE(answer) >> 16 & 0xFFu))
+#define NW_SECTION_NUMBER(answer) ((unsigned)(NW_VALUE(answer) >> 8 & 0xFFu))
+#define NW_SECTION_LAST(answer) ((unsigned)(NW_VALUE(answer) & 0xFFu))
+
+/* How many sections a body of so many bytes makes: the ceiling of length / 4,084, 1 to 256.
+ * Refusals, in this order: 14, no bytes; 22, more than NW_BODY_MOST. */
+nw_answer nw_section_count(size_t length);
+
+/* Writes section `number` of a body at the start of out: every section but the last carries 4,084
+ * bytes of the body, and each is current. Value: the bytes written, at most NW_SECTION_MOST; the
+ * bytes of out after them stay. Refusals, in this order, with nothing written: 2, no such kind; 19,
+ * a version above 31 or an extension above 65,535; 14, an empty body; 22, more than NW_BODY_MOST
+ * bytes; 6, a number past the last; 21, out is too small for the section. */
+nw_answer nw_section_cut(const uint8_t *body, size_t n, uint32_t kind, uint32_t extension,
+                         uint32_t version, uint32_t number, uint8_t *out, size_t room);
+
+#ifdef __cplusplus
+}
+#endif
+
+#endif

@@ -1,0 +1,38 @@
+"""Puts requests to the library through tests/calls.c, and holds its answers to those of a second program."""
+import os
+import subprocess
+import sys
+
+TESTS = os.path.dirname(os.path.abspath(__file__))
+
+# What calls.c must say of these if it reads byte strings and numbers as they are written here.
+ECHOES = ['- 0 0', '00ff0a 4294967295 -2147483648', '7f 1 2147483647']
+
+
+def hexadecimal(data):
+    """A byte string as a request has it."""
+    return data.hex() or '-'
+
+
+def answers(requests):
+    """The library's answer to each request. Ends the program where they can't be had."""
+    sent = ['echo ' + e for e in ECHOES] + requests
+    run = subprocess.run([os.path.join(TESTS, os.pardir, 'tools', 'c-side'), os.path.join(TESTS, 'calls.c')],
+                         input='\n'.join(sent) + '\n', stdout=subprocess.PIPE, encoding='ascii')
+    if run.returncode == 77:
+        sys.exit(77)
+    got = run.stdout.splitlines()
+    if run.returncode or len(got) != len(sent) or got[:len(ECHOES)] != ECHOES:
+        sys.exit('calls: status %d, %d answers to %d requests, the first %s'
+                 % (run.returncode, len(got), len(sent), got[:len(ECHOES)]))
+    return got[len(ECHOES):]
+
+
+def agree(second, requests, got, expected):
+    """Ends the program unless the library gave each answer that the second program gives."""
+    wrong = [i for i in range(len(requests)) if got[i] != expected[i]]
+    for i in wrong[:5]:
+        print('%.60s: the library says %s, %s says %s' % (requests[i], got[i], second, expected[i]))
+    if wrong or not requests or len(expected) != len(requests):
+        sys.exit('%d of %d answers differ from those of %s' % (len(wrong), len(requests), second))
+    print('%d answers are those of %s' % (len(requests), second))
