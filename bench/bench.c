@@ -1,15 +1,19 @@
 // bench: the library's speed beside plain C's, in one run, on the same warm bytes; both are first seen to agree.
 //
-// A new operation is its contenders, each a function of a byte string to a number, and its line in `operations`.
+// A new operation is its contenders, each a function of a byte string to a number that may write `output`, what fills
+// the input that they are given, and its line in `operations`.
 #define _POSIX_C_SOURCE 200809L
 #include <inttypes.h>
 #include <stdio.h>
 #include <stdlib.h>
+#include <string.h>
 #include <time.h>
 
 #include "neapwillow.h"
 
-enum { MOST_BYTES = 4096, MOST_CONTENDERS = 4, MOST_SIZES = 8, ROUNDS = 15 };
+enum { MOST_CONTENDERS = 4, MOST_SIZES = 8, ROUNDS = 75 };
+
+static uint8_t input[NW_MOST_BODY], output[256 * NW_MOST_SECTION];
 
 typedef uint64_t work(const uint8_t *s, size_t n);
 
@@ -21,6 +25,7 @@ struct contender {
 // The library is the first contender.
 struct operation {
     const char *name;
+    void (*fill)(size_t n);
     struct contender contenders[MOST_CONTENDERS];
     size_t sizes[MOST_SIZES];
 };
@@ -57,15 +62,104 @@ static uint64_t crc32_slicing(const uint8_t *s, size_t n) {
 
 static uint64_t crc32_library(const uint8_t *s, size_t n) { return nw_crc32(s, n); }
 
+// ---- a section read
+
+// The answer of nw_section_read, by the same checks in the same order.
+static uint64_t read_slicing(const uint8_t *s, size_t n) {
+    if (n < 12) return 1;
+    if (s[0] < 0xFB || s[0] > 0xFE) return 2;
+    if (s[1] >> 4 != 15 || s[5] >> 6 != 3) return 3;
+    size_t length = (s[1] & 15u) << 8 | s[2];
+    if (length < 9 || length > 4093) return 4;
+    if (n != length + 3) return 5;
+    if (s[6] > s[7]) return 6;
+    if (crc32_slicing(s, n) != 0) return 7;
+    uint64_t extension = (uint64_t)s[3] << 8 | s[4], version = s[5] >> 1 & 31, current = s[5] & 1;
+    return ((uint64_t)s[0] << 48 | extension << 32 | version << 24 | current << 16 | (uint64_t)s[6] << 8 | s[7]) << 8;
+}
+
+static uint64_t read_library(const uint8_t *s, size_t n) { return nw_section_read(s, n); }
+
+// ---- a body cut into all its sections, one right after the other
+
+typedef nw_answer cutter(const uint8_t *body, size_t n, uint32_t kind, uint32_t extension, uint32_t version,
+                         uint32_t number, uint8_t *out, size_t room);
+
+static void put_section(uint8_t *out, const uint8_t *payload, size_t n, uint32_t kind, uint32_t extension,
+                        uint32_t version, uint32_t number, size_t last) {
+    out[0] = (uint8_t)kind;
+    out[1] = (uint8_t)(0xF0 | (n + 9) >> 8);
+    out[2] = (uint8_t)(n + 9);
+    out[3] = (uint8_t)(extension >> 8);
+    out[4] = (uint8_t)extension;
+    out[5] = (uint8_t)(0xC0 | version << 1 | 1);
+    out[6] = (uint8_t)number;
+    out[7] = (uint8_t)last;
+    memcpy(out + 8, payload, n);
+    uint32_t check = (uint32_t)crc32_slicing(out, n + 8);
+    for (size_t i = 0; i < 4; i++) out[n + 8 + i] = (uint8_t)(check >> (24 - 8 * i));
+}
+
+// The answer and the output of nw_section_cut, by the same checks in the same order.
+static nw_answer cut_one(const uint8_t *body, size_t n, uint32_t kind, uint32_t extension, uint32_t version,
+                         uint32_t number, uint8_t *out, size_t room) {
+    if (kind < 0xFB || kind > 0xFE) return 2;
+    if (version > 31 || extension > 65535) return 19;
+    if (n == 0) return 14;
+    if (n > NW_MOST_BODY) return 22;
+    size_t last = (n - 1) / NW_MOST_PAYLOAD;
+    if (number > last) return 6;
+    size_t part = number < last ? NW_MOST_PAYLOAD : n - last * NW_MOST_PAYLOAD;
+    if (room < part + 12) return 21;
+    put_section(out, body + number * (size_t)NW_MOST_PAYLOAD, part, kind, extension, version, number, last);
+    return (nw_answer)(part + 12) << 8;
+}
+
+// The bytes written, and the refusal that ends them.
+static uint64_t cut_all(cutter *cut, const uint8_t *s, size_t n) {
+    uint64_t used = 0;
+    for (uint32_t number = 0;; number++) {
+        nw_answer got = cut(s, n, 0xFD, 0x0C29, 17, number, output + used, sizeof output - used);
+        if (NW_REFUSAL(got)) return used << 8 | NW_REFUSAL(got);
+        used += NW_VALUE(got);
+    }
+}
+
+static uint64_t cut_library(const uint8_t *s, size_t n) { return cut_all(nw_section_cut, s, n); }
+static uint64_t cut_slicing(const uint8_t *s, size_t n) { return cut_all(cut_one, s, n); }
+
+// ---- what they are given
+
+static void fill_bytes(size_t n) {
+    uint32_t chance = 86;
+    for (size_t i = 0; i < n; i++) input[i] = (uint8_t)((chance = chance * 1664525 + 1013904223) >> 24);
+}
+
+static void fill_section(size_t n) {
+    static uint8_t payload[NW_MOST_PAYLOAD];
+    fill_bytes(n - 12);
+    memcpy(payload, input, n - 12);
+    put_section(input, payload, n - 12, 0xFD, 0x0C29, 17, 0, 0);
+    if (NW_REFUSAL(read_slicing(input, n))) abort();
+}
+
 static const struct operation operations[] = {
     {"CRC_32",
+     fill_bytes,
      {{"neapwillow", crc32_library}, {"C, byte table", crc32_byte_table}, {"C, slicing by 8", crc32_slicing}},
      {12, 64, 256, 1024, 4096}},
+    {"reading",
+     fill_section,
+     {{"neapwillow", read_library}, {"C, slicing by 8", read_slicing}},
+     {12, 188, 4096}},
+    {"cutting",
+     fill_bytes,
+     {{"neapwillow", cut_library}, {"C, slicing by 8", cut_slicing}},
+     {4084, 16 * 4084, 256 * 4084}},
 };
 
 // ---- measuring
 
-static uint8_t input[MOST_BYTES];
 static volatile uint64_t sink;
 
 static double now(void) {
@@ -82,19 +176,25 @@ static double batch(work *run, size_t n, uint64_t calls) {
     return now() - began;
 }
 
-// As many calls as take some 5 ms.
+// As many calls as take some 1 ms, less than a busy machine gives a program at a time.
 static uint64_t calls_of(work *run, size_t n) {
     uint64_t calls = 1;
-    while (batch(run, n, calls) < 5e6) calls *= 2;
+    while (batch(run, n, calls) < 1e6 || batch(run, n, calls) < 1e6) calls *= 2;
     return calls;
 }
 
 static void agree(const struct operation *o, size_t n) {
-    for (const struct contender *c = o->contenders; c < o->contenders + MOST_CONTENDERS && c->run; c++)
-        if (c->run(input, n) != o->contenders[0].run(input, n)) {
+    static uint8_t first_output[sizeof output];
+    memset(output, 0, sizeof output);
+    uint64_t first = o->contenders[0].run(input, n);
+    memcpy(first_output, output, sizeof output);
+    for (const struct contender *c = o->contenders + 1; c < o->contenders + MOST_CONTENDERS && c->run; c++) {
+        memset(output, 0, sizeof output);
+        if (c->run(input, n) != first || memcmp(output, first_output, sizeof output) != 0) {
             fprintf(stderr, "bench: %s of %zu bytes: %s and %s differ\n", o->name, n, c->name, o->contenders[0].name);
             exit(1);
         }
+    }
 }
 
 // Contenders take turns, and the best turn of each counts, so that a busy machine hurts none of them more.
@@ -112,19 +212,20 @@ static void measure(const struct operation *o, size_t n) {
             if (each < best[i]) best[i] = each;
         }
     for (size_t i = 0; i < count; i++)
-        printf("%-8s %6zu  %-16s %10.1f %10.1f %8.2f\n", o->name, n, o->contenders[i].name, best[i],
-               (double)n * 1e3 / best[i], best[0] / best[i]);
+        printf("%-8s %7zu  %-16s %10.1f %9.3f %8.1f %6.2f\n", o->name, n, o->contenders[i].name, best[i],
+               best[i] / (double)n, (double)n * 1e3 / best[i], best[0] / best[i]);
 }
 
 int main(void) {
-    uint32_t chance = 86;
-    for (size_t i = 0; i < MOST_BYTES; i++) input[i] = (uint8_t)((chance = chance * 1664525 + 1013904223) >> 24);
     fill_slices();
-    printf("%-8s %6s  %-16s %10s %10s %8s\n", "", "bytes", "", "ns a call", "MB/s", "ratio");
+    printf("%-8s %7s  %-16s %10s %9s %8s %6s\n", "", "bytes", "", "ns a call", "ns a byte", "MB/s", "ratio");
     for (size_t k = 0; k < sizeof operations / sizeof operations[0]; k++) {
         const struct operation *o = &operations[k];
-        for (size_t i = 0; i < MOST_SIZES && o->sizes[i] > 0; i++) agree(o, o->sizes[i]);
-        for (size_t i = 0; i < MOST_SIZES && o->sizes[i] > 0; i++) measure(o, o->sizes[i]);
+        for (size_t i = 0; i < MOST_SIZES && o->sizes[i] > 0; i++) {
+            o->fill(o->sizes[i]);
+            agree(o, o->sizes[i]);
+            measure(o, o->sizes[i]);
+        }
     }
     printf("ratio: how many times as fast as neapwillow\n");
     return 0;

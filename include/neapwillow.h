@@ -127,9 +127,9 @@ enum nw_showing { NW_BEFORE = 0, NW_ON = 1, NW_ENDED = 2 };
 /* ---- Sections ---------------------------------------------------------------------------------
  *
  * A section is 12 to 4,096 bytes: eight of heading, the payload, four of check. */
-#define NW_SECTION_MOST 4096u   /* bytes of the longest section */
-#define NW_PAYLOAD_MOST 4084u   /* bytes of its payload */
-#define NW_BODY_MOST 1045504u   /* bytes of the longest body: 256 such payloads */
+#define NW_MOST_SECTION 4096u   /* bytes of the longest section */
+#define NW_MOST_PAYLOAD 4084u   /* bytes of its payload */
+#define NW_MOST_BODY 1045504u   /* bytes of the longest body: 256 such payloads */
 
 enum nw_kind { NW_CONFIGURATION = 0xFB, NW_CERTIFICATE = 0xFC, NW_INDEX = 0xFD, NW_CONTENT = 0xFE };
 
@@ -144,13 +144,13 @@ nw_answer nw_section_read(const uint8_t *s, size_t n);
 #define NW_SECTION_LAST(answer) ((unsigned)(NW_VALUE(answer) & 0xFFu))
 
 /* How many sections a body of so many bytes makes: the ceiling of length / 4,084, 1 to 256.
- * Refusals, in this order: 14, no bytes; 22, more than NW_BODY_MOST. */
+ * Refusals, in this order: 14, no bytes; 22, more than NW_MOST_BODY. */
 nw_answer nw_section_count(size_t length);
 
 /* Writes section `number` of a body at the start of out: every section but the last carries 4,084
- * bytes of the body, and each is current. Value: the bytes written, at most NW_SECTION_MOST; the
+ * bytes of the body, and each is current. Value: the bytes written, at most NW_MOST_SECTION; the
  * bytes of out after them stay. Refusals, in this order, with nothing written: 2, no such kind; 19,
- * a version above 31 or an extension above 65,535; 14, an empty body; 22, more than NW_BODY_MOST
+ * a version above 31 or an extension above 65,535; 14, an empty body; 22, more than NW_MOST_BODY
  * bytes; 6, a number past the last; 21, out is too small for the section. */
 nw_answer nw_section_cut(const uint8_t *body, size_t n, uint32_t kind, uint32_t extension,
                          uint32_t version, uint32_t number, uint8_t *out, size_t room);

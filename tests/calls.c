@@ -1,7 +1,8 @@
 // calls: puts requests from standard input to the library, one to a line, and prints a line of answer to each.
 //
 // A request is the name of a call and its arguments, one space before each: numbers in decimal, byte strings in
-// hexadecimal, `-` for the empty one. So are answers. A new call is a function and its line in `calls`.
+// hexadecimal, `-` for the empty one. So are answers. In a request `5a*20` is 5a twenty times over. A new call is a
+// function and its line in `calls`.
 #define _POSIX_C_SOURCE 200809L
 #include <errno.h>
 #include <inttypes.h>
@@ -11,16 +12,21 @@
 
 #include "neapwillow.h"
 
-enum { MOST_ARGUMENTS = 8 };
+enum { MOST_ARGUMENTS = 8, GUARD = 64 };
 
-// A byte string stands in a block of exactly its length, so that a memory checker sees any byte read past it.
+// A byte string stands in a block of exactly its length, so that a memory checker sees any byte read past it. A lent
+// output has guard bytes on both sides, which no call may change.
 struct argument {
+    uint8_t *block;
+    size_t guard;
     uint8_t *bytes;
     size_t length;
     int64_t number;
+    uint64_t wide;
 };
 
-// `takes` has a letter for each argument: b, a byte string; u, a number of 32 bits; i, a signed one.
+// `takes` has a letter for each argument: b, a byte string; o, a lent output, given by what it holds before the call;
+// u, a number of 32 bits; i, a signed one; w, one of 64 bits.
 struct call {
     const char *name;
     const char *takes;
@@ -55,9 +61,13 @@ static void put_signed(int64_t x) {
 }
 
 static void put_bytes(const uint8_t *s, size_t n) {
+    static const char digits[] = "0123456789abcdef";
     next_item();
     if (n == 0) putchar('-');
-    for (size_t i = 0; i < n; i++) printf("%02x", s[i]);
+    for (size_t i = 0; i < n; i++) {
+        putchar(digits[s[i] / 16]);
+        putchar(digits[s[i] % 16]);
+    }
 }
 
 // The refusal's number, 0 for none; then its place, or the value.
@@ -73,6 +83,8 @@ static void call_echo(const struct argument *a) {
     put_bytes(a[0].bytes, a[0].length);
     put_number((uint64_t)a[1].number);
     put_signed(a[2].number);
+    put_number(a[3].wide);
+    put_bytes(a[4].bytes, a[4].length);
 }
 
 static void call_crc32(const struct argument *a) { put_number(nw_crc32(a[0].bytes, a[0].length)); }
@@ -85,13 +97,83 @@ static void call_day_of(const struct argument *a) {
 static void call_date_of(const struct argument *a) { put_answer(nw_date_of((uint32_t)a[0].number)); }
 static void call_weekday(const struct argument *a) { put_answer(nw_weekday((uint32_t)a[0].number)); }
 
+static void call_time_pack(const struct argument *a) {
+    put_answer(nw_time_pack((uint32_t)a[0].number, (uint32_t)a[1].number, (uint32_t)a[2].number, (uint32_t)a[3].number,
+                            (uint32_t)a[4].number, (uint32_t)a[5].number, (int32_t)a[6].number));
+}
+
+// An answer of parts is printed whole, and then by the header's macros.
+static void call_time_unpack(const struct argument *a) {
+    nw_answer got = nw_time_unpack(a[0].wide, (int32_t)a[1].number);
+    put_answer(got);
+    if (NW_REFUSAL(got)) return;
+    put_number(NW_TIME_YEAR(got));
+    put_number(NW_TIME_MONTH(got));
+    put_number(NW_TIME_DAY(got));
+    put_number(NW_TIME_HOUR(got));
+    put_number(NW_TIME_MINUTE(got));
+    put_number(NW_TIME_SECOND(got));
+}
+
+static void call_time_read_text(const struct argument *a) {
+    put_answer(nw_time_read_text(a[0].bytes, a[0].length, (int32_t)a[1].number));
+}
+
+static void call_time_showing(const struct argument *a) {
+    put_answer(nw_time_showing(a[0].wide, a[1].wide, (uint32_t)a[2].number, (uint32_t)a[3].number));
+}
+
+static void call_section_read(const struct argument *a) {
+    nw_answer got = nw_section_read(a[0].bytes, a[0].length);
+    put_answer(got);
+    if (NW_REFUSAL(got)) return;
+    put_number(NW_SECTION_KIND(got));
+    put_number(NW_SECTION_EXTENSION(got));
+    put_number(NW_SECTION_VERSION(got));
+    put_number(NW_SECTION_CURRENT(got));
+    put_number(NW_SECTION_NUMBER(got));
+    put_number(NW_SECTION_LAST(got));
+}
+
+static void call_section_count(const struct argument *a) { put_answer(nw_section_count(a[0].wide)); }
+
+static nw_answer cut(const struct argument *a, uint32_t number, uint8_t *out, size_t room) {
+    return nw_section_cut(a[0].bytes, a[0].length, (uint32_t)a[1].number, (uint32_t)a[2].number, (uint32_t)a[3].number,
+                          number, out, room);
+}
+
+static void call_section_cut(const struct argument *a) {
+    put_answer(cut(a, (uint32_t)a[4].number, a[5].bytes, a[5].length));
+    put_bytes(a[5].bytes, a[5].length);
+}
+
+// All sections of a body, each right after the one before; the answer is the refusal that ends them.
+static void call_section_cut_all(const struct argument *a) {
+    nw_answer got;
+    size_t used = 0;
+    for (uint32_t number = 0; NW_REFUSAL(got = cut(a, number, a[4].bytes + used, a[4].length - used)) == 0; number++) {
+        if (NW_VALUE(got) == 0 || NW_VALUE(got) > a[4].length - used) stop("a section of no bytes, or past its room");
+        used += NW_VALUE(got);
+    }
+    put_answer(got);
+    put_bytes(a[4].bytes, a[4].length);
+}
+
 static const struct call calls[] = {
-    {"echo", "bui", call_echo},
+    {"echo", "buiwo", call_echo},
     {"crc32", "b", call_crc32},
     {"crc16", "b", call_crc16},
     {"day_of", "uuu", call_day_of},
     {"date_of", "u", call_date_of},
     {"weekday", "u", call_weekday},
+    {"time_pack", "uuuuuui", call_time_pack},
+    {"time_unpack", "wi", call_time_unpack},
+    {"time_read_text", "bi", call_time_read_text},
+    {"time_showing", "wwuu", call_time_showing},
+    {"section_read", "b", call_section_read},
+    {"section_count", "w", call_section_count},
+    {"section_cut", "buuuuo", call_section_cut},
+    {"section_cut_all", "buuuo", call_section_cut_all},
 };
 
 // ---- what a request is read with
@@ -102,29 +184,53 @@ static unsigned digit(char c) {
     stop("not hexadecimal");
 }
 
-static struct argument byte_string(const char *word) {
-    size_t digits = strcmp(word, "-") == 0 ? 0 : strlen(word);
-    struct argument a = {.length = digits / 2, .bytes = malloc(digits / 2)};
-    if (digits % 2 != 0) stop("half a byte");
-    if (a.bytes == NULL && a.length > 0) stop("out of memory");
-    for (size_t i = 0; i < a.length; i++) a.bytes[i] = (uint8_t)(digit(word[2 * i]) * 16 + digit(word[2 * i + 1]));
-    return a;
-}
-
 static struct argument number(const char *word, int64_t least, int64_t most) {
     char *end;
     errno = 0;
     struct argument a = {.number = strtoll(word, &end, 10)};
-    if (*end != '\0' || errno != 0) stop("not a number");
+    if (*word == '\0' || *end != '\0' || errno != 0) stop("not a number");
     if (a.number < least || a.number > most) stop("a number that the call can't take");
     return a;
 }
 
+static struct argument wide_number(const char *word) {
+    char *end;
+    errno = 0;
+    struct argument a = {.wide = strtoull(word, &end, 10)};
+    if (*word < '0' || *word > '9' || *end != '\0' || errno != 0) stop("not a number of 64 bits");
+    return a;
+}
+
+static uint8_t guard_byte(size_t i) { return (uint8_t)(i ^ 0xa5); }
+
+static struct argument byte_string(const char *word, size_t guard) {
+    size_t digits = strcmp(word, "-") == 0 ? 0 : strcspn(word, "*"), unit = digits / 2;
+    size_t times = word[digits] == '*' ? (size_t)number(word + digits + 1, 1, INT32_MAX).number : 1;
+    if (digits % 2 != 0) stop("half a byte");
+    struct argument a = {.length = unit * times, .guard = guard};
+    a.block = malloc(a.length + 2 * guard);
+    if (a.block == NULL && a.length + guard > 0) stop("out of memory");
+    a.bytes = a.block + guard;
+    for (size_t i = 0; i < a.length; i++)
+        a.bytes[i] = i < unit ? (uint8_t)(digit(word[2 * i]) * 16 + digit(word[2 * i + 1])) : a.bytes[i - unit];
+    for (size_t i = 0; i < guard; i++) a.block[i] = a.bytes[a.length + i] = guard_byte(i);
+    return a;
+}
+
+static void give_back(const struct argument *a) {
+    for (size_t i = 0; i < a->guard; i++)
+        if (a->block[i] != guard_byte(i) || a->bytes[a->length + i] != guard_byte(i))
+            stop("a byte beside a lent output changed");
+    free(a->block);
+}
+
 static struct argument argument(char letter, const char *word) {
     switch (letter) {
-    case 'b': return byte_string(word);
+    case 'b': return byte_string(word, 0);
+    case 'o': return byte_string(word, GUARD);
     case 'u': return number(word, 0, UINT32_MAX);
     case 'i': return number(word, INT32_MIN, INT32_MAX);
+    case 'w': return wide_number(word);
     default: stop("a letter that the table of calls must not have");
     }
 }
@@ -148,7 +254,7 @@ static void serve(char *line) {
     between = "";
     call->answer(a);
     putchar('\n');
-    for (size_t i = 0; i < count; i++) free(a[i].bytes);
+    for (size_t i = 0; i < count; i++) give_back(&a[i]);
 }
 
 int main(void) {

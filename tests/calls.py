@@ -6,12 +6,33 @@ import sys
 TESTS = os.path.dirname(os.path.abspath(__file__))
 
 # What calls.c must say of these if it reads byte strings and numbers as they are written here.
-ECHOES = ['- 0 0', '00ff0a 4294967295 -2147483648', '7f 1 2147483647']
+ECHOES = ['- 0 0 0 -', '00ff0a 4294967295 -2147483648 18446744073709551615 7f80', '7f 1 2147483647 1099511627776 -']
 
 
 def hexadecimal(data):
     """A byte string as a request has it."""
+    if len(data) > 100 and data == data[:1] * len(data):
+        return '%s*%d' % (data[:1].hex(), len(data))
     return data.hex() or '-'
+
+
+def request(call, *arguments):
+    """The line that asks for a call."""
+    return ' '.join([call] + [hexadecimal(a) if isinstance(a, bytes) else str(a) for a in arguments])
+
+
+class Refused(Exception):
+    """A second program's refusal: its number, then whatever the answer has after the place, which is 0."""
+
+
+def told(call, *arguments):
+    """The answer of a second program's function, as calls.c prints the library's."""
+    try:
+        value = call(*arguments)
+        items = (0, *value) if isinstance(value, tuple) else (0, value)
+    except Refused as refusal:
+        items = (refusal.args[0], 0, *refusal.args[1:])
+    return ' '.join((item.hex() or '-') if isinstance(item, bytes) else str(item) for item in items)
 
 
 def answers(requests):
@@ -32,7 +53,15 @@ def agree(second, requests, got, expected):
     """Ends the program unless the library gave each answer that the second program gives."""
     wrong = [i for i in range(len(requests)) if got[i] != expected[i]]
     for i in wrong[:5]:
-        print('%.60s: the library says %s, %s says %s' % (requests[i], got[i], second, expected[i]))
+        print('%.60s: the library says %.120s, %s says %.120s' % (requests[i], got[i], second, expected[i]))
     if wrong or not requests or len(expected) != len(requests):
         sys.exit('%d of %d answers differ from those of %s' % (len(wrong), len(requests), second))
     print('%d answers are those of %s' % (len(requests), second))
+
+
+def compare(second, program, cases):
+    """Puts each case, a call and its arguments, to the library and to a second program's function of that name."""
+    requests = [request(*case) for case in cases]
+    got = answers(requests)
+    agree(second, requests, got, [told(getattr(program, call), *arguments) for call, *arguments in cases])
+    return got

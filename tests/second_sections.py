@@ -1,0 +1,109 @@
+"""The second program for sections, from document 01 alone: one printed, read, counted and cut."""
+from calls import Refused
+
+MOST_PAYLOAD = 4084
+MOST_BODY = 1045504
+# table_id, four one bits, section_length, extension, two one bits, version, current, section_number, last_section_number
+WIDTHS = (8, 4, 12, 16, 2, 5, 1, 8, 8)
+
+
+def byte_steps():
+    """What a byte at the top of the register leaves of it after eight steps."""
+    for byte in range(256):
+        held = byte << 24
+        for _ in range(8):
+            held = held << 1 ^ (0x104C11DB7 if held >> 31 else 0)
+        yield held
+
+
+STEPS = list(byte_steps())
+
+
+def register(data):
+    held = 0xFFFFFFFF
+    for byte in data:
+        held = held << 8 & 0xFFFFFFFF ^ STEPS[held >> 24 ^ byte]
+    return held
+
+
+def checked(data):
+    """The bytes and their CRC_32."""
+    return data + register(data).to_bytes(4, 'big')
+
+
+def printed(kind, extension, version, current, number, last, payload):
+    """A section."""
+    fields = (kind, 0b1111, len(payload) + 9, extension, 0b11, version, current, number, last)
+    bits = ''.join(format(field, '0%db' % width) for field, width in zip(fields, WIDTHS))
+    return checked(int(bits, 2).to_bytes(8, 'big') + payload)
+
+
+def fields_of(heading):
+    """The fields of eight bytes."""
+    bits, at = format(int.from_bytes(heading, 'big'), '064b'), 0
+    for width in WIDTHS:
+        yield int(bits[at:at + width], 2)
+        at += width
+
+
+def cut(body, kind, extension, version, number, room):
+    if not 0xFB <= kind <= 0xFE:
+        raise Refused(2)
+    if version > 31 or extension > 0xFFFF:
+        raise Refused(19)
+    count = section_count(len(body))
+    if number >= count:
+        raise Refused(6)
+    payload = body[number * MOST_PAYLOAD:][:MOST_PAYLOAD]
+    if room < len(payload) + 12:
+        raise Refused(21)
+    return printed(kind, extension, version, 1, number, count - 1, payload)
+
+
+# ---- the calls
+
+
+def section_read(s):
+    if len(s) < 12:
+        raise Refused(1)
+    kind, ones, length, extension, more_ones, version, current, number, last = fields_of(s[:8])
+    if not 0xFB <= kind <= 0xFE:
+        raise Refused(2)
+    if ones != 0b1111 or more_ones != 0b11:
+        raise Refused(3)
+    if not 9 <= length <= 4093:
+        raise Refused(4)
+    if len(s) != length + 3:
+        raise Refused(5)
+    if number > last:
+        raise Refused(6)
+    if register(s) != 0:
+        raise Refused(7)
+    parts = (kind, extension, version, current, number, last)
+    return int('%02X%04X%02X%02X%02X%02X' % parts, 16), *parts
+
+
+def section_count(length):
+    if length == 0:
+        raise Refused(14)
+    if length > MOST_BODY:
+        raise Refused(22)
+    return -(-length // MOST_PAYLOAD)
+
+
+def section_cut(body, kind, extension, version, number, out):
+    try:
+        section = cut(body, kind, extension, version, number, len(out))
+    except Refused as refusal:
+        raise Refused(*refusal.args, out)
+    return len(section), section + out[len(section):]
+
+
+def section_cut_all(body, kind, extension, version, out):
+    sections, number = b'', 0
+    while True:
+        try:
+            sections += cut(body, kind, extension, version, number, len(out) - len(sections))
+        except Refused as refusal:
+            raise Refused(*refusal.args, sections + out[len(sections):])
+        number += 1
