@@ -12,7 +12,7 @@ use Rattle.days.specs.declared.DayAnswer.the-variants as day-answer
 use Rattle.days.specs.declared.DateAnswer.the-variants as date-answer
 use Rattle.days.specs.declared.WeekdayAnswer.the-variants as weekday-answer
 use Rattle.days.specs.Calendar.{monthLength, isDate, monthsFrom, yearOf, monthOf, daysOf, monthStart, dayNumber, inRange, hasDay, dayOf, dateAt, dateFrom, dateOf, weekdayOf}
-use Rattle.days.proofs.Tests.{both, all, fails, picked}
+use Rattle.choices.proofs.Tests.{both-hold, all-hold, fails, picked}
 use Rattle.days.proofs.Months.{within, months-of, days-of, start-first, start-next, start-end, start-le, InMonth, one-month, in-table}
 
 -- ---- the range
@@ -23,7 +23,7 @@ in-range n h g = simp (le-leb 15079 n h, le-leb n 65535 g)
 
 range : (n : ℕ) → T (inRange n) → (15079 ≤ n) × (n ≤ 65535)
 unfolding inRange
-range n t = let p = both (leb 15079 n) (leb n 65535) t in (leb→le 15079 n (p .0), leb→le n 65535 (p .1))
+range n t = let p = both-hold (leb 15079 n) (leb n 65535) t in (leb→le 15079 n (p .0), leb→le n 65535 (p .1))
 
 -- what `in_range` found, as a caller's branch has it
 pub in-range-only : (n : ℕ) → inRange n ≡ true → (15079 ≤ n) × (n ≤ 65535)
@@ -49,7 +49,7 @@ module _ (y m d : ℕ) where
   accepts : T (hasDay y m d) → IsDay (dayNumber y m d) y m d
   unfolding hasDay isDate
   accepts t =
-      let p = all (leb 1 m) (leb m 12) (leb 1 d) (leb d (monthLength y m)) (leb (1900 * 12 + 3) (y * 12 + m)) (inRange (dayNumber y m d)) t in
+      let p = all-hold (leb 1 m) (leb m 12) (leb 1 d) (leb d (monthLength y m)) (leb (1900 * 12 + 3) (y * 12 + m)) (inRange (dayNumber y m d)) t in
       let r = range (dayNumber y m d) (p .5) in
       record {
         month-from = leb→le 1 m (p .0);

@@ -1,5 +1,4 @@
 -- The laws of days: of tests, of months and their starts, of the table, of the three answers; and the stated values.
-pub mod Tests
 pub mod Months
 pub mod Table
 pub mod Answers

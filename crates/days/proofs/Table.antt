@@ -8,7 +8,7 @@ use native.Mathlib.Nat.{not-suc-le-zero, le-of-suc-le-suc, add-zero, add-suc, su
 use lib.Dec.{T, eqb, eqb→eq}
 use lib.ListN.{length, getD}
 use Rattle.days.specs.Calendar.{daysOf, monthStart, IsMonths}
-use Rattle.days.proofs.Tests.{both}
+use Rattle.choices.proofs.Tests.{both-hold}
 use Rattle.days.proofs.Months.{start-first, start-next, start-lt}
 
 -- the entries from month i on, of which the first is to be x
@@ -19,10 +19,10 @@ chain i x (y ∷ ys) = eqb y x && chain (suc i) (y + daysOf i) ys
 from : (ys : List ℕ) (i x : ℕ) → x ≡ monthStart i → T (chain i x ys) → (k : ℕ) → k < length ys → getD ys k 0 ≡ monthStart (i + k)
 from [] i x e t k h = absurd (not-suc-le-zero h)
 from (y ∷ ys) i x e t zero h =
-    let p = both (eqb y x) (chain (suc i) (y + daysOf i) ys) t in
+    let p = both-hold (eqb y x) (chain (suc i) (y + daysOf i) ys) t in
     eqb→eq y x (p .0) ∙ e ∙ ap monthStart (sym (add-zero i))
 from (y ∷ ys) i x e t (suc k) h =
-    let p = both (eqb y x) (chain (suc i) (y + daysOf i) ys) t in
+    let p = both-hold (eqb y x) (chain (suc i) (y + daysOf i) ys) t in
     let next = ap (λ (z : ℕ). z + daysOf i) (eqb→eq y x (p .0) ∙ e) ∙ sym (start-next i) in
     from ys (suc i) (y + daysOf i) next (p .1) k (le-of-suc-le-suc h) ∙ ap monthStart (suc-add i k ∙ sym (add-suc i k))
 

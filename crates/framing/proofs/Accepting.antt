@@ -10,7 +10,8 @@ use lib.ListN.{length, getD, drop, length-drop}
 use lib.Seq.{length-take-le}
 use Rattle.crc.specs.Crc.{crc32Of}
 use Rattle.refusal.specs.declared.Refusal.{Refusal}
-use Rattle.framing.specs.Section.{if_then_else_, isKind, fixedBits, sectionLength, headingOf, payloadOf, readSection, IsGood}
+use Rattle.choices.specs.Choice.{if_then_else_}
+use Rattle.framing.specs.Section.{isKind, fixedBits, sectionLength, headingOf, payloadOf, readSection, IsGood}
 use Rattle.framing.specs.declared.Heading.{Heading}
 use Rattle.framing.specs.declared.Sectioned.{Sectioned}
 use Rattle.framing.specs.declared.Sectioned.the-variants.{Good, Refused}

@@ -10,7 +10,8 @@ use lib.ListN.{length, take}
 use Rattle.refusal.specs.declared.Refusal.{Refusal}
 use Rattle.refusal.specs.declared.Refusal.the-variants.{OtherKind, NumberAboveLast, PastBody, OutsideSet, OutputTooSmall, TooLarge}
 use Rattle.framing.specs.Cutting.{sectionCount, countedOf, partOf, cutHeading, sectionOf, Verdict, refuses, writes, fitting, cutting, answerBy, outputBy, Allowed}
-use Rattle.framing.specs.Section.{if_then_else_, isKind, printed}
+use Rattle.choices.specs.Choice.{if_then_else_}
+use Rattle.framing.specs.Section.{isKind, printed}
 use Rattle.framing.specs.declared.Counted.the-variants.{Sections, Refused as NotCounted}
 use Rattle.framing.specs.declared.Cut.{Cut}
 use Rattle.framing.specs.declared.Cut.the-variants.{Written, Refused as NotCut}

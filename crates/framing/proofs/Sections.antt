@@ -10,7 +10,8 @@ use lib.ListN.{length, take}
 use lib.Seq.{take-add, take-all}
 use Rattle.refusal.specs.declared.Refusal.{Refusal}
 use Rattle.framing.specs.Cutting.{place, sectionCount, partOf, joined, cutHeading, sectionOf, Verdict, refuses, writes, fitting, cutting, cutAnswer, cutOutput, Allowed, Askable}
-use Rattle.framing.specs.Section.{if_then_else_, isKind, payloadOf, printed, WellFormed, IsGood}
+use Rattle.choices.specs.Choice.{if_then_else_}
+use Rattle.framing.specs.Section.{isKind, payloadOf, printed, WellFormed, IsGood}
 use Rattle.framing.specs.declared.Cut.the-variants.{Written}
 use Rattle.framing.proofs.Counting.{place-zero, place-suc, ends-within, count-most, counted-is, part-length}
 use Rattle.framing.proofs.Cuts.{cut-fitting, written-is}

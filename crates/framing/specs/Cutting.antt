@@ -8,7 +8,8 @@ use lib.ListN.{length, take, drop}
 use Rattle.placing.specs.Placed.{placed}
 use Rattle.refusal.specs.declared.Refusal.{Refusal}
 use Rattle.refusal.specs.declared.Refusal.the-variants.{OtherKind, NumberAboveLast, PastBody, OutsideSet, OutputTooSmall, TooLarge}
-use Rattle.framing.specs.Section.{if_then_else_, isKind, payloadOf, printed}
+use Rattle.choices.specs.Choice.{if_then_else_}
+use Rattle.framing.specs.Section.{isKind, payloadOf, printed}
 use Rattle.framing.specs.declared.Counted.{Counted}
 use Rattle.framing.specs.declared.Counted.the-variants.{Sections, Refused as NotCounted}
 use Rattle.framing.specs.declared.Cut.{Cut}

@@ -5,17 +5,12 @@ use mathlib.Core.List.{List, [], _∷_, _++_}
 use mathlib.Core.Path.{_≡_}
 use lib.Dec.{eqb, leb, ltb}
 use lib.ListN.{length, getD, take, drop}
+use Rattle.choices.specs.Choice.{if_then_else_}
 use Rattle.crc.specs.Crc.{bigEndian, crc32Of, digit}
 use Rattle.refusal.specs.declared.Refusal.the-variants.{SectionTooShort, OtherKind, FixedBitZero, SectionLengthOutside, OtherLength, NumberAboveLast, CheckNotZero}
 use Rattle.framing.specs.declared.Heading.{Heading}
 use Rattle.framing.specs.declared.Sectioned.{Sectioned}
 use Rattle.framing.specs.declared.Sectioned.the-variants.{Good, Refused}
-
-infixr 10 if_then_else_
--- the first where the test holds, else the second
-abbrev pub if_then_else_ {ℓ} : {A : Type ℓ} → Bool → A → A → A
-if_then_else_ true a b = a
-if_then_else_ false a b = b
 
 -- ---- the fields of a byte string
 

@@ -10,7 +10,7 @@ use lib.IntN.{ℤ}
 use lib.ListN.{length, getD, drop, drop-of-length-le}
 use lib.Seq.{drop-cons}
 use Rattle.times.specs.declared.Fielded.the-variants.{Field}
-use Rattle.times.proofs.Tests.{and-of}
+use Rattle.choices.proofs.Tests.{and-of}
 use Rattle.offset.specs.Offset.{isOffset}
 use Rattle.local.specs.declared.LocalTime.{LocalTime}
 use Rattle.local.specs.declared.Unpacked.the-variants.{At as LocalAt}

@@ -12,7 +12,7 @@ use Rattle.days.specs.Calendar.{dayOf}
 use Rattle.times.specs.declared.Timed.the-variants.{At, Refused}
 use Rattle.times.specs.declared.Fielded.the-variants.{Refused as NotFielded}
 use Rattle.times.specs.Field.{readTime}
-use Rattle.times.proofs.Tests.{both}
+use Rattle.choices.proofs.Tests.{both}
 use Rattle.offset.specs.Offset.{isOffset}
 use Rattle.offset.proofs.Moving.{arrived}
 use Rattle.local.specs.declared.LocalTime.{LocalTime}

@@ -13,7 +13,7 @@ use lib.ListN.{length, getD, drop, drop-of-length-le}
 use lib.Seq.{drop-cons}
 use Rattle.refusal.specs.declared.Refusal.the-variants.{OutsideSet, NotOfTheForm}
 use Rattle.times.specs.declared.Fielded.the-variants.{Refused}
-use Rattle.times.proofs.Tests.{both}
+use Rattle.choices.proofs.Tests.{both}
 use Rattle.offset.specs.Offset.{isOffset}
 use Rattle.local.specs.Clock.{packOf}
 use Rattle.local.specs.Text.{form, isDigit, fits, formed, TwoDigits, typed, readText}

@@ -17,7 +17,7 @@ use Rattle.times.specs.declared.Timed.{Timed}
 use Rattle.times.specs.declared.Timed.the-variants.{At, Refused}
 use Rattle.times.specs.declared.Fielded.the-variants.{Field, Refused as NotFielded}
 use Rattle.times.specs.Field.{isInstant, readTime, writeTime}
-use Rattle.times.proofs.Tests.{and-of}
+use Rattle.choices.proofs.Tests.{and-of}
 use Rattle.times.proofs.Instants.{instant}
 use Rattle.times.proofs.Inverse.{reads-written, writes-read}
 use Rattle.offset.specs.Offset.{isOffset, toUtc, toLocal}

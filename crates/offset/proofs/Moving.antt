@@ -13,7 +13,7 @@ use Rattle.refusal.specs.declared.Refusal.the-variants.{OutsideSet, ImpossibleD
 use Rattle.times.specs.declared.Moment.{Moment}
 use Rattle.times.specs.declared.Timed.the-variants.{At, Refused}
 use Rattle.times.specs.Field.{isInstant}
-use Rattle.times.proofs.Tests.{both}
+use Rattle.choices.proofs.Tests.{both}
 use Rattle.times.proofs.Instants.{Instant}
 use Rattle.offset.specs.Offset.{floorDiv, isOffset, timedAt, minuteMoved, dayMoved, secondMoved, moved, toUtc, toLocal}
 use Rattle.offset.proofs.Signed.{up, down, same, sum, opposite, parts, size}

@@ -9,7 +9,7 @@ use Rattle.times.specs.declared.Moment.{Moment}
 use Rattle.days.specs.Calendar.{inRange}
 use Rattle.times.specs.Field.{isInstant}
 use Rattle.times.specs.Showing.{earlier}
-use Rattle.times.proofs.Tests.{both, and-of}
+use Rattle.choices.proofs.Tests.{both, and-of}
 
 -- a day of the range and a second that a day has
 pub record Instant (m : Moment) : Type 0 where

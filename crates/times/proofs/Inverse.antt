@@ -11,7 +11,7 @@ use Rattle.times.specs.declared.Timed.the-variants.{At}
 use Rattle.times.specs.declared.Fielded.the-variants.{Field, Refused as NotFielded}
 use Rattle.days.specs.Calendar.{inRange}
 use Rattle.times.specs.Field.{twoDigits, worth, dayPart, hourPart, minutePart, secondPart, decimal, possible, momentOf, readTime, isInstant, fieldOf, writeTime}
-use Rattle.times.proofs.Tests.{both, and-of}
+use Rattle.choices.proofs.Tests.{both, and-of}
 use Rattle.times.proofs.Pairs.{Holds, two-digits-byte, two-digits-hold, two-digits-worth}
 use Rattle.times.proofs.Parts.{parts, together, clock, clock-together}
 use Rattle.times.proofs.Instants.{Instant, instant, day-in-range, is-instant}

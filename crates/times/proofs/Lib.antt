@@ -1,5 +1,4 @@
 -- The laws of times that proofs cite, here and in other crates.
-pub mod Tests
 pub mod Pairs
 pub mod Parts
 pub mod Reading

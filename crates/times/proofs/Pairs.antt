@@ -5,7 +5,7 @@ use Prim.Native.Nat.{ℕ, _+_, _*_, _/_, _%_, _≤_, _<_}
 use native.Mathlib.Omega.{arith}
 use borrow.Author.Tests.{leb-true, le-leb}
 use Rattle.times.specs.Field.{twoDigits, worth, decimalPair}
-use Rattle.times.proofs.Tests.{both, and-of}
+use Rattle.choices.proofs.Tests.{both, and-of}
 
 -- the byte holds the two digits of n
 pub record Holds (pair n : ℕ) : Type 0 where

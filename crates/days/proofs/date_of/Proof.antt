@@ -5,7 +5,7 @@ use native.Mathlib.Omega.{arith}
 use borrow.Author.Needs.{needs}
 use Rattle.days.specs.Calendar.{yearOf, monthOf, dateAt}
 use Rattle.days.specs.declared.DateAnswer.the-variants.{On}
-use Rattle.days.proofs.Tests.{met, unmet}
+use Rattle.choices.proofs.Tests.{met, unmet}
 use Rattle.days.proofs.Answers.{in-range-only, not-in-range, date-given, date-refused}
 use Rattle.days.proofs.date_of.Statement.{statement}
 use Rattle.days.proofs.date_of.Tie as tie

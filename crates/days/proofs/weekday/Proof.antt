@@ -2,7 +2,7 @@
 use mathlib.Core.Path.{sym}
 use native.Mathlib.Omega.{arith}
 use borrow.Author.Needs.{needs}
-use Rattle.days.proofs.Tests.{met, unmet}
+use Rattle.choices.proofs.Tests.{met, unmet}
 use Rattle.days.proofs.Answers.{in-range-only, not-in-range, weekday-given, weekday-refused}
 use Rattle.days.proofs.weekday.Statement.{statement}
 use Rattle.days.proofs.weekday.Tie as tie

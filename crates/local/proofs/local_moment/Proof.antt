@@ -5,7 +5,7 @@ use mathlib.Core.Bool.{true}
 use native.Mathlib.Omega.{arith}
 use Rattle.days.specs.declared.DayAnswer.the-variants.{Day}
 use Rattle.days.specs.Calendar.{dayOf}
-use Rattle.days.proofs.Tests.{met, unmet}
+use Rattle.choices.proofs.Tests.{met, unmet}
 use Rattle.local.specs.declared.LocalTime.{LocalTime}
 use Rattle.local.specs.Clock.{isClock, secondOf}
 use Rattle.local.proofs.Clocks.{ClockWithin, clock-within, no-day, on-day}

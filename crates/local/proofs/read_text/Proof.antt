@@ -5,7 +5,7 @@ use mathlib.Core.Path.{_≡_, sym, ap, _∙_}
 use mathlib.Core.Bool.{true}
 use lib.IntN.{ℤ}
 use mir.Facts.{toZ-ofZ}
-use Rattle.days.proofs.Tests.{met, unmet}
+use Rattle.choices.proofs.Tests.{met, unmet}
 use Rattle.offset.specs.Offset.{isOffset}
 use Rattle.offset.proofs.Moving.{offset-tested}
 use Rattle.local.specs.declared.LocalTime.{LocalTime}

@@ -14,7 +14,7 @@ use Rattle.refusal.specs.declared.Refusal.the-variants.{ImpossibleDay}
 use Rattle.times.specs.declared.Moment.{Moment}
 use Rattle.times.specs.declared.Timed.the-variants.{At, Refused}
 use Rattle.times.specs.Field.{isInstant}
-use Rattle.days.proofs.Tests.{met, unmet}
+use Rattle.choices.proofs.Tests.{met, unmet}
 use Rattle.times.proofs.Instants.{Instant, instant}
 use Rattle.offset.specs.declared.Floored.{Floored}
 use Rattle.offset.specs.Offset.{floorDiv, floorMod, minuteMoved, dayMoved, secondMoved, moved}

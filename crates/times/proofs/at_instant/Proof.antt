@@ -2,7 +2,7 @@
 use mathlib.Core.Path.{sym, _∙_}
 use borrow.Author.Needs.{needs}
 use Rattle.times.proofs.Shown.{shows-impossible, shows-no-start, shows-by}
-use Rattle.days.proofs.Tests.{met, unmet}
+use Rattle.choices.proofs.Tests.{met, unmet}
 use Rattle.times.proofs.at_instant.Statement.{statement}
 use Rattle.times.proofs.at_instant.Tie as tie
 

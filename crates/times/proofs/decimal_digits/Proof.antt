@@ -1,7 +1,7 @@
 -- `times::decimal_digits` meets its contract: it tests the three pairs as the definition does.
 use borrow.Author.Needs.{needs}
 use Rattle.times.specs.Field.{decimal}
-use Rattle.days.proofs.Tests.{met, unmet}
+use Rattle.choices.proofs.Tests.{met, unmet}
 use Rattle.times.proofs.decimal_digits.Statement.{statement}
 use Rattle.times.proofs.decimal_digits.Tie as tie
 

@@ -1,7 +1,7 @@
 -- `times::is_instant` meets its contract: it tests the day and the second as the definition does.
 use borrow.Author.Needs.{needs}
 use Rattle.times.specs.Field.{isInstant}
-use Rattle.days.proofs.Tests.{met, unmet}
+use Rattle.choices.proofs.Tests.{met, unmet}
 use Rattle.times.proofs.is_instant.Statement.{statement}
 use Rattle.times.proofs.is_instant.Tie as tie
 

@@ -3,7 +3,7 @@ use mathlib.Core.Path.{sym, ap, _∙_}
 use borrow.Author.Needs.{needs}
 use Rattle.times.specs.declared.Timed.the-variants.{At}
 use Rattle.times.proofs.Reading.{reads-too-wide, reads-no-digit, reads-impossible, reads-time}
-use Rattle.days.proofs.Tests.{met, unmet}
+use Rattle.choices.proofs.Tests.{met, unmet}
 use Rattle.times.proofs.read_time.Statement.{statement}
 use Rattle.times.proofs.read_time.Tie as tie
 
