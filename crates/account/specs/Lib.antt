@@ -1,0 +1,4 @@
+-- The definitions that the theorems cite.
+pub mod Account
+pub mod Gathers
+pub mod Arrival
