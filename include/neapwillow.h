@@ -155,6 +155,44 @@ nw_answer nw_section_count(size_t length);
 nw_answer nw_section_cut(const uint8_t *body, size_t n, uint32_t kind, uint32_t extension,
                          uint32_t version, uint32_t number, uint8_t *out, size_t room);
 
+/* ---- The gathering ----------------------------------------------------------------------------
+ *
+ * Good, current sections of one table, fed in any order, repeats and damage among them, become its
+ * body. The caller lends one state, at first all zeros, and one store; each call updates them and
+ * keeps nothing else. The first section taken fixes the table: its kind, extension, version and last
+ * number. State, store, section and output must not overlap, and the state is never null. */
+typedef struct nw_gathering {
+    uint16_t extension;
+    uint8_t kind;       /* table_id; 0 while nothing is begun */
+    uint8_t version;
+    uint8_t last;       /* last_section_number */
+    uint8_t spoiled;    /* 1 after a contradiction, else 0 */
+    uint16_t held[256]; /* by section number: the payload's length + 1, or 0 where it is not held */
+} nw_gathering;
+
+#define NW_FRESH {0}                                              /* a state that holds nothing */
+#define NW_STORE_BYTES(last) (((size_t)(last) + 1) * NW_MOST_PAYLOAD) /* what a table asks of a store */
+
+/* Feeds one byte string. Value: one of enum nw_fed. A payload that is taken goes to byte
+ * number x 4,084 of the store, and all other bytes of the store stay; a section that is held already
+ * changes nothing. Refusals, in this order: 12, not a possible state; 1 to 7, as nw_section_read; 8,
+ * not current; 9, another table's heading; 10, the store has not NW_STORE_BYTES(last) bytes; 11, a
+ * payload other than the one held for its number, or the gathering is spoiled already. A refused
+ * call changes nothing, but that 11 for a contradiction spoils the gathering: make the state fresh to
+ * begin again. While nothing is begun there is no 9 and no 11. */
+nw_answer nw_gathering_feed(nw_gathering *g, uint8_t *store, size_t store_bytes, const uint8_t *s,
+                            size_t n);
+enum nw_fed { NW_FED_TAKEN = 0, NW_FED_HELD_ALREADY = 1 };
+
+/* Writes the body at the start of out: the payloads of numbers 0 to last, joined. Value: its length;
+ * bytes of out after it stay, and so do store and state. It is written exactly when every number is
+ * held and no contradiction was fed. Refusals, in this order, with nothing written: 12, not a
+ * possible state; 13, nothing is begun (place 0); 10, the store is too short; 11, spoiled; 13, with
+ * the smallest missing number as its place; 25, a body above NW_MOST_BODY bytes; 21, out is too
+ * small. */
+nw_answer nw_gathering_hand_out(const nw_gathering *g, const uint8_t *store, size_t store_bytes,
+                                uint8_t *out, size_t out_bytes);
+
 #ifdef __cplusplus
 }
 #endif

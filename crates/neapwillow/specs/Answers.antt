@@ -23,6 +23,10 @@ use Rattle.framing.specs.declared.Counted.{Counted}
 use Rattle.framing.specs.declared.Counted.the-variants as counted
 use Rattle.framing.specs.declared.Cut.{Cut}
 use Rattle.framing.specs.declared.Cut.the-variants as cut
+use Rattle.feeding.specs.declared.Answer.{Answer}
+use Rattle.feeding.specs.declared.Answer.the-variants as fed
+use Rattle.handing.specs.declared.Handed.{Handed}
+use Rattle.handing.specs.declared.Handed.the-variants as handed
 
 -- ---- days
 
@@ -88,3 +92,16 @@ countAnswer (counted.Refused why) = refusedOf why
 abbrev pub lengthAnswer : Cut → ℕ
 lengthAnswer (cut.Written n) = answerOf 0 n
 lengthAnswer (cut.Refused why) = refusedOf why
+
+-- ---- the gathering
+
+-- 0 for taken, 1 for held already
+abbrev pub feedAnswer : Answer → ℕ
+feedAnswer fed.Taken = answerOf 0 0
+feedAnswer fed.HeldAlready = answerOf 0 1
+feedAnswer (fed.Refused why) = refusedOf why
+
+-- the body's length
+abbrev pub handAnswer : Handed → ℕ
+handAnswer (handed.Body n) = answerOf 0 n
+handAnswer (handed.Refused why) = refusedOf why

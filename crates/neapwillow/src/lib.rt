@@ -2,4 +2,5 @@
 mod calendar;
 mod checksums;
 mod clock;
+mod gathering;
 mod sections;
