@@ -8,9 +8,6 @@ use native.Mathlib.Omega.{arith}
 use lib.IntN.{pos}
 use lib.ListN.{length, take, drop, length-append, length-drop}
 use lib.Seq.{length-take-le}
-use Rattle.refusal.specs.Numbers.{toldOf}
-use Rattle.refusal.specs.declared.Refusal.{Refusal}
-use Rattle.refusal.specs.declared.Refusal.the-variants.{SectionTooShort, OtherKind, FixedBitZero, SectionLengthOutside, OtherLength, NumberAboveLast, CheckNotZero, NotCurrent, OtherHeading, StoreTooShort, Contradiction, ImpossibleState, Missing, PastBody, PastPart, LeftOver, ReservedBitZero, DigitAboveNine, OutsideSet, ImpossibleDay, OutputTooSmall, TooLarge, OtherChecksum, NotOfTheForm, BodyTooLong}
 use Rattle.days.specs.Calendar.{weekdayOf}
 use Rattle.days.proofs.Answers.{weekday-accepted}
 use Rattle.days.specs.declared.WeekdayAnswer.{WeekdayAnswer}
@@ -18,45 +15,12 @@ use Rattle.days.specs.declared.WeekdayAnswer.the-variants.{Weekday, Refused as 
 use Rattle.times.specs.declared.Fielded.{Fielded}
 use Rattle.times.specs.declared.Fielded.the-variants.{Field, Refused as NoField}
 use Rattle.local.specs.Text.{readText}
-use Rattle.datelines.specs.Report.{ascii, decimalOf, hexOf, placesOf, refusedText, dayText, fieldText, answerText, answerOf, lineOf, linesOf, numbered, reportOf}
-use Rattle.datelines.specs.Laying.{lineLength}
+use Rattle.printing.specs.Characters.{ascii, decimalOf, hexOf}
+use Rattle.printing.proofs.Digits.{digits-length, below-or-not, decimal-most, refused-most}
+use Rattle.datelines.specs.Report.{dayText, fieldText, answerText, answerOf, lineOf, linesOf, numbered, reportOf}
+use Rattle.datelines.specs.Lines.{lineLength}
 use Rattle.datelines.proofs.Text.{text-length}
-use Rattle.datelines.proofs.Digits.{digits-length, below-or-not, places-most}
 use Rattle.datelines.proofs.Lines.{first-line, length-within, numbered-none, report-lines, report-over}
-
-decimal-most : (w n : ℕ) → n < 10 ^ suc w → length (decimalOf n) ≤ suc w
-decimal-most w n h = omega (arith, digits-length 10 (placesOf n) n, places-most w n h)
-
-number-most : (r : Refusal) → toldOf r .number < 100
-number-most SectionTooShort = omega arith
-number-most OtherKind = omega arith
-number-most FixedBitZero = omega arith
-number-most SectionLengthOutside = omega arith
-number-most OtherLength = omega arith
-number-most NumberAboveLast = omega arith
-number-most CheckNotZero = omega arith
-number-most NotCurrent = omega arith
-number-most OtherHeading = omega arith
-number-most StoreTooShort = omega arith
-number-most Contradiction = omega arith
-number-most ImpossibleState = omega arith
-number-most (Missing at) = omega arith
-number-most (PastBody at) = omega arith
-number-most (PastPart at) = omega arith
-number-most (LeftOver at) = omega arith
-number-most (ReservedBitZero at) = omega arith
-number-most (DigitAboveNine at) = omega arith
-number-most (OutsideSet at) = omega arith
-number-most (ImpossibleDay at) = omega arith
-number-most OutputTooSmall = omega arith
-number-most TooLarge = omega arith
-number-most OtherChecksum = omega arith
-number-most NotOfTheForm = omega arith
-number-most BodyTooLong = omega arith
-
-refused-most : (r : Refusal) → length (refusedText r) ≤ 10
-unfolding refusedText
-refused-most r = omega (arith, decimal-most 1 (toldOf r .number) (number-most r))
 
 day-most : (field day : ℕ) (answer : WeekdayAnswer) → weekdayOf day ≡ answer → length (dayText field answer) ≤ 12
 day-most field day (Weekday w) e =

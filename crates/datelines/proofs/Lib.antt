@@ -1,6 +1,4 @@
 -- The laws that the functions' proofs cite.
-pub mod Laying
-pub mod Digits
 pub mod Lines
 pub mod Text
 pub mod Bounds

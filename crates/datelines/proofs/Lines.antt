@@ -9,8 +9,9 @@ use borrow.Author.Tests.{eq-eqb, ne-eqb, le-leb, lt-leb}
 use lib.Dec.{eqb}
 use lib.ListN.{length, getD, take, drop, length-drop, drop-of-length-le}
 use lib.Seq.{drop-cons, drop-drop}
-use Rattle.datelines.specs.Report.{ascii, onFirst, linesOf, lineOf, numbered, header, reportOf}
-use Rattle.datelines.specs.Laying.{lineLength}
+use Rattle.printing.specs.Characters.{ascii}
+use Rattle.datelines.specs.Report.{onFirst, linesOf, lineOf, numbered, header, reportOf}
+use Rattle.datelines.specs.Lines.{lineLength}
 
 -- ---- the search for a line's end, from the byte at i on
 

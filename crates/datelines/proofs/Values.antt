@@ -7,7 +7,8 @@ use Rattle.days.proofs.Answers.{weekday-given}
 use Rattle.times.specs.declared.Fielded.the-variants.{Field}
 use Rattle.offset.specs.Offset.{isOffset}
 use Rattle.local.specs.Text.{form, formed, readText}
-use Rattle.datelines.specs.Report.{ascii, digitOf, digitsOf, placesWithin, placesOf, decimalOf, linesOf, refusedText, hexOf, fieldText, answerOf, lineOf, numbered, header, reportOf}
+use Rattle.printing.specs.Characters.{ascii, digitOf, digitsOf, placesWithin, placesOf, decimalOf, refusedText, hexOf}
+use Rattle.datelines.specs.Report.{linesOf, fieldText, answerOf, lineOf, numbered, header, reportOf}
 use Rattle.datelines.proofs.Text.{text-day}
 
 -- an input of no bytes has no line

@@ -1,3 +1,3 @@
 -- The definitions that the contracts of `datelines` cite.
 pub mod Report
-pub mod Laying
+pub mod Lines

@@ -3,10 +3,10 @@ ghost use mathlib.Core.Path.{_≡_};
 ghost use mathlib.Core.List.{_++_};
 ghost use Prim.Native.Nat.{_+_, _^_, _≤_, _<_};
 ghost use lib.ListN.{length, drop};
-ghost use Rattle.datelines.specs.Report.{digitOf, digitsOf, placesOf, decimalOf, linesOf, refusedText, fieldText, answerOf, lineOf, numbered, reportOf};
-ghost use Rattle.datelines.specs.Laying.{lineLength, Put};
+ghost use Rattle.printing.specs.Put.{Put};
+ghost use Rattle.datelines.specs.Report.{linesOf, fieldText, answerOf, lineOf, numbered, reportOf};
+ghost use Rattle.datelines.specs.Lines.{lineLength};
 use days::WeekdayAnswer;
-use refusal::Refusal;
 use times::Fielded;
 
 // The longest input whose lines are read: 64 KiB.
@@ -31,75 +31,6 @@ fn line_end(input: &[u8], from: usize) -> usize
     end
 }
 
-// The character of a digit.
-fn digit(value: u64) -> u8
-    requires { ⌜ value < 16 ⌝ }
-    ensures { λ r. ⌜ r ≡ digitOf value ⌝ }
-{
-    if value < 10 {
-        return (48 + value) as u8;
-    }
-    (55 + value) as u8
-}
-
-// How many decimal digits a number has.
-fn places(number: u64) -> usize
-    ensures { λ r. ⌜ r ≡ placesOf number ⌝ }
-{
-    let mut count: usize = 1;
-    let mut rest = number;
-    while 10 <= rest {
-        rest = rest / 10;
-        count += 1;
-    }
-    count
-}
-
-// Puts a number's last `width` digits at a place of the output, the low one first. A writer answers the place after its bytes.
-fn put_digits(out: &mut [u8], at: usize, base: u64, width: usize, number: u64) -> usize
-    requires { ⌜ (0 < base) × (base ≤ 16) × (at + width ≤ length (now out)) ⌝ }
-    ensures { λ r. ⌜ Put (now (out .entry)) at (digitsOf base width number) (now (out .exit)) r ⌝ }
-{
-    let mut left = width;
-    let mut rest = number;
-    while 0 < left {
-        left -= 1;
-        out[at + left] = digit(rest % base);
-        rest = rest / base;
-    }
-    at + width
-}
-
-// Puts a number in decimal.
-fn put_decimal(out: &mut [u8], at: usize, number: u64) -> usize
-    requires { ⌜ at + length (decimalOf number) ≤ length (now out) ⌝ }
-    ensures { λ r. ⌜ Put (now (out .entry)) at (decimalOf number) (now (out .exit)) r ⌝ }
-{
-    put_digits(out, at, 10, places(number), number)
-}
-
-// Puts a fixed byte string, the last byte first.
-fn put_bytes(out: &mut [u8], at: usize, bytes: &[u8]) -> usize
-    requires { ⌜ at + length (now bytes) ≤ length (now out) ⌝ }
-    ensures { λ r. ⌜ Put (now (out .entry)) at (now (bytes .entry)) (now (out .exit)) r ⌝ }
-{
-    let mut left = bytes.len();
-    while 0 < left {
-        left -= 1;
-        out[at + left] = bytes[left];
-    }
-    at + bytes.len()
-}
-
-// Puts the word and the number of a refusal.
-fn put_refused(out: &mut [u8], at: usize, r: Refusal) -> usize
-    requires { ⌜ at + length (refusedText r) ≤ length (now out) ⌝ }
-    ensures { λ next. ⌜ Put (now (out .entry)) at (refusedText r) (now (out .exit)) next ⌝ }
-{
-    let after = put_bytes(out, at, b"refused ");
-    put_decimal(out, after, refusal::number(r) as u64)
-}
-
 // Puts a field and its weekday.
 fn put_field(out: &mut [u8], at: usize, field: u64) -> usize
     requires { ⌜ (field < 2 ^ 40) × (at + length (fieldText field) ≤ length (now out)) ⌝ }
@@ -107,11 +38,11 @@ fn put_field(out: &mut [u8], at: usize, field: u64) -> usize
 {
     match days::weekday((field / 0x100_0000) as u32) {
         WeekdayAnswer::Weekday(day) => {
-            let digits = put_digits(out, at, 16, 10, field);
-            let space = put_bytes(out, digits, b" ");
-            put_decimal(out, space, day as u64)
+            let digits = printing::put_digits(out, at, 16, 10, field);
+            let space = printing::put_bytes(out, digits, b" ");
+            printing::put_decimal(out, space, day as u64)
         }
-        WeekdayAnswer::Refused(r) => put_refused(out, at, r),
+        WeekdayAnswer::Refused(r) => printing::put_refused(out, at, r),
     }
 }
 
@@ -122,7 +53,7 @@ fn put_answer(out: &mut [u8], at: usize, text: &[u8]) -> usize
 {
     match local::read_text(text, 0) {
         Fielded::Field(field) => put_field(out, at, field),
-        Fielded::Refused(r) => put_refused(out, at, r),
+        Fielded::Refused(r) => printing::put_refused(out, at, r),
     }
 }
 
@@ -131,10 +62,10 @@ fn put_line(out: &mut [u8], at: usize, number: u64, text: &[u8]) -> usize
     requires { ⌜ at + length (lineOf number (now text)) ≤ length (now out) ⌝ }
     ensures { λ r. ⌜ Put (now (out .entry)) at (lineOf number (now (text .entry))) (now (out .exit)) r ⌝ }
 {
-    let counted = put_decimal(out, at, number);
-    let space = put_bytes(out, counted, b" ");
+    let counted = printing::put_decimal(out, at, number);
+    let space = printing::put_bytes(out, counted, b" ");
     let answered = put_answer(out, space, text);
-    put_bytes(out, answered, b"\n")
+    printing::put_bytes(out, answered, b"\n")
 }
 
 // Puts what the report says of each line, numbered from 1.
@@ -161,9 +92,9 @@ pub fn report(input: &[u8], out: &mut [u8; MOST_OUTPUT]) -> usize
     ensures bytes { λ r. ⌜ now (out .exit) ≡ reportOf (now (input .entry)) ++ drop r (now (out .entry)) ⌝ }
     ensures within { λ r. ⌜ r ≤ length (now (out .exit)) ⌝ }
 {
-    let begun = put_bytes(out, 0, b"line field weekday\n");
+    let begun = printing::put_bytes(out, 0, b"line field weekday\n");
     if MOST_INPUT < input.len() {
-        return put_bytes(out, begun, b"0 refused 22\n");
+        return printing::put_bytes(out, begun, b"0 refused 22\n");
     }
     put_lines(out, begun, input)
 }

@@ -1,12 +1,12 @@
--- Laws of bytes laid into a list: a run of stores, a copy under way, and one part after another.
-use Prim.Native.Nat.{ℕ, _+_, _≤_, _<_}
-use mathlib.Core.List.{List, _++_, append-assoc}
+-- Laws of bytes laid into a list: a run of stores, a copy under way, one part after another, and the last byte first.
+use Prim.Native.Nat.{ℕ, suc, _+_, _≤_, _<_}
+use mathlib.Core.List.{List, [], _∷_, _++_, append-assoc, append-nil}
 use mathlib.Core.Path.{_≡_, refl, sym, ap, _∙_}
-use native.Mathlib.Nat.{le-antisymm, add-assoc}
+use native.Mathlib.Nat.{le-antisymm, add-zero, zero-add, add-assoc}
 use native.Mathlib.Numerals.{add-one}
 use native.Mathlib.Omega.{arith}
-use lib.ListN.{length, getD, set, take, drop, length-append, length-drop}
-use lib.Seq.{sets, sets-eq, paste, paste-zero, paste-suc, length-take-le, take-at, drop-at, take-length, drop-drop}
+use lib.ListN.{length, getD, set, take, drop, length-append, length-drop, take-append-drop}
+use lib.Seq.{sets, sets-eq, paste, paste-zero, paste-suc, length-take-le, take-at, drop-at, take-length, drop-drop, drop-cons, take-set-le, drop-set-add}
 use Rattle.placing.specs.Placed.{placed}
 
 -- ---- stores one after the other
@@ -69,3 +69,28 @@ module _ (d : List ℕ) (at : ℕ) (s : List ℕ) (room : at + length s ≤ leng
 pub placed-start : (d s : List ℕ) (k : ℕ) → k ≡ length s → take k (placed d 0 s) ≡ s
 unfolding placed
 placed-start d s k e = take-at s (drop (0 + length s) d) k (sym e)
+
+pub placed-whole : (d s : List ℕ) → placed d 0 s ≡ s ++ drop (length s) d
+unfolding placed
+placed-whole d s = rw zero-add
+
+-- ---- the last byte first
+
+pub placed-none : (d : List ℕ) (at : ℕ) → placed d at [] ≡ d
+unfolding placed
+placed-none d at = rw (append-nil, add-zero, take-append-drop)
+
+pub placed-last : (d : List ℕ) (at : ℕ) (s : List ℕ) (b : ℕ) → at + length s < length d → placed d at (s ++ (b ∷ [])) ≡ placed (set d (at + length s) b) at s
+unfolding placed
+placed-last d at s b h =
+    rw (take-set-le at d (at + length s) b (omega arith), tail)
+    (simp (append-assoc, length-append) (rw one))
+  where
+    one : at + (length s + 1) ≡ suc (at + length s)
+    one = omega arith
+
+    tail : drop (at + length s) (set d (at + length s) b) ≡ b ∷ drop (suc (at + length s)) d
+    tail =
+        ap (λ n. drop (at + length s) (set d n b)) (sym (add-zero (at + length s)))
+        ∙ drop-set-add (at + length s) d 0 b
+        ∙ ap (λ l. set l 0 b) (drop-cons d (at + length s) 0 h)

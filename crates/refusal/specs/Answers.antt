@@ -1,6 +1,5 @@
 -- What a reader has to believe of answers to C: one number holds the refusal, or that there is none, and the place or the value.
 use Prim.Native.Nat.{ℕ, _+_, _*_, _%_, _^_}
-use Rattle.refusal.specs.declared.Account.{Account}
 use Rattle.refusal.specs.declared.Refusal.{Refusal}
 use Rattle.refusal.specs.Numbers.{toldOf}
 

@@ -5,7 +5,7 @@ use native.Mathlib.Omega.{arith}
 use borrow.Author.Needs.{needs}
 use denote.Ref.{now}
 use lib.ListN.{length, drop}
-use Rattle.datelines.specs.Laying.{lineLength}
+use Rattle.datelines.specs.Lines.{lineLength}
 use Rattle.datelines.proofs.Lines.{length-at-feed, length-at-other, length-at-end}
 use Rattle.datelines.proofs.line_end.Statement.{statement}
 use Rattle.datelines.proofs.line_end.Tie as tie

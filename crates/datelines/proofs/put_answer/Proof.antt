@@ -4,7 +4,8 @@ use native.Mathlib.Omega.{arith}
 use borrow.Author.Needs.{needs}
 use denote.Ref.{now}
 use Rattle.datelines.proofs.Text.{text-day}
-use Rattle.datelines.specs.Report.{answerOf, answerText, fieldText, refusedText}
+use Rattle.printing.specs.Characters.{refusedText}
+use Rattle.datelines.specs.Report.{answerOf, answerText, fieldText}
 use Rattle.datelines.proofs.put_answer.Statement.{statement}
 use Rattle.datelines.proofs.put_answer.Tie as tie
 

@@ -6,9 +6,10 @@ use native.Mathlib.Omega.{arith}
 use borrow.Author.Needs.{needs}
 use denote.Ref.{now}
 use lib.ListN.{length}
-use Rattle.datelines.specs.Report.{ascii, hexOf, decimalOf, dayText, fieldText, refusedText}
-use Rattle.datelines.proofs.Digits.{digits-length}
-use Rattle.datelines.proofs.Laying.{room-first, put-room, put-then}
+use Rattle.printing.specs.Characters.{ascii, hexOf, decimalOf, refusedText}
+use Rattle.datelines.specs.Report.{dayText, fieldText}
+use Rattle.printing.proofs.Digits.{digits-length}
+use Rattle.printing.proofs.Putting.{room-first, put-room, put-then}
 use Rattle.datelines.proofs.put_field.Statement.{statement}
 use Rattle.datelines.proofs.put_field.Tie as tie
 

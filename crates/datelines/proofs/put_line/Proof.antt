@@ -2,8 +2,9 @@
 use mathlib.Core.List.{_++_}
 use borrow.Author.Needs.{needs}
 use denote.Ref.{now}
-use Rattle.datelines.specs.Report.{ascii, decimalOf, answerOf, lineOf}
-use Rattle.datelines.proofs.Laying.{room-first, put-room, put-then}
+use Rattle.printing.specs.Characters.{ascii, decimalOf}
+use Rattle.datelines.specs.Report.{answerOf, lineOf}
+use Rattle.printing.proofs.Putting.{room-first, put-room, put-then}
 use Rattle.datelines.proofs.put_line.Statement.{statement}
 use Rattle.datelines.proofs.put_line.Tie as tie
 

@@ -7,8 +7,8 @@ use borrow.Author.Needs.{needs}
 use denote.Ref.{now}
 use lib.ListN.{length, take, drop}
 use Rattle.datelines.specs.Report.{linesOf, lineOf, numbered}
-use Rattle.datelines.specs.Laying.{Put}
-use Rattle.datelines.proofs.Laying.{room-first, put-length, put-room, put-none, put-then}
+use Rattle.printing.specs.Put.{Put}
+use Rattle.printing.proofs.Putting.{room-first, put-length, put-room, put-none, put-then}
 use Rattle.datelines.proofs.Lines.{numbered-none, numbered-turn}
 use Rattle.datelines.proofs.put_lines.Statement.{statement}
 use Rattle.datelines.proofs.put_lines.Tie as tie

@@ -7,7 +7,7 @@ use lib.ListN.{length}
 use Rattle.datelines.specs.Report.{linesOf, numbered}
 use Rattle.datelines.proofs.Bounds.{report-most}
 use Rattle.datelines.proofs.Lines.{report-lines, report-over}
-use Rattle.datelines.proofs.Laying.{put-room, put-then, put-whole}
+use Rattle.printing.proofs.Putting.{put-room, put-then, put-whole}
 use Rattle.datelines.proofs.report.Statement.{statement}
 use Rattle.datelines.proofs.report.Tie as tie
 

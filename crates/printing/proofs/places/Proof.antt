@@ -1,12 +1,12 @@
--- `datelines::places` meets its contract: the digits counted and those of what is left are one more than the number's.
+-- `printing::places` meets its contract: the digits counted and those of what is left are one more than the number's.
 use Prim.Native.Nat.{_+_, _≤_}
 use mathlib.Core.Path.{_≡_}
 use native.Mathlib.Omega.{arith}
 use borrow.Author.Needs.{needs}
-use Rattle.datelines.specs.Report.{placesOf}
-use Rattle.datelines.proofs.Digits.{places-one, places-more}
-use Rattle.datelines.proofs.places.Statement.{statement}
-use Rattle.datelines.proofs.places.Tie as tie
+use Rattle.printing.specs.Characters.{placesOf}
+use Rattle.printing.proofs.Digits.{places-one, places-more}
+use Rattle.printing.proofs.places.Statement.{statement}
+use Rattle.printing.proofs.places.Tie as tie
 
 abbrev Inv-loop : tie.InvT-loop
 Inv-loop number count₀ rest₀ count rest =

@@ -8,9 +8,12 @@ use native.Mathlib.Decide.{decLt}
 use mathlib.Core.Logic.{_⊎_, inl, inr, ⊎-elim}
 use borrow.Author.Tests.{lt-ltb, le-ltb}
 use lib.ListN.{length, set, length-append}
-use Rattle.datelines.specs.Report.{digitOf, digitsOf, placesWithin, placesOf}
-use Rattle.datelines.specs.Laying.{laid}
-use Rattle.datelines.proofs.Laying.{laid-none, laid-last}
+use Rattle.printing.specs.Characters.{digitOf, digitsOf, placesWithin, placesOf, decimalOf, refusedText}
+use Rattle.refusal.specs.Numbers.{toldOf}
+use Rattle.refusal.specs.declared.Refusal.{Refusal}
+use Rattle.refusal.proofs.Numbers.{number-most}
+use Rattle.placing.specs.Placed.{placed}
+use Rattle.placing.proofs.Placing.{placed-none, placed-last}
 
 pub digits-length : (base width n : ℕ) → length (digitsOf base width n) ≡ width
 unfolding digitsOf
@@ -19,17 +22,17 @@ digits-length base (suc width) n = rw (length-append, digits-length base width (
 
 -- a turn of the loop that writes from the low digit on
 pub digits-turn : (d : List ℕ) (at base k n : ℕ) → 0 < k → at + k ≤ length d
-    → laid d at (digitsOf base k n) ≡ laid (set d (at + (k - 1)) (digitOf (n % base))) at (digitsOf base (k - 1) (n / base))
+    → placed d at (digitsOf base k n) ≡ placed (set d (at + (k - 1)) (digitOf (n % base))) at (digitsOf base (k - 1) (n / base))
 unfolding digitsOf
 digits-turn d at base zero n z h = absurd (omega arith)
 digits-turn d at base (suc k) n z h =
     let e : suc k - 1 ≡ k = omega arith in
     let m = digits-length base k (n / base) in
-    laid-last d at (digitsOf base k (n / base)) (digitOf (n % base)) (omega (arith, m)) ∙ rw (m, e)
+    placed-last d at (digitsOf base k (n / base)) (digitOf (n % base)) (omega (arith, m)) ∙ rw (m, e)
 
-pub digits-done : (d : List ℕ) (at base k n : ℕ) → k ≡ 0 → laid d at (digitsOf base k n) ≡ d
+pub digits-done : (d : List ℕ) (at base k n : ℕ) → k ≡ 0 → placed d at (digitsOf base k n) ≡ d
 unfolding digitsOf
-digits-done d at base k n z = rw (z, laid-none)
+digits-done d at base k n z = rw (z, placed-none)
 
 -- ---- decimal places
 
@@ -91,3 +94,12 @@ within-enough (suc steps) n h =
 pub places-enough : (n : ℕ) → n < 10 ^ placesOf n
 unfolding placesOf
 places-enough n = within-enough n n (omega arith)
+
+-- ---- how long
+
+pub decimal-most : (w n : ℕ) → n < 10 ^ suc w → length (decimalOf n) ≤ suc w
+decimal-most w n h = omega (arith, digits-length 10 (placesOf n) n, places-most w n h)
+
+pub refused-most : (r : Refusal) → length (refusedText r) ≤ 10
+unfolding refusedText
+refused-most r = omega (arith, decimal-most 1 (toldOf r .number) (number-most r))

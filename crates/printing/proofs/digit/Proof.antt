@@ -1,9 +1,9 @@
--- `datelines::digit` meets its contract: the definition's test is the code's.
+-- `printing::digit` meets its contract: the definition's test is the code's.
 use borrow.Author.Needs.{needs}
 use borrow.Author.Tests.{lt-ltb, le-ltb}
-use Rattle.datelines.specs.Report.{digitOf}
-use Rattle.datelines.proofs.digit.Statement.{statement}
-use Rattle.datelines.proofs.digit.Tie as tie
+use Rattle.printing.specs.Characters.{digitOf}
+use Rattle.printing.proofs.digit.Statement.{statement}
+use Rattle.printing.proofs.digit.Tie as tie
 
 returns : tie.Need-returns
 unfolding digitOf

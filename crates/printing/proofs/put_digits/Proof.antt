@@ -1,19 +1,19 @@
--- `datelines::put_digits` meets its contract: what stands, with the digits that are left laid on it, stays the same.
+-- `printing::put_digits` meets its contract: what stands, with the digits that are left placed on it, stays the same.
 use Prim.Native.Nat.{_+_, _≤_}
 use mathlib.Core.Path.{_≡_, sym, ap, _∙_}
 use native.Mathlib.Nat.{mod-lt}
 use native.Mathlib.Omega.{arith}
 use borrow.Author.Needs.{needs}
 use lib.ListN.{length}
-use Rattle.datelines.specs.Report.{digitsOf}
-use Rattle.datelines.specs.Laying.{laid}
-use Rattle.datelines.proofs.Digits.{digits-length, digits-turn, digits-done}
-use Rattle.datelines.proofs.put_digits.Statement.{statement}
-use Rattle.datelines.proofs.put_digits.Tie as tie
+use Rattle.printing.specs.Characters.{digitsOf}
+use Rattle.placing.specs.Placed.{placed}
+use Rattle.printing.proofs.Digits.{digits-length, digits-turn, digits-done}
+use Rattle.printing.proofs.put_digits.Statement.{statement}
+use Rattle.printing.proofs.put_digits.Tie as tie
 
 abbrev Inv-loop : tie.InvT-loop
 Inv-loop out₀ at base width number left₀ rest₀ out left rest =
-    (left ≤ width) × (length out ≡ length out₀) × (laid out at (digitsOf base left rest) ≡ laid out₀ at (digitsOf base width number))
+    (left ≤ width) × (length out ≡ length out₀) × (placed out at (digitsOf base left rest) ≡ placed out₀ at (digitsOf base width number))
 
 abbrev μ-loop : tie.MeasureT-loop
 μ-loop out₀ at base width number left₀ rest₀ out left rest = left

@@ -1,10 +1,10 @@
--- `datelines::put_decimal` meets its contract: it puts as many digits as the number has.
+-- `printing::put_decimal` meets its contract: it puts as many digits as the number has.
 use native.Mathlib.Omega.{arith}
 use borrow.Author.Needs.{needs}
-use Rattle.datelines.specs.Report.{placesOf}
-use Rattle.datelines.proofs.Digits.{digits-length}
-use Rattle.datelines.proofs.put_decimal.Statement.{statement}
-use Rattle.datelines.proofs.put_decimal.Tie as tie
+use Rattle.printing.specs.Characters.{placesOf}
+use Rattle.printing.proofs.Digits.{digits-length}
+use Rattle.printing.proofs.put_decimal.Statement.{statement}
+use Rattle.printing.proofs.put_decimal.Tie as tie
 
 put-digits-requires : tie.Need-put-digits-requires
 put-digits-requires c κs =

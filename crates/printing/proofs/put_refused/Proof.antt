@@ -1,10 +1,10 @@
--- `datelines::put_refused` meets its contract: the word and the number, one after the other.
+-- `printing::put_refused` meets its contract: the word and the number, one after the other.
 use borrow.Author.Needs.{needs}
 use Rattle.refusal.specs.Numbers.{toldOf}
-use Rattle.datelines.specs.Report.{ascii, decimalOf, refusedText}
-use Rattle.datelines.proofs.Laying.{room-first, put-room, put-then}
-use Rattle.datelines.proofs.put_refused.Statement.{statement}
-use Rattle.datelines.proofs.put_refused.Tie as tie
+use Rattle.printing.specs.Characters.{ascii, decimalOf, refusedText}
+use Rattle.printing.proofs.Putting.{room-first, put-room, put-then}
+use Rattle.printing.proofs.put_refused.Statement.{statement}
+use Rattle.printing.proofs.put_refused.Tie as tie
 
 put-bytes-requires : tie.Need-put-bytes-requires
 unfolding refusedText

@@ -1,0 +1,3 @@
+-- The laws that the functions' proofs and later crates cite.
+pub mod Digits
+pub mod Putting
