@@ -13,7 +13,7 @@
 
 enum { MOST_CONTENDERS = 4, MOST_SIZES = 8, ROUNDS = 75 };
 
-static uint8_t input[NW_MOST_BODY], output[256 * NW_MOST_SECTION];
+static uint8_t input[512 * NW_MOST_SECTION], output[256 * NW_MOST_SECTION];
 
 typedef uint64_t work(const uint8_t *s, size_t n);
 
@@ -128,6 +128,85 @@ static uint64_t cut_all(cutter *cut, const uint8_t *s, size_t n) {
 static uint64_t cut_library(const uint8_t *s, size_t n) { return cut_all(nw_section_cut, s, n); }
 static uint64_t cut_slicing(const uint8_t *s, size_t n) { return cut_all(cut_one, s, n); }
 
+// ---- a table of 256 full sections, which come one right after the other, gathered and handed out
+
+typedef nw_answer feeder(struct nw_gathering *g, uint8_t *store, size_t room, const uint8_t *s, size_t n);
+typedef nw_answer hander(const struct nw_gathering *g, const uint8_t *store, size_t room, uint8_t *out,
+                         size_t out_room);
+
+static int is_possible(const struct nw_gathering *g) {
+    unsigned most = 0, above = 0;
+    for (size_t k = 0; k < 256; k++) most = g->held[k] > most ? g->held[k] : most;
+    if (g->kind == 0) return (most | g->extension | g->version | g->last | g->spoiled) == 0;
+    for (size_t k = g->last + (size_t)1; k < 256; k++) above |= g->held[k];
+    return g->kind >= 0xFB && g->kind <= 0xFE && g->version <= 31 && g->spoiled <= 1 && most > 0 &&
+           most <= NW_MOST_PAYLOAD + 1 && above == 0;
+}
+
+static int is_other_heading(const struct nw_gathering *g, nw_answer read) {
+    return g->kind != NW_SECTION_KIND(read) || g->extension != NW_SECTION_EXTENSION(read) ||
+           g->version != NW_SECTION_VERSION(read) || g->last != NW_SECTION_LAST(read);
+}
+
+// The answer, the state and the store of nw_gathering_feed, by the same checks in the same order.
+static nw_answer feed_slicing(struct nw_gathering *g, uint8_t *store, size_t room, const uint8_t *s, size_t n) {
+    if (!is_possible(g)) return 12;
+    nw_answer read = read_slicing(s, n);
+    if (NW_REFUSAL(read)) return read;
+    if (!NW_SECTION_CURRENT(read)) return 8;
+    if (g->kind != 0 && is_other_heading(g, read)) return 9;
+    if (room < (NW_SECTION_LAST(read) + (size_t)1) * NW_MOST_PAYLOAD) return 10;
+    if (g->spoiled) return 11;
+    size_t number = NW_SECTION_NUMBER(read), length = n - 12;
+    uint8_t *place = store + number * NW_MOST_PAYLOAD;
+    if (g->held[number] == length + 1 && memcmp(place, s + 8, length) == 0) return (nw_answer)NW_FED_HELD_ALREADY << 8;
+    if (g->held[number] != 0) {
+        g->spoiled = 1;
+        return 11;
+    }
+    memcpy(place, s + 8, length);
+    g->extension = (uint16_t)NW_SECTION_EXTENSION(read);
+    g->kind = (uint8_t)NW_SECTION_KIND(read);
+    g->version = (uint8_t)NW_SECTION_VERSION(read);
+    g->last = (uint8_t)NW_SECTION_LAST(read);
+    g->held[number] = (uint16_t)(length + 1);
+    return (nw_answer)NW_FED_TAKEN << 8;
+}
+
+// The answer and the output of nw_gathering_hand_out, by the same checks in the same order.
+static nw_answer hand_out_joined(const struct nw_gathering *g, const uint8_t *store, size_t room, uint8_t *out,
+                                 size_t out_room) {
+    if (!is_possible(g)) return 12;
+    if (g->kind == 0) return 13;
+    if (room < (g->last + (size_t)1) * NW_MOST_PAYLOAD) return 10;
+    if (g->spoiled) return 11;
+    size_t length = 0;
+    for (size_t k = 0; k <= g->last; k++) {
+        if (g->held[k] == 0) return (nw_answer)k << 8 | 13;
+        length += g->held[k] - (size_t)1;
+    }
+    if (length > NW_MOST_BODY) return 25;
+    if (length > out_room) return 21;
+    for (size_t k = 0; k <= g->last; out += g->held[k++] - 1) memcpy(out, store + k * NW_MOST_PAYLOAD, g->held[k] - 1u);
+    return (nw_answer)length << 8;
+}
+
+// A number that every answer has a part in.
+static uint64_t gather(feeder *feed, hander *hand_out, const uint8_t *s, size_t n) {
+    static uint8_t store[NW_MOST_BODY];
+    struct nw_gathering g = {0};
+    uint64_t answers = 0;
+    for (size_t at = 0; at < n; at += NW_MOST_SECTION)
+        answers = answers * 31 + feed(&g, store, sizeof store, s + at, NW_MOST_SECTION);
+    return answers * 31 + hand_out(&g, store, sizeof store, output, sizeof output);
+}
+
+static uint64_t gather_library(const uint8_t *s, size_t n) {
+    return gather(nw_gathering_feed, nw_gathering_hand_out, s, n);
+}
+
+static uint64_t gather_slicing(const uint8_t *s, size_t n) { return gather(feed_slicing, hand_out_joined, s, n); }
+
 // ---- what they are given
 
 static void fill_bytes(size_t n) {
@@ -143,6 +222,37 @@ static void fill_section(size_t n) {
     if (NW_REFUSAL(read_slicing(input, n))) abort();
 }
 
+// The section of some number of a table, in place i.
+static void put_full_section(size_t i, uint32_t number) {
+    static uint8_t payload[NW_MOST_PAYLOAD];
+    for (size_t k = 0; k < sizeof payload; k++) payload[k] = (uint8_t)((k * k + number * 2654435761u) >> 8);
+    put_section(input + i * NW_MOST_SECTION, payload, sizeof payload, 0xFD, 0x0C29, 17, number, 255);
+}
+
+static void fill_in_order(size_t n) {
+    for (size_t i = 0; i < n / NW_MOST_SECTION; i++) put_full_section(i, (uint32_t)i);
+}
+
+static void fill_reversed(size_t n) {
+    for (size_t i = 0; i < n / NW_MOST_SECTION; i++) put_full_section(i, 255 - (uint32_t)i);
+}
+
+static void fill_shuffled(size_t n) {
+    uint8_t numbers[256] = {0};
+    uint32_t chance = 86;
+    for (size_t i = 0; i < n / NW_MOST_SECTION; i++) {
+        size_t other = ((chance = chance * 1664525 + 1013904223) >> 16) % (i + 1);
+        numbers[i] = numbers[other];
+        numbers[other] = (uint8_t)i;
+    }
+    for (size_t i = 0; i < n / NW_MOST_SECTION; i++) put_full_section(i, numbers[i]);
+}
+
+// All sections, and then all of them again.
+static void fill_twice(size_t n) {
+    for (size_t i = 0; i < n / NW_MOST_SECTION; i++) put_full_section(i, (uint32_t)i % 256);
+}
+
 static const struct operation operations[] = {
     {"CRC_32",
      fill_bytes,
@@ -156,6 +266,22 @@ static const struct operation operations[] = {
      fill_bytes,
      {{"neapwillow", cut_library}, {"C, slicing by 8", cut_slicing}},
      {4084, 16 * 4084, 256 * 4084}},
+    {"gathering, in order",
+     fill_in_order,
+     {{"neapwillow", gather_library}, {"C, slicing by 8", gather_slicing}},
+     {256 * 4096}},
+    {"gathering, reversed",
+     fill_reversed,
+     {{"neapwillow", gather_library}, {"C, slicing by 8", gather_slicing}},
+     {256 * 4096}},
+    {"gathering, shuffled",
+     fill_shuffled,
+     {{"neapwillow", gather_library}, {"C, slicing by 8", gather_slicing}},
+     {256 * 4096}},
+    {"gathering, twice",
+     fill_twice,
+     {{"neapwillow", gather_library}, {"C, slicing by 8", gather_slicing}},
+     {512 * 4096}},
 };
 
 // ---- measuring
@@ -212,13 +338,13 @@ static void measure(const struct operation *o, size_t n) {
             if (each < best[i]) best[i] = each;
         }
     for (size_t i = 0; i < count; i++)
-        printf("%-8s %7zu  %-16s %10.1f %9.3f %8.1f %6.2f\n", o->name, n, o->contenders[i].name, best[i],
+        printf("%-19s %7zu  %-16s %10.1f %9.3f %8.1f %6.2f\n", o->name, n, o->contenders[i].name, best[i],
                best[i] / (double)n, (double)n * 1e3 / best[i], best[0] / best[i]);
 }
 
 int main(void) {
     fill_slices();
-    printf("%-8s %7s  %-16s %10s %9s %8s %6s\n", "", "bytes", "", "ns a call", "ns a byte", "MB/s", "ratio");
+    printf("%-19s %7s  %-16s %10s %9s %8s %6s\n", "", "bytes", "", "ns a call", "ns a byte", "MB/s", "ratio");
     for (size_t k = 0; k < sizeof operations / sizeof operations[0]; k++) {
         const struct operation *o = &operations[k];
         for (size_t i = 0; i < MOST_SIZES && o->sizes[i] > 0; i++) {

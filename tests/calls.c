@@ -40,6 +40,14 @@ static _Noreturn void stop(const char *why) {
     exit(2);
 }
 
+static uint8_t guard_byte(size_t i) { return (uint8_t)(i ^ 0xa5); }
+
+static void hold_guards(const struct argument *a) {
+    for (size_t i = 0; i < a->guard; i++)
+        if (a->block[i] != guard_byte(i) || a->bytes[a->length + i] != guard_byte(i))
+            stop("a byte beside a lent output changed");
+}
+
 // ---- what an answer is printed with
 
 static const char *between = "";
@@ -159,6 +167,69 @@ static void call_section_cut_all(const struct argument *a) {
     put_bytes(a[4].bytes, a[4].length);
 }
 
+// ---- a gathering: its state and its store are lent once, and stay between requests
+
+static struct argument state, store;
+
+// A copy of a lent output, guard bytes and all, in the place of what was lent before.
+static void keep(struct argument *kept, const struct argument *lent) {
+    free(kept->block);
+    *kept = *lent;
+    kept->block = malloc(lent->length + 2 * lent->guard);
+    if (kept->block == NULL) stop("out of memory");
+    memcpy(kept->block, lent->block, lent->length + 2 * lent->guard);
+    kept->bytes = kept->block + kept->guard;
+}
+
+static void call_gathering_state(const struct argument *a) {
+    if (a[0].length != sizeof(struct nw_gathering)) stop("not as long as a state");
+    keep(&state, &a[0]);
+}
+
+static void call_gathering_store(const struct argument *a) { keep(&store, &a[0]); }
+
+static struct nw_gathering *lent_state(void) {
+    if (state.block == NULL || store.block == NULL) stop("no state or no store is lent");
+    return (struct nw_gathering *)(void *)state.bytes;
+}
+
+static void call_gathering_feed(const struct argument *a) {
+    put_answer(nw_gathering_feed(lent_state(), store.bytes, store.length, a[0].bytes, a[0].length));
+    hold_guards(&state);
+    hold_guards(&store);
+}
+
+static void call_gathering_hand_out(const struct argument *a) {
+    put_answer(nw_gathering_hand_out(lent_state(), store.bytes, store.length, a[0].bytes, a[0].length));
+    put_bytes(a[0].bytes, a[0].length);
+    hold_guards(&state);
+    hold_guards(&store);
+}
+
+// Adler-32, a checksum that has nothing of the library's. The sums of 1 MiB are far below 2^64.
+static uint64_t adler32(const uint8_t *s, size_t n) {
+    uint64_t sum = 1, sums = 0;
+    for (size_t i = 0; i < n; i++) sums += sum += s[i];
+    return sums % 65521 << 16 | sum % 65521;
+}
+
+// The store by its checksum; the state by its fields, and for each held number the number and what the state has there.
+static void call_gathering_show(const struct argument *a) {
+    (void)a;
+    const struct nw_gathering *g = lent_state();
+    put_number(adler32(store.bytes, store.length));
+    put_number(g->extension);
+    put_number(g->kind);
+    put_number(g->version);
+    put_number(g->last);
+    put_number(g->spoiled);
+    for (size_t k = 0; k < sizeof g->held / sizeof g->held[0]; k++)
+        if (g->held[k] != 0) {
+            put_number(k);
+            put_number(g->held[k]);
+        }
+}
+
 static const struct call calls[] = {
     {"echo", "buiwo", call_echo},
     {"crc32", "b", call_crc32},
@@ -174,6 +245,11 @@ static const struct call calls[] = {
     {"section_count", "w", call_section_count},
     {"section_cut", "buuuuo", call_section_cut},
     {"section_cut_all", "buuuo", call_section_cut_all},
+    {"gathering_state", "o", call_gathering_state},
+    {"gathering_store", "o", call_gathering_store},
+    {"gathering_feed", "b", call_gathering_feed},
+    {"gathering_hand_out", "o", call_gathering_hand_out},
+    {"gathering_show", "", call_gathering_show},
 };
 
 // ---- what a request is read with
@@ -201,8 +277,6 @@ static struct argument wide_number(const char *word) {
     return a;
 }
 
-static uint8_t guard_byte(size_t i) { return (uint8_t)(i ^ 0xa5); }
-
 static struct argument byte_string(const char *word, size_t guard) {
     size_t digits = strcmp(word, "-") == 0 ? 0 : strcspn(word, "*"), unit = digits / 2;
     size_t times = word[digits] == '*' ? (size_t)number(word + digits + 1, 1, INT32_MAX).number : 1;
@@ -218,9 +292,7 @@ static struct argument byte_string(const char *word, size_t guard) {
 }
 
 static void give_back(const struct argument *a) {
-    for (size_t i = 0; i < a->guard; i++)
-        if (a->block[i] != guard_byte(i) || a->bytes[a->length + i] != guard_byte(i))
-            stop("a byte beside a lent output changed");
+    hold_guards(a);
     free(a->block);
 }
 

@@ -1,4 +1,6 @@
 """The second program for sections, from document 01 alone: one printed, read, counted and cut."""
+import zlib
+
 from calls import Refused
 
 MOST_PAYLOAD = 4084
@@ -7,23 +9,15 @@ MOST_BODY = 1045504
 WIDTHS = (8, 4, 12, 16, 2, 5, 1, 8, 8)
 
 
-def byte_steps():
-    """What a byte at the top of the register leaves of it after eight steps."""
-    for byte in range(256):
-        held = byte << 24
-        for _ in range(8):
-            held = held << 1 ^ (0x104C11DB7 if held >> 31 else 0)
-        yield held
-
-
-STEPS = list(byte_steps())
+REVERSED = bytes(int(format(byte, '08b')[::-1], 2) for byte in range(256))
 
 
 def register(data):
-    held = 0xFFFFFFFF
-    for byte in data:
-        held = held << 8 & 0xFFFFFFFF ^ STEPS[held >> 24 ^ byte]
-    return held
+    """zlib's takes the low bit first and is inverted at the end: the bits are turned round on the way in and out."""
+    return int(format(zlib.crc32(data.translate(REVERSED)) ^ 0xFFFFFFFF, '032b')[::-1], 2)
+
+
+assert register(b'123456789') == 0x0376E6E7
 
 
 def checked(data):

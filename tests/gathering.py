@@ -1,0 +1,314 @@
+"""Gatherings by chance and by hand: the library's answers, states, stores and bodies, and a second program's."""
+import collections
+import itertools
+import random
+
+import calls
+from second_gathering import MOST_BODY, MOST_PAYLOAD, Gathering, packed
+from second_sections import checked, printed
+
+SEQUENCES = 12000
+FRESH = bytes(518)
+chance = random.Random(86)
+
+requests, expected = [], []
+# How often each call was given each refusal.
+told = {'gathering_feed': collections.Counter(), 'gathering_hand_out': collections.Counter()}
+box = Gathering()
+
+
+def ask(call, *arguments):
+    """Puts a request on the list, and beside it the second program's answer, which it returns."""
+    requests.append(calls.request(call, *arguments))
+    items = getattr(box, call)(*arguments)
+    expected.append(' '.join((item.hex() or '-') if isinstance(item, bytes) else str(item) for item in items))
+    if call in told:
+        told[call][items[0]] += 1
+    return items
+
+
+def lend(state, store):
+    ask('gathering_state', state)
+    ask('gathering_store', store)
+
+
+def feed(s):
+    return ask('gathering_feed', s)
+
+
+def hand_out(room):
+    return ask('gathering_hand_out', chance.randbytes(1) * room)
+
+
+def filled(length):
+    """A store of some length, all of one byte, so that its request is short."""
+    return chance.randbytes(1) * max(0, length)
+
+
+def room_for(last):
+    return (last + 1) * MOST_PAYLOAD
+
+
+# ---- what document 01 says, held to the second program
+
+
+def examples():
+    index = 0xFD, 2018, 17
+
+    def section(number, last, payload, current=1):
+        return printed(*index, current, number, last, payload)
+
+    lend(FRESH, filled(room_for(1)))
+    assert hand_out(9)[:2] == (13, 0)
+    # Joined by number, not by arrival, and not padded; a repeat completes nothing.
+    assert feed(section(1, 1, b'late')) == (0, 0)
+    assert feed(section(1, 1, b'late')) == (0, 1)
+    assert hand_out(9)[:2] == (13, 0)
+    assert feed(section(0, 1, b'early', current=0)) == (8, 0)
+    assert feed(section(0, 0, b'early')) == (9, 0)
+    assert feed(section(0, 1, b'early')) == (0, 0)
+    assert ask('gathering_hand_out', b'\x5A' * 11) == (0, 9, b'earlylate\x5A\x5A')
+    assert hand_out(8)[0] == 21
+    # A contradiction spoils: its heading is 11 from then on, another one 9.
+    assert feed(section(0, 1, b'earl')) == (11, 0)
+    assert feed(section(0, 1, b'early')) == (11, 0)
+    assert feed(section(0, 2, b'early')) == (9, 0)
+    assert hand_out(9)[:2] == (11, 0)
+    # 10 begins nothing.
+    lend(FRESH, filled(room_for(1)))
+    assert feed(section(0, 2, b'')) == (10, 0)
+    assert ask('gathering_show')[1:] == (0, 0, 0, 0, 0)
+    # The empty body.
+    assert feed(section(1, 1, b'')) == (0, 0)
+    assert hand_out(0)[:2] == (13, 0)
+    assert feed(section(0, 1, b'')) == (0, 0)
+    assert hand_out(0) == (0, 0, b'')
+    assert ask('gathering_show')[1:] == (2018, 0xFD, 17, 1, 0, 0, 1, 1, 1)
+
+
+# ---- every fault with every other, which shows the order of refusals
+
+
+def with_byte(at, value):
+    return lambda s: s[:at] + bytes([value]) + s[at + 1:]
+
+
+def rechecked(s):
+    return checked(s[:-4])
+
+
+# The fault at place k earns refusal k.
+SECTION_FAULTS = [
+    lambda s: s,
+    lambda s: s[:11],
+    lambda s: rechecked(with_byte(0, 0xFA)(s)),
+    lambda s: rechecked(with_byte(1, 0x70)(s)),
+    lambda s: rechecked(with_byte(2, 8)(s)),
+    lambda s: s + b'\0',
+    lambda s: rechecked(with_byte(6, 3)(s)),
+    with_byte(8, 0),
+]
+
+
+def orders_of_feeding():
+    """State, section, current, heading, store, contradiction; and the same to a fresh state."""
+    for impossible, number, current, version, short, spoiled, length in itertools.product(
+            (0, 1), range(8), (1, 0), (31, 30), (0, 1), (0, 1), (5, 6)):
+        s = SECTION_FAULTS[number](printed(0xFE, 0x0C29, version, current, 1, 2, b'\x77' * length))
+        begun = packed((0xFE, 0x0C29, 31, 2), spoiled, {1: 5, 2 + impossible: 0})
+        for state in begun, with_byte(5, impossible)(FRESH):
+            lend(state, b'\x77' * (room_for(2) - short))
+            answer = feed(s)
+            assert answer[0] == 12 if impossible else answer[0] == number or number == 0
+            ask('gathering_show')
+
+
+def orders_of_handing_out():
+    for impossible, begun, short, spoiled, missing, less in itertools.product((0, 1), repeat=6):
+        lengths = {0: 6, 1: 7, 2 + impossible: 8}
+        if missing:
+            del lengths[1]
+        state = packed((0xFB, 1, 0, 2), spoiled, lengths) if begun else with_byte(4, impossible)(FRESH)
+        lend(state, filled(room_for(2) - short))
+        hand_out(21 - less)
+        ask('gathering_show')
+
+
+# ---- states by hand
+
+
+def states():
+    """The fresh state with one byte changed; then good states with each field at, and past, its ends."""
+    for at, value in itertools.product(range(518), (1, 128, 0xFD)):
+        yield with_byte(at, value)(FRESH)
+    for n in range(256):
+        yield packed((n, 7, 3, 2), 0, {0: 1, 1: 2, 2: 3})
+        yield packed((0xFC, 7, n, 2), 0, {0: 1, 1: 2, 2: 3})
+        yield packed((0xFC, 7, 3, n), 0, {0: 1, 1: 2, 2: 3})
+        yield packed((0xFC, 7, 3, 2), n, {0: 1, 1: 2, 2: 3})
+        yield packed((0xFC, 7, 3, 2), 0, {0: 1, 1: 2, n: 3})
+        yield packed((0xFC, 7, 3, n), 1, {n: 4084})
+        yield packed((0xFC, 7, 3, 254), 0, {n: 4084})
+        yield packed((0xFC, 7, 3, 255), n % 2, {n: 4085})
+    for extension, length in itertools.product((0, 1, 7, 255, 256, 65535), (0, 1, 4083, 4084, 4085, 8191, 65534)):
+        yield packed((0xFC, extension, 3, 2), 0, {0: 1, 1: length, 2: 3})
+
+
+def by_hand():
+    """Each state fed a section that some hold, handed out, and fed no section, a stranger or a contradiction."""
+    for state in states():
+        lend(state, b'\x33' * room_for(2))
+        feed(printed(0xFC, 7, 3, 1, 1, 2, b'\x33' * 2))
+        hand_out(chance.choice((6, 5)))
+        feed(chance.choice((b'', printed(0xFB, 7, 3, 1, 0, 0, b''), printed(0xFC, 7, 3, 1, 1, 2, b'\x33'))))
+        ask('gathering_show')
+
+
+# ---- by chance
+
+
+def heading_by_chance(last):
+    return chance.randint(0xFB, 0xFE), chance.randrange(2**16), chance.choice((0, 31, chance.randrange(32))), last
+
+
+def length_by_chance():
+    return chance.choices((0, 1, chance.randrange(40), 4083, 4084), (200, 100, 1000, 4, 8))[0]
+
+
+def state_by_chance(heading):
+    """Mostly fresh; else some numbers are held; a third of those states with a byte changed."""
+    if chance.random() < 0.85:
+        return FRESH
+    numbers = chance.sample(range(heading[3] + 1), chance.randint(1, heading[3] + 1))
+    state = packed(heading, int(chance.random() < 0.2), {number: length_by_chance() for number in numbers})
+    return chance.choice((state, state, with_byte(chance.randrange(518), chance.randrange(256))(state)))
+
+
+def store_by_chance(last):
+    """Mostly just long enough; else too short, or longer."""
+    need = room_for(last)
+    lengths = need, need - 1, need + 1, need - MOST_PAYLOAD, need + MOST_PAYLOAD, 0, chance.randrange(need)
+    return filled(chance.choices(lengths, (30, 4, 4, 2, 2, 1, 1))[0])
+
+
+def stranger(kind, extension, version, last):
+    """The heading with one part changed."""
+    part = chance.randrange(4)
+    if part == 0:
+        kind = chance.choice([other for other in range(0xFB, 0xFF) if other != kind])
+    elif part == 1:
+        extension ^= 1 << chance.randrange(16)
+    elif part == 2:
+        version ^= 1 << chance.randrange(5)
+    else:
+        last = chance.choice([other for other in (0, 1, 2, abs(last - 1), last + 1, 255) if other != last])
+    return kind, extension, version, last
+
+
+def quarrel(number):
+    """Not the held payload, but near it: less of it, a bit turned, or with the store's next byte."""
+    held, at, bit = box.payload(number), number * MOST_PAYLOAD, 1 << chance.randrange(8)
+    place = chance.randrange(len(held) + 1)
+    turned = held[:place] + bytes(byte ^ bit for byte in held[place:place + 1]) + held[place + 1:]
+    longer = bytes(box.store[at:at + min(len(held) + 1, MOST_PAYLOAD)])
+    return chance.choice([other for other in (held[:place], turned, longer) if other != held])
+
+
+def payload_for(number, own, peaceful):
+    """What is held of a number, or, where there is no peace, something near it; else its own payload."""
+    if box.lengths.get(number, MOST_PAYLOAD + 1) > MOST_PAYLOAD or len(box.store) < room_for(number):
+        return own
+    return box.payload(number) if peaceful or chance.random() < 0.7 else quarrel(number)
+
+
+def damaged(s):
+    at = chance.randrange(len(s))
+    turned = with_byte(at, s[at] ^ 1 << chance.randrange(8))(s)
+    above = rechecked(with_byte(6, 255)(with_byte(7, chance.randrange(255))(s)))
+    return chance.choice((s[:at], s + b'\xFF', turned, rechecked(turned), above, chance.randbytes(at)))
+
+
+def section_by_chance(heading, payloads, peaceful):
+    """Of the table, mostly one not held yet; now and then a stranger's, not current, damaged, or several of these."""
+    missing = [number for number in payloads if number not in box.lengths]
+    number = chance.choice(missing if missing and chance.random() < 0.7 else list(payloads))
+    payload = payload_for(number, payloads[number], peaceful)
+    if chance.random() < 0.15:
+        heading = stranger(*heading)
+    s = printed(*heading[:3], int(chance.random() < 0.93), min(number, heading[3]), heading[3], payload)
+    return damaged(s) if chance.random() < 0.15 else s
+
+
+def hand_out_by_chance():
+    """Into an output just as long as all that is held, one byte shorter or longer, or of no bytes."""
+    held = sum(box.lengths.values())
+    if held > room_for(5):
+        held = 9
+    hand_out(max(0, chance.choice((held, held, held - 1, held + 1, 0))))
+
+
+def sequence():
+    last = chance.choice((0, 0, 1, 1, 1, 2, 2, 3, 4, 5))
+    heading, peaceful = heading_by_chance(last), chance.random() < 0.7
+    payloads = {number: chance.randbytes(length_by_chance()) for number in range(last + 1)}
+    ask('gathering_state', state_by_chance(heading))
+    # Now and then the store is as the sequence before has left it.
+    if chance.random() < 0.85:
+        ask('gathering_store', store_by_chance(last))
+    for _ in range(chance.randint(2, 8) + 2 * last):
+        feed(section_by_chance(heading, payloads, peaceful))
+        if chance.random() < 0.15:
+            hand_out_by_chance()
+        if chance.random() < 0.01:
+            ask('gathering_store', store_by_chance(last))
+    for number in chance.choice(([], list(payloads))):
+        feed(printed(*heading[:3], 1, number, last, payload_for(number, payloads[number], peaceful)))
+    hand_out_by_chance()
+    ask('gathering_show')
+
+
+# ---- tables of 256 sections
+
+
+def long_table(payloads):
+    """Fed in some order, some sections twice, and handed out when the last to come is missing, and when it is there."""
+    kind, extension, version, last = heading_by_chance(255)
+    numbers = [*range(256), *chance.choices(range(256), k=20)]
+    chance.shuffle(numbers)
+    lend(FRESH, filled(MOST_BODY))
+    for number in numbers:
+        feed(printed(kind, extension, version, 1, number, last, payloads[number]))
+        if len(box.lengths) == 255:
+            hand_out(0)
+    body = b''.join(payloads)
+    assert hand_out(len(body)) == (0, len(body), body)
+    assert hand_out(len(body) - 1)[0] == 21
+    ask('gathering_show')
+
+
+def long_tables():
+    for _ in range(20):
+        long_table([chance.randbytes(chance.randrange(30)) for _ in range(256)])
+    long_table([chance.randbytes(MOST_PAYLOAD) for _ in range(256)])
+    for missing in (0, 1, 127, 128, 254, 255):
+        lend(packed((0xFE, 1, 2, 255), 0, {number: 9 for number in range(256) if number != missing}), filled(MOST_BODY))
+        assert hand_out(10)[:2] == (13, missing)
+    ask('gathering_store', filled(MOST_BODY - 1))
+    assert hand_out(10)[:2] == (10, 0)
+
+
+def main():
+    for part in examples, orders_of_feeding, orders_of_handing_out, by_hand, long_tables:
+        part()
+    for _ in range(SEQUENCES):
+        sequence()
+    # Every answer that there is: 25 can't be given, since no possible state holds more than 1,045,504 bytes.
+    assert sorted(told['gathering_feed']) == list(range(13))
+    assert sorted(told['gathering_hand_out']) == [0, 10, 11, 12, 13, 21]
+    calls.agree('a second program', requests, calls.answers(requests), expected)
+    print('%d sequences by chance; answers by refusal, 0 for none:' % SEQUENCES)
+    for call in 'gathering_feed', 'gathering_hand_out':
+        print(call, ', '.join('%d: %d' % pair for pair in sorted(told[call].items())))
+
+
+main()

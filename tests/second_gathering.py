@@ -1,0 +1,110 @@
+"""The second program for the gathering, from document 01 alone: a state and a store, fed, handed out and shown."""
+import functools
+import struct
+import zlib
+
+import second_sections
+from calls import Refused
+
+MOST_PAYLOAD = 4084
+MOST_BODY = 1045504
+# As C has a state: extension, kind, version, last, spoiled; by section number the payload's length and one more, or 0.
+LAYOUT = struct.Struct('<H4B256H')
+section_read = functools.lru_cache(4096)(second_sections.section_read)
+
+
+def packed(heading, spoiled, lengths):
+    """A state, as C has it."""
+    kind, extension, version, last = heading
+    return LAYOUT.pack(extension, kind, version, last, spoiled, *(lengths.get(k, -1) + 1 for k in range(256)))
+
+
+class Gathering:
+    """A state, possible or not, and a store, with the calls of calls.c. The lengths are those of the held numbers."""
+
+    heading, spoiled, lengths, store = (0, 0, 0, 0), 0, {}, bytearray()
+
+    def possible(self):
+        kind, _, version, last = self.heading
+        if (self.heading, self.spoiled, self.lengths) == ((0, 0, 0, 0), 0, {}):
+            return True
+        begun = 0xFB <= kind <= 0xFE and version <= 31 and self.spoiled in (0, 1) and len(self.lengths) > 0
+        return begun and max(self.lengths) <= last and max(self.lengths.values()) <= MOST_PAYLOAD
+
+    def payload(self, number):
+        """What is held of a number."""
+        at = number * MOST_PAYLOAD
+        return bytes(self.store[at:at + self.lengths[number]])
+
+    def feed(self, s):
+        if not self.possible():
+            raise Refused(12)
+        _, kind, extension, version, current, number, last = section_read(s)
+        heading, payload = (kind, extension, version, last), s[8:-4]
+        if not current:
+            raise Refused(8)
+        if self.lengths and heading != self.heading:
+            raise Refused(9)
+        if len(self.store) < (last + 1) * MOST_PAYLOAD:
+            raise Refused(10)
+        if self.spoiled:
+            raise Refused(11)
+        if number not in self.lengths:
+            at = number * MOST_PAYLOAD
+            self.store[at:at + len(payload)] = payload
+            self.heading, self.lengths = heading, {**self.lengths, number: len(payload)}
+            return 0
+        if payload != self.payload(number):
+            self.spoiled = 1
+            raise Refused(11)
+        return 1
+
+    def body(self, room):
+        if not self.possible():
+            raise Refused(12, 0)
+        if not self.lengths:
+            raise Refused(13, 0)
+        numbers = range(self.heading[3] + 1)
+        if len(self.store) < len(numbers) * MOST_PAYLOAD:
+            raise Refused(10, 0)
+        if self.spoiled:
+            raise Refused(11, 0)
+        for number in numbers:
+            if number not in self.lengths:
+                raise Refused(13, number)
+        body = b''.join(map(self.payload, numbers))
+        if len(body) > MOST_BODY:
+            raise Refused(25, 0)
+        if len(body) > room:
+            raise Refused(21, 0)
+        return body
+
+    # ---- the calls: each gives its answer, as numbers and bytes
+
+    def gathering_state(self, state):
+        extension, kind, version, last, self.spoiled, *held = LAYOUT.unpack(state)
+        self.heading = kind, extension, version, last
+        self.lengths = {number: n - 1 for number, n in enumerate(held) if n > 0}
+        return ()
+
+    def gathering_store(self, store):
+        self.store = bytearray(store)
+        return ()
+
+    def gathering_feed(self, s):
+        try:
+            return 0, self.feed(s)
+        except Refused as refusal:
+            return refusal.args[0], 0
+
+    def gathering_hand_out(self, out):
+        try:
+            body = self.body(len(out))
+            return 0, len(body), body + out[len(body):]
+        except Refused as refusal:
+            return *refusal.args, out
+
+    def gathering_show(self):
+        kind, extension, version, last = self.heading
+        held = (item for number in sorted(self.lengths) for item in (number, self.lengths[number] + 1))
+        return zlib.adler32(self.store), extension, kind, version, last, self.spoiled, *held
