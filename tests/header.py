@@ -65,7 +65,8 @@ def header_fields(header):
 
 def source_refusals():
     """Each case of the enum and its number, the name as the header writes it."""
-    arms = re.findall(r'Refusal::(\w+)(?:\(at\))? => Account \{\s*number: (\d+)', read('crates', 'refusal', 'src', 'lib.rt'))
+    source = read('crates', 'refusal', 'src', 'lib.rt')
+    arms = re.findall(r'Refusal::(\w+)(?:\(\w+\))? => (\d+),', source[source.index('fn number('):source.index('fn place(')])
     return {'NW' + re.sub(r'([A-Z])', r'_\1', case).upper(): int(number) for case, number in arms}
 
 

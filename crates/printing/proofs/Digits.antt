@@ -9,7 +9,7 @@ use mathlib.Core.Logic.{_⊎_, inl, inr, ⊎-elim}
 use borrow.Author.Tests.{lt-ltb, le-ltb}
 use lib.ListN.{length, set, length-append}
 use Rattle.printing.specs.Characters.{digitOf, digitsOf, placesWithin, placesOf, decimalOf, refusedText}
-use Rattle.refusal.specs.Numbers.{toldOf}
+use Rattle.refusal.specs.Numbers.{numberOf}
 use Rattle.refusal.specs.declared.Refusal.{Refusal}
 use Rattle.refusal.proofs.Numbers.{number-most}
 use Rattle.placing.specs.Placed.{placed}
@@ -102,4 +102,4 @@ decimal-most w n h = omega (arith, digits-length 10 (placesOf n) n, places-most 
 
 pub refused-most : (r : Refusal) → length (refusedText r) ≤ 10
 unfolding refusedText
-refused-most r = omega (arith, decimal-most 1 (toldOf r .number) (number-most r))
+refused-most r = omega (arith, decimal-most 1 (numberOf r) (number-most r))

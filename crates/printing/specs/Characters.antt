@@ -5,7 +5,7 @@ use Prim.Native.String.{String, [] as nothing, _∷_ as _then_}
 use mathlib.Core.Bool.{cond}
 use mathlib.Core.List.{List, [], _∷_, _++_}
 use lib.Dec.{ltb}
-use Rattle.refusal.specs.Numbers.{toldOf}
+use Rattle.refusal.specs.Numbers.{numberOf}
 use Rattle.refusal.specs.declared.Refusal.{Refusal}
 
 -- a text's characters, each by its number
@@ -38,4 +38,4 @@ decimalOf n = digitsOf 10 (placesOf n) n
 
 -- "the word refused, the number"
 unfoldable pub refusedText : Refusal → List ℕ
-refusedText r = ascii "refused " ++ decimalOf (toldOf r .number)
+refusedText r = ascii "refused " ++ decimalOf (numberOf r)

@@ -1,12 +1,12 @@
 -- Laws of the refusals' numbers.
 use Prim.Native.Nat.{_<_}
 use native.Mathlib.Omega.{arith}
-use Rattle.refusal.specs.Numbers.{toldOf}
+use Rattle.refusal.specs.Numbers.{numberOf}
 use Rattle.refusal.specs.declared.Refusal.{Refusal}
 use Rattle.refusal.specs.declared.Refusal.the-variants.{SectionTooShort, OtherKind, FixedBitZero, SectionLengthOutside, OtherLength, NumberAboveLast, CheckNotZero, NotCurrent, OtherHeading, StoreTooShort, Contradiction, ImpossibleState, Missing, PastBody, PastPart, LeftOver, ReservedBitZero, DigitAboveNine, OutsideSet, ImpossibleDay, OutputTooSmall, TooLarge, OtherChecksum, NotOfTheForm, BodyTooLong}
 
 -- a number has one or two decimal digits
-pub number-most : (r : Refusal) → toldOf r .number < 100
+pub number-most : (r : Refusal) → numberOf r < 100
 number-most SectionTooShort = omega arith
 number-most OtherKind = omega arith
 number-most FixedBitZero = omega arith

@@ -1,32 +1,60 @@
 -- What a reader has to believe of refusals: document 01's number for each case, and its place.
-use Rattle.refusal.specs.declared.Account.{Account}
+use Prim.Native.Nat.{ℕ}
 use Rattle.refusal.specs.declared.Refusal.{Refusal}
 use Rattle.refusal.specs.declared.Refusal.the-variants.{SectionTooShort, OtherKind, FixedBitZero, SectionLengthOutside, OtherLength, NumberAboveLast, CheckNotZero, NotCurrent, OtherHeading, StoreTooShort, Contradiction, ImpossibleState, Missing, PastBody, PastPart, LeftOver, ReservedBitZero, DigitAboveNine, OutsideSet, ImpossibleDay, OutputTooSmall, TooLarge, OtherChecksum, NotOfTheForm, BodyTooLong}
 
+-- the numbers of document 01's list
+abbrev pub numberOf : Refusal → ℕ
+numberOf SectionTooShort = 1
+numberOf OtherKind = 2
+numberOf FixedBitZero = 3
+numberOf SectionLengthOutside = 4
+numberOf OtherLength = 5
+numberOf NumberAboveLast = 6
+numberOf CheckNotZero = 7
+numberOf NotCurrent = 8
+numberOf OtherHeading = 9
+numberOf StoreTooShort = 10
+numberOf Contradiction = 11
+numberOf ImpossibleState = 12
+numberOf (Missing at) = 13
+numberOf (PastBody at) = 14
+numberOf (PastPart at) = 15
+numberOf (LeftOver at) = 16
+numberOf (ReservedBitZero at) = 17
+numberOf (DigitAboveNine at) = 18
+numberOf (OutsideSet at) = 19
+numberOf (ImpossibleDay at) = 20
+numberOf OutputTooSmall = 21
+numberOf TooLarge = 22
+numberOf OtherChecksum = 23
+numberOf NotOfTheForm = 24
+numberOf BodyTooLong = 25
+
 -- "A refusal returns its number and a place": the place is 0 where the list gives none
-abbrev pub toldOf : Refusal → Account
-toldOf SectionTooShort = record { number = 1; place = 0 }
-toldOf OtherKind = record { number = 2; place = 0 }
-toldOf FixedBitZero = record { number = 3; place = 0 }
-toldOf SectionLengthOutside = record { number = 4; place = 0 }
-toldOf OtherLength = record { number = 5; place = 0 }
-toldOf NumberAboveLast = record { number = 6; place = 0 }
-toldOf CheckNotZero = record { number = 7; place = 0 }
-toldOf NotCurrent = record { number = 8; place = 0 }
-toldOf OtherHeading = record { number = 9; place = 0 }
-toldOf StoreTooShort = record { number = 10; place = 0 }
-toldOf Contradiction = record { number = 11; place = 0 }
-toldOf ImpossibleState = record { number = 12; place = 0 }
-toldOf (Missing at) = record { number = 13; place = at }
-toldOf (PastBody at) = record { number = 14; place = at }
-toldOf (PastPart at) = record { number = 15; place = at }
-toldOf (LeftOver at) = record { number = 16; place = at }
-toldOf (ReservedBitZero at) = record { number = 17; place = at }
-toldOf (DigitAboveNine at) = record { number = 18; place = at }
-toldOf (OutsideSet at) = record { number = 19; place = at }
-toldOf (ImpossibleDay at) = record { number = 20; place = at }
-toldOf OutputTooSmall = record { number = 21; place = 0 }
-toldOf TooLarge = record { number = 22; place = 0 }
-toldOf OtherChecksum = record { number = 23; place = 0 }
-toldOf NotOfTheForm = record { number = 24; place = 0 }
-toldOf BodyTooLong = record { number = 25; place = 0 }
+abbrev pub placeOf : Refusal → ℕ
+placeOf SectionTooShort = 0
+placeOf OtherKind = 0
+placeOf FixedBitZero = 0
+placeOf SectionLengthOutside = 0
+placeOf OtherLength = 0
+placeOf NumberAboveLast = 0
+placeOf CheckNotZero = 0
+placeOf NotCurrent = 0
+placeOf OtherHeading = 0
+placeOf StoreTooShort = 0
+placeOf Contradiction = 0
+placeOf ImpossibleState = 0
+placeOf (Missing at) = at
+placeOf (PastBody at) = at
+placeOf (PastPart at) = at
+placeOf (LeftOver at) = at
+placeOf (ReservedBitZero at) = at
+placeOf (DigitAboveNine at) = at
+placeOf (OutsideSet at) = at
+placeOf (ImpossibleDay at) = at
+placeOf OutputTooSmall = 0
+placeOf TooLarge = 0
+placeOf OtherChecksum = 0
+placeOf NotOfTheForm = 0
+placeOf BodyTooLong = 0

@@ -1,6 +1,6 @@
 // The refusals of document 01: a named case for each of its numbers, and the number and place that each is told by.
 ghost use mathlib.Core.Path.{_≡_};
-ghost use Rattle.refusal.specs.Numbers.{toldOf};
+ghost use Rattle.refusal.specs.Numbers.{numberOf, placeOf};
 ghost use Rattle.refusal.specs.Answers.{answerOf, refusedOf};
 
 // One case for each number of the list. A case holds a place where the list gives one.
@@ -57,132 +57,70 @@ pub enum Refusal {
     BodyTooLong,
 }
 
-// What a refusal is told by.
-pub struct Account {
-    pub number: u8,
-    pub place: usize,
-}
-
-// The number and the place of a refusal.
-pub fn told(r: Refusal) -> Account
-    ensures { λ t. ⌜ t ≡ toldOf r ⌝ }
-{
-    match r {
-        Refusal::SectionTooShort => Account {
-            number: 1,
-            place: 0,
-        },
-        Refusal::OtherKind => Account {
-            number: 2,
-            place: 0,
-        },
-        Refusal::FixedBitZero => Account {
-            number: 3,
-            place: 0,
-        },
-        Refusal::SectionLengthOutside => Account {
-            number: 4,
-            place: 0,
-        },
-        Refusal::OtherLength => Account {
-            number: 5,
-            place: 0,
-        },
-        Refusal::NumberAboveLast => Account {
-            number: 6,
-            place: 0,
-        },
-        Refusal::CheckNotZero => Account {
-            number: 7,
-            place: 0,
-        },
-        Refusal::NotCurrent => Account {
-            number: 8,
-            place: 0,
-        },
-        Refusal::OtherHeading => Account {
-            number: 9,
-            place: 0,
-        },
-        Refusal::StoreTooShort => Account {
-            number: 10,
-            place: 0,
-        },
-        Refusal::Contradiction => Account {
-            number: 11,
-            place: 0,
-        },
-        Refusal::ImpossibleState => Account {
-            number: 12,
-            place: 0,
-        },
-        Refusal::Missing(at) => Account {
-            number: 13,
-            place: at,
-        },
-        Refusal::PastBody(at) => Account {
-            number: 14,
-            place: at,
-        },
-        Refusal::PastPart(at) => Account {
-            number: 15,
-            place: at,
-        },
-        Refusal::LeftOver(at) => Account {
-            number: 16,
-            place: at,
-        },
-        Refusal::ReservedBitZero(at) => Account {
-            number: 17,
-            place: at,
-        },
-        Refusal::DigitAboveNine(at) => Account {
-            number: 18,
-            place: at,
-        },
-        Refusal::OutsideSet(at) => Account {
-            number: 19,
-            place: at,
-        },
-        Refusal::ImpossibleDay(at) => Account {
-            number: 20,
-            place: at,
-        },
-        Refusal::OutputTooSmall => Account {
-            number: 21,
-            place: 0,
-        },
-        Refusal::TooLarge => Account {
-            number: 22,
-            place: 0,
-        },
-        Refusal::OtherChecksum => Account {
-            number: 23,
-            place: 0,
-        },
-        Refusal::NotOfTheForm => Account {
-            number: 24,
-            place: 0,
-        },
-        Refusal::BodyTooLong => Account {
-            number: 25,
-            place: 0,
-        },
-    }
-}
-
 // The number of a refusal in document 01's list.
 pub fn number(r: Refusal) -> u8
-    ensures { λ n. ⌜ n ≡ toldOf r .number ⌝ }
+    ensures { λ n. ⌜ n ≡ numberOf r ⌝ }
 {
-    told(r).number
+    match r {
+        Refusal::SectionTooShort => 1,
+        Refusal::OtherKind => 2,
+        Refusal::FixedBitZero => 3,
+        Refusal::SectionLengthOutside => 4,
+        Refusal::OtherLength => 5,
+        Refusal::NumberAboveLast => 6,
+        Refusal::CheckNotZero => 7,
+        Refusal::NotCurrent => 8,
+        Refusal::OtherHeading => 9,
+        Refusal::StoreTooShort => 10,
+        Refusal::Contradiction => 11,
+        Refusal::ImpossibleState => 12,
+        Refusal::Missing(_at) => 13,
+        Refusal::PastBody(_at) => 14,
+        Refusal::PastPart(_at) => 15,
+        Refusal::LeftOver(_at) => 16,
+        Refusal::ReservedBitZero(_at) => 17,
+        Refusal::DigitAboveNine(_at) => 18,
+        Refusal::OutsideSet(_at) => 19,
+        Refusal::ImpossibleDay(_at) => 20,
+        Refusal::OutputTooSmall => 21,
+        Refusal::TooLarge => 22,
+        Refusal::OtherChecksum => 23,
+        Refusal::NotOfTheForm => 24,
+        Refusal::BodyTooLong => 25,
+    }
 }
 
 // The place of a refusal: 0 where the list gives none.
 pub fn place(r: Refusal) -> usize
-    ensures { λ n. ⌜ n ≡ toldOf r .place ⌝ }
+    ensures { λ n. ⌜ n ≡ placeOf r ⌝ }
 {
-    told(r).place
+    match r {
+        Refusal::SectionTooShort => 0,
+        Refusal::OtherKind => 0,
+        Refusal::FixedBitZero => 0,
+        Refusal::SectionLengthOutside => 0,
+        Refusal::OtherLength => 0,
+        Refusal::NumberAboveLast => 0,
+        Refusal::CheckNotZero => 0,
+        Refusal::NotCurrent => 0,
+        Refusal::OtherHeading => 0,
+        Refusal::StoreTooShort => 0,
+        Refusal::Contradiction => 0,
+        Refusal::ImpossibleState => 0,
+        Refusal::Missing(at) => at,
+        Refusal::PastBody(at) => at,
+        Refusal::PastPart(at) => at,
+        Refusal::LeftOver(at) => at,
+        Refusal::ReservedBitZero(at) => at,
+        Refusal::DigitAboveNine(at) => at,
+        Refusal::OutsideSet(at) => at,
+        Refusal::ImpossibleDay(at) => at,
+        Refusal::OutputTooSmall => 0,
+        Refusal::TooLarge => 0,
+        Refusal::OtherChecksum => 0,
+        Refusal::NotOfTheForm => 0,
+        Refusal::BodyTooLong => 0,
+    }
 }
 
 // What an answer to C holds above its low byte: 56 bits.
@@ -192,8 +130,7 @@ const ABOVE: u64 = 0x0100_0000_0000_0000;
 pub fn refused(r: Refusal) -> u64
     ensures { λ a. ⌜ a ≡ refusedOf r ⌝ }
 {
-    let t = told(r);
-    (t.number as u64) + 256 * ((t.place as u64) % ABOVE)
+    (number(r) as u64) + 256 * ((place(r) as u64) % ABOVE)
 }
 
 // A value as the C side is told of it: no refusal, and the value above the low byte.

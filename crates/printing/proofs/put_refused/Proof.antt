@@ -1,6 +1,6 @@
 -- `printing::put_refused` meets its contract: the word and the number, one after the other.
 use borrow.Author.Needs.{needs}
-use Rattle.refusal.specs.Numbers.{toldOf}
+use Rattle.refusal.specs.Numbers.{numberOf}
 use Rattle.printing.specs.Characters.{ascii, decimalOf, refusedText}
 use Rattle.printing.proofs.Putting.{room-first, put-room, put-then}
 use Rattle.printing.proofs.put_refused.Statement.{statement}
@@ -10,14 +10,14 @@ put-bytes-requires : tie.Need-put-bytes-requires
 unfolding refusedText
 put-bytes-requires c κs =
     let start = c .before .before .before in
-    room-first (start .args .at) (ascii "refused ") (decimalOf (toldOf (start .args .r) .number)) (start .pre)
+    room-first (start .args .at) (ascii "refused ") (decimalOf (numberOf (start .args .r))) (start .pre)
 
 put-decimal-requires : tie.Need-put-decimal-requires
 unfolding refusedText
 put-decimal-requires c κs =
     let word = c .before .before .before .before in
     let start = word .before .before .before .before in
-    rw (c .number .ensures) (put-room (decimalOf (toldOf (start .args .r) .number)) (word .put-bytes .ensures) (start .pre))
+    rw (c .number .ensures) (put-room (decimalOf (numberOf (start .args .r))) (word .put-bytes .ensures) (start .pre))
 
 returns : tie.Need-returns
 unfolding refusedText
