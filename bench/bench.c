@@ -207,6 +207,85 @@ static uint64_t gather_library(const uint8_t *s, size_t n) {
 
 static uint64_t gather_slicing(const uint8_t *s, size_t n) { return gather(feed_slicing, hand_out_joined, s, n); }
 
+// ---- a certificate body read, and written from a form: as many parts as there can be
+
+enum { LISTS = 255, LIST_BYTES = 128, CERTIFICATES = 255, CERTIFICATE_BYTES = 120 };
+enum { ENTRIES = 2 * (LISTS + CERTIFICATES) + 4 };
+
+// The form of the body that is read: its pool is this body.
+static uint64_t tape[ENTRIES];
+
+// Where the part ends that begins with a length in `width` bytes, or 0 where it passes the body's end.
+static size_t part_end(const uint8_t *s, size_t n, size_t at, size_t width) {
+    if (n - at < width) return 0;
+    size_t length = width == 2 ? (size_t)s[at] << 8 | s[at + 1] : s[at];
+    return n - at - width < length ? 0 : at + width + length;
+}
+
+// The answer of nw_certificate_read, by the same checks in the same order.
+static uint64_t certificate_plain(const uint8_t *s, size_t n) {
+    if (n > NW_MOST_BODY) return 22;
+    size_t at = 0, end;
+    for (size_t width = 2; width > 0; width--) {
+        if (at == n) return (nw_answer)at << 8 | 14;
+        for (size_t left = s[at++]; left > 0; left--, at = end)
+            if ((end = part_end(s, n, at, width)) == 0) return (nw_answer)at << 8 | 14;
+    }
+    if ((end = part_end(s, n, at, 2)) == 0) return (nw_answer)at << 8 | 14;
+    return end < n ? (nw_answer)end << 8 | 16 : 0;
+}
+
+static uint64_t certificate_library(const uint8_t *s, size_t n) { return nw_certificate_read(NW_CERTIFICATE, s, n); }
+
+// What a form's lengths and counts come to: 19, 22, or the body's length.
+static nw_answer form_plain(size_t n, const uint64_t *t, size_t entries) {
+    uint64_t length = 0, most = 65535;
+    int large = 0;
+    size_t at = 0;
+    for (size_t width = 2; width > 0; width--, most = 255) {
+        if (at == entries || t[at] > (entries - at - 1) / 2) return 19;
+        uint64_t left = t[at++];
+        length += 1 + left * width;
+        for (large |= left > 255; left > 0; left--, at += 2) {
+            if (t[at] > n || t[at + 1] > n - t[at]) return 19;
+            large |= t[at + 1] > most;
+            length += t[at + 1];
+        }
+    }
+    if (entries - at != 2 || t[at] > n || t[at + 1] > n - t[at]) return 19;
+    length += 2 + t[at + 1];
+    return large || t[at + 1] > 65535 || length > NW_MOST_BODY ? 22 : length << 8;
+}
+
+static uint8_t *put_part(uint8_t *out, const uint8_t *pool, const uint64_t *span, size_t width) {
+    if (width == 2) *out++ = (uint8_t)(span[1] >> 8);
+    *out++ = (uint8_t)span[1];
+    memcpy(out, pool + span[0], span[1]);
+    return out + span[1];
+}
+
+// The answer and the output of nw_certificate_write, by the same checks in the same order.
+static nw_answer write_certificate(const uint8_t *pool, size_t n, const uint64_t *t, size_t entries, uint8_t *out,
+                                   size_t room) {
+    nw_answer got = form_plain(n, t, entries);
+    if (NW_REFUSAL(got)) return got;
+    if (NW_VALUE(got) > room) return 21;
+    for (size_t width = 2; width > 0; width--) {
+        uint64_t left = *t++;
+        for (*out++ = (uint8_t)left; left > 0; left--, t += 2) out = put_part(out, pool, t, width);
+    }
+    put_part(out, pool, t, 2);
+    return got;
+}
+
+static uint64_t writing_plain(const uint8_t *s, size_t n) {
+    return write_certificate(s, n, tape, ENTRIES, output, sizeof output);
+}
+
+static uint64_t writing_library(const uint8_t *s, size_t n) {
+    return nw_certificate_write(s, n, tape, ENTRIES, output, sizeof output);
+}
+
 // ---- what they are given
 
 static void fill_bytes(size_t n) {
@@ -253,6 +332,28 @@ static void fill_twice(size_t n) {
     for (size_t i = 0; i < n / NW_MOST_SECTION; i++) put_full_section(i, (uint32_t)i % 256);
 }
 
+// Lays a span of the body on the tape, and its length before it in the body. Gives back where it ends.
+static size_t lay_part(uint64_t *span, size_t at, size_t width, size_t length) {
+    if (width == 2) input[at] = (uint8_t)(length >> 8);
+    input[at + width - 1] = (uint8_t)length;
+    span[0] = at + width;
+    span[1] = length;
+    return at + width + length;
+}
+
+// A certificate body of n bytes, the signature having what the other parts leave, and its form.
+static void fill_certificate(size_t n) {
+    fill_bytes(n);
+    uint64_t *t = tape;
+    size_t at = 0;
+    input[at++] = (uint8_t)(*t++ = LISTS);
+    for (size_t i = 0; i < LISTS; i++, t += 2) at = lay_part(t, at, 2, LIST_BYTES);
+    input[at++] = (uint8_t)(*t++ = CERTIFICATES);
+    for (size_t i = 0; i < CERTIFICATES; i++, t += 2) at = lay_part(t, at, 1, CERTIFICATE_BYTES);
+    lay_part(t, at, 2, n - at - 2);
+    if (certificate_plain(input, n) != 0 || writing_plain(input, n) != n << 8 || memcmp(input, output, n) != 0) abort();
+}
+
 static const struct operation operations[] = {
     {"CRC_32",
      fill_bytes,
@@ -282,6 +383,14 @@ static const struct operation operations[] = {
      fill_twice,
      {{"neapwillow", gather_library}, {"C, slicing by 8", gather_slicing}},
      {512 * 4096}},
+    {"certificate read",
+     fill_certificate,
+     {{"neapwillow", certificate_library}, {"C", certificate_plain}},
+     {64 * 1024}},
+    {"certificate written",
+     fill_certificate,
+     {{"neapwillow", writing_library}, {"C", writing_plain}},
+     {64 * 1024}},
 };
 
 // ---- measuring

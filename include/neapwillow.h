@@ -193,6 +193,38 @@ enum nw_fed { NW_FED_TAKEN = 0, NW_FED_HELD_ALREADY = 1 };
 nw_answer nw_gathering_hand_out(const nw_gathering *g, const uint8_t *store, size_t store_bytes,
                                 uint8_t *out, size_t out_bytes);
 
+/* ---- The certificate table --------------------------------------------------------------------
+ *
+ * Its body is a list of certificate authorization lists, a list of certificates and a signature, all
+ * of them opaque bytes. */
+
+/* Judges a body. Value: 0. Refusals, in this order: 2, the kind is not NW_CERTIFICATE; 22, more than
+ * NW_MOST_BODY bytes; 14, the first field that passes the body's end, at its place; 16, bytes after
+ * the signature, at the first of them. */
+nw_answer nw_certificate_read(uint32_t kind, const uint8_t *body, size_t n);
+
+/* The fields of an accepted body, asked for without reading what stands after them. Value: a count;
+ * or the part of the body that the bytes fill, see the macros. Refusal 19: there is no i-th, counted
+ * from 0. Of a body that nw_certificate_read refuses they tell the field all the same, where what
+ * stands before it can be read, and else the refusal of what can't. */
+nw_answer nw_certificate_authorization_count(const uint8_t *body, size_t n);
+nw_answer nw_certificate_authorization(const uint8_t *body, size_t n, uint64_t i);
+nw_answer nw_certificate_count(const uint8_t *body, size_t n);
+nw_answer nw_certificate_part(const uint8_t *body, size_t n, uint64_t i);
+nw_answer nw_certificate_signature(const uint8_t *body, size_t n);
+#define NW_PART_START(answer) ((size_t)(NW_VALUE(answer) >> 24))
+#define NW_PART_LENGTH(answer) ((size_t)(NW_VALUE(answer) & 0xFFFFFFu))
+
+/* Writes a body at the start of out; bytes of out after it stay. Value: its length. A form says what
+ * is written: a tape of numbers in the body's order, and a pool of bytes. The tape has the count of
+ * authorization lists, for each its start and its length in the pool, the count of certificates, for
+ * each the same, and the signature's start and length. Refusals, in this order, with nothing written
+ * and place 0: 19, the tape is too short, has entries left over, or a span that is not in the pool;
+ * 22, a count or length too large for its field, or more than NW_MOST_BODY bytes; 21, out is too
+ * small. */
+nw_answer nw_certificate_write(const uint8_t *pool, size_t pool_bytes, const uint64_t *tape,
+                               size_t entries, uint8_t *out, size_t room);
+
 #ifdef __cplusplus
 }
 #endif

@@ -1,8 +1,8 @@
 // calls: puts requests from standard input to the library, one to a line, and prints a line of answer to each.
 //
 // A request is the name of a call and its arguments, one space before each: numbers in decimal, byte strings in
-// hexadecimal, `-` for the empty one. So are answers. In a request `5a*20` is 5a twenty times over. A new call is a
-// function and its line in `calls`.
+// hexadecimal, tapes as numbers with a comma between two, `-` for what is empty. So are answers. In a request `5a*20`
+// is 5a twenty times over. A new call is a function and its line in `calls`.
 #define _POSIX_C_SOURCE 200809L
 #include <errno.h>
 #include <inttypes.h>
@@ -14,19 +14,20 @@
 
 enum { MOST_ARGUMENTS = 8, GUARD = 64 };
 
-// A byte string stands in a block of exactly its length, so that a memory checker sees any byte read past it. A lent
-// output has guard bytes on both sides, which no call may change.
+// A byte string or a tape stands in a block of exactly its length, so that a memory checker sees any byte read past it.
+// A lent output has guard bytes on both sides, which no call may change.
 struct argument {
     uint8_t *block;
     size_t guard;
     uint8_t *bytes;
+    uint64_t *tape;
     size_t length;
     int64_t number;
     uint64_t wide;
 };
 
 // `takes` has a letter for each argument: b, a byte string; o, a lent output, given by what it holds before the call;
-// u, a number of 32 bits; i, a signed one; w, one of 64 bits.
+// u, a number of 32 bits; i, a signed one; w, one of 64 bits; t, a tape, an array of these.
 struct call {
     const char *name;
     const char *takes;
@@ -78,6 +79,12 @@ static void put_bytes(const uint8_t *s, size_t n) {
     }
 }
 
+static void put_tape(const uint64_t *tape, size_t entries) {
+    next_item();
+    if (entries == 0) putchar('-');
+    for (size_t i = 0; i < entries; i++) printf(i > 0 ? ",%" PRIu64 : "%" PRIu64, tape[i]);
+}
+
 // The refusal's number, 0 for none; then its place, or the value.
 static void put_answer(nw_answer a) {
     put_number(a & 0xff);
@@ -93,6 +100,7 @@ static void call_echo(const struct argument *a) {
     put_signed(a[2].number);
     put_number(a[3].wide);
     put_bytes(a[4].bytes, a[4].length);
+    put_tape(a[5].tape, a[5].length);
 }
 
 static void call_crc32(const struct argument *a) { put_number(nw_crc32(a[0].bytes, a[0].length)); }
@@ -230,8 +238,37 @@ static void call_gathering_show(const struct argument *a) {
         }
 }
 
+// ---- the certificate table
+
+// An accepted body's fields follow in their order, each as it is answered.
+static void call_certificate_read(const struct argument *a) {
+    const uint8_t *body = a[1].bytes;
+    size_t n = a[1].length;
+    nw_answer got = nw_certificate_read((uint32_t)a[0].number, body, n);
+    put_answer(got);
+    if (NW_REFUSAL(got)) return;
+    put_answer(got = nw_certificate_authorization_count(body, n));
+    for (uint64_t i = 0; i < NW_VALUE(got); i++) put_answer(nw_certificate_authorization(body, n, i));
+    put_answer(got = nw_certificate_count(body, n));
+    for (uint64_t i = 0; i < NW_VALUE(got); i++) put_answer(nw_certificate_part(body, n, i));
+    put_answer(nw_certificate_signature(body, n));
+}
+
+static void call_certificate_authorization(const struct argument *a) {
+    put_answer(nw_certificate_authorization(a[0].bytes, a[0].length, a[1].wide));
+}
+
+static void call_certificate_part(const struct argument *a) {
+    put_answer(nw_certificate_part(a[0].bytes, a[0].length, a[1].wide));
+}
+
+static void call_certificate_write(const struct argument *a) {
+    put_answer(nw_certificate_write(a[0].bytes, a[0].length, a[1].tape, a[1].length, a[2].bytes, a[2].length));
+    put_bytes(a[2].bytes, a[2].length);
+}
+
 static const struct call calls[] = {
-    {"echo", "buiwo", call_echo},
+    {"echo", "buiwot", call_echo},
     {"crc32", "b", call_crc32},
     {"crc16", "b", call_crc16},
     {"day_of", "uuu", call_day_of},
@@ -250,6 +287,10 @@ static const struct call calls[] = {
     {"gathering_feed", "b", call_gathering_feed},
     {"gathering_hand_out", "o", call_gathering_hand_out},
     {"gathering_show", "", call_gathering_show},
+    {"certificate_read", "ub", call_certificate_read},
+    {"certificate_authorization", "bw", call_certificate_authorization},
+    {"certificate_part", "bw", call_certificate_part},
+    {"certificate_write", "bto", call_certificate_write},
 };
 
 // ---- what a request is read with
@@ -291,6 +332,23 @@ static struct argument byte_string(const char *word, size_t guard) {
     return a;
 }
 
+static struct argument tape(const char *word) {
+    size_t entries = strcmp(word, "-") != 0;
+    for (const char *c = word; *c != '\0'; c++) entries += *c == ',';
+    struct argument a = {.length = entries, .block = malloc(entries * sizeof(uint64_t))};
+    if (a.block == NULL && entries > 0) stop("out of memory");
+    a.bytes = a.block;
+    a.tape = (uint64_t *)(void *)a.block;
+    for (size_t i = 0; i < entries; i++) {
+        char *end;
+        errno = 0;
+        a.tape[i] = strtoull(word, &end, 10);
+        if (*word < '0' || *word > '9' || *end != (i + 1 < entries ? ',' : '\0') || errno != 0) stop("not a tape");
+        word = end + 1;
+    }
+    return a;
+}
+
 static void give_back(const struct argument *a) {
     hold_guards(a);
     free(a->block);
@@ -303,6 +361,7 @@ static struct argument argument(char letter, const char *word) {
     case 'u': return number(word, 0, UINT32_MAX);
     case 'i': return number(word, INT32_MIN, INT32_MAX);
     case 'w': return wide_number(word);
+    case 't': return tape(word);
     default: stop("a letter that the table of calls must not have");
     }
 }

@@ -6,7 +6,8 @@ import sys
 TESTS = os.path.dirname(os.path.abspath(__file__))
 
 # What calls.c must say of these if it reads byte strings and numbers as they are written here.
-ECHOES = ['- 0 0 0 -', '00ff0a 4294967295 -2147483648 18446744073709551615 7f80', '7f 1 2147483647 1099511627776 -']
+ECHOES = ['- 0 0 0 - -', '00ff0a 4294967295 -2147483648 18446744073709551615 7f80 18446744073709551615,0,7',
+          '7f 1 2147483647 1099511627776 - 0']
 
 
 def hexadecimal(data):
@@ -16,13 +17,24 @@ def hexadecimal(data):
     return data.hex() or '-'
 
 
+def word(argument):
+    """A byte string, a tape of numbers or a number as a request has it."""
+    if isinstance(argument, list):
+        return ','.join(map(str, argument)) or '-'
+    return hexadecimal(argument) if isinstance(argument, bytes) else str(argument)
+
+
 def request(call, *arguments):
     """The line that asks for a call."""
-    return ' '.join([call] + [hexadecimal(a) if isinstance(a, bytes) else str(a) for a in arguments])
+    return ' '.join([call, *map(word, arguments)])
 
 
 class Refused(Exception):
-    """A second program's refusal: its number, then whatever the answer has after the place, which is 0."""
+    """A second program's refusal: its number, then whatever the answer has after the place."""
+
+    def __init__(self, number, *after, place=0):
+        super().__init__(number, *after)
+        self.place = place
 
 
 def told(call, *arguments):
@@ -31,7 +43,7 @@ def told(call, *arguments):
         value = call(*arguments)
         items = (0, *value) if isinstance(value, tuple) else (0, value)
     except Refused as refusal:
-        items = (refusal.args[0], 0, *refusal.args[1:])
+        items = (refusal.args[0], refusal.place, *refusal.args[1:])
     return ' '.join((item.hex() or '-') if isinstance(item, bytes) else str(item) for item in items)
 
 

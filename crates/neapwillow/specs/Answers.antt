@@ -23,6 +23,12 @@ use Rattle.framing.specs.declared.Counted.{Counted}
 use Rattle.framing.specs.declared.Counted.the-variants as counted
 use Rattle.framing.specs.declared.Cut.{Cut}
 use Rattle.framing.specs.declared.Cut.the-variants as cut
+use Rattle.fields.specs.declared.Step.{Step}
+use Rattle.fields.specs.declared.Step.the-variants as step
+use Rattle.fields.specs.declared.Number.{Number}
+use Rattle.fields.specs.declared.Number.the-variants as number
+use Rattle.fields.specs.declared.Part.{Part}
+use Rattle.fields.specs.declared.Part.the-variants as part
 use Rattle.feeding.specs.declared.Answer.{Answer}
 use Rattle.feeding.specs.declared.Answer.the-variants as fed
 use Rattle.handing.specs.declared.Handed.{Handed}
@@ -105,3 +111,24 @@ feedAnswer (fed.Refused why) = refusedOf why
 abbrev pub handAnswer : Handed → ℕ
 handAnswer (handed.Body n) = answerOf 0 n
 handAnswer (handed.Refused why) = refusedOf why
+
+-- ---- fields of a body
+
+-- an accepted body has no value of its own
+abbrev pub readAnswer : Step → ℕ
+readAnswer (step.At end) = answerOf 0 0
+readAnswer (step.Refused why) = refusedOf why
+
+abbrev pub numberAnswer : Number → ℕ
+numberAnswer (number.Is x after) = answerOf 0 x
+numberAnswer (number.Refused why) = refusedOf why
+
+-- opaque bytes by the part of the body that they fill: the start above 24 bits of length. An accepted body is shorter than both fields allow.
+abbrev pub partAnswer : Part → ℕ
+partAnswer (part.Of start length) = answerOf 0 (start % 2 ^ 32 * 2 ^ 24 + length % 2 ^ 24)
+partAnswer (part.Refused why) = refusedOf why
+
+-- the length of the body written
+abbrev pub writtenAnswer : Step → ℕ
+writtenAnswer (step.At end) = answerOf 0 end
+writtenAnswer (step.Refused why) = refusedOf why

@@ -1,0 +1,14 @@
+-- The laws that other crates cite.
+pub mod Stand
+pub mod Outcomes
+pub mod Classes
+pub mod Leaves
+pub mod Parts
+pub mod Lists
+pub mod RoundTrips
+pub mod Times
+pub mod Readers
+pub mod Elements
+pub mod Measures
+pub mod Puts
+pub mod Writers

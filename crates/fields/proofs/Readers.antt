@@ -1,0 +1,317 @@
+-- What the reading functions answer, a law for each way through: the code's tests on the left, the answer on the right.
+use Prim.Native.Nat.{ℕ, zero, suc, _+_, _-_, _*_, _%_, _^_, _≤_, _<_}
+use mathlib.Core.Path.{_≡_, refl, sym, ap, ap₂, _∙_}
+use mathlib.Core.List.{List, [], _∷_}
+use mathlib.Core.Bool.{Bool, true, false}
+use native.Mathlib.Omega.{arith}
+use native.Mathlib.Numerals.{add-one}
+use native.Mathlib.Nat.{add-sub-cancel, add-sub-cancel-left, mod-eq-of-lt, le-refl, pow-suc, pow-le-pow-right, lt-of-lt-of-le}
+use lib.Arith.{digits-lt}
+use lib.ListN.{length, getD, take, drop, length-drop}
+use lib.Seq.{length-take-le}
+use lib.Dec.{leb, ltb, eqb}
+use borrow.Author.Tests.{leb-true, le-leb, lt-leb, lt-ltb, le-ltb, eq-eqb, ne-eqb}
+use Rattle.refusal.specs.declared.Refusal.{Refusal}
+use Rattle.refusal.specs.declared.Refusal.the-variants.{OtherKind, PastBody, PastPart, OutsideSet, TooLarge}
+use Rattle.fields.specs.Reading.{Reading, found, refused, andThen, need, within, judged}
+use Rattle.fields.specs.Format.{Format, nothing, numberAt, count, repeat, followed, _▷_, listOf, rest, exact, view, lengthOf, counted, opaque}
+use Rattle.fields.specs.Answers.{stepOf, numberOf, partOf, ended, endedAll, numberRead, partRead, after, partAfter, listed, partListed}
+use Rattle.fields.specs.Body.{longest, reading, bodyRead, opened}
+use Rattle.fields.specs.declared.Step.{Step}
+use Rattle.fields.specs.declared.Step.the-variants.{At, Refused as NoStep}
+use Rattle.fields.specs.declared.Number.{Number}
+use Rattle.fields.specs.declared.Number.the-variants.{Is, Refused as NoNumber}
+use Rattle.fields.specs.declared.Part.{Part}
+use Rattle.fields.specs.declared.Part.the-variants.{Of, Refused as NoPart}
+use Rattle.fields.proofs.Outcomes.{found-inj, andThen-found, need-found, within-found}
+use Rattle.fields.proofs.Classes.{Bytes}
+use Rattle.fields.proofs.Leaves.{number-below}
+
+-- ---- a number under way: its first k bytes
+
+pub number-start : (s : List ℕ) (p : ℕ) → 0 ≡ numberAt s p 0
+unfolding numberAt
+number-start s p = refl
+
+pub number-more : (s : List ℕ) (p k v x : ℕ) → v ≡ numberAt s p k → x ≡ getD s (p + k) 0 → v * 256 + x ≡ numberAt s p (k + 1)
+unfolding numberAt
+number-more s p k v x e f = rw (add-one, e, f)
+
+pub more-fits : (k v x : ℕ) → v < 256 ^ k → x < 256 → v * 256 + x < 256 ^ (k + 1)
+more-fits k v x h l = rw (add-one, pow-suc) (digits-lt h l)
+
+pub six-bytes : (k v : ℕ) → k ≤ 6 → v < 256 ^ k → v < 256 ^ 6
+six-bytes k v h l = lt-of-lt-of-le l (pow-le-pow-right (omega arith) h)
+
+-- ---- a number
+
+module _ (s : List ℕ) (l p w : ℕ) where
+  pub number-14 : length s < p + w → NoNumber (PastBody p) ≡ numberRead w s l p
+  unfolding numberRead count
+  number-14 h = rw (lt-leb (p + w) (length s) h)
+
+  pub number-15 : p + w ≤ length s → l < p + w → NoNumber (PastPart p) ≡ numberRead w s l p
+  unfolding numberRead count
+  number-15 h k = rw (le-leb (p + w) (length s) h, lt-leb (p + w) l k)
+
+  pub number-is : p + w ≤ length s → p + w ≤ l → (v q : ℕ) → v ≡ numberAt s p w → q ≡ p + w → Is v q ≡ numberRead w s l p
+  unfolding numberRead count
+  number-is h k v q e f = rw (le-leb (p + w) (length s) h, le-leb (p + w) l k, e, f)
+
+-- from an answer back to what was read
+module _ (s : List ℕ) (l p w : ℕ) where
+  pub number-found : (v q : ℕ) → Is v q ≡ numberRead w s l p → count w .parse s l p ≡ found v q
+  unfolding numberRead
+  number-found v q e = go (count w .parse s l p) e
+    where
+      go : (x : Reading ℕ) → Is v q ≡ numberOf x → x ≡ found v q
+      go (found y r) f = let a : y ≡ v = cc in let b : r ≡ q = cc in rw (a, b)
+      go (refused r) f = absurd (let z : _≡_ {A = ℕ} 0 1 = cc in omega arith)
+
+  pub number-refused : (r : Refusal) → NoNumber r ≡ numberRead w s l p → count w .parse s l p ≡ refused r
+  unfolding numberRead
+  number-refused r e = go (count w .parse s l p) e
+    where
+      go : (x : Reading ℕ) → NoNumber r ≡ numberOf x → x ≡ refused r
+      go (refused t) f = let a : t ≡ r = cc in ap refused a
+      go (found y q) f = absurd (let z : _≡_ {A = ℕ} 0 1 = cc in omega arith)
+
+-- ---- opaque bytes
+
+module _ (s : List ℕ) (l p w v q : ℕ) (b : Bytes s) (e : Is v q ≡ numberRead w s l p) where
+  pub number-facts : (q ≤ length s) × (q ≤ l) × (v < 256 ^ w)
+  unfolding count
+  number-facts =
+      let f = within-found s l p (p + w) _ v q (number-found s l p w v q e) in
+      let i = found-inj (f .2) in
+      (rw (← i .1) (f .0), rw (← i .1) (f .1), rw (← i .0) (number-below s p w b))
+
+  low : v % 256 ^ w ≡ v
+  low = mod-eq-of-lt (number-facts .2)
+
+  pub part-14 : length s < q + v → NoPart (PastBody p) ≡ partRead w s l p
+  unfolding partRead counted lengthOf
+  part-14 h = rw (number-found s l p w v q e, low, lt-leb (q + v) (length s) h)
+
+  pub part-15 : q + v ≤ length s → l < q + v → NoPart (PastPart p) ≡ partRead w s l p
+  unfolding partRead counted lengthOf
+  part-15 h k = rw (number-found s l p w v q e, low, le-leb (q + v) (length s) h, lt-leb (q + v) l k)
+
+  pub part-of : q + v ≤ length s → q + v ≤ l → Of q v ≡ partRead w s l p
+  unfolding partRead counted lengthOf rest
+  part-of h k =
+      let n : length (take v (drop q s)) ≡ v = length-take-le v (drop q s) (simp length-drop (omega arith)) in
+      rw (number-found s l p w v q e, low, le-leb (q + v) (length s) h, le-leb (q + v) l k, add-sub-cancel-left q v, n, add-sub-cancel q v)
+
+pub part-no : (s : List ℕ) (l p w : ℕ) (r : Refusal) → NoNumber r ≡ numberRead w s l p → NoPart r ≡ partRead w s l p
+unfolding partRead counted lengthOf
+part-no s l p w r e = rw (number-refused s l p w r e)
+
+-- from a part back to the bytes read
+pub opaque-found : (s : List ℕ) (l p w : ℕ) (xs : List ℕ) (q : ℕ) → opaque w .parse s l p ≡ found xs q
+    → (length xs ≤ q) × (q ≤ length s) × (q ≤ l) × (take (length xs) (drop (q - length xs) s) ≡ xs)
+unfolding counted lengthOf rest
+opaque-found s l p w xs q e =
+    let i = andThen-found (count w .parse s l p) _ xs q e in
+    let m = i .0 % 256 ^ w in
+    let g = within-found s l p (i .1 + m) _ xs q (i .3) in
+    let h = found-inj (g .2) in
+    let n = length-take-le (i .1 + m - i .1) (drop (i .1) s) (simp length-drop (omega (arith, g .0))) in
+    let at : q - length xs ≡ i .1 = omega (arith, ap length (h .0), h .1, n) in
+    let long : length xs ≡ i .1 + m - i .1 = omega (arith, ap length (h .0), n) in
+    (omega (arith, ap length (h .0), h .1, n), omega (arith, h .1, g .0), omega (arith, h .1, g .1), ap₂ (λ (x y : ℕ). take x (drop y s)) long at ∙ h .0)
+
+part-inv : (x : Reading (List ℕ)) (a n : ℕ) → Of a n ≡ partOf x → ((xs : List ℕ) (q : ℕ) → x ≡ found xs q → length xs ≤ q)
+    → (xs : List ℕ) × (x ≡ found xs (a + n)) × (length xs ≡ n)
+part-inv (found xs q) a n e h =
+    let u : a ≡ q - length xs = cc in
+    let v : n ≡ length xs = cc in
+    (xs, ap (found xs) (let k = h xs q refl in omega arith), sym v)
+part-inv (refused r) a n e h = absurd (let z : _≡_ {A = ℕ} 0 1 = cc in omega arith)
+
+module _ (s : List ℕ) (l p w : ℕ) where
+  pub part-found : (a n : ℕ) → Of a n ≡ partRead w s l p → (xs : List ℕ) × (opaque w .parse s l p ≡ found xs (a + n)) × (length xs ≡ n)
+  unfolding partRead
+  part-found a n e = part-inv (opaque w .parse s l p) a n e (λ xs q f. opaque-found s l p w xs q f .0)
+
+  pub part-facts : (a n : ℕ) → Of a n ≡ partRead w s l p → (a + n ≤ length s) × (a + n ≤ l)
+  part-facts a n e =
+      let i = part-found a n e in
+      let f = opaque-found s l p w (i .0) (a + n) (i .1) in
+      (f .1, f .2)
+
+  pub part-refused : (r : Refusal) → NoPart r ≡ partRead w s l p → opaque w .parse s l p ≡ refused r
+  unfolding partRead
+  part-refused r e = go (opaque w .parse s l p) e
+    where
+      go : (x : Reading (List ℕ)) → NoPart r ≡ partOf x → x ≡ refused r
+      go (refused t) f = let a : t ≡ r = cc in ap refused a
+      go (found y q) f = absurd (let z : _≡_ {A = ℕ} 0 1 = cc in omega arith)
+
+  -- where opaque bytes end
+  pub opaque-at : (a n : ℕ) → Of a n ≡ partRead w s l p → At (a + n) ≡ ended (opaque w) s l p
+  unfolding ended
+  opaque-at a n e = rw (part-found a n e .1)
+
+  pub opaque-no : (r : Refusal) → NoPart r ≡ partRead w s l p → NoStep r ≡ ended (opaque w) s l p
+  unfolding ended
+  opaque-no r e = rw (part-refused r e)
+
+-- ---- from where a part ends back to what was read
+
+module _ {A : Type 0} (F : Format A) (s : List ℕ) (l p : ℕ) where
+  pub step-found : (q : ℕ) → At q ≡ ended F s l p → (a : A) × (F .parse s l p ≡ found a q)
+  unfolding ended
+  step-found q e = go (F .parse s l p) e
+    where
+      go : (x : Reading A) → At q ≡ stepOf x → (a : A) × (x ≡ found a q)
+      go (found a r) f = (a, ap (found a) (let z : r ≡ q = cc in z))
+      go (refused r) f = absurd (let z : _≡_ {A = ℕ} 0 1 = cc in omega arith)
+
+  pub step-refused : (r : Refusal) → NoStep r ≡ ended F s l p → F .parse s l p ≡ refused r
+  unfolding ended
+  step-refused r e = go (F .parse s l p) e
+    where
+      go : (x : Reading A) → NoStep r ≡ stepOf x → x ≡ refused r
+      go (refused t) f = let a : t ≡ r = cc in ap refused a
+      go (found a q) f = absurd (let z : _≡_ {A = ℕ} 0 1 = cc in omega arith)
+
+-- ---- n things, and the thing after i others: a turn of the loop
+
+step-last : {A : Type 0} (a : A) (x : Reading (List A)) → stepOf (andThen x (λ xs r. found (a ∷ xs) r)) ≡ stepOf x
+step-last a (found b r) = refl
+step-last a (refused r) = refl
+
+module _ {A : Type 0} (F : Format A) (s : List ℕ) (l p : ℕ) where
+  pub all-done : (n : ℕ) → n ≡ 0 → At p ≡ endedAll F n s l p
+  unfolding endedAll repeat
+  all-done n z = rw z
+
+  pub all-stop : (n : ℕ) (r : Refusal) → 0 < n → NoStep r ≡ ended F s l p → NoStep r ≡ endedAll F n s l p
+  unfolding ended endedAll repeat
+  all-stop zero r h e = absurd (omega arith)
+  all-stop (suc n) r h e = go (F .parse s l p) e
+    where
+      go : (x : Reading A) → NoStep r ≡ stepOf x → NoStep r ≡ stepOf (andThen x (λ a q. andThen (repeat (F .parse s l) n q) (λ xs t. found (a ∷ xs) t)))
+      go (found a q) f = absurd (let z : _≡_ {A = ℕ} 0 1 = cc in omega arith)
+      go (refused t) f = f
+
+  pub all-go : (n q : ℕ) → 0 < n → At q ≡ ended F s l p → endedAll F n s l p ≡ endedAll F (n - 1) s l q
+  unfolding ended endedAll repeat
+  all-go zero q h e = absurd (omega arith)
+  all-go (suc n) q h e = go (F .parse s l p) e ∙ ap (λ m. stepOf (repeat (F .parse s l) m q)) (let z : n ≡ suc n - 1 = omega arith in z)
+    where
+      go : (x : Reading A) → At q ≡ stepOf x → stepOf (andThen x (λ a t. andThen (repeat (F .parse s l) n t) (λ xs u. found (a ∷ xs) u))) ≡ stepOf (repeat (F .parse s l) n q)
+      go (found a t) f = let z : t ≡ q = cc in step-last a (repeat (F .parse s l) n t) ∙ ap (λ u. stepOf (repeat (F .parse s l) n u)) z
+      go (refused r) f = absurd (let z : _≡_ {A = ℕ} 0 1 = cc in omega arith)
+
+module _ (s : List ℕ) (l p w : ℕ) where
+  pub after-done : (i : ℕ) → i ≡ 0 → partRead w s l p ≡ partAfter w i s l p
+  unfolding partAfter after partRead
+  after-done i z = rw z
+
+  pub after-stop : (i : ℕ) (r : Refusal) → 0 < i → NoPart r ≡ partRead w s l p → NoPart r ≡ partAfter w i s l p
+  unfolding partAfter after
+  after-stop zero r h e = absurd (omega arith)
+  after-stop (suc i) r h e = rw (part-refused s l p w r e)
+
+  pub after-go : (i a n : ℕ) → 0 < i → Of a n ≡ partRead w s l p → partAfter w i s l p ≡ partAfter w (i - 1) s l (a + n)
+  unfolding partAfter after
+  after-go zero a n h e = absurd (omega arith)
+  after-go (suc i) a n h e =
+      let d : suc i - 1 ≡ i = omega arith in
+      rw (d, part-found s l p w a n e .1)
+
+-- ---- a list after its count
+
+module _ (s : List ℕ) (l p c : ℕ) where
+  pub list-no : {A : Type 0} (F : Format A) (r : Refusal) → NoNumber r ≡ numberRead c s l p → NoStep r ≡ ended (listOf (count c) F) s l p
+  unfolding ended listOf
+  list-no F r e = rw (number-refused s l p c r e)
+
+  pub list-all : {A : Type 0} (F : Format A) (n q : ℕ) → Is n q ≡ numberRead c s l p → endedAll F n s l q ≡ ended (listOf (count c) F) s l p
+  unfolding ended endedAll listOf
+  list-all F n q e = rw (number-found s l p c n q e)
+
+  pub listed-no : (w i : ℕ) (r : Refusal) → NoNumber r ≡ numberRead c s l p → NoPart r ≡ partListed c w i s l p
+  unfolding partListed listed
+  listed-no w i r e = rw (number-refused s l p c r e)
+
+  pub listed-none : (w i n q : ℕ) → Is n q ≡ numberRead c s l p → n ≤ i → NoPart (OutsideSet 0) ≡ partListed c w i s l p
+  unfolding partListed listed
+  listed-none w i n q e h = rw (number-found s l p c n q e, le-ltb i n h)
+
+  pub listed-part : (w i n q : ℕ) → Is n q ≡ numberRead c s l p → i < n → partAfter w i s l q ≡ partListed c w i s l p
+  unfolding partListed listed partAfter
+  listed-part w i n q e h = rw (number-found s l p c n q e, lt-ltb i n h)
+
+-- ---- one after the other, other names, no byte left: by what the first part answers
+
+module _ {A B : Type 0} (F : Format A) (G : Format B) (s : List ℕ) (l p : ℕ) where
+  pub followed-no : (r : Refusal) → NoStep r ≡ ended F s l p → NoStep r ≡ ended (F ▷ G) s l p
+  unfolding ended followed
+  followed-no r e = rw (step-refused F s l p r e)
+
+  pub followed-at : (q : ℕ) → At q ≡ ended F s l p → ended G s l q ≡ ended (F ▷ G) s l p
+  unfolding ended followed
+  followed-at q e = rw (step-found F s l p q e .1) (last (step-found F s l p q e .0) (G .parse s l q))
+    where
+      last : (a : A) (x : Reading B) → stepOf x ≡ stepOf (andThen x (λ b r. let z : A × B = (a, b) in found z r))
+      last a (found b r) = refl
+      last a (refused r) = refl
+
+pub view-ended : {A B : Type 0} (f : A → B) (g : B → A) (F : Format A) (s : List ℕ) (l p : ℕ) → ended F s l p ≡ ended (view f g F) s l p
+unfolding ended view
+view-ended {A} {B} f g F s l p = go (F .parse s l p)
+  where
+    go : (x : Reading A) → stepOf x ≡ stepOf (andThen x (λ a q. found (f a) q))
+    go (found a q) = refl
+    go (refused r) = refl
+
+module _ {A : Type 0} (leftOver : ℕ → Refusal) (F : Format A) (s : List ℕ) (l p : ℕ) where
+  pub exact-no : (r : Refusal) → NoStep r ≡ ended F s l p → NoStep r ≡ ended (exact leftOver F) s l p
+  unfolding ended exact
+  exact-no r e = rw (step-refused F s l p r e)
+
+  pub exact-left : (q : ℕ) → At q ≡ ended F s l p → q < l → NoStep (leftOver q) ≡ ended (exact leftOver F) s l p
+  unfolding ended exact
+  exact-left q e h = rw (step-found F s l p q e .1, lt-leb l q h)
+
+  pub exact-at : (q : ℕ) → At q ≡ ended F s l p → l ≤ q → At q ≡ ended (exact leftOver F) s l p
+  unfolding ended exact
+  exact-at q e h = rw (step-found F s l p q e .1, le-leb l q h)
+
+-- ---- whole bodies
+
+module _ (own kind : ℕ) (s : List ℕ) where
+  pub other-kind : (kind ≡ own → ⊥) → NoStep OtherKind ≡ opened own kind s
+  unfolding opened bodyRead reading
+  other-kind h = rw (ne-eqb kind own h)
+
+  module _ (e : kind ≡ own) where
+    pub too-large : longest < length s → NoStep TooLarge ≡ opened own kind s
+    unfolding opened bodyRead reading
+    too-large h = rw (eq-eqb kind own e, lt-leb (length s) longest h)
+
+    pub is-open : length s ≤ longest → At 0 ≡ opened own kind s
+    unfolding opened bodyRead reading nothing
+    is-open h = rw (eq-eqb kind own e, le-leb (length s) longest h)
+
+  module _ {A : Type 0} (F : Format A) where
+    pub body-no : (r : Refusal) → NoStep r ≡ opened own kind s → NoStep r ≡ bodyRead F own kind s
+    unfolding opened bodyRead reading nothing
+    body-no r e = go (eqb kind own) (leb (length s) longest) e
+      where
+        go : (a b : Bool) → NoStep r ≡ stepOf (need a OtherKind (need b TooLarge (nothing .parse s (length s) 0))) → NoStep r ≡ stepOf (need a OtherKind (need b TooLarge (F .parse s (length s) 0)))
+        go false b f = f
+        go true false f = f
+        go true true f = absurd (let z : _≡_ {A = ℕ} 0 1 = cc in omega arith)
+
+    pub body-at : (q : ℕ) → At q ≡ opened own kind s → ended F s (length s) 0 ≡ bodyRead F own kind s
+    unfolding opened bodyRead reading nothing ended
+    body-at q e = go (eqb kind own) (leb (length s) longest) e
+      where
+        go : (a b : Bool) → At q ≡ stepOf (need a OtherKind (need b TooLarge (nothing .parse s (length s) 0))) → stepOf (F .parse s (length s) 0) ≡ stepOf (need a OtherKind (need b TooLarge (F .parse s (length s) 0)))
+        go true true f = refl
+        go true false f = absurd (let z : _≡_ {A = ℕ} 0 1 = cc in omega arith)
+        go false b f = absurd (let z : _≡_ {A = ℕ} 0 1 = cc in omega arith)

@@ -1,0 +1,84 @@
+-- Both round trips, and both again through the writer, once for every format of a whole body.
+use Prim.Native.Nat.{ℕ, _+_, _≤_, zero-le}
+use mathlib.Core.Path.{_≡_, refl, sym, ap, ap₂, _∙_}
+use mathlib.Core.List.{List}
+use mathlib.Core.Bool.{Bool, true, false, not}
+use native.Mathlib.Omega.{arith}
+use native.Mathlib.Nat.{le-refl}
+use lib.ListN.{length}
+use lib.Dec.{leb, eqb}
+use borrow.Author.Tests.{leb-true, eqb-true, le-leb, eq-eqb, not-true}
+use Rattle.placing.specs.Placed.{placed}
+use Rattle.refusal.specs.declared.Refusal.the-variants.{OtherKind, OutsideSet, OutputTooSmall, TooLarge}
+use Rattle.fields.specs.Reading.{Reading, found, refused, andThen, need}
+use Rattle.fields.specs.Format.{Format}
+use Rattle.fields.specs.Body.{longest, reading, writing, writtenOver, output}
+use Rattle.fields.proofs.Stand.{stands-all, stands-whole}
+use Rattle.fields.proofs.Outcomes.{found-inj, andThen-found, need-found}
+use Rattle.fields.proofs.Classes.{Bytes, Ok, Filling}
+
+module _ {A : Type 0} (F : Format A) (f : Filling F) (own : ℕ) where
+  -- each well-formed table, printed, reads back as itself
+  pub reads-back : (a : A) → Ok F a → length (F .print a) ≤ longest → reading F own own (F .print a) ≡ found a (length (F .print a))
+  unfolding reading
+  reads-back a o h =
+      let whole = f .back (F .print a) (length (F .print a)) 0 a o (stands-whole (F .print a)) (omega arith) (le-refl (length (F .print a))) in
+      rw (eq-eqb own own refl, le-leb (length (F .print a)) longest h, whole)
+
+  -- what an accepted body says of itself
+  module _ (kind : ℕ) (s : List ℕ) (b : Bytes s) (a : A) (q : ℕ) (e : reading F own kind s ≡ found a q) where
+    pub accepted : (kind ≡ own) × (length s ≤ longest) × (F .parse s (length s) 0 ≡ found a q)
+    unfolding reading
+    accepted =
+        let t = need-found (eqb kind own) OtherKind _ a q e in
+        let u = need-found (leb (length s) longest) TooLarge _ a q (t .1) in
+        (eqb-true kind own (t .0), leb-true (length s) longest (u .0), u .1)
+
+    -- each accepted body prints back to its bytes
+    pub prints-back : (F .print a ≡ s) × Ok F a
+    prints-back =
+        let p = accepted .2 in
+        let u = f .forth s (length s) 0 a q b (le-refl (length s)) zero-le p in
+        let z = f .ends s (length s) 0 a q b (le-refl (length s)) zero-le p in
+        (sym (stands-all s (F .print a) (u .stands) (omega (arith, z, u .next))), u .ok)
+
+    -- and, laid out with the body itself as the pool, is written to its bytes
+    pub writes-back : (out : List ℕ) → length s ≤ length out
+        → (writing F s (F .tape a 0) (length out) ≡ found a (length s)) × (output F s (F .tape a 0) out ≡ placed out 0 s)
+    unfolding writing output
+    writes-back out h =
+        let w = prints-back in
+        let n : length (F .print a) ≡ length s = ap length (w .0) in
+        let t = F .tape a 0 in
+        let form = f .formal .laid s 0 t 0 a (w .1 .right) (rw (w .0) (stands-whole s)) (omega (arith, n)) (stands-whole t) (omega arith) in
+        let g : writing F s t (length out) ≡ found a (length s) =
+        rw (form, le-leb (length t) (0 + length t) (omega arith), w .1 .small, n, le-leb (length s) longest (accepted .1), le-leb (length s) (length out) h) in
+        (g, rw g (ap (placed out 0) (w .0)))
+
+  -- what was written is the value's bytes, which read back as it
+  pub written-reads-back : (pool tape : List ℕ) (room : ℕ) (a : A) (m : ℕ) → writing F pool tape room ≡ found a m
+      → (m ≡ length (F .print a)) × (m ≤ room) × Ok F a × (reading F own own (F .print a) ≡ found a m)
+  unfolding writing
+  written-reads-back pool tape room a m e =
+      let i = andThen-found (F .form pool tape 0) _ a m e in
+      let v = i .0 in
+      let n = length (F .print v) in
+      let c1 = need-found (leb (length tape) (i .1)) (OutsideSet 0) _ a m (i .3) in
+      let c2 = need-found (not (F .over v)) TooLarge _ a m (c1 .1) in
+      let c3 = need-found (leb n longest) TooLarge _ a m (c2 .1) in
+      let c4 = need-found (leb n room) OutputTooSmall _ a m (c3 .1) in
+      let z = found-inj (c4 .1) in
+      let ok : Ok F v = record { right = f .formal .sound pool tape 0 v (i .1) (i .2); small = not-true (F .over v) (c2 .0) } in
+      let whole = reads-back v ok (leb-true n longest (c3 .0)) in
+      let all : (y : A) → v ≡ y → (n ≡ length (F .print y)) × (n ≤ room) × Ok F y × (reading F own own (F .print y) ≡ found y n) =
+      (λ y w. rw (← w) (refl, leb-true n room (c4 .0), ok, whole)) in
+      rw (← z .1) (all a (z .0))
+
+  -- exactly the printed tables are accepted
+  pub accepted-exactly : (s : List ℕ) → Bytes s → (a : A) (q : ℕ)
+      → (reading F own own s ≡ found a q → (s ≡ F .print a) × Ok F a × (length s ≤ longest) × (q ≡ length s))
+  accepted-exactly s b a q e =
+      let w = prints-back own s b a q e in
+      let t = accepted own s b a q e in
+      let z = f .ends s (length s) 0 a q b (le-refl (length s)) zero-le (t .2) in
+      (sym (w .0), w .1, t .1, z)

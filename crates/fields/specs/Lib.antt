@@ -1,0 +1,7 @@
+-- The definitions that other crates cite.
+pub mod Reading
+pub mod Format
+pub mod Time
+pub mod Answers
+pub mod Body
+pub mod Passes
