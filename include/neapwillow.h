@@ -225,6 +225,13 @@ nw_answer nw_certificate_signature(const uint8_t *body, size_t n);
 nw_answer nw_certificate_write(const uint8_t *pool, size_t pool_bytes, const uint64_t *tape,
                                size_t entries, uint8_t *out, size_t room);
 
+/* Lays an accepted body onto a tape: the form from which, with the body itself as the pool,
+ * nw_certificate_write writes it again. Value: the entries laid, two for each part and one for each
+ * count; entries after them stay. Refusals, with nothing laid: those of nw_certificate_read, then 21,
+ * the tape is too short. */
+nw_answer nw_certificate_lay(uint32_t kind, const uint8_t *body, size_t n, uint64_t *tape,
+                             size_t entries);
+
 #ifdef __cplusplus
 }
 #endif

@@ -267,6 +267,12 @@ static void call_certificate_write(const struct argument *a) {
     put_bytes(a[2].bytes, a[2].length);
 }
 
+// The whole tape is printed, what was laid and what stayed.
+static void call_certificate_lay(const struct argument *a) {
+    put_answer(nw_certificate_lay((uint32_t)a[0].number, a[1].bytes, a[1].length, a[2].tape, a[2].length));
+    put_tape(a[2].tape, a[2].length);
+}
+
 static const struct call calls[] = {
     {"echo", "buiwot", call_echo},
     {"crc32", "b", call_crc32},
@@ -291,6 +297,7 @@ static const struct call calls[] = {
     {"certificate_authorization", "bw", call_certificate_authorization},
     {"certificate_part", "bw", call_certificate_part},
     {"certificate_write", "bto", call_certificate_write},
+    {"certificate_lay", "ubt", call_certificate_lay},
 };
 
 // ---- what a request is read with

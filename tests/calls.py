@@ -37,6 +37,11 @@ class Refused(Exception):
         self.place = place
 
 
+def answer(item):
+    """A byte string, a tape of numbers or a number as calls.c prints it."""
+    return (item.hex() or '-') if isinstance(item, bytes) else word(item)
+
+
 def told(call, *arguments):
     """The answer of a second program's function, as calls.c prints the library's."""
     try:
@@ -44,7 +49,7 @@ def told(call, *arguments):
         items = (0, *value) if isinstance(value, tuple) else (0, value)
     except Refused as refusal:
         items = (refusal.args[0], refusal.place, *refusal.args[1:])
-    return ' '.join((item.hex() or '-') if isinstance(item, bytes) else str(item) for item in items)
+    return ' '.join(answer(item) for item in items)
 
 
 def answers(requests):

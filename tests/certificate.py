@@ -123,6 +123,18 @@ def askings():
                 yield call, body, i
 
 
+def layings():
+    """Bodies laid onto tapes of every length up to two entries more than they need."""
+    for kind, body in [(KIND, body) for small in SMALL for body in (small, small[:-1], small + b'\0')] + list(kinds())[:300]:
+        for entries in range(24):
+            yield 'certificate_lay', kind, body, [2**64 - 1 - k for k in range(entries)]
+    for body in MANY:
+        lists, certificates, _ = second.fields(KIND, body)
+        needed = 2 * (len(lists) + len(certificates)) + 4
+        for entries in needed - 1, needed, needed + 2:
+            yield 'certificate_lay', KIND, body, [7] * entries
+
+
 # ---- forms: the fields, laid in a pool of bytes and a tape of numbers
 
 
@@ -276,13 +288,14 @@ def main():
                          (b'\1\0\1', '14 1'), (b'\0\1\2a', '14 2'), (b'\1\0\1ab', '14 5'),
                          (bytes(4), '0 0 0 0 0 0 0 %d' % (4 * 2**24))):
         assert calls.told(second.certificate_read, KIND, body) == answer, body
-    reads, asks, writes = list(readings()), list(askings()), list(writings())
-    got = calls.compare('a second program', second, reads + asks + writes)
-    told = {'read': by_refusal(got[:len(reads)]), 'asked': by_refusal(got[len(reads):-len(writes)]),
-            'written': by_refusal(got[-len(writes):])}
+    reads, asks, lays, writes = list(readings()), list(askings()), list(layings()), list(writings())
+    got = calls.compare('a second program', second, reads + asks + lays + writes)
+    asked = len(reads) + len(asks)
+    told = {'read': by_refusal(got[:len(reads)]), 'asked': by_refusal(got[len(reads):asked]),
+            'laid': by_refusal(got[asked:-len(writes)]), 'written': by_refusal(got[-len(writes):])}
     for what, refusals in told.items():
         print(what, ', '.join('%d: %d' % pair for pair in sorted(refusals.items())))
-    assert [sorted(refusals) for refusals in told.values()] == [[0, 2, 14, 16, 22], [0, 19], [0, 19, 21, 22]]
+    assert [sorted(refusals) for refusals in told.values()] == [[0, 2, 14, 16, 22], [0, 19], [0, 2, 14, 16, 21], [0, 19, 21, 22]]
     assert len(got) > 20000
     read_back(writes, got[-len(writes):])
 

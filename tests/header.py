@@ -10,7 +10,7 @@ ROOT = os.path.join(os.path.dirname(os.path.abspath(__file__)), os.pardir)
 IN_C = {
     'u8': ['uint8_t'], 'u16': ['uint16_t'], 'u32': ['uint32_t'], 'u64': ['uint64_t'], 'usize': ['size_t'], 'i32': ['int32_t'],
     '&[u8]': ['const uint8_t *', 'size_t'], '&mut [u8]': ['uint8_t *', 'size_t'],
-    '&[u64]': ['const uint64_t *', 'size_t'],
+    '&[u64]': ['const uint64_t *', 'size_t'], '&mut [u64]': ['uint64_t *', 'size_t'],
     '&Gathering': ['const nw_gathering *'], '&mut Gathering': ['nw_gathering *'],
 }
 

@@ -134,3 +134,14 @@ def certificate_write(pool, tape, out):
     except Refused as refusal:
         raise Refused(*refusal.args, out)
     return len(body), body + out[len(body):]
+
+
+def certificate_lay(kind, body, tape):
+    try:
+        lists, certificates, signature = fields(kind, body)
+        laid = [len(lists), *itertools.chain(*lists), len(certificates), *itertools.chain(*certificates), *signature]
+        if len(laid) > len(tape):
+            raise Refused(21)
+    except Refused as refusal:
+        raise Refused(*refusal.args, tape, place=refusal.place)
+    return len(laid), laid + tape[len(laid):]

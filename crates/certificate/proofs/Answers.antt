@@ -1,17 +1,17 @@
 -- What the reader and the fields asked for answer, a law for each way through.
 use Prim.Native.Nat.{ℕ, _+_, _≤_, _<_}
-use mathlib.Core.Path.{_≡_, sym, _∙_}
+use mathlib.Core.Path.{_≡_, _∙_}
 use mathlib.Core.List.{List}
 use lib.ListN.{length}
 use Rattle.refusal.specs.declared.Refusal.{Refusal}
 use Rattle.refusal.specs.declared.Refusal.the-variants.{LeftOver}
-use Rattle.fields.specs.Format.{Format, count, listOf, opaque, _▷_}
-use Rattle.fields.specs.Answers.{ended, numberOf, partOf, numberRead, partRead, partListed, listed}
+use Rattle.fields.specs.Format.{opaque}
+use Rattle.fields.specs.Answers.{ended, numberRead, partRead, partListed}
 use Rattle.fields.specs.declared.Step.the-variants.{At, Refused as NoStep}
 use Rattle.fields.specs.declared.Number.the-variants.{Refused as NoNumber}
 use Rattle.fields.specs.declared.Part.the-variants.{Of, Refused as NoPart}
 use Rattle.fields.proofs.Readers.{followed-no, followed-at, opaque-no, opaque-at, view-ended, exact-no, exact-left, exact-at, step-found, step-refused}
-use Rattle.certificate.specs.Certificate.{Fields, named, unnamed, fields, certificate}
+use Rattle.certificate.specs.Certificate.{named, unnamed, fields, certificate}
 use Rattle.certificate.specs.Asked.{parts, certificateCount, certificatePart, signaturePart}
 
 module _ (s : List ℕ) (l : ℕ) where

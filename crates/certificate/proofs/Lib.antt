@@ -3,3 +3,4 @@ pub mod RoundTrips
 pub mod Answers
 pub mod Table
 pub mod Written
+pub mod Laid

@@ -2,12 +2,12 @@
 use Prim.Native.Nat.{ℕ, _≤_}
 use mathlib.Core.Path.{_≡_, refl}
 use mathlib.Core.List.{List}
-use lib.ListN.{length}
+use lib.ListN.{length, take}
 use Rattle.placing.specs.Placed.{placed}
 use Rattle.refusal.specs.declared.Refusal.the-variants.{LeftOver}
 use Rattle.fields.specs.Reading.{found}
 use Rattle.fields.specs.Format.{count, listOf, opaque}
-use Rattle.fields.specs.Body.{longest, reading, writing, output}
+use Rattle.fields.specs.Body.{longest, reading, writing, output, laidTape}
 use Rattle.fields.proofs.Classes.{Bytes, Ok, Lawful, Filling}
 use Rattle.fields.proofs.Leaves.{count-lawful}
 use Rattle.fields.proofs.Parts.{followed-lawful, view-lawful, exact-filling, opaque-lawful}
@@ -15,7 +15,7 @@ use Rattle.fields.proofs.Lists.{list-lawful}
 use Rattle.fields.proofs.RoundTrips as trips
 use Rattle.certificate.specs.Certificate.{Certificates, certificateKind, named, unnamed, fields, certificate}
 
-list-of : (w : ℕ) → Lawful (listOf (count 1) (opaque w))
+pub list-of : (w : ℕ) → Lawful (listOf (count 1) (opaque w))
 list-of w = list-lawful (opaque w) (opaque-lawful w) (count 1) (count-lawful 1)
 
 pub fields-lawful : Lawful fields
@@ -46,3 +46,9 @@ pub writes-back : (kind : ℕ) (s : List ℕ) → Bytes s → (c : Certificates)
     → (out : List ℕ) → length s ≤ length out
     → (writing certificate s (certificate .tape c 0) (length out) ≡ found c (length s)) × (output certificate s (certificate .tape c 0) out ≡ placed out 0 s)
 writes-back = trips.writes-back certificate certificate-filling certificateKind
+
+-- each accepted body, laid onto a tape and written from it, is its bytes
+pub laid-writes-back : (kind : ℕ) (s : List ℕ) → Bytes s → (c : Certificates) (q : ℕ) → reading certificate certificateKind kind s ≡ found c q
+    → (tape out : List ℕ) → length (certificate .tape c 0) ≤ length tape → length s ≤ length out
+    → output certificate s (take (length (certificate .tape c 0)) (laidTape certificate certificateKind kind s tape)) out ≡ placed out 0 s
+laid-writes-back = trips.laid-writes-back certificate certificate-filling certificateKind

@@ -1,10 +1,10 @@
 -- The fields asked for of an accepted body are its table's.
 use Prim.Native.Nat.{ℕ, _≤_, _<_}
-use mathlib.Core.Path.{_≡_, sym, ap, _∙_}
+use mathlib.Core.Path.{_≡_, ap, _∙_}
 use mathlib.Core.List.{List, []}
 use lib.ListN.{length, getD}
 use Rattle.refusal.specs.declared.Refusal.the-variants.{LeftOver, OutsideSet}
-use Rattle.fields.specs.Reading.{Reading, found}
+use Rattle.fields.specs.Reading.{found}
 use Rattle.fields.specs.Format.{count, opaque}
 use Rattle.fields.specs.Body.{reading}
 use Rattle.fields.specs.Answers.{partOf, numberRead, partListed}

@@ -5,11 +5,10 @@ use mathlib.Core.List.{List}
 use Rattle.placing.specs.Placed.{placed}
 use Rattle.refusal.specs.declared.Refusal.{Refusal}
 use Rattle.refusal.specs.declared.Refusal.the-variants.{LeftOver}
-use Rattle.fields.specs.Format.{Format, opaque, exact, view}
+use Rattle.fields.specs.Format.{opaque, exact, view}
 use Rattle.fields.specs.Passes.{measured, nothingYet, bytesFor, Ready, Put}
 use Rattle.fields.specs.declared.Spot.{Spot}
 use Rattle.fields.specs.declared.Tally.{Tally}
-use Rattle.fields.specs.declared.Measured.{Measured}
 use Rattle.fields.specs.declared.Measured.the-variants.{Sum, Refused as NotMeasured}
 use Rattle.fields.proofs.Measures.{pair-no, pair-sum, view-measured, exact-measured}
 use Rattle.fields.proofs.Puts.{pair-first, pair-second, pair-put, view-bytes, view-ready}

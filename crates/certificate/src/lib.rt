@@ -7,8 +7,9 @@ use fields::Tally;
 use refusal::Refusal;
 ghost use mathlib.Core.Path.{_≡_};
 ghost use lib.ListN.{length};
-ghost use Rattle.fields.specs.Body.{bodyRead, bodyWritten, output};
-ghost use Rattle.fields.specs.Passes.{measured, nothingYet, bytesFor, Ready};
+ghost use Rattle.fields.specs.Body.{bodyRead, bodyWritten, output, bodyLaid, laidTape};
+ghost use Rattle.fields.specs.Passes.{measured, nothingYet, isFound, bytesFor, Ready};
+ghost use mathlib.Core.Bool.{true};
 ghost use Rattle.placing.specs.Placed.{placed};
 ghost use Rattle.fields.specs.Answers.{ended};
 ghost use Rattle.certificate.specs.Certificate.{certificateKind, fields, certificate};
@@ -150,6 +151,53 @@ pub fn write(pool: &[u8], tape: &[u64], out: &mut [u8]) -> Step
             }
             put_fields(pool, tape, out);
             Step::At(size as usize)
+        }
+    }
+}
+
+// How many entries the form of an accepted body has: two for each part, and one for each count.
+fn entries(s: &[u8]) -> usize
+    requires { ⌜ isFound (fields .parse (now s) (length (now s)) 0) ≡ true ⌝ }
+    ensures { λ r. ⌜ r ≡ length (bytesFor (λ x. fields .tape x 0) (fields .parse (now (s .entry)) (length (now (s .entry))) 0)) ⌝ }
+{
+    match authorization_count(s) {
+        Number::Refused(r) => 0,
+        Number::Is(n, q) => match certificate_count(s) {
+            Number::Refused(r) => 0,
+            Number::Is(m, p) => ((n + m) * 2 + 4) as usize,
+        },
+    }
+}
+
+// The entries of the three fields.
+fn lay_fields(s: &[u8], tape: &mut [u64])
+    requires { ⌜ Ready (λ x. fields .tape x 0) (fields .parse (now s) (length (now s)) 0) 0 (now tape) ⌝ }
+    ensures { λ _. ⌜ now (tape .exit) ≡ placed (now (tape .entry)) 0 (bytesFor (λ x. fields .tape x 0) (fields .parse (now (s .entry)) (length (now (s .entry))) 0)) ⌝ }
+{
+    let l = s.len();
+    let a = fields::lay_list(s, l, 0, 1, 2, tape, 0);
+    let p = a.next;
+    let k = a.at;
+    let b = fields::lay_list(s, l, p, 1, 1, tape, k);
+    let q = b.next;
+    let j = b.at;
+    fields::lay_part(s, l, q, 2, tape, j);
+}
+
+// Lays an accepted body onto a tape, with the body itself as the pool: the form from which it is written again.
+pub fn lay(kind: u32, s: &[u8], tape: &mut [u64]) -> Step
+    ensures said { λ r. ⌜ r ≡ bodyLaid certificate certificateKind kind (now (s .entry)) (length (now (tape .entry))) ⌝ }
+    ensures left { λ r. ⌜ now (tape .exit) ≡ laidTape certificate certificateKind kind (now (s .entry)) (now (tape .entry)) ⌝ }
+{
+    match read(kind, s) {
+        Step::Refused(r) => Step::Refused(r),
+        Step::At(end) => {
+            let n = entries(s);
+            if tape.len() < n {
+                return Step::Refused(Refusal::OutputTooSmall);
+            }
+            lay_fields(s, tape);
+            Step::At(n)
         }
     }
 }

@@ -4,7 +4,7 @@ use mathlib.Core.Path.{_≡_, subst₂}
 use mathlib.Core.List.{List}
 use mathlib.Core.Bool.{true, false}
 use lib.ListN.{length, getD}
-use Rattle.fields.specs.Reading.{Reading, found}
+use Rattle.fields.specs.Reading.{found}
 use Rattle.fields.specs.Format.{Format}
 use Rattle.fields.proofs.Stand.{Stands}
 

@@ -1,15 +1,15 @@
 -- The things of a list, asked for one by one, are the list's; the part that opaque bytes fill holds them.
 use Prim.Native.Nat.{ℕ, zero, suc, _+_, _-_, _≤_, _<_}
 use mathlib.Core.Path.{_≡_, refl, sym, ap, ap₂, _∙_}
-use mathlib.Core.List.{List, [], _∷_}
+use mathlib.Core.List.{List}
 use native.Mathlib.Omega.{arith}
 use lib.ListN.{length, getD, take, drop}
-use lib.Dec.{ltb, leb}
+use lib.Dec.{leb}
 use borrow.Author.Tests.{lt-ltb, le-ltb, leb-true}
 use Rattle.refusal.specs.declared.Refusal.{Refusal}
 use Rattle.refusal.specs.declared.Refusal.the-variants.{OutsideSet}
-use Rattle.fields.specs.Reading.{Reading, found, refused, andThen, need}
-use Rattle.fields.specs.Format.{Format, count, repeat, listOf, followed, _▷_, view, exact, opaque}
+use Rattle.fields.specs.Reading.{Reading, found, refused, andThen}
+use Rattle.fields.specs.Format.{Format, repeat, listOf, followed, _▷_, view, exact, opaque}
 use Rattle.fields.specs.Answers.{partOf, after, listed}
 use Rattle.fields.specs.declared.Part.{Part}
 use Rattle.fields.specs.declared.Part.the-variants.{Of}

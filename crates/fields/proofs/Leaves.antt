@@ -2,23 +2,22 @@
 use Prim.Native.Nat.{ℕ, zero, suc, _+_, _-_, _*_, _/_, _%_, _^_, _≤_, _<_}
 use mathlib.Core.Path.{_≡_, refl, sym, ap, ap₂, _∙_}
 use mathlib.Core.List.{List, [], _∷_, _++_}
-use mathlib.Core.Bool.{Bool, true, false, not, _&&_, false≢true}
+use mathlib.Core.Bool.{true}
 use native.Mathlib.Omega.{arith}
-use native.Mathlib.Nat.{add-zero, zero-add, add-assoc, pow-suc, pow-zero, div-add-mod', mod-lt, mod-eq-of-lt, div-div-eq-div-mul, mul-comm, mul-assoc, mul-pos, one-le-pow, div-one, div-lt-iff-lt-mul, le-refl}
-use native.Mathlib.Numerals.{add-one}
+use native.Mathlib.Nat.{add-zero, zero-add, pow-suc, pow-zero, div-add-mod', mod-lt, mod-eq-of-lt, div-div-eq-div-mul, mul-comm, mul-assoc, mul-pos, one-le-pow, div-one, div-lt-iff-lt-mul}
 use lib.ListN.{length, getD, take, drop, length-append, length-drop}
 use lib.Seq.{length-take-le, drop-cons}
 use lib.Arith.{digits-lt, digits-div, digits-mod}
 use lib.Pow.{pow-pos, pow-add}
-use lib.Dec.{ltb, leb, eqb}
-use borrow.Author.Tests.{ltb-true, leb-true, eqb-true, le-leb, lt-ltb, eq-eqb, not-false}
+use lib.Dec.{ltb, eqb}
+use borrow.Author.Tests.{ltb-true, eqb-true, le-leb, lt-ltb, eq-eqb, not-false}
 use Rattle.choices.proofs.Tests.{both, and-of}
 use Rattle.refusal.specs.declared.Refusal.the-variants.{OutsideSet, ReservedBitZero, DigitAboveNine}
-use Rattle.fields.specs.Reading.{Reading, found, refused, andThen, need, Fault, fine, unless, isFine, judged, within}
-use Rattle.fields.specs.Format.{Format, entry, span, numberAt, bytesOf, count, only, outside, number, reservedFirst, below, reserved, bytes, halves, paired, tail, decimal, digits, rest}
+use Rattle.fields.specs.Reading.{Reading, found}
+use Rattle.fields.specs.Format.{entry, span, numberAt, bytesOf, count, reservedFirst, below, reserved, bytes, halves, paired, tail, decimal, digits}
 use Rattle.fields.proofs.Stand.{Stands, stands-nil, stands-left, stands-right, stands-join, stands-take, taken, stands-get, stands-next, stands-byte}
-use Rattle.fields.proofs.Outcomes.{found-inj, andThen-found, need-found, judged-found, within-found, within-there, fine-of}
-use Rattle.fields.proofs.Classes.{Bytes, Ok, Found, Forth, Formal, Lawful, Filling, moved}
+use Rattle.fields.proofs.Outcomes.{found-inj, andThen-found, need-found, within-found, within-there}
+use Rattle.fields.proofs.Classes.{Bytes, Ok, Forth, Lawful, moved}
 
 -- ---- entries of a tape
 

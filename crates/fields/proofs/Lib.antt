@@ -12,3 +12,5 @@ pub mod Elements
 pub mod Measures
 pub mod Puts
 pub mod Writers
+pub mod Laying
+pub mod Inner

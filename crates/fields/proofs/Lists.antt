@@ -1,17 +1,16 @@
 -- The laws of lists: after a count, and to the end of a part.
 use Prim.Native.Nat.{ℕ, zero, suc, _+_, _-_, _≤_, _<_}
-use mathlib.Core.Path.{_≡_, refl, sym, ap, ap₂, _∙_, subst₂}
+use mathlib.Core.Path.{_≡_, refl, ap, _∙_, subst₂}
 use mathlib.Core.List.{List, [], _∷_, _++_}
-use mathlib.Core.Bool.{Bool, true, false, _||_, _&&_}
+use mathlib.Core.Bool.{true, false}
 use native.Mathlib.Omega.{arith}
 use native.Mathlib.Nat.{add-zero, add-assoc, le-refl}
 use lib.ListN.{length, length-append}
 use lib.Dec.{leb}
 use borrow.Author.Tests.{leb-true, le-leb, lt-leb}
-use Rattle.choices.specs.Choice.{if_then_else_}
 use Rattle.choices.proofs.Tests.{both, and-of}
 use Rattle.refusal.specs.declared.Refusal.the-variants.{PastPart}
-use Rattle.fields.specs.Reading.{Reading, found, refused, andThen, need}
+use Rattle.fields.specs.Reading.{found}
 use Rattle.fields.specs.Format.{Format, entry, repeat, printAll, every, some, tapeAll, listOf, parseMany, many}
 use Rattle.fields.proofs.Stand.{Stands, stands-nil, stands-left, stands-right, stands-join, stands-next}
 use Rattle.fields.proofs.Outcomes.{found-inj, andThen-found, need-found, neither, chosen}

@@ -1,10 +1,10 @@
 -- What a writer's first pass answers, a law for each way through its functions.
 use Prim.Native.Nat.{ℕ, zero, suc, _+_, _-_, _*_, _^_, _≤_, _<_, min}
 use mathlib.Core.Path.{_≡_, refl, sym, ap, ap₂, _∙_}
-use mathlib.Core.List.{List, [], _∷_, _++_}
+use mathlib.Core.List.{List, _∷_, _++_}
 use mathlib.Core.Bool.{Bool, true, false, not, _||_}
 use native.Mathlib.Omega.{arith}
-use native.Mathlib.Nat.{pow-suc, pow-zero, pow-le-pow-right, lt-of-lt-of-le}
+use native.Mathlib.Nat.{pow-suc, pow-le-pow-right}
 use native.Mathlib.Numerals.{add-one}
 use lib.ListN.{length, getD, take, drop, length-drop, length-append}
 use lib.Seq.{length-take-le}
@@ -13,10 +13,9 @@ use borrow.Author.Tests.{le-leb, lt-leb, lt-ltb, le-ltb}
 use Rattle.refusal.specs.declared.Refusal.{Refusal}
 use Rattle.refusal.specs.declared.Refusal.the-variants.{OutsideSet}
 use Rattle.fields.specs.Reading.{Reading, found, refused, andThen, need}
-use Rattle.fields.specs.Format.{Format, entry, span, bytesOf, count, repeat, printAll, some, listOf, rest, lengthOf, counted, opaque, followed, _▷_, view, exact}
+use Rattle.fields.specs.Format.{Format, entry, span, count, repeat, printAll, some, listOf, rest, lengthOf, counted, opaque, followed, _▷_, view, exact}
 use Rattle.fields.specs.Passes.{tallied, summed, measured, measuredAll}
 use Rattle.fields.specs.declared.Tally.{Tally}
-use Rattle.fields.specs.declared.Measured.{Measured}
 use Rattle.fields.specs.declared.Measured.the-variants.{Sum, Refused as NotMeasured}
 use Rattle.fields.proofs.Leaves.{length-bytes}
 use Rattle.fields.proofs.Elements.{repeat-length}

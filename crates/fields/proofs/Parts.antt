@@ -1,22 +1,22 @@
 -- The laws of fields put together: value sets, one after the other, a flag, other names, no byte left, opaque bytes and counted parts.
 use Prim.Native.Nat.{ℕ, zero, suc, _+_, _-_, _%_, _^_, _≤_, _<_}
-use mathlib.Core.Path.{_≡_, refl, sym, ap, ap₂, _∙_}
-use mathlib.Core.List.{List, [], _∷_, _++_}
-use mathlib.Core.Bool.{Bool, true, false, not, _||_, _&&_}
+use mathlib.Core.Path.{_≡_, refl, sym, ap, _∙_}
+use mathlib.Core.List.{List, _++_}
+use mathlib.Core.Bool.{Bool, true, false, not}
 use native.Mathlib.Omega.{arith}
 use native.Mathlib.Nat.{add-zero, add-assoc, le-refl, le-of-eq, mod-eq-of-lt}
-use lib.ListN.{length, take, drop, length-append, length-drop}
+use lib.ListN.{length, drop, length-append, length-drop}
 use lib.Seq.{length-take-le}
 use lib.Dec.{ltb, leb}
 use borrow.Author.Tests.{ltb-true, leb-true, le-leb, lt-ltb, not-false}
 use Rattle.choices.proofs.Tests.{both, and-of}
 use Rattle.refusal.specs.declared.Refusal.{Refusal}
 use Rattle.refusal.specs.declared.Refusal.the-variants.{OutsideSet, ReservedBitZero}
-use Rattle.fields.specs.Reading.{Reading, found, refused, andThen, need, Fault, fine, faulty, unless, isFine, judged, within}
-use Rattle.fields.specs.Format.{Format, count, only, outside, number, below, reserved, followed, _▷_, nothing, Under, under, view, rest, exact, Length, lengthOf, length12, counted, opaque, span}
+use Rattle.fields.specs.Reading.{found, Fault, fine, unless, isFine}
+use Rattle.fields.specs.Format.{Format, count, only, outside, number, below, reserved, followed, nothing, under, view, rest, exact, Length, lengthOf, length12, counted, opaque}
 use Rattle.fields.proofs.Stand.{Stands, stands-nil, stands-left, stands-right, stands-join, stands-take, taken}
 use Rattle.fields.proofs.Outcomes.{found-inj, andThen-found, need-found, judged-found, within-found, within-there, fine-of, neither}
-use Rattle.fields.proofs.Classes.{Bytes, Ok, Found, Forth, Formal, Lawful, Filling, moved}
+use Rattle.fields.proofs.Classes.{Ok, Found, Forth, Formal, Lawful, Filling, moved}
 use Rattle.fields.proofs.Leaves.{span-laid, count-lawful, count-small, small-count, reserved-lawful}
 
 -- ---- value sets: whether a value is in the set does not depend on its place

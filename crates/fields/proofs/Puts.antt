@@ -1,20 +1,19 @@
 -- What a writer's second pass needs and leaves, a law for each of its functions.
 use Prim.Native.Nat.{ℕ, zero, suc, _+_, _-_, _/_, _%_, _≤_, _<_}
-use mathlib.Core.Path.{_≡_, refl, sym, ap, ap₂, _∙_, subst}
+use mathlib.Core.Path.{_≡_, refl, sym, ap, ap₂, _∙_}
 use mathlib.Core.List.{List, [], _∷_, _++_, append-assoc, append-nil}
-use mathlib.Core.Bool.{Bool, true, false}
+use mathlib.Core.Bool.{true}
 use native.Mathlib.Omega.{arith}
-use native.Mathlib.Nat.{add-zero, add-assoc}
-use lib.ListN.{length, getD, set, take, drop, length-append, length-drop, length-set, take-append-drop}
+use native.Mathlib.Nat.{add-zero}
+use lib.ListN.{length, getD, set, take, drop, length-append, length-drop, take-append-drop}
 use lib.Seq.{length-take-le, take-set-le, drop-set-add, drop-cons}
 use lib.Dec.{leb}
-use borrow.Author.Tests.{leb-true, le-leb}
+use borrow.Author.Tests.{leb-true}
 use Rattle.placing.specs.Placed.{placed}
 use Rattle.placing.proofs.Placing.{placed-next, placed-length}
-use Rattle.refusal.specs.declared.Refusal.{Refusal}
 use Rattle.refusal.specs.declared.Refusal.the-variants.{OutsideSet}
-use Rattle.fields.specs.Reading.{Reading, found, refused, andThen, need}
-use Rattle.fields.specs.Format.{Format, entry, span, bytesOf, count, repeat, printAll, listOf, rest, lengthOf, counted, opaque, followed, _▷_, view, exact}
+use Rattle.fields.specs.Reading.{Reading, found, refused, andThen}
+use Rattle.fields.specs.Format.{Format, entry, span, bytesOf, count, repeat, printAll, listOf, rest, lengthOf, counted, opaque, followed, _▷_, view}
 use Rattle.fields.specs.Passes.{isFound, entryAfter, bytesFor, Ready, Put}
 use Rattle.fields.specs.declared.Spot.{Spot}
 use Rattle.fields.proofs.Outcomes.{found-inj, andThen-found, need-found}
@@ -70,7 +69,7 @@ module _ {A B C : Type 0} (f : A → List ℕ) (g : B → List ℕ) (h : C → L
   whole : length (bytesFor h z) ≡ length (bytesFor f x) + length (bytesFor g y)
   whole = ap length bytes ∙ length-append (bytesFor f x) (bytesFor g y)
 
-  first-fits : at + length (bytesFor f x) ≤ length out
+  pub first-fits : at + length (bytesFor f x) ≤ length out
   first-fits = omega (arith, whole)
 
   pub both-room : (out′ : List ℕ) (p : ℕ) → out′ ≡ placed out at (bytesFor f x) → p ≡ at + length (bytesFor f x) → p + length (bytesFor g y) ≤ length out′
@@ -119,81 +118,95 @@ opened-part w pool tape k h =
       next = ap entryAfter (v .2) ∙ omega (arith, z .1, zj .1, zi .1);
     }
 
--- ---- n things: what is still to be laid on what stands is the whole
+-- ---- n things: what is still to be laid on what stands is the whole. The entries or bytes of a thing may depend on its position.
 
-pub record Midway {A : Type 0} (print : A → List ℕ) (form : ℕ → Reading A) (n k at : ℕ) (out₀ : List ℕ) (left : ℕ) (spot : Spot) (out : List ℕ) : Type 0 where
+pub record Midway {A : Type 0} (all : ℕ → List A → List ℕ) (form : ℕ → Reading A) (n k at : ℕ) (out₀ : List ℕ) (left : ℕ) (spot : Spot) (out : List ℕ) : Type 0 where
   pub same : length out ≡ length out₀
   pub there : isFound (repeat form left (spot .next)) ≡ true
-  pub fits : spot .at + length (bytesFor (printAll print) (repeat form left (spot .next))) ≤ length out
-  pub whole : placed out₀ at (bytesFor (printAll print) (repeat form n k)) ≡ placed out (spot .at) (bytesFor (printAll print) (repeat form left (spot .next)))
-  pub end : at + length (bytesFor (printAll print) (repeat form n k)) ≡ spot .at + length (bytesFor (printAll print) (repeat form left (spot .next)))
+  pub fits : spot .at + length (bytesFor (all (spot .next)) (repeat form left (spot .next))) ≤ length out
+  pub whole : placed out₀ at (bytesFor (all k) (repeat form n k)) ≡ placed out (spot .at) (bytesFor (all (spot .next)) (repeat form left (spot .next)))
+  pub end : at + length (bytesFor (all k) (repeat form n k)) ≡ spot .at + length (bytesFor (all (spot .next)) (repeat form left (spot .next)))
   pub next : entryAfter (repeat form n k) ≡ entryAfter (repeat form left (spot .next))
 
-module _ {A : Type 0} (print : A → List ℕ) (form : ℕ → Reading A) where
-  pub midway-start : (n k at : ℕ) (out : List ℕ) → Ready (printAll print) (repeat form n k) at out
-      → Midway print form n k at out n (record { at = at; next = k }) out
+module _ {A : Type 0} (one : ℕ → A → List ℕ) (all : ℕ → List A → List ℕ) (form : ℕ → Reading A) (nil : (j : ℕ) → all j [] ≡ [])
+    (cons : (j : ℕ) (a : A) (q : ℕ) (xs : List A) → form j ≡ found a q → all j (a ∷ xs) ≡ one j a ++ all q xs) where
+  pub midway-start : (n k at : ℕ) (out : List ℕ) → Ready (all k) (repeat form n k) at out → Midway all form n k at out n (record { at = at; next = k }) out
   midway-start n k at out d = record { same = refl; there = d .there; fits = d .fits; whole = refl; end = refl; next = refl }
 
   -- one of those that are left, and the others
   one-of : (n j : ℕ) → isFound (repeat form (suc n) j) ≡ true
       → (isFound (form j) ≡ true) × (isFound (repeat form n (entryAfter (form j))) ≡ true)
-      × (bytesFor (printAll print) (repeat form (suc n) j) ≡ bytesFor print (form j) ++ bytesFor (printAll print) (repeat form n (entryAfter (form j))))
+      × (bytesFor (all j) (repeat form (suc n) j) ≡ bytesFor (one j) (form j) ++ bytesFor (all (entryAfter (form j))) (repeat form n (entryAfter (form j))))
       × (entryAfter (repeat form (suc n) j) ≡ entryAfter (repeat form n (entryAfter (form j))))
-  unfolding repeat printAll
-  one-of n j h = go (form j) h
+  unfolding repeat
+  one-of n j h = go (form j) refl h
     where
-      again : (a : A) (x : Reading (List A)) → isFound (andThen x (λ xs r. found (a ∷ xs) r)) ≡ true
+      again : (a : A) (q : ℕ) → form j ≡ found a q → (x : Reading (List A)) → isFound (andThen x (λ xs r. found (a ∷ xs) r)) ≡ true
           → (isFound x ≡ true)
-          × (bytesFor (printAll print) (andThen x (λ xs r. found (a ∷ xs) r)) ≡ print a ++ bytesFor (printAll print) x)
+          × (bytesFor (all j) (andThen x (λ xs r. found (a ∷ xs) r)) ≡ one j a ++ bytesFor (all q) x)
           × (entryAfter (andThen x (λ xs r. found (a ∷ xs) r)) ≡ entryAfter x)
-      again a (found xs r) e = (refl, refl, refl)
-      again a (refused r) e = absurd (let z : _≡_ {A = ℕ} 0 1 = cc in omega arith)
+      again a q f (found xs r) e = (refl, cons j a q xs f, refl)
+      again a q f (refused r) e = absurd (let z : _≡_ {A = ℕ} 0 1 = cc in omega arith)
 
-      go : (x : Reading A) → isFound (andThen x (λ a q. andThen (repeat form n q) (λ xs r. found (a ∷ xs) r))) ≡ true
+      go : (x : Reading A) → form j ≡ x → isFound (andThen x (λ a q. andThen (repeat form n q) (λ xs r. found (a ∷ xs) r))) ≡ true
           → (isFound x ≡ true) × (isFound (repeat form n (entryAfter x)) ≡ true)
-          × (bytesFor (printAll print) (andThen x (λ a q. andThen (repeat form n q) (λ xs r. found (a ∷ xs) r))) ≡ bytesFor print x ++ bytesFor (printAll print) (repeat form n (entryAfter x)))
+          × (bytesFor (all j) (andThen x (λ a q. andThen (repeat form n q) (λ xs r. found (a ∷ xs) r))) ≡ bytesFor (one j) x ++ bytesFor (all (entryAfter x)) (repeat form n (entryAfter x)))
           × (entryAfter (andThen x (λ a q. andThen (repeat form n q) (λ xs r. found (a ∷ xs) r))) ≡ entryAfter (repeat form n (entryAfter x)))
-      go (found a q) e = let g = again a (repeat form n q) e in (refl, g .0, g .1, g .2)
-      go (refused r) e = absurd (let z : _≡_ {A = ℕ} 0 1 = cc in omega arith)
+      go (found a q) f e = let g = again a q f (repeat form n q) e in (refl, g .0, g .1, g .2)
+      go (refused r) f e = absurd (let z : _≡_ {A = ℕ} 0 1 = cc in omega arith)
 
   module _ (n k at : ℕ) (out₀ : List ℕ) where
-    pub midway-ready : (left : ℕ) (spot : Spot) (out : List ℕ) → 0 < left → Midway print form n k at out₀ left spot out → Ready print (form (spot .next)) (spot .at) out
+    pub midway-ready : (left : ℕ) (spot : Spot) (out : List ℕ) → 0 < left → Midway all form n k at out₀ left spot out → Ready (one (spot .next)) (form (spot .next)) (spot .at) out
     midway-ready zero spot out h m = absurd (omega arith)
     midway-ready (suc left) spot out h m =
-        let o = one-of left (spot .next) (m .there) in
-        record { there = o .0; fits = first-fits print (printAll print) (printAll print) (form (spot .next)) (repeat form left (entryAfter (form (spot .next)))) (repeat form (suc left) (spot .next)) (spot .at) out (o .2) (m .fits) }
+        let j = spot .next in
+        let o = one-of left j (m .there) in
+        let x = form j in
+        record { there = o .0; fits = first-fits (one j) (all (entryAfter x)) (all j) x (repeat form left (entryAfter x)) (repeat form (suc left) j) (spot .at) out (o .2) (m .fits) }
 
-    pub midway-turn : (left : ℕ) (spot : Spot) (out : List ℕ) (spot′ : Spot) (out′ : List ℕ) → 0 < left → Midway print form n k at out₀ left spot out
-        → Put print (form (spot .next)) (spot .at) out out′ spot′ → Midway print form n k at out₀ (left - 1) spot′ out′
+    pub midway-turn : (left : ℕ) (spot : Spot) (out : List ℕ) (spot′ : Spot) (out′ : List ℕ) → 0 < left → Midway all form n k at out₀ left spot out
+        → Put (one (spot .next)) (form (spot .next)) (spot .at) out out′ spot′ → Midway all form n k at out₀ (left - 1) spot′ out′
     midway-turn zero spot out spot′ out′ h m p = absurd (omega arith)
     midway-turn (suc left) spot out spot′ out′ h m p =
-        let o = one-of left (spot .next) (m .there) in
-        let x = form (spot .next) in
-        let y = repeat form left (entryAfter x) in
-        let z = repeat form (suc left) (spot .next) in
+        let j = spot .next in
+        let o = one-of left j (m .there) in
+        let x = form j in
+        let i = entryAfter x in
+        let y = repeat form left i in
+        let z = repeat form (suc left) j in
         let d : suc left - 1 ≡ left = omega arith in
-        let e : spot′ .next ≡ entryAfter x = p .next in
-        let size : length (bytesFor (printAll print) z) ≡ length (bytesFor print x) + length (bytesFor (printAll print) y) = ap length (o .2) ∙ length-append (bytesFor print x) (bytesFor (printAll print) y) in
+        let e : spot′ .next ≡ i = p .next in
+        let size : length (bytesFor (all j) z) ≡ length (bytesFor (one j) x) + length (bytesFor (all i) y) = ap length (o .2) ∙ length-append (bytesFor (one j) x) (bytesFor (all i) y) in
         rw d
         record {
-          same = ap length (p .left) ∙ placed-length out (spot .at) (bytesFor print x) (first-fits print (printAll print) (printAll print) x y z (spot .at) out (o .2) (m .fits)) ∙ m .same;
+          same = ap length (p .left) ∙ placed-length out (spot .at) (bytesFor (one j) x) (first-fits (one j) (all i) (all j) x y z (spot .at) out (o .2) (m .fits)) ∙ m .same;
           there = rw e (o .1);
-          fits = rw e (both-room print (printAll print) (printAll print) x y z (spot .at) out (o .2) (m .fits) out′ (spot′ .at) (p .left) (p .end));
-          whole = rw e (m .whole ∙ sym (both-left print (printAll print) (printAll print) x y z (spot .at) out (o .2) (m .fits) out′ _ (spot′ .at) (p .left) (p .end) refl));
+          fits = rw e (both-room (one j) (all i) (all j) x y z (spot .at) out (o .2) (m .fits) out′ (spot′ .at) (p .left) (p .end));
+          whole = rw e (m .whole ∙ sym (both-left (one j) (all i) (all j) x y z (spot .at) out (o .2) (m .fits) out′ _ (spot′ .at) (p .left) (p .end) refl));
           end = rw e (m .end ∙ omega (arith, size, p .end));
           next = rw e (m .next ∙ o .3);
         }
 
-    pub midway-done : (left : ℕ) (spot : Spot) (out : List ℕ) → left ≡ 0 → Midway print form n k at out₀ left spot out
-        → Put (printAll print) (repeat form n k) at out₀ out spot
-    unfolding repeat printAll
+    pub midway-done : (left : ℕ) (spot : Spot) (out : List ℕ) → left ≡ 0 → Midway all form n k at out₀ left spot out → Put (all k) (repeat form n k) at out₀ out spot
+    unfolding repeat
     midway-done zero spot out h m =
+        let z = nil (spot .next) in
         record {
-          left = sym (placed-nothing out (spot .at)) ∙ sym (m .whole);
-          end = omega (arith, m .end);
+          left = sym (placed-nothing out (spot .at)) ∙ ap (placed out (spot .at)) (sym z) ∙ sym (m .whole);
+          end = omega (arith, m .end, ap length z);
           next = sym (m .next);
         }
     midway-done (suc left) spot out h m = absurd (omega arith)
+
+-- the bytes of printed things
+pub printed-none : {A : Type 0} (print : A → List ℕ) (j : ℕ) → printAll print [] ≡ []
+unfolding printAll
+printed-none print j = refl
+
+pub printed-more : {A : Type 0} (print : A → List ℕ) (form : ℕ → Reading A) (j : ℕ) (a : A) (q : ℕ) (xs : List A) → form j ≡ found a q
+    → printAll print (a ∷ xs) ≡ print a ++ printAll print xs
+unfolding printAll
+printed-more print form j a q xs e = refl
 
 -- ---- a list after its count
 

@@ -1,29 +1,26 @@
 -- What the reading functions answer, a law for each way through: the code's tests on the left, the answer on the right.
 use Prim.Native.Nat.{ℕ, zero, suc, _+_, _-_, _*_, _%_, _^_, _≤_, _<_}
 use mathlib.Core.Path.{_≡_, refl, sym, ap, ap₂, _∙_}
-use mathlib.Core.List.{List, [], _∷_}
+use mathlib.Core.List.{List, _∷_}
 use mathlib.Core.Bool.{Bool, true, false}
 use native.Mathlib.Omega.{arith}
 use native.Mathlib.Numerals.{add-one}
-use native.Mathlib.Nat.{add-sub-cancel, add-sub-cancel-left, mod-eq-of-lt, le-refl, pow-suc, pow-le-pow-right, lt-of-lt-of-le}
+use native.Mathlib.Nat.{add-sub-cancel, add-sub-cancel-left, mod-eq-of-lt, pow-suc, pow-le-pow-right, lt-of-lt-of-le}
 use lib.Arith.{digits-lt}
 use lib.ListN.{length, getD, take, drop, length-drop}
 use lib.Seq.{length-take-le}
-use lib.Dec.{leb, ltb, eqb}
-use borrow.Author.Tests.{leb-true, le-leb, lt-leb, lt-ltb, le-ltb, eq-eqb, ne-eqb}
+use lib.Dec.{leb, eqb}
+use borrow.Author.Tests.{le-leb, lt-leb, lt-ltb, le-ltb, eq-eqb, ne-eqb}
 use Rattle.refusal.specs.declared.Refusal.{Refusal}
 use Rattle.refusal.specs.declared.Refusal.the-variants.{OtherKind, PastBody, PastPart, OutsideSet, TooLarge}
-use Rattle.fields.specs.Reading.{Reading, found, refused, andThen, need, within, judged}
+use Rattle.fields.specs.Reading.{Reading, found, refused, andThen, need}
 use Rattle.fields.specs.Format.{Format, nothing, numberAt, count, repeat, followed, _▷_, listOf, rest, exact, view, lengthOf, counted, opaque}
 use Rattle.fields.specs.Answers.{stepOf, numberOf, partOf, ended, endedAll, numberRead, partRead, after, partAfter, listed, partListed}
 use Rattle.fields.specs.Body.{longest, reading, bodyRead, opened}
-use Rattle.fields.specs.declared.Step.{Step}
 use Rattle.fields.specs.declared.Step.the-variants.{At, Refused as NoStep}
-use Rattle.fields.specs.declared.Number.{Number}
 use Rattle.fields.specs.declared.Number.the-variants.{Is, Refused as NoNumber}
-use Rattle.fields.specs.declared.Part.{Part}
 use Rattle.fields.specs.declared.Part.the-variants.{Of, Refused as NoPart}
-use Rattle.fields.proofs.Outcomes.{found-inj, andThen-found, need-found, within-found}
+use Rattle.fields.proofs.Outcomes.{found-inj, andThen-found, within-found}
 use Rattle.fields.proofs.Classes.{Bytes}
 use Rattle.fields.proofs.Leaves.{number-below}
 

@@ -1,18 +1,19 @@
 -- Both round trips, and both again through the writer, once for every format of a whole body.
 use Prim.Native.Nat.{ℕ, _+_, _≤_, zero-le}
-use mathlib.Core.Path.{_≡_, refl, sym, ap, ap₂, _∙_}
+use mathlib.Core.Path.{_≡_, refl, sym, ap, _∙_}
 use mathlib.Core.List.{List}
-use mathlib.Core.Bool.{Bool, true, false, not}
+use mathlib.Core.Bool.{not}
 use native.Mathlib.Omega.{arith}
 use native.Mathlib.Nat.{le-refl}
-use lib.ListN.{length}
+use lib.ListN.{length, take}
 use lib.Dec.{leb, eqb}
 use borrow.Author.Tests.{leb-true, eqb-true, le-leb, eq-eqb, not-true}
 use Rattle.placing.specs.Placed.{placed}
+use Rattle.placing.proofs.Placing.{placed-start}
 use Rattle.refusal.specs.declared.Refusal.the-variants.{OtherKind, OutsideSet, OutputTooSmall, TooLarge}
-use Rattle.fields.specs.Reading.{Reading, found, refused, andThen, need}
+use Rattle.fields.specs.Reading.{found}
 use Rattle.fields.specs.Format.{Format}
-use Rattle.fields.specs.Body.{longest, reading, writing, writtenOver, output}
+use Rattle.fields.specs.Body.{longest, reading, writing, output, laying, laidTape}
 use Rattle.fields.proofs.Stand.{stands-all, stands-whole}
 use Rattle.fields.proofs.Outcomes.{found-inj, andThen-found, need-found}
 use Rattle.fields.proofs.Classes.{Bytes, Ok, Filling}
@@ -54,6 +55,16 @@ module _ {A : Type 0} (F : Format A) (f : Filling F) (own : ℕ) where
         let g : writing F s t (length out) ≡ found a (length s) =
         rw (form, le-leb (length t) (0 + length t) (omega arith), w .1 .small, n, le-leb (length s) longest (accepted .1), le-leb (length s) (length out) h) in
         (g, rw g (ap (placed out 0) (w .0)))
+
+    -- read onto a tape and written from what was laid there, it is its bytes again
+    pub laid-writes-back : (tape out : List ℕ) → length (F .tape a 0) ≤ length tape → length s ≤ length out
+        → output F s (take (length (F .tape a 0)) (laidTape F own kind s tape)) out ≡ placed out 0 s
+    unfolding laidTape laying
+    laid-writes-back tape out h k =
+        let laid : laidTape F own kind s tape ≡ placed tape 0 (F .tape a 0) = rw (e, le-leb (length (F .tape a 0)) (length tape) h) in
+        let same : take (length (F .tape a 0)) (laidTape F own kind s tape) ≡ F .tape a 0 =
+        ap (take (length (F .tape a 0))) laid ∙ placed-start tape (F .tape a 0) (length (F .tape a 0)) refl in
+        ap (λ t. output F s t out) same ∙ writes-back out k .1
 
   -- what was written is the value's bytes, which read back as it
   pub written-reads-back : (pool tape : List ℕ) (room : ℕ) (a : A) (m : ℕ) → writing F pool tape room ≡ found a m

@@ -1,24 +1,21 @@
 -- A writer's answer and output, by what its first pass answered and what its second left.
 use Prim.Native.Nat.{ℕ, _+_, _≤_, _<_, min}
-use mathlib.Core.Path.{_≡_, refl, sym, ap, ap₂, _∙_}
+use mathlib.Core.Path.{_≡_, sym, ap, _∙_}
 use mathlib.Core.List.{List}
-use mathlib.Core.Bool.{Bool, true, false, not}
+use mathlib.Core.Bool.{true, false}
 use native.Mathlib.Omega.{arith}
 use lib.ListN.{length}
-use lib.Dec.{leb}
 use borrow.Author.Tests.{le-leb, lt-leb}
 use Rattle.placing.specs.Placed.{placed}
 use Rattle.refusal.specs.declared.Refusal.{Refusal}
 use Rattle.refusal.specs.declared.Refusal.the-variants.{OutsideSet, OutputTooSmall, TooLarge}
-use Rattle.fields.specs.Reading.{Reading, found, refused, andThen, need}
+use Rattle.fields.specs.Reading.{Reading, found, refused}
 use Rattle.fields.specs.Format.{Format}
-use Rattle.fields.specs.Body.{longest, writing, bodyWritten, writtenOver, output}
-use Rattle.fields.specs.Answers.{stepOf}
+use Rattle.fields.specs.Body.{longest, writing, bodyWritten, output}
 use Rattle.fields.specs.Passes.{tallied, summed, measured, nothingYet, isFound, bytesFor, Ready}
 use Rattle.fields.specs.declared.Step.{Step}
 use Rattle.fields.specs.declared.Step.the-variants.{At, Refused as NoStep}
 use Rattle.fields.specs.declared.Tally.{Tally}
-use Rattle.fields.specs.declared.Measured.{Measured}
 use Rattle.fields.specs.declared.Measured.the-variants.{Sum, Refused as NotMeasured}
 
 -- the answer and the output of a writer

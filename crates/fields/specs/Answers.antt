@@ -1,5 +1,5 @@
 -- What a reader has to believe of the code's answers about a body: where a part ends, a number, and the part that opaque bytes fill.
-use Prim.Native.Nat.{ℕ, zero, suc, _+_, _-_}
+use Prim.Native.Nat.{ℕ, zero, suc, _-_}
 use mathlib.Core.List.{List}
 use lib.ListN.{length}
 use lib.Dec.{ltb}

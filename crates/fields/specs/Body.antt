@@ -49,3 +49,19 @@ opened own kind s = bodyRead nothing own kind s
 -- how long the written body is, or why it is refused
 unfoldable pub bodyWritten : {A : Type 0} → Format A → List ℕ → List ℕ → ℕ → Step
 bodyWritten F pool tape room = stepOf (writing F pool tape room)
+
+-- an accepted body laid out for a writer, with itself as the pool: the table and the number of its entries; a tape too small is 21
+unfoldable pub laying : {A : Type 0} → Format A → ℕ → ℕ → List ℕ → ℕ → Reading A
+laying F own kind s room =
+    andThen (reading F own kind s) (λ a q.
+    need (leb (length (F .tape a 0)) room) OutputTooSmall (found a (length (F .tape a 0))))
+
+unfoldable pub bodyLaid : {A : Type 0} → Format A → ℕ → ℕ → List ℕ → ℕ → Step
+bodyLaid F own kind s room = stepOf (laying F own kind s room)
+
+abbrev pub laidOver : {A : Type 0} → Format A → List ℕ → Reading A → List ℕ
+laidOver F tape (found a n) = placed tape 0 (F .tape a 0)
+laidOver F tape (refused r) = tape
+
+unfoldable pub laidTape : {A : Type 0} → Format A → ℕ → ℕ → List ℕ → List ℕ → List ℕ
+laidTape F own kind s tape = laidOver F tape (laying F own kind s (length tape))

@@ -1,5 +1,5 @@
 -- What a reader has to believe of a step of reading: it finds a value and the position after it, or it refuses.
-use Prim.Native.Nat.{ℕ, _+_}
+use Prim.Native.Nat.{ℕ}
 use mathlib.Core.Bool.{Bool, true, false}
 use mathlib.Core.List.{List}
 use lib.ListN.{length}

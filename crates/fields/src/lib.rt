@@ -4,7 +4,7 @@ ghost use mathlib.Core.Path.{_≡_};
 ghost use Prim.Native.Nat.{_+_, _^_, _≤_, _<_, min};
 ghost use lib.ListN.{length, take, drop};
 ghost use mathlib.Core.List.{_++_};
-ghost use Rattle.fields.specs.Format.{numberAt, bytesOf, count, repeat, printAll, opaque, listOf};
+ghost use Rattle.fields.specs.Format.{numberAt, bytesOf, count, repeat, printAll, tapeAll, opaque, listOf};
 ghost use Rattle.placing.specs.Placed.{placed};
 ghost use Rattle.fields.specs.Body.{opened};
 ghost use Rattle.fields.specs.Passes.{measured, measuredAll, Ready, Put};
@@ -360,4 +360,60 @@ pub fn put_list(
     let n = tape[k];
     put_number(out, at, c, n);
     put_parts(pool, tape, k + 1, w, n, out, at + c)
+}
+
+// The two entries of a part, laid onto the tape at k: r.at is the next entry, r.next the position after the part.
+pub fn lay_part(s: &[u8], l: usize, p: usize, w: usize, tape: &mut [u64], k: usize) -> Spot
+    requires { ⌜ (w ≤ 7) × (l ≤ length (now s)) × Ready (λ xs. opaque w .tape xs p) (opaque w .parse (now s) l p) k (now tape) ⌝ }
+    ensures { λ r. ⌜ Put (λ xs. opaque w .tape xs p) (opaque w .parse (now (s .entry)) l p) k (now (tape .entry)) (now (tape .exit)) r ⌝ }
+{
+    match read_part(s, l, p, w) {
+        Part::Refused(r) => Spot { at: k, next: p },
+        Part::Of(a, n) => {
+            tape[k] = a as u64;
+            tape[k + 1] = n as u64;
+            Spot {
+                at: k + 2,
+                next: a + n,
+            }
+        }
+    }
+}
+
+// The entries of n parts.
+pub fn lay_parts(s: &[u8], l: usize, p: usize, w: usize, n: u64, tape: &mut [u64], k: usize) -> Spot
+    requires { ⌜ (w ≤ 7) × (l ≤ length (now s)) × Ready (λ xs. tapeAll (opaque w) xs p) (repeat (opaque w .parse (now s) l) n p) k (now tape) ⌝ }
+    ensures { λ r. ⌜ Put (λ xs. tapeAll (opaque w) xs p) (repeat (opaque w .parse (now (s .entry)) l) n p) k (now (tape .entry)) (now (tape .exit)) r ⌝ }
+{
+    let mut spot = Spot { at: k, next: p };
+    let mut left = n;
+    while 0 < left {
+        let j = spot.at;
+        let q = spot.next;
+        spot = lay_part(s, l, q, w, tape, j);
+        left = left - 1;
+    }
+    spot
+}
+
+// The entries of a list of parts: its count, and those of its parts.
+pub fn lay_list(
+    s: &[u8],
+    l: usize,
+    p: usize,
+    c: usize,
+    w: usize,
+    tape: &mut [u64],
+    k: usize,
+) -> Spot
+    requires { ⌜ (c ≤ 7) × (w ≤ 7) × (l ≤ length (now s)) × Ready (λ xs. listOf (count c) (opaque w) .tape xs p) (listOf (count c) (opaque w) .parse (now s) l p) k (now tape) ⌝ }
+    ensures { λ r. ⌜ Put (λ xs. listOf (count c) (opaque w) .tape xs p) (listOf (count c) (opaque w) .parse (now (s .entry)) l p) k (now (tape .entry)) (now (tape .exit)) r ⌝ }
+{
+    match read_number(s, l, p, c) {
+        Number::Refused(r) => Spot { at: k, next: p },
+        Number::Is(n, q) => {
+            tape[k] = n;
+            lay_parts(s, l, q, w, n, tape, k + 1)
+        }
+    }
 }

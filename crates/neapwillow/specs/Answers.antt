@@ -128,7 +128,7 @@ abbrev pub partAnswer : Part → ℕ
 partAnswer (part.Of start length) = answerOf 0 (start % 2 ^ 32 * 2 ^ 24 + length % 2 ^ 24)
 partAnswer (part.Refused why) = refusedOf why
 
--- the length of the body written
+-- the length of the body written, or of the tape laid
 abbrev pub writtenAnswer : Step → ℕ
 writtenAnswer (step.At end) = answerOf 0 end
 writtenAnswer (step.Refused why) = refusedOf why

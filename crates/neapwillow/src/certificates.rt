@@ -1,7 +1,7 @@
 // The certificate table for C.
 ghost use mathlib.Core.Path.{_≡_};
 ghost use lib.ListN.{length};
-ghost use Rattle.fields.specs.Body.{bodyRead, bodyWritten, output};
+ghost use Rattle.fields.specs.Body.{bodyRead, bodyLaid, laidTape, bodyWritten, output};
 ghost use Rattle.certificate.specs.Certificate.{certificateKind, certificate};
 ghost use Rattle.certificate.specs.Asked.{authorizationCount, authorizationPart, certificateCount, certificatePart, signaturePart};
 ghost use Rattle.neapwillow.specs.Answers.{readAnswer, numberAnswer, partAnswer, writtenAnswer};
@@ -84,7 +84,7 @@ pub extern "C" fn nw_certificate_signature(body: &[u8]) -> u64
     part_answer(certificate::signature(body))
 }
 
-// What writing a body answers: its length.
+// What writing a body answers, or laying one onto a tape: how many bytes, or entries.
 fn written_answer(s: Step) -> u64
     ensures { λ r. ⌜ r ≡ writtenAnswer s ⌝ }
 {
@@ -100,4 +100,12 @@ pub extern "C" fn nw_certificate_write(pool: &[u8], tape: &[u64], out: &mut [u8]
     ensures { λ _. ⌜ now (out .exit) ≡ output certificate (now (pool .entry)) (now (tape .entry)) (now (out .entry)) ⌝ }
 {
     written_answer(certificate::write(pool, tape, out))
+}
+
+#[no_mangle]
+pub extern "C" fn nw_certificate_lay(kind: u32, body: &[u8], tape: &mut [u64]) -> u64
+    ensures { λ r. ⌜ r ≡ writtenAnswer (bodyLaid certificate certificateKind kind (now (body .entry)) (length (now (tape .entry)))) ⌝ }
+    ensures { λ _. ⌜ now (tape .exit) ≡ laidTape certificate certificateKind kind (now (body .entry)) (now (tape .entry)) ⌝ }
+{
+    written_answer(certificate::lay(kind, body, tape))
 }

@@ -1,6 +1,6 @@
 -- `fields::put_number` meets its contract: the last byte is laid first, and those still to be laid on what stands make the whole.
 use Prim.Native.Nat.{_≤_}
-use mathlib.Core.Path.{_≡_, sym, ap, _∙_}
+use mathlib.Core.Path.{_≡_, _∙_}
 use lib.ListN.{length}
 use Rattle.placing.specs.Placed.{placed}
 use Rattle.fields.specs.Format.{bytesOf}
