@@ -1,4 +1,4 @@
-"""The second program for the certificate table, from document 01 alone: a body read, asked for its fields, written."""
+"""The second program for the certificate table, which shares no code with the library: a body read, asked for its fields, written."""
 import itertools
 
 from calls import Refused

@@ -1,4 +1,4 @@
-"""The second program for the gathering, from document 01 alone: a state and a store, fed, handed out and shown."""
+"""The second program for the gathering, which shares no code with the library: a state and a store, fed, handed out and shown."""
 import functools
 import struct
 import zlib

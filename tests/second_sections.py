@@ -1,4 +1,4 @@
-"""The second program for sections, from document 01 alone: one printed, read, counted and cut."""
+"""The second program for sections, which shares no code with the library: one printed, read, counted and cut."""
 import zlib
 
 from calls import Refused

@@ -1,4 +1,4 @@
-"""The second program for times, from document 01 alone: the calendar day after day, fields, text and showing."""
+"""The second program for times, which shares no code with the library: the calendar day after day, fields, text and showing."""
 import math
 import re
 
