@@ -193,6 +193,76 @@ enum nw_fed { NW_FED_TAKEN = 0, NW_FED_HELD_ALREADY = 1 };
 nw_answer nw_gathering_hand_out(const nw_gathering *g, const uint8_t *store, size_t store_bytes,
                                 uint8_t *out, size_t out_bytes);
 
+/* ---- Forms ------------------------------------------------------------------------------------
+ *
+ * What a writer takes: a tape of numbers in the body's order, and a pool of bytes. A list is its
+ * count and then its things; bytes are two entries, their start and their length in the pool.
+ * Lengths and reserved bits do not stand on the tape: the writer works them out.
+ *
+ * A form is put together by the helpers below, in two arrays that the caller lends. They are plain C
+ * in this header and not proved. One that has no room left for something becomes a form of no
+ * entries, and stays one: a writer then writes nothing, it answers 19. */
+typedef struct nw_form {
+    uint8_t *pool;          /* the bytes, of which the first pool_bytes are in use */
+    size_t pool_room;
+    size_t pool_bytes;
+    uint64_t *tape;         /* the numbers, of which the first `entries` are in use */
+    size_t tape_room;
+    size_t entries;
+    int full;               /* 1: something found no room */
+} nw_form;
+
+/* An empty form in the arrays lent. */
+static inline nw_form nw_form_start(uint8_t *pool, size_t pool_room, uint64_t *tape, size_t tape_room)
+{
+    nw_form f = { pool, pool_room, 0, tape, tape_room, 0, 0 };
+    return f;
+}
+
+/* Appends a number. Answers the entry it stands at. */
+static inline size_t nw_form_number(nw_form *f, uint64_t x)
+{
+    size_t at = f->entries;
+    if (f->full || f->tape_room - at < 1) {
+        f->full = 1;
+        f->entries = 0;
+        return 0;
+    }
+    f->tape[at] = x;
+    f->entries = at + 1;
+    return at;
+}
+
+/* Appends n bytes: a copy of them to the pool, their start and their length to the tape. */
+static inline void nw_form_bytes(nw_form *f, const uint8_t *bytes, size_t n)
+{
+    size_t start = f->pool_bytes, at = f->entries, i;
+    if (f->full || f->pool_room - start < n || f->tape_room - at < 2) {
+        f->full = 1;
+        f->entries = 0;
+        return;
+    }
+    for (i = 0; i < n; i++)
+        f->pool[start + i] = bytes[i];
+    f->pool_bytes = start + n;
+    f->tape[at] = start;
+    f->tape[at + 1] = n;
+    f->entries = at + 2;
+}
+
+/* Begins a list whose things are not counted yet. Answers its count's entry, for nw_form_thing. */
+static inline size_t nw_form_list(nw_form *f)
+{
+    return nw_form_number(f, 0);
+}
+
+/* Counts one more thing of the list; the thing itself is appended after this. */
+static inline void nw_form_thing(nw_form *f, size_t list)
+{
+    if (!f->full)
+        f->tape[list]++;
+}
+
 /* ---- The certificate table --------------------------------------------------------------------
  *
  * Its body is a list of certificate authorization lists, a list of certificates and a signature, all
@@ -215,10 +285,9 @@ nw_answer nw_certificate_signature(const uint8_t *body, size_t n);
 #define NW_PART_START(answer) ((size_t)(NW_VALUE(answer) >> 24))
 #define NW_PART_LENGTH(answer) ((size_t)(NW_VALUE(answer) & 0xFFFFFFu))
 
-/* Writes a body at the start of out; bytes of out after it stay. Value: its length. A form says what
- * is written: a tape of numbers in the body's order, and a pool of bytes. The tape has the count of
- * authorization lists, for each its start and its length in the pool, the count of certificates, for
- * each the same, and the signature's start and length. Refusals, in this order, with nothing written
+/* Writes the table of a form at the start of out; bytes of out after it stay. Value: its length. The
+ * tape has the count of authorization lists, for each its start and its length in the pool, the count
+ * of certificates, for each the same, and the signature's start and length. Refusals, in this order, with nothing written
  * and place 0: 19, the tape is too short, has entries left over, or a span that is not in the pool;
  * 22, a count or length too large for its field, or more than NW_MOST_BODY bytes; 21, out is too
  * small. */
