@@ -1,6 +1,5 @@
 -- The laws that other crates cite.
+pub mod Lawful
 pub mod RoundTrips
 pub mod Answers
 pub mod Table
-pub mod Written
-pub mod Laid

@@ -16,7 +16,7 @@ use Rattle.fields.proofs.Elements.{Fills, exact-found, view-found, followed-fou
 use Rattle.fields.proofs.RoundTrips as trips
 use Rattle.certificate.specs.Certificate.{Certificates, certificateKind, named, unnamed, fields, certificate}
 use Rattle.certificate.specs.Asked.{parts, authorizationCount, authorizationPart, certificateCount, certificatePart, signaturePart}
-use Rattle.certificate.proofs.RoundTrips.{certificate-filling}
+use Rattle.certificate.proofs.Lawful.{certificate-filling}
 
 module _ (kind : ℕ) (s : List ℕ) (b : Bytes s) (c : Certificates) (q : ℕ) (e : reading certificate certificateKind kind s ≡ found c q) where
   -- where the three fields end

@@ -1,41 +1,52 @@
-// The certificate table: its body read, its fields asked for, and written.
-use fields::Measured;
+// The certificate table: its body read, its fields asked for, laid onto a tape, and written.
 use fields::Number;
 use fields::Part;
 use fields::Step;
-use fields::Tally;
+use pens::Pen;
 use refusal::Refusal;
+use walks::Walk;
 ghost use mathlib.Core.Path.{_≡_};
+ghost use Prim.Native.Nat.{_≤_};
 ghost use lib.ListN.{length};
+ghost use Rattle.fields.specs.Format.{times, opaque};
 ghost use Rattle.fields.specs.Body.{bodyRead, bodyWritten, output, bodyLaid, laidTape};
-ghost use Rattle.fields.specs.Passes.{measured, nothingYet, isFound, bytesFor, Ready};
-ghost use mathlib.Core.Bool.{true};
-ghost use Rattle.placing.specs.Placed.{placed};
-ghost use Rattle.fields.specs.Answers.{ended};
-ghost use Rattle.certificate.specs.Certificate.{certificateKind, fields, certificate};
-ghost use Rattle.certificate.specs.Asked.{authorizationCount, authorizationPart, certificateCount, certificatePart, signaturePart};
+ghost use Rattle.walks.specs.Walked.{Walked};
+ghost use Rattle.pens.specs.Penned.{Penned};
+ghost use Rattle.certificate.specs.Certificate.{certificateKind, certificate};
+ghost use Rattle.certificate.specs.Asked.{parts, authorizationCount, authorizationPart, certificateCount, certificatePart, signaturePart};
 
-// The three fields, one after the other, and no byte left.
-fn read_fields(s: &[u8]) -> Step
-    ensures { λ r. ⌜ r ≡ ended certificate (now (s .entry)) (length (now (s .entry))) 0 ⌝ }
+// Past n parts, each after a length of w bytes.
+fn walk_parts(s: &[u8], l: usize, x: Walk, w: usize, n: u64, tape: &mut [u64], wet: bool) -> Walk
+    requires { ⌜ w ≤ 7 ⌝ }
+    ensures { λ r. ⌜ Walked (times n (opaque w)) (now (s .entry)) l x wet (now (tape .entry)) r (now (tape .exit)) ⌝ }
 {
-    let l = s.len();
-    match fields::skip_list(s, l, 0, 1, 2) {
-        Step::Refused(r) => Step::Refused(r),
-        Step::At(a) => match fields::skip_list(s, l, a, 1, 1) {
-            Step::Refused(r) => Step::Refused(r),
-            Step::At(b) => match fields::read_part(s, l, b, 2) {
-                Part::Refused(r) => Step::Refused(r),
-                Part::Of(c, n) => {
-                    let end = c + n;
-                    if end < l {
-                        return Step::Refused(Refusal::LeftOver(end));
-                    }
-                    Step::At(end)
-                }
-            },
-        },
+    let mut at = x;
+    let mut left = n;
+    while 0 < left {
+        at = walks::walk_part(s, l, at, w, tape, wet);
+        left = left - 1;
     }
+    at
+}
+
+// Past a list of parts after its count.
+fn walk_list(s: &[u8], l: usize, x: Walk, w: usize, tape: &mut [u64], wet: bool) -> Walk
+    requires { ⌜ w ≤ 7 ⌝ }
+    ensures { λ r. ⌜ Walked (parts w) (now (s .entry)) l x wet (now (tape .entry)) r (now (tape .exit)) ⌝ }
+{
+    let c = walks::walk_count(s, l, x, 1, tape, wet);
+    let at = c.walk;
+    walk_parts(s, l, at, w, c.n, tape, wet)
+}
+
+// Past the three fields, one after the other, and no byte left.
+fn walk_certificate(s: &[u8], l: usize, x: Walk, tape: &mut [u64], wet: bool) -> Walk
+    ensures { λ r. ⌜ Walked certificate (now (s .entry)) l x wet (now (tape .entry)) r (now (tape .exit)) ⌝ }
+{
+    let a = walk_list(s, l, x, 2, tape, wet);
+    let b = walk_list(s, l, a, 1, tape, wet);
+    let c = walks::walk_part(s, l, b, 2, tape, wet);
+    walks::finish(c, l)
 }
 
 // Whether s is the body of a certificate table, and else why not.
@@ -44,7 +55,36 @@ pub fn read(kind: u32, s: &[u8]) -> Step
 {
     match fields::open_body(0xFC, kind, s) {
         Step::Refused(r) => Step::Refused(r),
-        Step::At(at) => read_fields(s),
+        Step::At(at) => {
+            let mut none: [u64; 1] = [0; 1];
+            match walk_certificate(s, s.len(), Walk::At(0, 0), &mut none, false) {
+                Walk::Refused(r) => Step::Refused(r),
+                Walk::At(end, room) => Step::At(end),
+            }
+        }
+    }
+}
+
+// Lays an accepted body onto a tape, with the body itself as the pool: the form from which it is written again.
+pub fn lay(kind: u32, s: &[u8], tape: &mut [u64]) -> Step
+    ensures said { λ r. ⌜ r ≡ bodyLaid certificate certificateKind kind (now (s .entry)) (length (now (tape .entry))) ⌝ }
+    ensures left { λ r. ⌜ now (tape .exit) ≡ laidTape certificate certificateKind kind (now (s .entry)) (now (tape .entry)) ⌝ }
+{
+    match fields::open_body(0xFC, kind, s) {
+        Step::Refused(r) => Step::Refused(r),
+        Step::At(at) => {
+            let room = tape.len() + 1;
+            match walk_certificate(s, s.len(), Walk::At(0, room), tape, false) {
+                Walk::Refused(r) => Step::Refused(r),
+                Walk::At(end, left) => {
+                    if left == 0 {
+                        return Step::Refused(Refusal::OutputTooSmall);
+                    }
+                    walk_certificate(s, s.len(), Walk::At(0, room), tape, true);
+                    Step::At(room - left)
+                }
+            }
+        }
     }
 }
 
@@ -96,35 +136,35 @@ pub fn signature(s: &[u8]) -> Part
     }
 }
 
-// The writer's first pass.
-fn measure(pool: &[u8], tape: &[u64]) -> Measured
-    ensures { λ r. ⌜ r ≡ measured fields nothingYet (now (pool .entry)) (now (tape .entry)) 0 ⌝ }
+// A list of parts after its count. The count is whatever the tape says, so that it ends at the first refusal.
+fn put_list(pool: &[u8], tape: &[u64], x: Pen, w: usize, out: &mut [u8], wet: bool) -> Pen
+    requires { ⌜ w ≤ 7 ⌝ }
+    ensures { λ r. ⌜ Penned (parts w) (now (pool .entry)) (now (tape .entry)) x wet (now (out .entry)) r (now (out .exit)) ⌝ }
 {
-    let none = Tally {
-        size: 0,
-        over: false,
-    };
-    match fields::measure_list(pool, tape, 0, 1, 2, none) {
-        Measured::Refused(r) => Measured::Refused(r),
-        Measured::Sum(t, k) => match fields::measure_list(pool, tape, k, 1, 1, t) {
-            Measured::Refused(r) => Measured::Refused(r),
-            Measured::Sum(u, j) => fields::measure_part(pool, tape, j, 2, u),
-        },
+    let c = pens::put_count(tape, x, 1, out, wet);
+    let mut pen = c.pen;
+    let mut left = c.n;
+    while 0 < left {
+        match pens::put_part(pool, tape, pen, w, out, wet) {
+            Pen::Refused(r) => {
+                return Pen::Refused(r);
+            }
+            Pen::At(size, k) => {
+                pen = Pen::At(size, k);
+            }
+        }
+        left = left - 1;
     }
+    pen
 }
 
-// The writer's second pass.
-fn put_fields(pool: &[u8], tape: &[u64], out: &mut [u8])
-    requires { ⌜ Ready (fields .print) (fields .form (now pool) (now tape) 0) 0 (now out) ⌝ }
-    ensures { λ _. ⌜ now (out .exit) ≡ placed (now (out .entry)) 0 (bytesFor (fields .print) (fields .form (now (pool .entry)) (now (tape .entry)) 0)) ⌝ }
+// The three fields.
+fn put_certificate(pool: &[u8], tape: &[u64], x: Pen, out: &mut [u8], wet: bool) -> Pen
+    ensures { λ r. ⌜ Penned certificate (now (pool .entry)) (now (tape .entry)) x wet (now (out .entry)) r (now (out .exit)) ⌝ }
 {
-    let a = fields::put_list(pool, tape, 0, 1, 2, out, 0);
-    let k = a.next;
-    let p = a.at;
-    let b = fields::put_list(pool, tape, k, 1, 1, out, p);
-    let j = b.next;
-    let q = b.at;
-    fields::put_part(pool, tape, j, 2, out, q);
+    let a = put_list(pool, tape, x, 2, out, wet);
+    let b = put_list(pool, tape, a, 1, out, wet);
+    pens::put_part(pool, tape, b, 2, out, wet)
 }
 
 // Writes the table that the form lays out, a tape of numbers and a pool of bytes, at the start of out.
@@ -132,72 +172,20 @@ pub fn write(pool: &[u8], tape: &[u64], out: &mut [u8]) -> Step
     ensures said { λ r. ⌜ r ≡ bodyWritten certificate (now (pool .entry)) (now (tape .entry)) (length (now (out .entry))) ⌝ }
     ensures left { λ r. ⌜ now (out .exit) ≡ output certificate (now (pool .entry)) (now (tape .entry)) (now (out .entry)) ⌝ }
 {
-    match measure(pool, tape) {
-        Measured::Refused(r) => Step::Refused(r),
-        Measured::Sum(t, k) => {
+    match put_certificate(pool, tape, Pen::At(0, 0), out, false) {
+        Pen::Refused(r) => Step::Refused(r),
+        Pen::At(size, k) => {
             if k < tape.len() {
                 return Step::Refused(Refusal::OutsideSet(0));
             }
-            let over = t.over;
-            if over {
-                return Step::Refused(Refusal::TooLarge);
-            }
-            let size = t.size;
             if 1045504 < size {
                 return Step::Refused(Refusal::TooLarge);
             }
-            if (out.len() as u64) < size {
+            if out.len() < size {
                 return Step::Refused(Refusal::OutputTooSmall);
             }
-            put_fields(pool, tape, out);
-            Step::At(size as usize)
-        }
-    }
-}
-
-// How many entries the form of an accepted body has: two for each part, and one for each count.
-fn entries(s: &[u8]) -> usize
-    requires { ⌜ isFound (fields .parse (now s) (length (now s)) 0) ≡ true ⌝ }
-    ensures { λ r. ⌜ r ≡ length (bytesFor (λ x. fields .tape x 0) (fields .parse (now (s .entry)) (length (now (s .entry))) 0)) ⌝ }
-{
-    match authorization_count(s) {
-        Number::Refused(r) => 0,
-        Number::Is(n, q) => match certificate_count(s) {
-            Number::Refused(r) => 0,
-            Number::Is(m, p) => ((n + m) * 2 + 4) as usize,
-        },
-    }
-}
-
-// The entries of the three fields.
-fn lay_fields(s: &[u8], tape: &mut [u64])
-    requires { ⌜ Ready (λ x. fields .tape x 0) (fields .parse (now s) (length (now s)) 0) 0 (now tape) ⌝ }
-    ensures { λ _. ⌜ now (tape .exit) ≡ placed (now (tape .entry)) 0 (bytesFor (λ x. fields .tape x 0) (fields .parse (now (s .entry)) (length (now (s .entry))) 0)) ⌝ }
-{
-    let l = s.len();
-    let a = fields::lay_list(s, l, 0, 1, 2, tape, 0);
-    let p = a.next;
-    let k = a.at;
-    let b = fields::lay_list(s, l, p, 1, 1, tape, k);
-    let q = b.next;
-    let j = b.at;
-    fields::lay_part(s, l, q, 2, tape, j);
-}
-
-// Lays an accepted body onto a tape, with the body itself as the pool: the form from which it is written again.
-pub fn lay(kind: u32, s: &[u8], tape: &mut [u64]) -> Step
-    ensures said { λ r. ⌜ r ≡ bodyLaid certificate certificateKind kind (now (s .entry)) (length (now (tape .entry))) ⌝ }
-    ensures left { λ r. ⌜ now (tape .exit) ≡ laidTape certificate certificateKind kind (now (s .entry)) (now (tape .entry)) ⌝ }
-{
-    match read(kind, s) {
-        Step::Refused(r) => Step::Refused(r),
-        Step::At(end) => {
-            let n = entries(s);
-            if tape.len() < n {
-                return Step::Refused(Refusal::OutputTooSmall);
-            }
-            lay_fields(s, tape);
-            Step::At(n)
+            put_certificate(pool, tape, Pen::At(0, 0), out, true);
+            Step::At(size)
         }
     }
 }

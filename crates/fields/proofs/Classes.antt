@@ -30,12 +30,14 @@ Forth {A} F =
     (s : List ℕ) (l p : ℕ) (a : A) (q : ℕ) → Bytes s → l ≤ length s → p ≤ l → F .parse s l p ≡ found a q → Found F s l p a q
 
 -- `sound`: a form lays out right values only. `laid`: the tape of a right value is its form, in any pool where its bytes stand.
+-- `steady`: how many entries a value has does not depend on where its bytes stand.
 pub record Formal {A : Type 0} (F : Format A) : Type 0 where
   pub sound : (pool tape : List ℕ) (k : ℕ) (a : A) (j : ℕ) → F .form pool tape k ≡ found a j → F .right a ≡ true
   pub laid : (pool : List ℕ) (p : ℕ) (tape : List ℕ) (k : ℕ) (a : A) → F .right a ≡ true
       → Stands pool p (F .print a) → p + length (F .print a) ≤ length pool
       → Stands tape k (F .tape a p) → k + length (F .tape a p) ≤ length tape
       → F .form pool tape k ≡ found a (k + length (F .tape a p))
+  pub steady : (a : A) (p : ℕ) → length (F .tape a p) ≡ length (F .tape a 0)
 
 -- a format that says itself where it ends
 pub record Lawful {A : Type 0} (F : Format A) : Type 0 where

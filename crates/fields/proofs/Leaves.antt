@@ -91,6 +91,7 @@ count-lawful w =
       formal = record {
         sound = λ pool tape k x j e. refl;
         laid = λ pool p tape k x r t h u m. entry-laid tape k x [] u m;
+        steady = λ x p. refl;
       };
     }
 
@@ -134,7 +135,7 @@ bytes-pos w = one-le-pow w 256 (omega arith)
 
 -- one law over the number of reserved bits and the number of bytes
 module _ (k w : ℕ) (bits : k ≤ 8) where
-  all-of : 2 ^ k * below k w ≡ 256 ^ suc w
+  pub all-of : 2 ^ k * below k w ≡ 256 ^ suc w
   all-of =
       let e : 2 ^ k * 2 ^ (8 - k) ≡ 256 = sym (pow-add 2 k (8 - k)) ∙ ap (λ n. 2 ^ n) (let z : k + (8 - k) ≡ 8 = omega arith in z) in
       sym (mul-assoc (2 ^ k) (256 ^ w) (2 ^ (8 - k))) ∙ ap (λ y. y * 2 ^ (8 - k)) (mul-comm (2 ^ k) (256 ^ w)) ∙ mul-assoc (256 ^ w) (2 ^ k) (2 ^ (8 - k))
@@ -176,6 +177,7 @@ module _ (k w : ℕ) (bits : k ≤ 8) where
               let g = need-found (ltb (a .0) (below k w)) (OutsideSet 0) _ x i (a .3) in
               rw (← found-inj (g .1) .0) (g .0);
           laid = λ pool p tape j x r t h u m. rw (entry-laid tape j x [] u m, r);
+          steady = λ x p. refl;
         };
       }
     where
@@ -204,12 +206,13 @@ bytes-lawful n =
         laid = λ pool p tape k xs r t h u m.
             let e : length xs ≡ n = eqb-true (length xs) n r in
             rw (span-laid pool tape k p xs t h (rw e u) m, r);
+        steady = λ xs p. refl;
       };
     }
 
 -- ---- digits
 
-paired-halves : (bs : List ℕ) → paired (halves bs) ≡ bs
+pub paired-halves : (bs : List ℕ) → paired (halves bs) ≡ bs
 unfolding paired halves
 paired-halves [] = refl
 paired-halves (b ∷ bs) = ap₂ (λ (x : ℕ) (r : List ℕ). x ∷ r) (div-add-mod' b 16) (paired-halves bs)
@@ -307,6 +310,7 @@ module _ (h : ℕ) where
           laid = λ pool p tape k ds r t e u m.
               let c = digits-of ds r in
               rw (span-laid pool tape k p (paired (15 ∷ ds)) t e (rw (c .1) u) m, c .1, eq-eqb (suc h) (suc h) refl, c .0, c .2);
+          steady = λ ds p. refl;
         };
       }
     where

@@ -9,8 +9,7 @@ pub mod RoundTrips
 pub mod Times
 pub mod Readers
 pub mod Elements
-pub mod Measures
-pub mod Puts
-pub mod Writers
 pub mod Laying
 pub mod Inner
+pub mod Bits
+pub mod Strings

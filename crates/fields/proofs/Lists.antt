@@ -98,6 +98,14 @@ module _ {A : Type 0} (F : Format A) (f : Lawful F) where
       (stands-right tape k (F .tape x p) (tapeAll F xs q) u) m2 in
       simp length-append (rw (one, more) (simp add-assoc))
 
+  pub all-steady : (xs : List A) (p q : ℕ) → length (tapeAll F xs p) ≡ length (tapeAll F xs q)
+  unfolding tapeAll
+  all-steady [] p q = refl
+  all-steady (x ∷ xs) p q =
+      let n = length (F .print x) in
+      length-append (F .tape x p) (tapeAll F xs (p + n))
+      ∙ omega (arith, f .formal .steady x p, f .formal .steady x q, all-steady xs (p + n) (q + n), length-append (F .tape x q) (tapeAll F xs (q + n)))
+
   -- ---- after a count
 
   module _ (C : Format ℕ) (c : Lawful C) where
@@ -144,6 +152,11 @@ module _ {A : Type 0} (F : Format A) (f : Lawful F) where
               let more = repeat-laid pool (p + length (C .print n)) tape (k + length (C .tape n p)) xs (d .1)
               (stands-right pool p (C .print n) (printAll (F .print) xs) t) h2 (stands-right tape k (C .tape n p) ts u) m2 in
               simp length-append (rw (one, more) (simp add-assoc));
+          steady = λ xs p.
+              let n = length xs in
+              let q = length (C .print n) in
+              length-append (C .tape n p) (tapeAll F xs (p + q))
+              ∙ omega (arith, c .formal .steady n p, all-steady xs (p + q) (0 + q), length-append (C .tape n 0) (tapeAll F xs (0 + q)));
         }
 
     pub list-lawful : Lawful (listOf C F)
@@ -211,5 +224,6 @@ module _ {A : Type 0} (F : Format A) (f : Lawful F) where
                 let one = entry-laid tape k (length xs) (tapeAll F xs p) u (omega arith) in
                 let more = repeat-laid pool p tape (k + 1) xs r t h (stands-next tape k (length xs) (tapeAll F xs p) u) (omega arith) in
                 rw (one, more) (ap (found xs) (omega arith));
+            steady = λ xs p. ap suc (all-steady xs p 0);
           };
         }

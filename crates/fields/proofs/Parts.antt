@@ -13,11 +13,11 @@ use Rattle.choices.proofs.Tests.{both, and-of}
 use Rattle.refusal.specs.declared.Refusal.{Refusal}
 use Rattle.refusal.specs.declared.Refusal.the-variants.{OutsideSet, ReservedBitZero}
 use Rattle.fields.specs.Reading.{found, Fault, fine, unless, isFine}
-use Rattle.fields.specs.Format.{Format, count, only, outside, number, below, reserved, followed, nothing, under, view, rest, exact, Length, lengthOf, length12, counted, opaque}
+use Rattle.fields.specs.Format.{Format, bytesOf, count, only, outside, number, below, reserved, followed, nothing, under, view, rest, exact, Length, lengthOf, leastOf, length12, counted, opaque}
 use Rattle.fields.proofs.Stand.{Stands, stands-nil, stands-left, stands-right, stands-join, stands-take, taken}
 use Rattle.fields.proofs.Outcomes.{found-inj, andThen-found, need-found, judged-found, within-found, within-there, fine-of, neither}
-use Rattle.fields.proofs.Classes.{Ok, Found, Forth, Formal, Lawful, Filling, moved}
-use Rattle.fields.proofs.Leaves.{span-laid, count-lawful, count-small, small-count, reserved-lawful}
+use Rattle.fields.proofs.Classes.{Bytes, Ok, Found, Forth, Formal, Lawful, Filling, moved}
+use Rattle.fields.proofs.Leaves.{length-bytes, span-laid, count-lawful, count-small, small-count, reserved-lawful}
 
 -- ---- value sets: whether a value is in the set does not depend on its place
 
@@ -43,35 +43,57 @@ module _ {A : Type 0} (fault : A → ℕ → Fault) (F : Format A) (even : (a : 
         laid = λ pool p tape k a r t h v m.
             let c = both (F .right a) (isFine (fault a 0)) r in
             rw (u .laid pool p tape k a (c .0) t h v m, fine-of (fault a 0) (c .1));
+        steady = u .steady;
+      }
+
+  only-back : (s : List ℕ) (l p : ℕ) (a : A) (q : ℕ) → Ok (only fault F) a → (Ok F a → F .parse s l p ≡ found a q) → only fault F .parse s l p ≡ found a q
+  unfolding only
+  only-back s l p a q o e =
+      let c = only-ok a o in
+      rw (e (c .0), at-any a 0 p (c .1))
+
+  only-forth : Forth F → Forth (only fault F)
+  unfolding only
+  only-forth u s l p a q b k h e =
+      let i = andThen-found (F .parse s l p) _ a q e in
+      let g = judged-found (fault (i .0) p) _ a q (i .3) in
+      let v = u s l p (i .0) (i .1) b k h (i .2) in
+      moved (only fault F) s l p (found-inj (g .1))
+      record {
+        ok = record { right = and-of (v .ok .right) (ap isFine (at-any (i .0) p 0 (g .0))); small = v .ok .small };
+        stands = v .stands;
+        next = v .next;
+        inside = v .inside;
       }
 
   pub only-lawful : Lawful F → Lawful (only fault F)
   unfolding only
   only-lawful u =
       record {
-        back = λ s l p a o t h k.
-            let c = only-ok a record { right = o .right; small = o .small } in
-            rw (u .back s l p a (c .0) t h k, at-any a 0 p (c .1));
-        forth = λ s l p a q b k h e.
-            let i = andThen-found (F .parse s l p) _ a q e in
-            let g = judged-found (fault (i .0) p) _ a q (i .3) in
-            let v = u .forth s l p (i .0) (i .1) b k h (i .2) in
-            moved (only fault F) s l p (found-inj (g .1))
-            record {
-              ok = record { right = and-of (v .ok .right) (ap isFine (at-any (i .0) p 0 (g .0))); small = v .ok .small };
-              stands = v .stands;
-              next = v .next;
-              inside = v .inside;
-            };
+        back = λ s l p a o t h k. only-back s l p a (p + length (F .print a)) (record { right = o .right; small = o .small }) (λ c. u .back s l p a c t h k);
+        forth = only-forth (u .forth);
         formal = only-formal (u .formal);
       }
 
+  pub only-filling : Filling F → Filling (only fault F)
+  unfolding only
+  only-filling u =
+      record {
+        back = λ s l p a o t h k. only-back s l p a l (record { right = o .right; small = o .small }) (λ c. u .back s l p a c t h k);
+        forth = only-forth (u .forth);
+        ends = λ s l p a q b k h e.
+            let i = andThen-found (F .parse s l p) _ a q e in
+            let g = judged-found (fault (i .0) p) _ a q (i .3) in
+            sym (found-inj (g .1) .1) ∙ u .ends s l p (i .0) (i .1) b k h (i .2);
+        formal = only-formal (u .formal);
+      }
+
+pub unless-even : (t : Bool) (refusal : ℕ → Refusal) (p : ℕ) → isFine (unless t (refusal p)) ≡ isFine (unless t (refusal 0))
+unless-even true refusal p = refl
+unless-even false refusal p = refl
+
 pub outside-even : {A : Type 0} (test : A → Bool) (a : A) (p : ℕ) → isFine (outside test a p) ≡ isFine (outside test a 0)
-outside-even test a p = go (test a)
-  where
-    go : (t : Bool) → isFine (unless t (OutsideSet p)) ≡ isFine (unless t (OutsideSet 0))
-    go true = refl
-    go false = refl
+outside-even test a p = unless-even (test a) OutsideSet p
 
 pub outside-lawful : {A : Type 0} (test : A → Bool) (F : Format A) → Lawful F → Lawful (only (outside test) F)
 outside-lawful test F u = only-lawful (outside test) F (outside-even test) u
@@ -135,6 +157,11 @@ module _ {A : Type 0} {B : A → Type 0} (F : Format A) (G : (a : A) → Format 
             (stands-right pool p (F .print a) (G a .print b) t) h2
             (stands-right tape k (F .tape a p) (G a .tape b (p + length (F .print a))) u) m2 in
             simp length-append (rw (one, two) (simp add-assoc));
+        steady = λ x p.
+            let a = x .0 in
+            let b = x .1 in
+            length-append (F .tape a p) (G a .tape b (p + length (F .print a)))
+            ∙ omega (arith, f .formal .steady a p, g a .steady b (p + length (F .print a)), g a .steady b (0 + length (F .print a)), length-append (F .tape a 0) (G a .tape b (0 + length (F .print a))));
       }
 
   pub followed-lawful : ((a : A) → Lawful (G a)) → Lawful (followed F G)
@@ -179,7 +206,7 @@ nothing-lawful =
       forth = λ s l p x q b k h e.
           let i = found-inj e in
           record { ok = record { right = refl; small = refl }; stands = stands-nil s p; next = omega (arith, i .1); inside = omega (arith, i .1) };
-      formal = record { sound = λ pool tape k a j e. refl; laid = λ pool p tape k a r t h u m. rw add-zero };
+      formal = record { sound = λ pool tape k a j e. refl; laid = λ pool p tape k a r t h u m. rw add-zero; steady = λ a p. refl };
     }
 
 pub under-lawful : {A : Type 0} (F : Format A) → Lawful F → (flag : ℕ) → Lawful (under F flag)
@@ -208,6 +235,7 @@ view-lawful {A} {B} f g F gf fg u =
             ap (λ x. F .right (g x)) (sym (found-inj (i .3) .0)) ∙ ap (F .right) (gf (i .0))
             ∙ u .formal .sound pool tape k (i .0) (i .1) (i .2);
         laid = λ pool p tape k b r t h v m. rw (u .formal .laid pool p tape k (g b) r t h v m, fg b);
+        steady = λ b. u .formal .steady (g b);
       };
     }
 
@@ -232,6 +260,7 @@ rest-filling =
       formal = record {
         sound = λ pool tape k xs j e. refl;
         laid = λ pool p tape k xs r t h u m. span-laid pool tape k p xs t h u m;
+        steady = λ xs p. refl;
       };
     }
 
@@ -253,7 +282,7 @@ exact-filling leftOver F f =
           let j = need-found (leb l (i .1)) (leftOver (i .1)) _ a q (i .3) in
           let u = f .forth s l p (i .0) (i .1) b k h (i .2) in
           omega (arith, leb-true l (i .1) (j .0), u .inside, found-inj (j .1) .1);
-      formal = record { sound = f .formal .sound; laid = f .formal .laid };
+      formal = record { sound = f .formal .sound; laid = f .formal .laid; steady = f .formal .steady };
     }
 
 -- ---- counted parts
@@ -317,6 +346,7 @@ module _ {A : Type 0} (L : Length) (F : Format A) (c : Counts L F) (f : Filling 
           laid = λ pool p tape k a r t h u m.
               f .formal .laid pool (p + length (L .field .print (length (F .print a)))) tape k a r
               (stands-right pool p (L .field .print (length (F .print a))) (F .print a) t) (simp (length-append, ← add-assoc) at h) u m;
+          steady = λ a p. f .formal .steady a (p + length (L .field .print (length (F .print a)))) ∙ sym (f .formal .steady a (0 + length (L .field .print (length (F .print a)))));
         };
       }
 
@@ -330,8 +360,34 @@ length-counts w F =
       limits = λ n p o h. small-count w n o;
     }
 
+-- where no part of F is shorter, its length is never refused
+pub least-counts : {A : Type 0} (w least : ℕ) (F : Format A) → ((a : A) → Ok F a → least ≤ length (F .print a)) → Counts (leastOf w least) F
+unfolding leastOf
+least-counts w least F enough =
+    record {
+      lawful = count-lawful w;
+      holds = count-small w;
+      accepts = λ a p o h. rw (le-leb least (length (F .print a)) (enough a o));
+      limits = λ n p o h. small-count w n o;
+    }
+
 pub opaque-lawful : (w : ℕ) → Lawful (opaque w)
 opaque-lawful w = counted-lawful (lengthOf w) rest (length-counts w rest) rest-filling
+
+part-starts : (s : List ℕ) (l w p : ℕ) (xs : List ℕ) (q : ℕ) → opaque w .parse s l p ≡ found xs q → p ≤ l
+unfolding counted lengthOf count
+part-starts s l w p xs q e =
+    let i = andThen-found (count w .parse s l p) _ xs q e in
+    let f = within-found s l p (p + w) _ (i .0) (i .1) (i .2) in
+    omega (arith, f .1)
+
+-- opaque bytes that were read end after their length and themselves
+pub opaque-next : (s : List ℕ) (l : ℕ) → Bytes s → l ≤ length s → (w p : ℕ) (xs : List ℕ) (q : ℕ) → opaque w .parse s l p ≡ found xs q → q ≡ p + w + length xs
+unfolding counted rest lengthOf count
+opaque-next s l b h w p xs q e =
+    let z = opaque-lawful w .forth s l p xs q b h (part-starts s l w p xs q e) e .next in
+    let size : length (opaque w .print xs) ≡ w + length xs = length-append (bytesOf w (length xs)) xs ∙ ap (λ n. n + length xs) (length-bytes w (length xs)) in
+    omega (arith, z, size)
 
 -- 12-bit lengths: what fits ten bits fits the field, and the fault is that it doesn't
 pub length12-counts : {A : Type 0} (F : Format A) → Counts length12 F

@@ -13,9 +13,9 @@ use lib.Dec.{leb, eqb}
 use borrow.Author.Tests.{le-leb, lt-leb, lt-ltb, le-ltb, eq-eqb, ne-eqb}
 use Rattle.refusal.specs.declared.Refusal.{Refusal}
 use Rattle.refusal.specs.declared.Refusal.the-variants.{OtherKind, PastBody, PastPart, OutsideSet, TooLarge}
-use Rattle.fields.specs.Reading.{Reading, found, refused, andThen, need}
-use Rattle.fields.specs.Format.{Format, nothing, numberAt, count, repeat, followed, _▷_, listOf, rest, exact, view, lengthOf, counted, opaque}
-use Rattle.fields.specs.Answers.{stepOf, numberOf, partOf, ended, endedAll, numberRead, partRead, after, partAfter, listed, partListed}
+use Rattle.fields.specs.Reading.{Reading, found, refused, andThen, need, unless, judged, within}
+use Rattle.fields.specs.Format.{Format, nothing, numberAt, count, repeat, listOf, rest, Length, lengthOf, leastOf, counted, opaque}
+use Rattle.fields.specs.Answers.{stepOf, numberOf, partOf, fieldOf, ended, endedAll, numberRead, partRead, after, partAfter, listed, partListed}
 use Rattle.fields.specs.Body.{longest, reading, bodyRead, opened}
 use Rattle.fields.specs.declared.Step.the-variants.{At, Refused as NoStep}
 use Rattle.fields.specs.declared.Number.the-variants.{Is, Refused as NoNumber}
@@ -56,53 +56,82 @@ module _ (s : List ℕ) (l p w : ℕ) where
   number-is h k v q e f = rw (le-leb (p + w) (length s) h, le-leb (p + w) l k, e, f)
 
 -- from an answer back to what was read
-module _ (s : List ℕ) (l p w : ℕ) where
-  pub number-found : (v q : ℕ) → Is v q ≡ numberRead w s l p → count w .parse s l p ≡ found v q
-  unfolding numberRead
-  number-found v q e = go (count w .parse s l p) e
-    where
-      go : (x : Reading ℕ) → Is v q ≡ numberOf x → x ≡ found v q
-      go (found y r) f = let a : y ≡ v = cc in let b : r ≡ q = cc in rw (a, b)
-      go (refused r) f = absurd (let z : _≡_ {A = ℕ} 0 1 = cc in omega arith)
+pub number-found : (x : Reading ℕ) (v q : ℕ) → Is v q ≡ numberOf x → x ≡ found v q
+number-found (found y r) v q e = let a : y ≡ v = cc in let b : r ≡ q = cc in rw (a, b)
+number-found (refused r) v q e = absurd (let z : _≡_ {A = ℕ} 0 1 = cc in omega arith)
 
-  pub number-refused : (r : Refusal) → NoNumber r ≡ numberRead w s l p → count w .parse s l p ≡ refused r
-  unfolding numberRead
-  number-refused r e = go (count w .parse s l p) e
-    where
-      go : (x : Reading ℕ) → NoNumber r ≡ numberOf x → x ≡ refused r
-      go (refused t) f = let a : t ≡ r = cc in ap refused a
-      go (found y q) f = absurd (let z : _≡_ {A = ℕ} 0 1 = cc in omega arith)
+pub number-refused : (x : Reading ℕ) (r : Refusal) → NoNumber r ≡ numberOf x → x ≡ refused r
+number-refused (refused t) r e = let a : t ≡ r = cc in ap refused a
+number-refused (found y q) r e = absurd (let z : _≡_ {A = ℕ} 0 1 = cc in omega arith)
+
+pub field-found : {A : Type 0} (p : ℕ) (x : Reading A) (at n : ℕ) → Of at n ≡ fieldOf p x
+    → (a : A) × (q : ℕ) × (x ≡ found a q) × (at ≡ p) × (n ≡ q - p)
+field-found p (found a q) at n e = (a, q, refl, cc, cc)
+field-found p (refused r) at n e = absurd (let z : _≡_ {A = ℕ} 0 1 = cc in omega arith)
+
+pub field-refused : {A : Type 0} (p : ℕ) (x : Reading A) (r : Refusal) → NoPart r ≡ fieldOf p x → x ≡ refused r
+field-refused p (refused t) r e = let a : t ≡ r = cc in ap refused a
+field-refused p (found a q) r e = absurd (let z : _≡_ {A = ℕ} 0 1 = cc in omega arith)
+
+-- ---- a counted part: what its length's field answers, and then the bytes from q on
+
+module _ (s : List ℕ) (l p q m : ℕ) where
+  pub part-14 : (x : Reading (List ℕ)) → length s < q + m → NoPart (PastBody p) ≡ partOf (within s l p (q + m) x)
+  part-14 x h = rw (lt-leb (q + m) (length s) h)
+
+  module _ (inside : q + m ≤ length s) where
+    pub part-15 : (x : Reading (List ℕ)) → l < q + m → NoPart (PastPart p) ≡ partOf (within s l p (q + m) x)
+    part-15 x h = rw (le-leb (q + m) (length s) inside, lt-leb (q + m) l h)
+
+    pub part-of : (t : Bool) (r : Refusal) → q + m ≤ l → t ≡ true → Of q m ≡ partOf (within s l p (q + m) (judged (unless t r) (rest .parse s (q + m) q)))
+    unfolding rest
+    part-of t r h e =
+        let n : length (take m (drop q s)) ≡ m = length-take-le m (drop q s) (simp length-drop (omega arith)) in
+        rw (le-leb (q + m) (length s) inside, le-leb (q + m) l h, e, add-sub-cancel-left q m, n, add-sub-cancel q m)
+
+    pub part-faulty : (t : Bool) (r : Refusal) → q + m ≤ l → t ≡ false → NoPart r ≡ partOf (within s l p (q + m) (judged (unless t r) (rest .parse s (q + m) q)))
+    part-faulty t r h e = rw (le-leb (q + m) (length s) inside, le-leb (q + m) l h, e)
+
+module _ (L : Length) (s : List ℕ) (l p : ℕ) where
+  pub length-no : (r : Refusal) → NoNumber r ≡ numberOf (L .field .parse s l p) → NoPart r ≡ partOf (counted L rest .parse s l p)
+  unfolding counted
+  length-no r e = rw (number-refused (L .field .parse s l p) r e)
+
+  pub length-is : (n m q : ℕ) → Is n q ≡ numberOf (L .field .parse s l p) → n % L .limit ≡ m
+      → partOf (within s l p (q + m) (judged (L .fault n p) (rest .parse s (q + m) q))) ≡ partOf (counted L rest .parse s l p)
+  unfolding counted
+  length-is n m q e low = rw (number-found (L .field .parse s l p) n q e, low)
+
+pub number-facts : (s : List ℕ) (l p w v q : ℕ) → Bytes s → Is v q ≡ numberRead w s l p → (q ≤ length s) × (q ≤ l) × (v < 256 ^ w)
+unfolding count numberRead
+number-facts s l p w v q b e =
+    let f = within-found s l p (p + w) _ v q (number-found (count w .parse s l p) v q e) in
+    let i = found-inj (f .2) in
+    (rw (← i .1) (f .0), rw (← i .1) (f .1), rw (← i .0) (number-below s p w b))
+
+-- by a length of w bytes that counts so many at least
+module _ (s : List ℕ) (l p w least : ℕ) where
+  pub least-no : (r : Refusal) → NoNumber r ≡ numberRead w s l p → NoPart r ≡ partOf (counted (leastOf w least) rest .parse s l p)
+  unfolding leastOf numberRead
+  least-no r e = length-no (leastOf w least) s l p r e
+
+  pub least-is : (n q : ℕ) → Bytes s → Is n q ≡ numberRead w s l p
+      → partOf (within s l p (q + n) (judged (unless (leb least n) (PastPart p)) (rest .parse s (q + n) q))) ≡ partOf (counted (leastOf w least) rest .parse s l p)
+  unfolding leastOf numberRead
+  least-is n q b e = length-is (leastOf w least) s l p n n q e (mod-eq-of-lt (number-facts s l p w n q b e .2))
+
+-- every length is at least 0
+pub least-none : (s : List ℕ) (l p w : ℕ) → partOf (counted (leastOf w 0) rest .parse s l p) ≡ partRead w s l p
+unfolding partRead counted leastOf lengthOf
+least-none s l p w = go (count w .parse s l p)
+  where
+    go : (x : Reading ℕ)
+        → partOf (andThen x (λ n q. within s l p (q + n % 256 ^ w) (judged (unless (leb 0 n) (PastPart p)) (rest .parse s (q + n % 256 ^ w) q))))
+        ≡ partOf (andThen x (λ n q. within s l p (q + n % 256 ^ w) (rest .parse s (q + n % 256 ^ w) q)))
+    go (found n q) = rw (le-leb 0 n (omega arith))
+    go (refused r) = refl
 
 -- ---- opaque bytes
-
-module _ (s : List ℕ) (l p w v q : ℕ) (b : Bytes s) (e : Is v q ≡ numberRead w s l p) where
-  pub number-facts : (q ≤ length s) × (q ≤ l) × (v < 256 ^ w)
-  unfolding count
-  number-facts =
-      let f = within-found s l p (p + w) _ v q (number-found s l p w v q e) in
-      let i = found-inj (f .2) in
-      (rw (← i .1) (f .0), rw (← i .1) (f .1), rw (← i .0) (number-below s p w b))
-
-  low : v % 256 ^ w ≡ v
-  low = mod-eq-of-lt (number-facts .2)
-
-  pub part-14 : length s < q + v → NoPart (PastBody p) ≡ partRead w s l p
-  unfolding partRead counted lengthOf
-  part-14 h = rw (number-found s l p w v q e, low, lt-leb (q + v) (length s) h)
-
-  pub part-15 : q + v ≤ length s → l < q + v → NoPart (PastPart p) ≡ partRead w s l p
-  unfolding partRead counted lengthOf
-  part-15 h k = rw (number-found s l p w v q e, low, le-leb (q + v) (length s) h, lt-leb (q + v) l k)
-
-  pub part-of : q + v ≤ length s → q + v ≤ l → Of q v ≡ partRead w s l p
-  unfolding partRead counted lengthOf rest
-  part-of h k =
-      let n : length (take v (drop q s)) ≡ v = length-take-le v (drop q s) (simp length-drop (omega arith)) in
-      rw (number-found s l p w v q e, low, le-leb (q + v) (length s) h, le-leb (q + v) l k, add-sub-cancel-left q v, n, add-sub-cancel q v)
-
-pub part-no : (s : List ℕ) (l p w : ℕ) (r : Refusal) → NoNumber r ≡ numberRead w s l p → NoPart r ≡ partRead w s l p
-unfolding partRead counted lengthOf
-part-no s l p w r e = rw (number-refused s l p w r e)
 
 -- from a part back to the bytes read
 pub opaque-found : (s : List ℕ) (l p w : ℕ) (xs : List ℕ) (q : ℕ) → opaque w .parse s l p ≡ found xs q
@@ -223,60 +252,24 @@ module _ (s : List ℕ) (l p w : ℕ) where
 
 module _ (s : List ℕ) (l p c : ℕ) where
   pub list-no : {A : Type 0} (F : Format A) (r : Refusal) → NoNumber r ≡ numberRead c s l p → NoStep r ≡ ended (listOf (count c) F) s l p
-  unfolding ended listOf
-  list-no F r e = rw (number-refused s l p c r e)
+  unfolding ended listOf numberRead
+  list-no F r e = rw (number-refused (count c .parse s l p) r e)
 
   pub list-all : {A : Type 0} (F : Format A) (n q : ℕ) → Is n q ≡ numberRead c s l p → endedAll F n s l q ≡ ended (listOf (count c) F) s l p
-  unfolding ended endedAll listOf
-  list-all F n q e = rw (number-found s l p c n q e)
+  unfolding ended endedAll listOf numberRead
+  list-all F n q e = rw (number-found (count c .parse s l p) n q e)
 
   pub listed-no : (w i : ℕ) (r : Refusal) → NoNumber r ≡ numberRead c s l p → NoPart r ≡ partListed c w i s l p
-  unfolding partListed listed
-  listed-no w i r e = rw (number-refused s l p c r e)
+  unfolding partListed listed numberRead
+  listed-no w i r e = rw (number-refused (count c .parse s l p) r e)
 
   pub listed-none : (w i n q : ℕ) → Is n q ≡ numberRead c s l p → n ≤ i → NoPart (OutsideSet 0) ≡ partListed c w i s l p
-  unfolding partListed listed
-  listed-none w i n q e h = rw (number-found s l p c n q e, le-ltb i n h)
+  unfolding partListed listed numberRead
+  listed-none w i n q e h = rw (number-found (count c .parse s l p) n q e, le-ltb i n h)
 
   pub listed-part : (w i n q : ℕ) → Is n q ≡ numberRead c s l p → i < n → partAfter w i s l q ≡ partListed c w i s l p
-  unfolding partListed listed partAfter
-  listed-part w i n q e h = rw (number-found s l p c n q e, lt-ltb i n h)
-
--- ---- one after the other, other names, no byte left: by what the first part answers
-
-module _ {A B : Type 0} (F : Format A) (G : Format B) (s : List ℕ) (l p : ℕ) where
-  pub followed-no : (r : Refusal) → NoStep r ≡ ended F s l p → NoStep r ≡ ended (F ▷ G) s l p
-  unfolding ended followed
-  followed-no r e = rw (step-refused F s l p r e)
-
-  pub followed-at : (q : ℕ) → At q ≡ ended F s l p → ended G s l q ≡ ended (F ▷ G) s l p
-  unfolding ended followed
-  followed-at q e = rw (step-found F s l p q e .1) (last (step-found F s l p q e .0) (G .parse s l q))
-    where
-      last : (a : A) (x : Reading B) → stepOf x ≡ stepOf (andThen x (λ b r. let z : A × B = (a, b) in found z r))
-      last a (found b r) = refl
-      last a (refused r) = refl
-
-pub view-ended : {A B : Type 0} (f : A → B) (g : B → A) (F : Format A) (s : List ℕ) (l p : ℕ) → ended F s l p ≡ ended (view f g F) s l p
-unfolding ended view
-view-ended {A} {B} f g F s l p = go (F .parse s l p)
-  where
-    go : (x : Reading A) → stepOf x ≡ stepOf (andThen x (λ a q. found (f a) q))
-    go (found a q) = refl
-    go (refused r) = refl
-
-module _ {A : Type 0} (leftOver : ℕ → Refusal) (F : Format A) (s : List ℕ) (l p : ℕ) where
-  pub exact-no : (r : Refusal) → NoStep r ≡ ended F s l p → NoStep r ≡ ended (exact leftOver F) s l p
-  unfolding ended exact
-  exact-no r e = rw (step-refused F s l p r e)
-
-  pub exact-left : (q : ℕ) → At q ≡ ended F s l p → q < l → NoStep (leftOver q) ≡ ended (exact leftOver F) s l p
-  unfolding ended exact
-  exact-left q e h = rw (step-found F s l p q e .1, lt-leb l q h)
-
-  pub exact-at : (q : ℕ) → At q ≡ ended F s l p → l ≤ q → At q ≡ ended (exact leftOver F) s l p
-  unfolding ended exact
-  exact-at q e h = rw (step-found F s l p q e .1, le-leb l q h)
+  unfolding partListed listed partAfter numberRead
+  listed-part w i n q e h = rw (number-found (count c .parse s l p) n q e, lt-ltb i n h)
 
 -- ---- whole bodies
 
@@ -303,12 +296,3 @@ module _ (own kind : ℕ) (s : List ℕ) where
         go false b f = f
         go true false f = f
         go true true f = absurd (let z : _≡_ {A = ℕ} 0 1 = cc in omega arith)
-
-    pub body-at : (q : ℕ) → At q ≡ opened own kind s → ended F s (length s) 0 ≡ bodyRead F own kind s
-    unfolding opened bodyRead reading nothing ended
-    body-at q e = go (eqb kind own) (leb (length s) longest) e
-      where
-        go : (a b : Bool) → At q ≡ stepOf (need a OtherKind (need b TooLarge (nothing .parse s (length s) 0))) → stepOf (F .parse s (length s) 0) ≡ stepOf (need a OtherKind (need b TooLarge (F .parse s (length s) 0)))
-        go true true f = refl
-        go true false f = absurd (let z : _≡_ {A = ℕ} 0 1 = cc in omega arith)
-        go false b f = absurd (let z : _≡_ {A = ℕ} 0 1 = cc in omega arith)

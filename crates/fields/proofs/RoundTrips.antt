@@ -93,3 +93,31 @@ module _ {A : Type 0} (F : Format A) (f : Filling F) (own : ℕ) where
       let t = accepted own s b a q e in
       let z = f .ends s (length s) 0 a q b (le-refl (length s)) zero-le (t .2) in
       (sym (w .0), w .1, t .1, z)
+
+-- all of it, for one table
+pub record RoundTrips {A : Type 0} (F : Format A) (own : ℕ) : Type 0 where
+  -- each well-formed table, printed, reads back as itself
+  pub reads-back : (a : A) → Ok F a → length (F .print a) ≤ longest → reading F own own (F .print a) ≡ found a (length (F .print a))
+  -- exactly the printed tables are accepted
+  pub accepted-exactly : (s : List ℕ) → Bytes s → (a : A) (q : ℕ) → reading F own own s ≡ found a q
+      → (s ≡ F .print a) × Ok F a × (length s ≤ longest) × (q ≡ length s)
+  -- whatever is written reads back as the table that its form lays out
+  pub written-reads-back : (pool tape : List ℕ) (room : ℕ) (a : A) (m : ℕ) → writing F pool tape room ≡ found a m
+      → (m ≡ length (F .print a)) × (m ≤ room) × Ok F a × (reading F own own (F .print a) ≡ found a m)
+  -- each accepted body, laid out with itself as the pool, is written to its bytes
+  pub writes-back : (kind : ℕ) (s : List ℕ) → Bytes s → (a : A) (q : ℕ) → reading F own kind s ≡ found a q → (out : List ℕ) → length s ≤ length out
+      → (writing F s (F .tape a 0) (length out) ≡ found a (length s)) × (output F s (F .tape a 0) out ≡ placed out 0 s)
+  -- and so it is from the tape that it was laid onto
+  pub laid-writes-back : (kind : ℕ) (s : List ℕ) → Bytes s → (a : A) (q : ℕ) → reading F own kind s ≡ found a q
+      → (tape out : List ℕ) → length (F .tape a 0) ≤ length tape → length s ≤ length out
+      → output F s (take (length (F .tape a 0)) (laidTape F own kind s tape)) out ≡ placed out 0 s
+
+pub round-trips : {A : Type 0} (F : Format A) (own : ℕ) → Filling F → RoundTrips F own
+round-trips F own f =
+    record {
+      reads-back = reads-back F f own;
+      accepted-exactly = accepted-exactly F f own;
+      written-reads-back = written-reads-back F f own;
+      writes-back = writes-back F f own;
+      laid-writes-back = laid-writes-back F f own;
+    }

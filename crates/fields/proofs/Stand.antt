@@ -1,10 +1,10 @@
 -- `Stands s p xs`: the bytes xs stand in s from the position p on.
-use Prim.Native.Nat.{ℕ, suc, _+_, _-_, _≤_, _<_}
+use Prim.Native.Nat.{ℕ, suc, _+_, _<_}
 use mathlib.Core.Path.{_≡_, refl, sym, ap, _∙_}
 use mathlib.Core.List.{List, [], _∷_, _++_, append-assoc, append-nil}
 use native.Mathlib.Omega.{arith}
 use native.Mathlib.Nat.{add-zero}
-use lib.ListN.{length, getD, take, drop, length-append, length-drop, take-append-drop}
+use lib.ListN.{length, getD, take, drop, length-append, take-append-drop}
 use lib.Seq.{drop-drop, drop-append-seam, take-append-seam, getD-drop, drop-cons}
 
 abbrev pub Stands : List ℕ → ℕ → List ℕ → Type 0
@@ -45,9 +45,6 @@ stands-next s p x xs h = stands-right s p (x ∷ []) xs h
 
 pub stands-byte : (s : List ℕ) (p : ℕ) → p < length s → Stands s p (getD s p 0 ∷ [])
 stands-byte s p h = (drop (suc p) s, drop-cons s p 0 h)
-
-pub stands-fits : (s : List ℕ) (p : ℕ) (xs : List ℕ) → p ≤ length s → Stands s p xs → p + length xs ≤ length s
-stands-fits s p xs h k = omega (arith, length-drop p s, simp length-append at (ap length (k .1)))
 
 -- what stands from the start to the end is the whole
 pub stands-all : (s xs : List ℕ) → Stands s 0 xs → length xs ≡ length s → s ≡ xs

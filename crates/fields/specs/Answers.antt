@@ -1,11 +1,13 @@
 -- What a reader has to believe of the code's answers about a body: where a part ends, a number, and the part that opaque bytes fill.
-use Prim.Native.Nat.{ℕ, zero, suc, _-_}
+use Prim.Native.Nat.{ℕ, zero, suc, _+_, _-_, _/_}
 use mathlib.Core.List.{List}
-use lib.ListN.{length}
-use lib.Dec.{ltb}
+use mathlib.Core.Bool.{_&&_}
+use lib.ListN.{length, getD}
+use lib.Dec.{ltb, leb}
+use Rattle.choices.specs.Choice.{if_then_else_}
 use Rattle.refusal.specs.declared.Refusal.the-variants.{OutsideSet}
-use Rattle.fields.specs.Reading.{Reading, found, refused, andThen, need}
-use Rattle.fields.specs.Format.{Format, count, repeat, opaque}
+use Rattle.fields.specs.Reading.{Reading, found, refused, andThen, need, within}
+use Rattle.fields.specs.Format.{Format, count, digits, repeat, opaque}
 use Rattle.fields.specs.declared.Step.{Step}
 use Rattle.fields.specs.declared.Step.the-variants.{At, Refused as NoStep}
 use Rattle.fields.specs.declared.Number.{Number}
@@ -22,10 +24,24 @@ abbrev pub numberOf : Reading ℕ → Number
 numberOf (found x q) = Is x q
 numberOf (refused r) = NoNumber r
 
+-- a number at p that is to be one from lo to hi
+abbrev pub numberAmong : ℕ → ℕ → ℕ → Number → Number
+numberAmong lo hi p (Is v q) = if leb lo v && leb v hi then Is v q else NoNumber (OutsideSet p)
+numberAmong lo hi p (NoNumber r) = NoNumber r
+
 -- "opaque bytes as the part of the body they fill": where the bytes that end at q begin, and how many they are
 abbrev pub partOf : Reading (List ℕ) → Part
 partOf (found xs q) = Of (q - length xs) (length xs)
 partOf (refused r) = NoPart r
+
+-- a field of several bytes at p, as the part of the body it fills
+abbrev pub fieldOf : {A : Type 0} → ℕ → Reading A → Part
+fieldOf p (found a q) = Of p (q - p)
+fieldOf p (refused r) = NoPart r
+
+-- where what begins at `at` ends, if it ends in the body and in its part
+unfoldable pub reached : List ℕ → ℕ → ℕ → ℕ → Step
+reached s l at end = stepOf {A = Unit} (within s l at end (found tt end))
 
 unfoldable pub ended : {A : Type 0} → Format A → List ℕ → ℕ → ℕ → Step
 ended F s l p = stepOf (F .parse s l p)
@@ -54,3 +70,9 @@ listed C F i s l p = andThen (C .parse s l p) (λ n q. need (ltb i n) (OutsideSe
 
 unfoldable pub partListed : ℕ → ℕ → ℕ → List ℕ → ℕ → ℕ → Part
 partListed c w i s l p = partOf (listed (count c) (opaque w) i s l p)
+
+-- the i-th of the digits at p, and the position of the byte that it stands in: one that isn't there is 19, place 0
+unfoldable pub digitRead : ℕ → ℕ → List ℕ → ℕ → ℕ → Number
+digitRead h i s l p =
+    numberOf
+    (andThen (digits h .parse s l p) (λ ds q. need (ltb i (length ds)) (OutsideSet 0) (found (getD ds i 0) (p + (i + 1) / 2))))

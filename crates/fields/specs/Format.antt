@@ -76,9 +76,32 @@ only {A} fault F =
 abbrev pub outside : {A : Type 0} → (A → Bool) → A → ℕ → Fault
 outside test a at = unless (test a) (OutsideSet at)
 
+-- a number from lo to hi
+abbrev pub among : ℕ → ℕ → Format ℕ → Format ℕ
+among lo hi F = only (outside (λ x. leb lo x && leb x hi)) F
+
 -- any number of w bytes
 unfoldable pub number : ℕ → Format ℕ
 number w = only (outside (λ x. ltb x (256 ^ w))) (count w)
+
+-- two numbers of four bits, in one byte
+unfoldable pub nibbles : Format (ℕ × ℕ)
+nibbles =
+    record {
+      parse = λ s l p. within s l p (p + 1) (found (getD s p 0 / 16, getD s p 0 % 16) (p + 1));
+      print = λ x. (x .0 * 16 + x .1) ∷ [];
+      right = λ x. ltb (x .0) 16 && ltb (x .1) 16;
+      over = λ x. false;
+      form = λ pool tape k.
+          andThen (entry tape k) (λ high j.
+          need (ltb high 16) (OutsideSet 0)
+          (andThen (entry tape j) (λ low i. need (ltb low 16) (OutsideSet 0) (found (high, low) i))));
+      tape = λ x p. x .0 ∷ x .1 ∷ [];
+    }
+
+-- both from lo to hi
+abbrev pub nibblesAmong : ℕ → ℕ → Format (ℕ × ℕ)
+nibblesAmong lo hi = only (outside (λ x. (leb lo (x .0) && leb (x .0) hi) && (leb lo (x .1) && leb (x .1) hi))) nibbles
 
 -- ---- reserved bits
 
@@ -222,6 +245,10 @@ unfoldable pub every : {A : Type 0} → (A → Bool) → List A → Bool
 every f [] = true
 every f (a ∷ xs) = f a && every f xs
 
+-- n bytes, each from lo to hi
+abbrev pub bytesAmong : ℕ → ℕ → ℕ → Format (List ℕ)
+bytesAmong lo hi n = only (outside (every (λ x. leb lo x && leb x hi))) (bytes n)
+
 unfoldable pub some : {A : Type 0} → (A → Bool) → List A → Bool
 some f [] = false
 some f (a ∷ xs) = f a || some f xs
@@ -229,6 +256,18 @@ some f (a ∷ xs) = f a || some f xs
 unfoldable pub tapeAll : {A : Type 0} → Format A → List A → ℕ → List ℕ
 tapeAll F [] p = []
 tapeAll F (a ∷ xs) p = F .tape a p ++ tapeAll F xs (p + length (F .print a))
+
+-- n things, one after the other
+unfoldable pub times : {A : Type 0} → ℕ → Format A → Format (List A)
+times {A} n F =
+    record {
+      parse = λ s l p. repeat (F .parse s l) n p;
+      print = λ xs. printAll (F .print) xs;
+      right = λ xs. eqb (length xs) n && every (F .right) xs;
+      over = λ xs. some (F .over) xs;
+      form = λ pool tape k. repeat (F .form pool tape) n k;
+      tape = λ xs p. tapeAll F xs p;
+    }
 
 -- a list after its count: "A count is no length", the things are read one after the other
 unfoldable pub listOf : {A : Type 0} → Format ℕ → Format A → Format (List A)
@@ -299,6 +338,10 @@ pub record Length : Type 1 where
 -- a length of w bytes
 unfoldable pub lengthOf : ℕ → Length
 lengthOf w = record { field = count w; limit = 256 ^ w; fault = λ n at. fine }
+
+-- a length of w bytes that counts so many at least: "A shorter content is refused (15) at its length field"
+unfoldable pub leastOf : ℕ → ℕ → Length
+leastOf w least = record { field = count w; limit = 256 ^ w; fault = λ n at. unless (leb least n) (PastPart at) }
 
 -- "4 reserved, descriptor length 12": it "counts by its low ten bits", and "the two top bits of a 12-bit descriptor length" are 00
 unfoldable pub length12 : Length

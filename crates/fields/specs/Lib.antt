@@ -4,4 +4,3 @@ pub mod Format
 pub mod Time
 pub mod Answers
 pub mod Body
-pub mod Passes

@@ -1,14 +1,17 @@
-// Fields of a body, read and written: s is a whole body, l the end of the innermost counted part, p the position.
+// Fields of a body, read: s is a whole body, l the end of the innermost counted part, p the position.
 use refusal::Refusal;
+use times::EndTimed;
+use times::Timed;
 ghost use mathlib.Core.Path.{_≡_};
-ghost use Prim.Native.Nat.{_+_, _^_, _≤_, _<_, min};
+ghost use Prim.Native.Nat.{_+_, _^_, _≤_, _<_};
 ghost use lib.ListN.{length, take, drop};
-ghost use mathlib.Core.List.{_++_};
-ghost use Rattle.fields.specs.Format.{numberAt, bytesOf, count, repeat, printAll, tapeAll, opaque, listOf};
-ghost use Rattle.placing.specs.Placed.{placed};
+ghost use lib.Dec.{leb};
+ghost use mathlib.Core.Bool.{_&&_};
+ghost use Rattle.fields.specs.Format.{numberAt, count, reserved, bytesAmong, halves, decimal, digits, every, rest, leastOf, length12, counted, opaque, listOf};
+ghost use Rattle.fields.specs.Time.{time, endTime};
+ghost use Rattle.fields.specs.Reading.{unless, judged, within};
 ghost use Rattle.fields.specs.Body.{opened};
-ghost use Rattle.fields.specs.Passes.{measured, measuredAll, Ready, Put};
-ghost use Rattle.fields.specs.Answers.{ended, endedAll, numberRead, partRead, partAfter, partListed};
+ghost use Rattle.fields.specs.Answers.{numberOf, partOf, fieldOf, reached, ended, endedAll, numberRead, numberAmong, partRead, partAfter, partListed, digitRead};
 
 // The position after what was read, or a refusal.
 pub enum Step {
@@ -26,24 +29,6 @@ pub enum Number {
 pub enum Part {
     Of(usize, usize),
     Refused(Refusal),
-}
-
-// What a writer's first pass counts: the bytes so far, up to one more than a body may have; whether a count or a length is too large.
-pub struct Tally {
-    pub size: u64,
-    pub over: bool,
-}
-
-// A tally and the next entry of the tape, or a refusal.
-pub enum Measured {
-    Sum(Tally, usize),
-    Refused(Refusal),
-}
-
-// Where a writer's second pass stands: the place in the output, and the next entry of the tape.
-pub struct Spot {
-    pub at: usize,
-    pub next: usize,
 }
 
 // "2 for a wrong kind, then 22, come first": asked of every table's body before its fields.
@@ -97,29 +82,45 @@ pub fn read_number(s: &[u8], l: usize, p: usize, w: usize) -> Number
     Number::Is(number_at(s, p, w), p + w)
 }
 
+// The m bytes from q on, which the length at p counts. Where they lie inside, fault still refuses them, unless holds is true.
+fn part_from(s: &[u8], l: usize, p: usize, q: usize, m: u64, holds: bool, fault: Refusal) -> Part
+    requires { ⌜ q ≤ length (now s) ⌝ }
+    ensures { λ r. ⌜ r ≡ partOf (within (now (s .entry)) l p (q + m) (judged (unless holds fault) (rest .parse (now (s .entry)) (q + m) q))) ⌝ }
+{
+    if ((s.len() - q) as u64) < m {
+        return Part::Refused(Refusal::PastBody(p));
+    }
+    let n = m as usize;
+    if l < q + n {
+        return Part::Refused(Refusal::PastPart(p));
+    }
+    if holds {
+        return Part::Of(q, n);
+    }
+    Part::Refused(fault)
+}
+
+// Opaque bytes after a length of w bytes, at least so many.
+pub fn read_part_least(s: &[u8], l: usize, p: usize, w: usize, least: u64) -> Part
+    requires { ⌜ w ≤ 7 ⌝ }
+    ensures { λ r. ⌜ r ≡ partOf (counted (leastOf w least) rest .parse (now (s .entry)) l p) ⌝ }
+{
+    match read_number(s, l, p, w) {
+        Number::Refused(r) => Part::Refused(r),
+        Number::Is(n, q) => part_from(s, l, p, q, n, least <= n, Refusal::PastPart(p)),
+    }
+}
+
 // Opaque bytes after a length of w bytes.
 pub fn read_part(s: &[u8], l: usize, p: usize, w: usize) -> Part
     requires { ⌜ w ≤ 7 ⌝ }
     ensures { λ r. ⌜ r ≡ partRead w (now (s .entry)) l p ⌝ }
 {
-    match read_number(s, l, p, w) {
-        Number::Refused(r) => Part::Refused(r),
-        Number::Is(n, q) => {
-            let len = s.len();
-            if ((len - q) as u64) < n {
-                return Part::Refused(Refusal::PastBody(p));
-            }
-            let m = n as usize;
-            if l < q + m {
-                return Part::Refused(Refusal::PastPart(p));
-            }
-            Part::Of(q, m)
-        }
-    }
+    read_part_least(s, l, p, w, 0)
 }
 
 // Past n parts, each after its length.
-pub fn skip_parts(s: &[u8], l: usize, p: usize, w: usize, n: u64) -> Step
+fn skip_parts(s: &[u8], l: usize, p: usize, w: usize, n: u64) -> Step
     requires { ⌜ w ≤ 7 ⌝ }
     ensures { λ r. ⌜ r ≡ endedAll (opaque w) n (now (s .entry)) l p ⌝ }
 {
@@ -187,233 +188,204 @@ pub fn listed_part(s: &[u8], l: usize, p: usize, c: usize, w: usize, i: u64) -> 
     }
 }
 
-fn add_size(a: u64, n: u64) -> u64
-    ensures { λ r. ⌜ r ≡ min (a + n) 1045505 ⌝ }
+// 2 to the power of n.
+pub fn power(n: usize) -> u64
+    requires { ⌜ n ≤ 63 ⌝ }
+    ensures { λ r. ⌜ r ≡ 2 ^ n ⌝ }
 {
-    if 1045505 <= a {
-        return 1045505;
-    }
-    if 1045505 - a <= n {
-        return 1045505;
-    }
-    a + n
+    1 << n
 }
 
-// The least number that is too large for w bytes.
-fn limit(w: usize) -> u64
-    requires { ⌜ w ≤ 7 ⌝ }
-    ensures { λ r. ⌜ r ≡ 256 ^ w ⌝ }
+// k reserved one bits and a number, in w + 1 bytes. The bits need only the byte they stand in.
+pub fn read_reserved(s: &[u8], l: usize, p: usize, k: usize, w: usize) -> Number
+    requires { ⌜ (k ≤ 8) × (w ≤ 6) ⌝ }
+    ensures { λ r. ⌜ r ≡ numberOf (reserved k w .parse (now (s .entry)) l p) ⌝ }
 {
-    let mut v: u64 = 1;
-    let mut k: usize = 0;
-    while k < w {
-        v = v * 256;
+    match read_number(s, l, p, 1) {
+        Number::Refused(r) => Number::Refused(r),
+        Number::Is(first, q) => {
+            let bits = 8 - k;
+            if first >> bits != power(k) - 1 {
+                return Number::Refused(Refusal::ReservedBitZero(p));
+            }
+            match read_number(s, l, p, w + 1) {
+                Number::Refused(r) => Number::Refused(r),
+                Number::Is(v, end) => Number::Is(v % power(8 * w + bits), end),
+            }
+        }
+    }
+}
+
+// Opaque bytes after four reserved bits and a 12-bit length, which counts by its low ten bits.
+pub fn read_part12(s: &[u8], l: usize, p: usize) -> Part
+    ensures { λ r. ⌜ r ≡ partOf (counted length12 rest .parse (now (s .entry)) l p) ⌝ }
+{
+    match read_reserved(s, l, p, 4, 1) {
+        Number::Refused(r) => Part::Refused(r),
+        Number::Is(n, q) => part_from(s, l, p, q, n % 1024, n < 1024, Refusal::ReservedBitZero(p)),
+    }
+}
+
+// The number x, which stands at p, where it is one from lo to hi.
+pub fn among(x: Number, p: usize, lo: u64, hi: u64) -> Number
+    ensures { λ r. ⌜ r ≡ numberAmong lo hi p x ⌝ }
+{
+    match x {
+        Number::Refused(r) => Number::Refused(r),
+        Number::Is(v, q) => {
+            if v < lo {
+                return Number::Refused(Refusal::OutsideSet(p));
+            }
+            if hi < v {
+                return Number::Refused(Refusal::OutsideSet(p));
+            }
+            Number::Is(v, q)
+        }
+    }
+}
+
+// Where n bytes at p end, of a field that begins at `at`.
+fn field_end(s: &[u8], l: usize, at: usize, p: usize, n: usize) -> Step
+    ensures { λ r. ⌜ r ≡ reached (now (s .entry)) l at (p + n) ⌝ }
+{
+    if s.len() < n {
+        return Step::Refused(Refusal::PastBody(at));
+    }
+    if s.len() - n < p {
+        return Step::Refused(Refusal::PastBody(at));
+    }
+    if l < p + n {
+        return Step::Refused(Refusal::PastPart(at));
+    }
+    Step::At(p + n)
+}
+
+// Whether each of the n bytes at p is from lo to hi.
+pub fn all_among(s: &[u8], p: usize, n: usize, lo: u8, hi: u8) -> bool
+    requires { ⌜ p + n ≤ length (now s) ⌝ }
+    ensures { λ r. ⌜ r ≡ every (λ x. leb lo x && leb x hi) (take n (drop p (now (s .entry)))) ⌝ }
+{
+    let end = p + n;
+    let mut k = p;
+    while k < end {
+        let b = s[k];
+        if b < lo {
+            return false;
+        }
+        if hi < b {
+            return false;
+        }
         k = k + 1;
     }
-    v
+    true
 }
 
-// Opaque bytes: two entries of the tape, where they start in the pool and how many they are.
-pub fn measure_part(pool: &[u8], tape: &[u64], k: usize, w: usize, t: Tally) -> Measured
-    requires { ⌜ w ≤ 7 ⌝ }
-    ensures { λ r. ⌜ r ≡ measured (opaque w) t (now (pool .entry)) (now (tape .entry)) k ⌝ }
+// n bytes that are one field, each from lo to hi.
+pub fn read_bytes(s: &[u8], l: usize, p: usize, n: usize, lo: u8, hi: u8) -> Part
+    ensures { λ r. ⌜ r ≡ fieldOf p (bytesAmong lo hi n .parse (now (s .entry)) l p) ⌝ }
 {
-    if tape.len() < 2 {
-        return Measured::Refused(Refusal::OutsideSet(0));
-    }
-    if tape.len() - 2 < k {
-        return Measured::Refused(Refusal::OutsideSet(0));
-    }
-    let a = tape[k];
-    let n = tape[k + 1];
-    let len = pool.len() as u64;
-    if len < a {
-        return Measured::Refused(Refusal::OutsideSet(0));
-    }
-    if len - a < n {
-        return Measured::Refused(Refusal::OutsideSet(0));
-    }
-    let size = add_size(t.size, n + (w as u64));
-    if n < limit(w) {
-        return Measured::Sum(Tally { size, over: t.over }, k + 2);
-    }
-    Measured::Sum(Tally { size, over: true }, k + 2)
-}
-
-// n times opaque bytes.
-pub fn measure_parts(pool: &[u8], tape: &[u64], k: usize, w: usize, n: u64, t: Tally) -> Measured
-    requires { ⌜ w ≤ 7 ⌝ }
-    ensures { λ r. ⌜ r ≡ measuredAll (opaque w) n t (now (pool .entry)) (now (tape .entry)) k ⌝ }
-{
-    let mut at = k;
-    let mut left = n;
-    let mut sum = Tally {
-        size: add_size(t.size, 0),
-        over: t.over,
-    };
-    while 0 < left {
-        match measure_part(pool, tape, at, w, sum) {
-            Measured::Refused(r) => {
-                return Measured::Refused(r);
+    match field_end(s, l, p, p, n) {
+        Step::Refused(r) => Part::Refused(r),
+        Step::At(q) => {
+            if all_among(s, p, n, lo, hi) {
+                return Part::Of(p, n);
             }
-            Measured::Sum(u, j) => {
-                sum = u;
-                at = j;
+            Part::Refused(Refusal::OutsideSet(p))
+        }
+    }
+}
+
+// Whether each of the n bytes at p holds two decimal digits.
+pub fn all_decimal(s: &[u8], p: usize, n: usize) -> bool
+    requires { ⌜ p + n ≤ length (now s) ⌝ }
+    ensures { λ r. ⌜ r ≡ decimal (halves (take n (drop p (now (s .entry))))) ⌝ }
+{
+    let end = p + n;
+    let mut k = p;
+    while k < end {
+        let b = s[k];
+        if 159 < b {
+            return false;
+        }
+        if 9 < b % 16 {
+            return false;
+        }
+        k = k + 1;
+    }
+    true
+}
+
+// Four reserved bits and 2 h + 1 decimal digits, in h + 1 bytes: the first byte holds the reserved bits and one digit.
+pub fn read_digits(s: &[u8], l: usize, p: usize, h: usize) -> Part
+    ensures { λ r. ⌜ r ≡ fieldOf p (digits h .parse (now (s .entry)) l p) ⌝ }
+{
+    match field_end(s, l, p, p, 1) {
+        Step::Refused(r) => Part::Refused(r),
+        Step::At(q) => {
+            let first = s[p];
+            if first < 240 {
+                return Part::Refused(Refusal::ReservedBitZero(p));
+            }
+            match field_end(s, l, p, q, h) {
+                Step::Refused(r) => Part::Refused(r),
+                Step::At(end) => {
+                    if 249 < first {
+                        return Part::Refused(Refusal::DigitAboveNine(p));
+                    }
+                    if all_decimal(s, q, h) {
+                        return Part::Of(p, end - p);
+                    }
+                    Part::Refused(Refusal::DigitAboveNine(p))
+                }
             }
         }
-        left = left - 1;
-    }
-    Measured::Sum(sum, at)
-}
-
-// A list of opaque bytes after its count, a number of c bytes: in the form its count, then its things.
-pub fn measure_list(pool: &[u8], tape: &[u64], k: usize, c: usize, w: usize, t: Tally) -> Measured
-    requires { ⌜ (c ≤ 7) × (w ≤ 7) ⌝ }
-    ensures { λ r. ⌜ r ≡ measured (listOf (count c) (opaque w)) t (now (pool .entry)) (now (tape .entry)) k ⌝ }
-{
-    if tape.len() <= k {
-        return Measured::Refused(Refusal::OutsideSet(0));
-    }
-    let n = tape[k];
-    let size = add_size(t.size, c as u64);
-    if n < limit(c) {
-        return measure_parts(pool, tape, k + 1, w, n, Tally { size, over: t.over });
-    }
-    measure_parts(pool, tape, k + 1, w, n, Tally { size, over: true })
-}
-
-// x in w bytes, from index at on.
-fn put_number(out: &mut [u8], at: usize, w: usize, x: u64)
-    requires { ⌜ at + w ≤ length (now out) ⌝ }
-    ensures { λ _. ⌜ now (out .exit) ≡ placed (now (out .entry)) at (bytesOf w x) ⌝ }
-{
-    let mut k = w;
-    let mut v = x;
-    while 0 < k {
-        k = k - 1;
-        out[at + k] = (v % 256) as u8;
-        v = v / 256;
     }
 }
 
-// n bytes of the pool after their length, a number of w bytes.
-fn put_span(pool: &[u8], a: usize, n: usize, w: usize, out: &mut [u8], at: usize)
-    requires { ⌜ (a + n ≤ length (now pool)) × (at + w + n ≤ length (now out)) ⌝ }
-    ensures { λ _. ⌜ now (out .exit) ≡ placed (now (out .entry)) at (bytesOf w n ++ take n (drop a (now (pool .entry)))) ⌝ }
+// A time field, as the number that it is.
+pub fn read_time(s: &[u8], l: usize, p: usize) -> Number
+    ensures { λ r. ⌜ r ≡ numberOf (time .parse (now (s .entry)) l p) ⌝ }
 {
-    let end = a + n;
-    put_number(out, at, w, n as u64);
-    placing::copy_at(&pool[a..end], out, at + w);
-}
-
-// Opaque bytes after a length of w bytes.
-pub fn put_part(pool: &[u8], tape: &[u64], k: usize, w: usize, out: &mut [u8], at: usize) -> Spot
-    requires { ⌜ Ready (opaque w .print) (opaque w .form (now pool) (now tape) k) at (now out) ⌝ }
-    ensures { λ r. ⌜ Put (opaque w .print) (opaque w .form (now (pool .entry)) (now (tape .entry)) k) at (now (out .entry)) (now (out .exit)) r ⌝ }
-{
-    let a = tape[k] as usize;
-    let n = tape[k + 1] as usize;
-    put_span(pool, a, n, w, out, at);
-    Spot {
-        at: at + w + n,
-        next: k + 2,
+    match read_number(s, l, p, 5) {
+        Number::Refused(r) => Number::Refused(r),
+        Number::Is(x, q) => match times::read_time(x, p) {
+            Timed::Refused(r) => Number::Refused(r),
+            Timed::At(m) => Number::Is(x, q),
+        },
     }
 }
 
-// n times opaque bytes.
-pub fn put_parts(
-    pool: &[u8],
-    tape: &[u64],
-    k: usize,
-    w: usize,
-    n: u64,
-    out: &mut [u8],
-    at: usize,
-) -> Spot
-    requires { ⌜ Ready (printAll (opaque w .print)) (repeat (opaque w .form (now pool) (now tape)) n k) at (now out) ⌝ }
-    ensures { λ r. ⌜ Put (printAll (opaque w .print)) (repeat (opaque w .form (now (pool .entry)) (now (tape .entry))) n k) at (now (out .entry)) (now (out .exit)) r ⌝ }
+// An end field, as the number that it is.
+pub fn read_end(s: &[u8], l: usize, p: usize) -> Number
+    ensures { λ r. ⌜ r ≡ numberOf (endTime .parse (now (s .entry)) l p) ⌝ }
 {
-    let mut spot = Spot { at, next: k };
-    let mut left = n;
-    while 0 < left {
-        let p = spot.at;
-        let j = spot.next;
-        spot = put_part(pool, tape, j, w, out, p);
-        left = left - 1;
+    match read_number(s, l, p, 5) {
+        Number::Refused(r) => Number::Refused(r),
+        Number::Is(x, q) => match times::read_end(x, p) {
+            EndTimed::Refused(r) => Number::Refused(r),
+            EndTimed::Live => Number::Is(x, q),
+            EndTimed::At(m) => Number::Is(x, q),
+        },
     }
-    spot
 }
 
-// A list of opaque bytes after its count, a number of c bytes.
-pub fn put_list(
-    pool: &[u8],
-    tape: &[u64],
-    k: usize,
-    c: usize,
-    w: usize,
-    out: &mut [u8],
-    at: usize,
-) -> Spot
-    requires { ⌜ Ready (listOf (count c) (opaque w) .print) (listOf (count c) (opaque w) .form (now pool) (now tape) k) at (now out) ⌝ }
-    ensures { λ r. ⌜ Put (listOf (count c) (opaque w) .print) (listOf (count c) (opaque w) .form (now (pool .entry)) (now (tape .entry)) k) at (now (out .entry)) (now (out .exit)) r ⌝ }
+// The i-th of the 2 h + 1 digits at p, and the position of the byte that it stands in; 19 where there is none.
+pub fn digit_at(s: &[u8], l: usize, p: usize, h: usize, i: u64) -> Number
+    ensures { λ r. ⌜ r ≡ digitRead h i (now (s .entry)) l p ⌝ }
 {
-    let n = tape[k];
-    put_number(out, at, c, n);
-    put_parts(pool, tape, k + 1, w, n, out, at + c)
-}
-
-// The two entries of a part, laid onto the tape at k: r.at is the next entry, r.next the position after the part.
-pub fn lay_part(s: &[u8], l: usize, p: usize, w: usize, tape: &mut [u64], k: usize) -> Spot
-    requires { ⌜ (w ≤ 7) × (l ≤ length (now s)) × Ready (λ xs. opaque w .tape xs p) (opaque w .parse (now s) l p) k (now tape) ⌝ }
-    ensures { λ r. ⌜ Put (λ xs. opaque w .tape xs p) (opaque w .parse (now (s .entry)) l p) k (now (tape .entry)) (now (tape .exit)) r ⌝ }
-{
-    match read_part(s, l, p, w) {
-        Part::Refused(r) => Spot { at: k, next: p },
+    match read_digits(s, l, p, h) {
+        Part::Refused(r) => Number::Refused(r),
         Part::Of(a, n) => {
-            tape[k] = a as u64;
-            tape[k + 1] = n as u64;
-            Spot {
-                at: k + 2,
-                next: a + n,
+            let k = i / 2 + i % 2;
+            if (n as u64) <= k {
+                return Number::Refused(Refusal::OutsideSet(0));
             }
-        }
-    }
-}
-
-// The entries of n parts.
-pub fn lay_parts(s: &[u8], l: usize, p: usize, w: usize, n: u64, tape: &mut [u64], k: usize) -> Spot
-    requires { ⌜ (w ≤ 7) × (l ≤ length (now s)) × Ready (λ xs. tapeAll (opaque w) xs p) (repeat (opaque w .parse (now s) l) n p) k (now tape) ⌝ }
-    ensures { λ r. ⌜ Put (λ xs. tapeAll (opaque w) xs p) (repeat (opaque w .parse (now (s .entry)) l) n p) k (now (tape .entry)) (now (tape .exit)) r ⌝ }
-{
-    let mut spot = Spot { at: k, next: p };
-    let mut left = n;
-    while 0 < left {
-        let j = spot.at;
-        let q = spot.next;
-        spot = lay_part(s, l, q, w, tape, j);
-        left = left - 1;
-    }
-    spot
-}
-
-// The entries of a list of parts: its count, and those of its parts.
-pub fn lay_list(
-    s: &[u8],
-    l: usize,
-    p: usize,
-    c: usize,
-    w: usize,
-    tape: &mut [u64],
-    k: usize,
-) -> Spot
-    requires { ⌜ (c ≤ 7) × (w ≤ 7) × (l ≤ length (now s)) × Ready (λ xs. listOf (count c) (opaque w) .tape xs p) (listOf (count c) (opaque w) .parse (now s) l p) k (now tape) ⌝ }
-    ensures { λ r. ⌜ Put (λ xs. listOf (count c) (opaque w) .tape xs p) (listOf (count c) (opaque w) .parse (now (s .entry)) l p) k (now (tape .entry)) (now (tape .exit)) r ⌝ }
-{
-    match read_number(s, l, p, c) {
-        Number::Refused(r) => Spot { at: k, next: p },
-        Number::Is(n, q) => {
-            tape[k] = n;
-            lay_parts(s, l, q, w, n, tape, k + 1)
+            let at = a + (k as usize);
+            let b = wide(s[at]);
+            if i % 2 == 0 {
+                return Number::Is(b % 16, at);
+            }
+            Number::Is(b / 16, at)
         }
     }
 }

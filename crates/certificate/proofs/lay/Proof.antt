@@ -1,11 +1,11 @@
--- `certificate::lay` meets its contract: what is refused, a tape too small, or the entries laid.
-use mathlib.Core.Path.{sym, ap, _∙_}
-use lib.ListN.{length}
-use Rattle.placing.specs.Placed.{placed}
-use Rattle.fields.proofs.Laying.{laid-no, laid-small, laid-done}
-use Rattle.certificate.proofs.Laid.{fields-there, table-entries}
+-- `certificate::lay` meets its contract: what a dry walk says of the body and the room, and the entries that a wet one lays.
+use mathlib.Core.Path.{refl, sym, _∙_}
 use native.Mathlib.Omega.{arith}
 use borrow.Author.Needs.{needs}
+use Rattle.fields.proofs.Readers.{body-no}
+use Rattle.fields.proofs.Laying.{laid-no}
+use Rattle.walks.proofs.Pairs.{went-on}
+use Rattle.walks.proofs.Bodies.{lay-stop, lay-small, lay-done}
 use Rattle.certificate.proofs.lay.Statement.{statement}
 use Rattle.certificate.proofs.lay.Tie as tie
 
@@ -16,9 +16,16 @@ lay-spec =
     (λ c κs. search needs)
     (λ c. search needs)
     (λ c. search needs)
-    (λ c κs. fields-there _ _ (λ i. c .before .before .before .before .before .shared-slice-known .given i .fits) _ (sym (c .before .end .given .1) ∙ c .before .before .before .read .ensures))
-    (λ c. let w = laid-small _ _ _ _ _ _ (sym (c .before .before .before .end .given .1) ∙ c .before .before .before .before .before .read .ensures) _ (c .before .entries .ensures ∙ ap length (table-entries _ _ (λ i. c .before .before .before .before .before .before .before .shared-slice-known .given i .fits) _ (sym (c .before .before .before .end .given .1) ∙ c .before .before .before .before .before .read .ensures))) (c .if1 .taken) in (w .said, w .left))
-    (λ c κs. record { there = fields-there _ _ (λ i. c .before .before .before .before .before .before .before .before .shared-slice-known .given i .fits) _ (sym (c .before .before .before .before .end .given .1) ∙ c .before .before .before .before .before .before .read .ensures); fits = omega (arith, c .before .before .entries .ensures) })
-    (λ c. let w = laid-no _ _ _ _ _ _ (sym (c .before .r .given .1) ∙ c .before .before .before .read .ensures) in (w .said, w .left))
     (λ c. search needs)
-    (λ c. let w = laid-done _ _ _ _ _ _ (sym (c .before .before .before .before .before .before .before .end .given .1) ∙ c .before .before .before .before .before .before .before .before .before .read .ensures) _ (c .before .before .before .before .before .entries .ensures ∙ ap length (table-entries _ _ (λ i. c .before .before .before .before .before .before .before .before .before .before .before .shared-slice-known .given i .fits) _ (sym (c .before .before .before .before .before .before .before .end .given .1) ∙ c .before .before .before .before .before .before .before .before .before .read .ensures))) (c .before .before .before .before .if1 .left) _ (c .before .before .lay-fields .ensures ∙ ap (placed _ 0) (table-entries _ _ (λ i. c .before .before .before .before .before .before .before .before .before .before .before .shared-slice-known .given i .fits) _ (sym (c .before .before .before .before .before .before .before .end .given .1) ∙ c .before .before .before .before .before .before .before .before .before .read .ensures))) in (w .said, w .left)))
+    (λ c κs. search needs)
+    (λ c. search needs)
+    (λ c. search needs)
+    (λ c. search needs)
+    (λ c. let w = lay-small _ _ (sym (c .before .before .before .before .before .before .before .before .before .at .given .1) ∙ c .before .before .before .before .before .before .before .before .before .before .before .open-body .ensures) (c .before .before .before .before .before .before .walk-certificate .ensures) (c .before .before .end .given .1) (c .if1 .taken) in (w .said, w .left))
+    (λ c κs. search needs)
+    (λ c. omega (arith, went-on (c .before .before .before .before .before .before .before .before .before .before .walk-certificate .ensures) (c .before .before .before .before .before .before .end .given .1) .2))
+    (λ c. let w = laid-no _ _ _ _ _ _ (body-no _ _ _ _ _ (sym (c .before .r .given .1) ∙ c .before .before .before .open-body .ensures)) in (w .said, w .left))
+    (λ c. search needs)
+    (λ c. let w = lay-stop _ _ (sym (c .before .before .before .before .before .before .before .before .at .given .1) ∙ c .before .before .before .before .before .before .before .before .before .before .open-body .ensures) (c .before .before .before .before .before .walk-certificate .ensures) (c .before .r2 .given .1) in (w .said, w .left))
+    (λ c. search needs)
+    (λ c. let w = lay-done _ _ (sym (c .before .before .before .before .before .before .before .before .before .before .before .before .before .at .given .1) ∙ c .before .before .before .before .before .before .before .before .before .before .before .before .before .before .before .open-body .ensures) (c .before .before .before .before .before .before .before .before .before .before .walk-certificate .ensures) (c .before .before .before .before .before .before .end .given .1) (λ i. c .before .before .before .before .before .before .before .before .before .before .before .before .before .before .before .before .before .shared-slice-known .given i .fits) (omega arith) (c .before .before .walk-certificate2 .ensures) refl in (w .said, w .left)))

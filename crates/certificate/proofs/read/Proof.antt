@@ -1,7 +1,8 @@
--- `certificate::read` meets its contract: what comes before the fields, and then the fields.
+-- `certificate::read` meets its contract: what comes before the fields, and then a dry walk through them.
 use mathlib.Core.Path.{sym, _∙_}
-use Rattle.fields.proofs.Readers.{body-no, body-at}
 use borrow.Author.Needs.{needs}
+use Rattle.fields.proofs.Readers.{body-no}
+use Rattle.walks.proofs.Bodies.{read-stop, read-end}
 use Rattle.certificate.proofs.read.Statement.{statement}
 use Rattle.certificate.proofs.read.Tie as tie
 
@@ -12,6 +13,10 @@ read-spec =
     (λ c κs. search needs)
     (λ c. search needs)
     (λ c. search needs)
+    (λ c. search needs)
     (λ c κs. search needs)
+    (λ c. search needs)
+    (λ c. search needs)
     (λ c. body-no _ _ _ _ _ (sym (c .before .r .given .1) ∙ c .before .before .before .open-body .ensures))
-    (λ c. c .read-fields .ensures ∙ body-at _ _ _ _ _ (sym (c .before .before .at .given .1) ∙ c .before .before .before .before .open-body .ensures)))
+    (λ c. read-stop _ _ (sym (c .before .before .before .before .before .before .before .at .given .1) ∙ c .before .before .before .before .before .before .before .before .before .open-body .ensures) (c .before .before .before .before .walk-certificate .ensures) (c .before .r2 .given .1))
+    (λ c. read-end _ _ (sym (c .before .before .before .before .before .before .before .at .given .1) ∙ c .before .before .before .before .before .before .before .before .before .open-body .ensures) (c .before .before .before .before .walk-certificate .ensures) (c .before .end .given .1)))
