@@ -1,0 +1,88 @@
+-- No well-formed content of a command is shorter than the least content of its tag.
+use Prim.Native.Nat.{ℕ, zero, suc, _+_, _-_, _≤_, zero-le}
+use mathlib.Core.Path.{_≡_, refl, ap, _∙_}
+use mathlib.Core.List.{List}
+use mathlib.Core.Bool.{true}
+use native.Mathlib.Omega.{arith}
+use native.Mathlib.Nat.{le-refl}
+use lib.ListN.{length, length-append}
+use Rattle.choices.proofs.Tests.{both}
+use Rattle.fields.specs.Format.{Format, Length, _▷_, followed, only, count, number, digits, listOf, opaque, lengthOf, rest, exact, counted}
+use Rattle.fields.specs.Answers.{fieldOf}
+use Rattle.fields.specs.declared.Part.the-variants.{Of}
+use Rattle.fields.proofs.Stand.{stands-whole}
+use Rattle.fields.proofs.Classes.{Ok}
+use Rattle.fields.proofs.Leaves.{length-bytes, digits-lawful}
+use Rattle.fields.proofs.Strings.{digits-part}
+use Rattle.configuration.specs.Configuration.{resource, terminals, date, clock, fitting, address, Said, said, orderOf, least}
+
+-- each value takes n bytes at least
+abbrev Takes : {A : Type 0} → ℕ → Format A → Type 0
+Takes {A} n F = (a : A) → n ≤ length (F .print a)
+
+count-takes : (w : ℕ) → Takes w (count w)
+unfolding count
+count-takes w x = omega (arith, length-bytes w x)
+
+number-takes : (w : ℕ) → Takes w (number w)
+unfolding number only
+number-takes = count-takes
+
+followed-takes : {A : Type 0} {B : A → Type 0} (m n : ℕ) (F : Format A) (G : (a : A) → Format (B a)) → Takes m F → ((a : A) → Takes n (G a)) → Takes (m + n) (followed F G)
+unfolding followed
+followed-takes m n F G f g x = simp length-append (omega (arith, f (x .0), g (x .0) (x .1)))
+
+list-takes : {A : Type 0} (n : ℕ) (C : Format ℕ) (F : Format A) → Takes n C → Takes n (listOf C F)
+unfolding listOf
+list-takes n C F c xs = simp length-append (omega (arith, c (length xs)))
+
+counted-takes : {A : Type 0} (n : ℕ) (L : Length) (F : Format A) → Takes n (L .field) → Takes n (counted L F)
+unfolding counted
+counted-takes n L F f a = simp length-append (omega (arith, f (length (F .print a))))
+
+three-take : (w : ℕ) → Takes (w + 2) (number w ▷ (number 1 ▷ number 1))
+three-take w = followed-takes w 2 _ _ (number-takes w) (λ a. followed-takes 1 1 _ _ (number-takes 1) (λ b. number-takes 1))
+
+terminals-take : Takes 1 terminals
+unfolding terminals
+terminals-take = list-takes 1 (count 1) resource (count-takes 1)
+
+opaque-takes : (w : ℕ) → Takes w (opaque w)
+unfolding lengthOf
+opaque-takes w = counted-takes w (lengthOf w) rest (count-takes w)
+
+address-takes : (kind : ℕ) → Takes 1 (address kind)
+unfolding address fitting
+address-takes kind = counted-takes 1 (fitting kind) _ (count-takes 1)
+
+-- digits are read back from the bytes that they take
+digits-take : (h : ℕ) (ds : List ℕ) → Ok (digits h) ds → h + 1 ≡ length (digits h .print ds)
+digits-take h ds o =
+    let bs = digits h .print ds in
+    let n = length bs in
+    let e = digits-lawful h .back bs n 0 ds o (stands-whole bs) (omega arith) (le-refl n) in
+    let z : Of 0 (h + 1) ≡ Of 0 (0 + n - 0) = digits-part bs n 0 h ds (0 + n) e ∙ ap (fieldOf 0) e in
+    let y : h + 1 ≡ 0 + n - 0 = cc in
+    omega arith
+
+code-takes : (x : List ℕ × List ℕ) → (opaque 1 ▷ resource) .right x ≡ true → 13 ≤ length ((opaque 1 ▷ resource) .print x)
+unfolding followed digits
+code-takes x r =
+    let o : Ok resource (x .1) = record { right = both (opaque 1 .right (x .0)) (resource .right (x .1)) r .1; small = refl } in
+    simp length-append (omega (arith, opaque-takes 1 (x .0), digits-take 11 (x .1) o))
+
+-- tag by tag: 0, the standard's 1 to 7 in order, and all others
+pub enough : (tag : ℕ) (x : Said (orderOf tag)) → Ok (said (orderOf tag)) x → least tag ≤ length (said (orderOf tag) .print x)
+unfolding least orderOf said exact date clock only
+enough zero x o = zero-le
+enough (suc zero) x o = followed-takes 4 3 date (λ a. clock) (three-take 2) (λ a. three-take 1) x
+enough (suc (suc zero)) x o = code-takes x (o .right)
+enough (suc (suc (suc zero))) x o =
+    followed-takes 4 6 _ _ (number-takes 4) (λ a. followed-takes 4 2 _ _ (number-takes 4) (λ b. followed-takes 1 1 _ _ (number-takes 1) (λ c. terminals-take))) x
+enough (suc (suc (suc (suc zero)))) x o =
+    followed-takes 1 2 _ _ (number-takes 1) (λ kind. followed-takes 1 1 _ _ (address-takes kind) (λ a. terminals-take)) x
+enough (suc (suc (suc (suc (suc zero))))) x o = followed-takes 4 1 _ _ (number-takes 4) (λ a. terminals-take) x
+enough (suc (suc (suc (suc (suc (suc zero)))))) x o = followed-takes 1 1 _ _ (number-takes 1) (λ a. terminals-take) x
+enough (suc (suc (suc (suc (suc (suc (suc zero))))))) x o =
+    followed-takes 1 1 _ _ (list-takes 1 (count 1) (number 1) (count-takes 1)) (λ a. terminals-take) x
+enough (suc (suc (suc (suc (suc (suc (suc (suc tag)))))))) x o = zero-le

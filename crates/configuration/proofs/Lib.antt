@@ -1,0 +1,6 @@
+-- The laws that other crates cite.
+pub mod Least
+pub mod Lawful
+pub mod RoundTrips
+pub mod Values
+pub mod Hosts

@@ -1,0 +1,61 @@
+-- Values of the configuration table, computed: contents of commands, and the standard's return address with several ports.
+use Prim.Native.Nat.{ℕ}
+use mathlib.Core.Path.{_≡_, refl}
+use mathlib.Core.List.{List, [], _∷_, _++_}
+use mathlib.Core.Bool.{Bool, true, false}
+use lib.ListN.{length}
+use Rattle.refusal.specs.declared.Refusal.the-variants.{PastPart, OutsideSet, ImpossibleDay}
+use Rattle.days.specs.Calendar.{leap, monthLength, isDate, monthsFrom, yearOf, monthOf, daysOf, monthStart, dayNumber, inRange, hasDay, dayOf}
+use Rattle.fields.specs.Reading.{found}
+use Rattle.fields.specs.Format.{numberAt, count, only, number, followed, every, repeat, listOf, rest, exact, view, lengthOf, leastOf, counted}
+use Rattle.fields.specs.Body.{reading, bodyRead}
+use Rattle.fields.specs.declared.Step.{Step}
+use Rattle.fields.specs.declared.Step.the-variants.{At, Refused}
+use Rattle.configuration.specs.Address.{colon, worth, isPort, named, hostAndPort, lengthFits, isAddress}
+use Rattle.configuration.specs.Configuration.{configurationKind, terminals, date, clock, fitting, address, orderOf, said, least, command, fields, configuration}
+
+-- a body of one command, its content from byte 4 on, and an empty signature
+abbrev commandRead : ℕ → List ℕ → Step
+commandRead tag content = bodyRead configuration configurationKind configurationKind (1 ∷ tag ∷ 0 ∷ length content ∷ (content ++ (0 ∷ 0 ∷ [])))
+
+pub contents :
+    -- "volume 100 accepted, 101 refused (19)"
+    (commandRead 6 (100 ∷ 0 ∷ []) ≡ At 8)
+    × (commandRead 6 (101 ∷ 0 ∷ []) ≡ Refused (OutsideSet 4))
+    -- too short: 15 at the length; too long: 15 at the first byte left over
+    × (commandRead 6 (100 ∷ []) ≡ Refused (PastPart 2))
+    × (commandRead 6 (100 ∷ 0 ∷ 0 ∷ []) ≡ Refused (PastPart 6))
+    -- a kind 1 address of one digit: 15 at its length; an empty kind 3 address: 19 where it begins
+    × (commandRead 4 (1 ∷ 1 ∷ 0x30 ∷ 0 ∷ []) ≡ Refused (PastPart 5))
+    × (commandRead 4 (3 ∷ 0 ∷ 0 ∷ []) ≡ Refused (OutsideSet 6))
+    -- 28 February 2014, 23:59:59; the 30th: 20 at the year; 23:59:60: 20 at the hour
+    × (commandRead 1 (0x07 ∷ 0xDE ∷ 2 ∷ 28 ∷ 23 ∷ 59 ∷ 59 ∷ []) ≡ At 13)
+    × (commandRead 1 (0x07 ∷ 0xDE ∷ 2 ∷ 30 ∷ 23 ∷ 59 ∷ 59 ∷ []) ≡ Refused (ImpossibleDay 4))
+    × (commandRead 1 (0x07 ∷ 0xDE ∷ 2 ∷ 28 ∷ 23 ∷ 59 ∷ 60 ∷ []) ≡ Refused (ImpossibleDay 8))
+unfolding bodyRead reading configuration exact view fields followed listOf repeat count numberAt command number only counted leastOf least said orderOf terminals lengthOf rest address fitting lengthFits isAddress hostAndPort date clock dayOf hasDay isDate monthLength leap inRange dayNumber monthStart monthsFrom daysOf yearOf monthOf
+contents = (refl, refl, refl, refl, refl, refl, refl, refl, refl)
+
+-- the standard's year: "2014: 0x7de"
+pub year-2014 : number 2 .parse (0x07 ∷ 0xDE ∷ []) 2 0 ≡ found 2014 2
+unfolding number only count numberAt
+year-2014 = refl
+
+-- the standard's www.chinaeb-lab.org with a port
+abbrev withPort : List ℕ → Bool
+withPort port = hostAndPort (0x77 ∷ 0x77 ∷ 0x77 ∷ 0x2E ∷ 0x63 ∷ 0x68 ∷ 0x69 ∷ 0x6E ∷ 0x61 ∷ 0x65 ∷ 0x62 ∷ 0x2D ∷ 0x6C ∷ 0x61 ∷ 0x62 ∷ 0x2E ∷ 0x6F ∷ 0x72 ∷ 0x67 ∷ colon ∷ port)
+
+pub addresses :
+    -- 8080, and with a space: "no space, though the standard's example has one"
+    (withPort (0x38 ∷ 0x30 ∷ 0x38 ∷ 0x30 ∷ []) ≡ true)
+    × (withPort (0x20 ∷ 0x38 ∷ 0x30 ∷ 0x38 ∷ 0x30 ∷ []) ≡ false)
+    -- 65535, 65536
+    × (withPort (0x36 ∷ 0x35 ∷ 0x35 ∷ 0x33 ∷ 0x35 ∷ []) ≡ true)
+    × (withPort (0x36 ∷ 0x35 ∷ 0x35 ∷ 0x33 ∷ 0x36 ∷ []) ≡ false)
+    -- 0, 00080, 008080
+    × (withPort (0x30 ∷ []) ≡ true)
+    × (withPort (0x30 ∷ 0x30 ∷ 0x30 ∷ 0x38 ∷ 0x30 ∷ []) ≡ true)
+    × (withPort (0x30 ∷ 0x30 ∷ 0x38 ∷ 0x30 ∷ 0x38 ∷ 0x30 ∷ []) ≡ false)
+    -- no name, a colon and 8080
+    × (hostAndPort (colon ∷ 0x38 ∷ 0x30 ∷ 0x38 ∷ 0x30 ∷ []) ≡ false)
+unfolding hostAndPort named isPort every worth
+addresses = (refl, refl, refl, refl, refl, refl, refl, refl)

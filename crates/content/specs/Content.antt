@@ -1,0 +1,87 @@
+-- What a reader has to believe of the content table: its fields in wire order, and its extension.
+use Prim.Native.Nat.{ℕ}
+use mathlib.Core.List.{List}
+use lib.Dec.{eqb}
+use Rattle.refusal.specs.declared.Refusal.the-variants.{LeftOver, PastPart, OtherChecksum}
+use Rattle.crc.specs.Crc.{crc16Of}
+use Rattle.fields.specs.Reading.{Reading, found, andThen, need}
+use Rattle.fields.specs.Format.{Format, _▷_, number, among, bytesAmong, reserved, digits, listOf, opaque, exact, view, lengthOf, counted}
+use Rattle.fields.specs.Body.{reading}
+
+-- "FE content"
+abbrev pub contentKind : ℕ
+contentKind = 0xFE
+
+-- ---- auxiliary files
+
+-- "each with type 8 (free), length 24, data"
+pub record Auxiliary : Type 0 where
+  pub type : ℕ
+  pub bytes : List ℕ
+
+-- w is the length's width in bytes: "Its Table 4 says 24 bits, its text 32. The table decides: 24"
+unfoldable pub auxiliary : ℕ → Format Auxiliary
+auxiliary w = view (λ x. record { type = x .0; bytes = x .1 }) (λ a. (a .type, a .bytes)) (number 1 ▷ opaque w)
+
+-- "4 reserved, auxiliary count 4 bits (0 to 2)"
+unfoldable pub auxiliaries : ℕ → Format (List Auxiliary)
+auxiliaries w = listOf (among 0 2 (reserved 4 0)) (auxiliary w)
+
+-- ---- languages
+
+-- "three letters a to z, 5 reserved, character set 3 bits (0 to 4), 16-bit text length, text, 8-bit agency length, agency"
+pub record Language : Type 0 where
+  pub letters : List ℕ
+  pub characterSet : ℕ
+  pub text : List ℕ
+  pub agency : List ℕ
+  pub auxiliaries : List Auxiliary
+
+abbrev pub LanguageFields : Type 0
+LanguageFields = List ℕ × (ℕ × (List ℕ × (List ℕ × List Auxiliary)))
+
+unfoldable pub languageFields : ℕ → Format LanguageFields
+languageFields w = bytesAmong 0x61 0x7A 3 ▷ (among 0 4 (reserved 5 0) ▷ (opaque 2 ▷ (opaque 1 ▷ auxiliaries w)))
+
+-- "each language: 32-bit length", which its fields fill
+unfoldable pub language : ℕ → Format Language
+language w =
+    counted (lengthOf 4)
+    (exact PastPart
+    (view
+    (λ x. record { letters = x .0; characterSet = x .1 .0; text = x .1 .1 .0; agency = x .1 .1 .1 .0; auxiliaries = x .1 .1 .1 .1 })
+    (λ v. (v .letters, (v .characterSet, (v .text, (v .agency, v .auxiliaries)))))
+    (languageFields w)))
+
+-- ---- the table
+
+-- "4 reserved, 35 digits"
+abbrev pub identifier : Format (List ℕ)
+identifier = digits 17
+
+pub record Content : Type 0 where
+  pub identifier : List ℕ
+  pub languages : List Language
+  pub signature : List ℕ
+
+abbrev pub Fields : Type 0
+Fields = List ℕ × (List Language × List ℕ)
+
+-- "4 reserved, 35 digits, 4 reserved, language count 4 bits (1 to 5); each language", "Then signature"
+unfoldable pub fields : ℕ → Format Fields
+fields w = identifier ▷ (listOf (among 1 5 (reserved 4 0)) (language w) ▷ opaque 2)
+
+unfoldable pub content : ℕ → Format Content
+content w = exact LeftOver (view (λ x. record { identifier = x .0; languages = x .1 .0; signature = x .1 .1 }) (λ c. (c .identifier, (c .languages, c .signature))) (fields w))
+
+-- ---- the extension
+
+-- "CRC-16 of the message identifier is taken over the 18 bytes that hold it, the four reserved ones first"
+unfoldable pub extensionOf : List ℕ → ℕ
+extensionOf ds = crc16Of (identifier .print ds)
+
+-- "23 last": "content extension is not the CRC-16 of the identifier"
+unfoldable pub readingOf : ℕ → ℕ → ℕ → List ℕ → Reading Content
+readingOf w kind extension s =
+    andThen (reading (content w) contentKind kind s) (λ c q.
+    need (eqb extension (extensionOf (c .identifier))) OtherChecksum (found c q))

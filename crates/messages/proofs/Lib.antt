@@ -1,0 +1,4 @@
+-- The laws that other crates cite.
+pub mod Answers
+pub mod Sizes
+pub mod Asked
