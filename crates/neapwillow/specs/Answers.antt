@@ -132,3 +132,8 @@ partAnswer (part.Refused why) = refusedOf why
 abbrev pub writtenAnswer : Step → ℕ
 writtenAnswer (step.At end) = answerOf 0 end
 writtenAnswer (step.Refused why) = refusedOf why
+
+-- the local time of a time field that was asked for
+abbrev pub localFieldAnswer : (ℕ → Unpacked) → Number → ℕ
+localFieldAnswer local (number.Is field after) = localAnswer (local field)
+localFieldAnswer local (number.Refused why) = refusedOf why

@@ -1,97 +1,52 @@
 // The certificate table for C.
+use crate::answers;
 ghost use mathlib.Core.Path.{_≡_};
 ghost use lib.ListN.{length};
 ghost use Rattle.fields.specs.Body.{bodyRead, bodyLaid, laidTape, bodyWritten, output};
 ghost use Rattle.certificate.specs.Certificate.{certificateKind, certificate};
 ghost use Rattle.certificate.specs.Asked.{authorizationCount, authorizationPart, certificateCount, certificatePart, signaturePart};
 ghost use Rattle.neapwillow.specs.Answers.{readAnswer, numberAnswer, partAnswer, writtenAnswer};
-use fields::Number;
-use fields::Part;
-use fields::Step;
-
-// What reading a body answers: nothing more where it is accepted.
-fn read_answer(s: Step) -> u64
-    ensures { λ r. ⌜ r ≡ readAnswer s ⌝ }
-{
-    match s {
-        Step::At(_end) => refusal::answered(0),
-        Step::Refused(why) => refusal::refused(why),
-    }
-}
-
-fn number_answer(n: Number) -> u64
-    ensures { λ r. ⌜ r ≡ numberAnswer n ⌝ }
-{
-    match n {
-        Number::Is(x, _after) => refusal::answered(x),
-        Number::Refused(why) => refusal::refused(why),
-    }
-}
-
-// The part of a body that opaque bytes fill: its start above its length.
-fn part_answer(p: Part) -> u64
-    ensures { λ r. ⌜ r ≡ partAnswer p ⌝ }
-{
-    match p {
-        Part::Of(start, length) => {
-            refusal::answered(
-                (start as u64) % 0x1_0000_0000 * 0x100_0000 + (length as u64) % 0x100_0000,
-            )
-        }
-        Part::Refused(why) => refusal::refused(why),
-    }
-}
 
 #[no_mangle]
 pub extern "C" fn nw_certificate_read(kind: u32, body: &[u8]) -> u64
     ensures { λ r. ⌜ r ≡ readAnswer (bodyRead certificate certificateKind kind (now (body .entry))) ⌝ }
 {
-    read_answer(certificate::read(kind, body))
+    answers::read_answer(certificate::read(kind, body))
 }
 
 #[no_mangle]
 pub extern "C" fn nw_certificate_authorization_count(body: &[u8]) -> u64
     ensures { λ r. ⌜ r ≡ numberAnswer (authorizationCount (now (body .entry))) ⌝ }
 {
-    number_answer(certificate::authorization_count(body))
+    answers::number_answer(certificate::authorization_count(body))
 }
 
 #[no_mangle]
 pub extern "C" fn nw_certificate_authorization(body: &[u8], i: u64) -> u64
     ensures { λ r. ⌜ r ≡ partAnswer (authorizationPart (now (body .entry)) i) ⌝ }
 {
-    part_answer(certificate::authorization(body, i))
+    answers::part_answer(certificate::authorization(body, i))
 }
 
 #[no_mangle]
 pub extern "C" fn nw_certificate_count(body: &[u8]) -> u64
     ensures { λ r. ⌜ r ≡ numberAnswer (certificateCount (now (body .entry))) ⌝ }
 {
-    number_answer(certificate::certificate_count(body))
+    answers::number_answer(certificate::certificate_count(body))
 }
 
 #[no_mangle]
 pub extern "C" fn nw_certificate_part(body: &[u8], i: u64) -> u64
     ensures { λ r. ⌜ r ≡ partAnswer (certificatePart (now (body .entry)) i) ⌝ }
 {
-    part_answer(certificate::certificate_part(body, i))
+    answers::part_answer(certificate::certificate_part(body, i))
 }
 
 #[no_mangle]
 pub extern "C" fn nw_certificate_signature(body: &[u8]) -> u64
     ensures { λ r. ⌜ r ≡ partAnswer (signaturePart (now (body .entry))) ⌝ }
 {
-    part_answer(certificate::signature(body))
-}
-
-// What writing a body answers, or laying one onto a tape: how many bytes, or entries.
-fn written_answer(s: Step) -> u64
-    ensures { λ r. ⌜ r ≡ writtenAnswer s ⌝ }
-{
-    match s {
-        Step::At(end) => refusal::answered(end as u64),
-        Step::Refused(why) => refusal::refused(why),
-    }
+    answers::part_answer(certificate::signature(body))
 }
 
 #[no_mangle]
@@ -99,7 +54,7 @@ pub extern "C" fn nw_certificate_write(pool: &[u8], tape: &[u64], out: &mut [u8]
     ensures { λ r. ⌜ r ≡ writtenAnswer (bodyWritten certificate (now (pool .entry)) (now (tape .entry)) (length (now (out .entry)))) ⌝ }
     ensures { λ _. ⌜ now (out .exit) ≡ output certificate (now (pool .entry)) (now (tape .entry)) (now (out .entry)) ⌝ }
 {
-    written_answer(certificate::write(pool, tape, out))
+    answers::written_answer(certificate::write(pool, tape, out))
 }
 
 #[no_mangle]
@@ -107,5 +62,5 @@ pub extern "C" fn nw_certificate_lay(kind: u32, body: &[u8], tape: &mut [u64]) -
     ensures { λ r. ⌜ r ≡ writtenAnswer (bodyLaid certificate certificateKind kind (now (body .entry)) (length (now (tape .entry)))) ⌝ }
     ensures { λ _. ⌜ now (tape .exit) ≡ laidTape certificate certificateKind kind (now (body .entry)) (now (tape .entry)) ⌝ }
 {
-    written_answer(certificate::lay(kind, body, tape))
+    answers::written_answer(certificate::lay(kind, body, tape))
 }

@@ -2,8 +2,8 @@
 use mathlib.Core.Path.{sym, ap, _∙_}
 use borrow.Author.Needs.{needs}
 use Rattle.neapwillow.specs.Answers.{numberAnswer}
-use Rattle.neapwillow.proofs.certificates.number_answer.Statement.{statement}
-use Rattle.neapwillow.proofs.certificates.number_answer.Tie as tie
+use Rattle.neapwillow.proofs.answers.number_answer.Statement.{statement}
+use Rattle.neapwillow.proofs.answers.number_answer.Tie as tie
 
 pub number-answer-spec : {M : Type 1} → statement M
 number-answer-spec =

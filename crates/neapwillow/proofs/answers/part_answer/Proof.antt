@@ -2,8 +2,8 @@
 use mathlib.Core.Path.{sym, ap, _∙_}
 use borrow.Author.Needs.{needs}
 use Rattle.neapwillow.specs.Answers.{partAnswer}
-use Rattle.neapwillow.proofs.certificates.part_answer.Statement.{statement}
-use Rattle.neapwillow.proofs.certificates.part_answer.Tie as tie
+use Rattle.neapwillow.proofs.answers.part_answer.Statement.{statement}
+use Rattle.neapwillow.proofs.answers.part_answer.Tie as tie
 
 pub part-answer-spec : {M : Type 1} → statement M
 part-answer-spec =

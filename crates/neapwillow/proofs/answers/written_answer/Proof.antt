@@ -2,8 +2,8 @@
 use mathlib.Core.Path.{sym, ap, _∙_}
 use borrow.Author.Needs.{needs}
 use Rattle.neapwillow.specs.Answers.{writtenAnswer}
-use Rattle.neapwillow.proofs.certificates.written_answer.Statement.{statement}
-use Rattle.neapwillow.proofs.certificates.written_answer.Tie as tie
+use Rattle.neapwillow.proofs.answers.written_answer.Statement.{statement}
+use Rattle.neapwillow.proofs.answers.written_answer.Tie as tie
 
 pub written-answer-spec : {M : Type 1} → statement M
 written-answer-spec =

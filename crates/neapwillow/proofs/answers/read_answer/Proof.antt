@@ -2,8 +2,8 @@
 use mathlib.Core.Path.{sym, ap, _∙_}
 use borrow.Author.Needs.{needs}
 use Rattle.neapwillow.specs.Answers.{readAnswer}
-use Rattle.neapwillow.proofs.certificates.read_answer.Statement.{statement}
-use Rattle.neapwillow.proofs.certificates.read_answer.Tie as tie
+use Rattle.neapwillow.proofs.answers.read_answer.Statement.{statement}
+use Rattle.neapwillow.proofs.answers.read_answer.Tie as tie
 
 pub read-answer-spec : {M : Type 1} → statement M
 read-answer-spec =

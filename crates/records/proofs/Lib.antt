@@ -1,0 +1,4 @@
+-- The laws that other crates cite.
+pub mod Places
+pub mod Plans
+pub mod Again
