@@ -10,6 +10,7 @@
 #include <time.h>
 
 #include "neapwillow.h"
+#include "plain_index.h"
 
 enum { MOST_CONTENDERS = 4, MOST_SIZES = 8, ROUNDS = 75 };
 
@@ -286,6 +287,100 @@ static uint64_t writing_library(const uint8_t *s, size_t n) {
     return nw_certificate_write(s, n, tape, ENTRIES, output, sizeof output);
 }
 
+// ---- an index body read, written from a form, and asked for every field of every message
+
+enum { MOST_INDEX = 1000000 };
+
+// The form of the body that is read, which is its pool.
+static uint64_t index_tape[NW_INDEX_ENTRIES(MOST_INDEX)];
+static size_t index_entries;
+
+static uint64_t index_library(const uint8_t *s, size_t n) { return nw_index_read(NW_INDEX, s, n); }
+static uint64_t index_plain(const uint8_t *s, size_t n) { return plain_index_read(NW_INDEX, s, n); }
+
+static uint64_t index_writing_library(const uint8_t *s, size_t n) {
+    return nw_index_write(s, n, index_tape, index_entries, output, sizeof output);
+}
+
+static uint64_t index_writing_plain(const uint8_t *s, size_t n) {
+    return plain_index_write(s, n, index_tape, index_entries, output, sizeof output);
+}
+
+// Functions of a message at a place, of a length; and of what begins in a part that ends at a place.
+typedef nw_answer placed(const uint8_t *body, size_t n, size_t at_or_end, size_t length_or_place);
+
+enum { OF_MESSAGE = 14 };
+
+// Those of one contender.
+struct askers {
+    nw_answer (*records)(uint32_t kind, const uint8_t *body, size_t n, nw_record *list, size_t room);
+    placed *of_message[OF_MESSAGE], *resource_count;
+    nw_answer (*resource)(const uint8_t *body, size_t n, size_t at, size_t length, uint64_t i);
+    placed *descriptors, *descriptor_tag, *descriptor_bytes;
+    placed *streams, *stream_type, *stream_pid, *stream_descriptors;
+};
+
+#define ASKERS(prefix)                                                                                               \
+    {                                                                                                                \
+        prefix##_index_records,                                                                                      \
+        {prefix##_message_identifier, prefix##_message_network, prefix##_message_start, prefix##_message_end,        \
+         prefix##_message_type, prefix##_message_class, prefix##_message_level, prefix##_message_channel_flag,       \
+         prefix##_message_channel_network, prefix##_message_channel_stream, prefix##_message_channel_program,        \
+         prefix##_message_pcr_pid, prefix##_message_descriptors, prefix##_message_streams},                          \
+        prefix##_message_resource_count, prefix##_message_resource,                                                  \
+        prefix##_message_descriptors, prefix##_descriptor_tag, prefix##_descriptor_bytes,                            \
+        prefix##_message_streams, prefix##_stream_type, prefix##_stream_pid, prefix##_stream_descriptors             \
+    }
+
+static const struct askers library_askers = ASKERS(nw), plain_askers = ASKERS(plain);
+
+// A number that every answer so far has a part in.
+static uint64_t answered(uint64_t so_far, nw_answer got) { return so_far * 31 + got; }
+
+static size_t part_after(nw_answer part) { return NW_PART_START(part) + NW_PART_LENGTH(part); }
+
+static uint64_t ask_descriptors(const struct askers *ask, const uint8_t *s, size_t n, nw_answer part, uint64_t so_far) {
+    nw_answer bytes;
+    for (size_t p = NW_PART_START(part), end = part_after(part); p < end; p = part_after(bytes)) {
+        so_far = answered(so_far, ask->descriptor_tag(s, n, end, p));
+        so_far = answered(so_far, bytes = ask->descriptor_bytes(s, n, end, p));
+    }
+    return so_far;
+}
+
+static uint64_t ask_streams(const struct askers *ask, const uint8_t *s, size_t n, nw_answer part, uint64_t so_far) {
+    nw_answer descriptors;
+    for (size_t p = NW_PART_START(part), end = part_after(part); p < end; p = part_after(descriptors)) {
+        so_far = answered(so_far, ask->stream_type(s, n, end, p));
+        so_far = answered(so_far, ask->stream_pid(s, n, end, p));
+        descriptors = ask->stream_descriptors(s, n, end, p);
+        so_far = ask_descriptors(ask, s, n, descriptors, answered(so_far, descriptors));
+    }
+    return so_far;
+}
+
+static uint64_t ask_message(const struct askers *ask, const uint8_t *s, size_t n, const nw_record *r, uint64_t so_far) {
+    for (size_t i = 0; i < OF_MESSAGE; i++) so_far = answered(so_far, ask->of_message[i](s, n, r->at, r->length));
+    nw_answer count = ask->resource_count(s, n, r->at, r->length);
+    so_far = answered(so_far, count);
+    for (uint64_t i = 0; i < NW_VALUE(count); i++)
+        so_far = answered(so_far, ask->resource(s, n, r->at, r->length, i));
+    so_far = ask_descriptors(ask, s, n, ask->descriptors(s, n, r->at, r->length), so_far);
+    return ask_streams(ask, s, n, ask->streams(s, n, r->at, r->length), so_far);
+}
+
+static uint64_t ask_all(const struct askers *ask, const uint8_t *s, size_t n) {
+    static nw_record list[NW_MOST_MESSAGES];
+    nw_answer got = ask->records(NW_INDEX, s, n, list, NW_MOST_MESSAGES);
+    if (NW_REFUSAL(got)) return got;
+    uint64_t so_far = got;
+    for (const nw_record *r = list; r < list + NW_VALUE(got); r++) so_far = ask_message(ask, s, n, r, so_far);
+    return so_far;
+}
+
+static uint64_t asking_library(const uint8_t *s, size_t n) { return ask_all(&library_askers, s, n); }
+static uint64_t asking_plain(const uint8_t *s, size_t n) { return ask_all(&plain_askers, s, n); }
+
 // ---- what they are given
 
 static void fill_bytes(size_t n) {
@@ -354,6 +449,66 @@ static void fill_certificate(size_t n) {
     if (certificate_plain(input, n) != 0 || writing_plain(input, n) != n << 8 || memcmp(input, output, n) != 0) abort();
 }
 
+// An index body: what is opaque keeps the bytes that were there.
+enum { RESOURCES = 4, STREAM_BYTES = 25, MESSAGE_BYTES = 130, MESSAGES = 250, USUAL_MESSAGE = 437 };
+
+static uint8_t *put_two(uint8_t *to, size_t x) {
+    to[0] = (uint8_t)(x >> 8);
+    to[1] = (uint8_t)x;
+    return to + 2;
+}
+
+static uint8_t *put_digits(uint8_t *to, size_t width) {
+    for (size_t i = 0; i < width; i++) to[i] = (uint8_t)(to[i] % 10 * 16 + to[i] / 16 % 10);
+    to[0] |= 0xF0;
+    return to + width;
+}
+
+// Two descriptors of so many bytes each.
+static uint8_t *put_descriptors(uint8_t *to, size_t first, size_t second) {
+    to = put_two(to, 0xF000 | (2 + first + 2 + second));
+    to[1] = (uint8_t)first;
+    to += 2 + first;
+    to[1] = (uint8_t)second;
+    return to + 2 + second;
+}
+
+static uint8_t *put_stream(uint8_t *to) {
+    to[1] |= 0xE0;
+    return put_descriptors(to + 3, 6, 10);
+}
+
+// A message of MESSAGE_BYTES, and STREAM_BYTES for each stream, after its length.
+static uint8_t *put_message(uint8_t *to, size_t streams) {
+    static const uint8_t middle[17] = {0xEC, 0xC9, 0x07, 0x45, 0x00, 0xEC, 0xC9, 0x09, 0x00,
+                                       0x00, '1',  '1',  'A',  '0',  '1',  0x42, RESOURCES};
+    to = put_two(to, MESSAGE_BYTES + STREAM_BYTES * streams);
+    to = put_digits(to, 18) + 2;
+    memcpy(to, middle, sizeof middle);
+    to += sizeof middle;
+    for (size_t i = 0; i < RESOURCES; i++) to = put_digits(to, 12);
+    to[0] = 0xFF;
+    to[7] |= 0xE0;
+    to = put_descriptors(to + 9, 14, 14);
+    to = put_two(to, STREAM_BYTES * streams);
+    for (size_t i = 0; i < streams; i++) to = put_stream(to);
+    return to;
+}
+
+// An index body of n bytes, the signature having what the messages leave, and its form.
+static void fill_index(size_t n) {
+    fill_bytes(n);
+    size_t messages = n / USUAL_MESSAGE < MESSAGES ? n / USUAL_MESSAGE : MESSAGES;
+    size_t streams = ((n - 3) / messages - 2 - MESSAGE_BYTES) / STREAM_BYTES;
+    uint8_t *to = input;
+    *to++ = (uint8_t)messages;
+    for (size_t i = 0; i < messages; i++) to = put_message(to, streams);
+    put_two(to, n - 2 - (size_t)(to - input));
+    nw_answer laid = plain_index_lay(NW_INDEX, input, n, index_tape, sizeof index_tape / sizeof index_tape[0]);
+    index_entries = NW_VALUE(laid);
+    if (NW_REFUSAL(laid) || index_writing_plain(input, n) != n << 8 || memcmp(input, output, n) != 0) abort();
+}
+
 static const struct operation operations[] = {
     {"CRC_32",
      fill_bytes,
@@ -391,6 +546,18 @@ static const struct operation operations[] = {
      fill_certificate,
      {{"neapwillow", writing_library}, {"C", writing_plain}},
      {64 * 1024}},
+    {"index read",
+     fill_index,
+     {{"neapwillow", index_library}, {"C", index_plain}},
+     {4 * 1024, 64 * 1024, MOST_INDEX}},
+    {"index written",
+     fill_index,
+     {{"neapwillow", index_writing_library}, {"C", index_writing_plain}},
+     {4 * 1024, 64 * 1024, MOST_INDEX}},
+    {"index asked",
+     fill_index,
+     {{"neapwillow", asking_library}, {"C", asking_plain}},
+     {4 * 1024, 64 * 1024, MOST_INDEX}},
 };
 
 // ---- measuring

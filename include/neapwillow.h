@@ -48,7 +48,7 @@ enum nw_refusal {
     NW_PAST_BODY = 14,              /* the body ends inside a field or part; the cutter's is empty */
     NW_PAST_PART = 15,              /* a field passes the end of its part, or bytes are left in it */
     NW_LEFT_OVER = 16,              /* bytes left after the signature */
-    NW_RESERVED_BIT_ZERO = 17,      /* a reserved bit is 0 */
+    NW_RESERVED_BIT_ZERO = 17,      /* a reserved bit is 0; a descriptor length has a top bit of 1 */
     NW_DIGIT_ABOVE_NINE = 18,       /* a decimal digit above 9 */
     NW_OUTSIDE_SET = 19,            /* a value outside its stated set */
     NW_IMPOSSIBLE_DAY = 20,         /* an impossible day or time, or a day outside 15079 to 65535 */
@@ -287,10 +287,10 @@ nw_answer nw_certificate_signature(const uint8_t *body, size_t n);
 
 /* Writes the table of a form at the start of out; bytes of out after it stay. Value: its length. The
  * tape has the count of authorization lists, for each its start and its length in the pool, the count
- * of certificates, for each the same, and the signature's start and length. Refusals, in this order, with nothing written
- * and place 0: 19, the tape is too short, has entries left over, or a span that is not in the pool;
- * 22, a count or length too large for its field, or more than NW_MOST_BODY bytes; 21, out is too
- * small. */
+ * of certificates, for each the same, and the signature's start and length. Refusals, in this order,
+ * with nothing written and place 0: 19, the tape is too short, has entries left over, or a span that is
+ * not in the pool; 22, a count or length too large for its field, or more than NW_MOST_BODY bytes; 21,
+ * out is too small. */
 nw_answer nw_certificate_write(const uint8_t *pool, size_t pool_bytes, const uint64_t *tape,
                                size_t entries, uint8_t *out, size_t room);
 
@@ -300,6 +300,139 @@ nw_answer nw_certificate_write(const uint8_t *pool, size_t pool_bytes, const uin
  * the tape is too short. */
 nw_answer nw_certificate_lay(uint32_t kind, const uint8_t *body, size_t n, uint64_t *tape,
                              size_t entries);
+
+/* ---- The index table --------------------------------------------------------------------------
+ *
+ * Its body is a list of messages and a signature:
+ *
+ *   message     an identifier of 35 decimal digits (18 bytes, four reserved bits before the first
+ *               digit), network, start and end (time fields), type (five bytes of at most 0x7F), class
+ *               and level (1 to 4 each), a list of resources, of 23 digits each (12 bytes), and perhaps
+ *               a channel
+ *   channel     network, stream and program (16 bits each), PCR PID (13 bits), descriptors, streams
+ *   stream      type (8 bits), PID (13 bits), descriptors
+ *   descriptor  tag (8 bits) and up to 255 bytes
+ *
+ * A message is told by where it begins in the body, the byte after its length, and that length
+ * (EBM_length), as a record has them. A descriptor's bytes and the signature are opaque. */
+#define NW_MOST_MESSAGES 255u   /* records that are always enough */
+
+/* Entries that are enough to lay a body of so many bytes: counted by hand and tested, not proved. */
+#define NW_INDEX_ENTRIES(bytes) ((size_t)(bytes) / 2 * 3 + 1)
+
+/* A message of an accepted body. */
+typedef struct nw_record {
+    size_t at;          /* where it begins in the body */
+    size_t length;      /* its bytes */
+    uint64_t start;     /* its start field */
+    uint64_t end;       /* its end field, perhaps NW_LIVE */
+    uint64_t class_;    /* 1 to 4; `class` is a word of C++ */
+    uint64_t level;     /* 1 to 4 */
+} nw_record;
+
+/* Judges a body. Value: 0. Refusals, in this order: 2, the kind is not NW_INDEX; 22, more than
+ * NW_MOST_BODY bytes; then that of the first field that is wrong, in the order of the body and at the
+ * byte where the field begins; 16, bytes after the signature, at the first of them.
+ * At one field, in this order: 14, it passes the body's end; 15, it passes the end of its message, or
+ * of the descriptors or streams it stands in; 17, a reserved bit is 0; 18, a digit above 9; 19, a type
+ * byte above 0x7F, a class or a level that is not 1 to 4; 20, an impossible day or time. A length is 14
+ * or 15 too if what it counts passes an end; one of descriptors counts by its low ten bits, and is then
+ * 17 if one of the two bits above them is 1. Bytes left in a message are 15, at the first of them.
+ * Reserved bits are a field before the one whose byte they share. NW_LIVE is a good end, and 18 as a
+ * start. An end before its start is accepted. */
+nw_answer nw_index_read(uint32_t kind, const uint8_t *body, size_t n);
+
+/* Judges a body and writes a record for each message at the start of list, which has room for so many;
+ * records after them stay. Value: the count of messages. Refusals, with no record written: those of
+ * nw_index_read, then 21, the list has less room than there are messages. The list must not overlap
+ * the body. */
+nw_answer nw_index_records(uint32_t kind, const uint8_t *body, size_t n, nw_record *list, size_t room);
+
+/* The messages and the signature, asked for without reading inside a message, whatever else is wrong
+ * with the body. Value: a count; or a part of the body, see NW_PART_START and NW_PART_LENGTH: for a
+ * message the two numbers of its record. Refusals, in this order: 14, the body is empty (place 0); 19,
+ * there is no i-th, counted from 0 (place 0); 14, a length before the part, or its own, is cut off or
+ * passes the body's end, at its place. */
+nw_answer nw_index_message_count(const uint8_t *body, size_t n);
+nw_answer nw_index_message(const uint8_t *body, size_t n, uint64_t i);
+nw_answer nw_index_signature(const uint8_t *body, size_t n);
+
+/* The fields of the message of `length` bytes at `at`, each judged as nw_index_read judges this field,
+ * whatever else is wrong with the message or the body: so of an accepted body's messages they are told.
+ * Value: the number; a digit; or the part of the body that the bytes fill (identifier, type, resource,
+ * descriptors and streams). Resources and digits are counted from 0: an identifier has digits 0 to 34,
+ * a resource 0 to 22.
+ * Refusals, in this order: 19, the message does not lie in the body (place 0); for a resource, and for
+ * what stands after the resources, those of the resource count; for a resource, 19, there is no i-th
+ * (place 0); for what stands in the channel, those of the flag, then 19, there is no channel (place 0);
+ * for the streams, those of the descriptors' length; then 14 to 20 of the field itself, at its place,
+ * which may lie after the body's end; last, for a digit, 19, there is no such digit (place 0). Class
+ * and level share a byte and are judged together; descriptors and streams are not judged with the part
+ * that they fill. */
+nw_answer nw_message_identifier(const uint8_t *body, size_t n, size_t at, size_t length);
+nw_answer nw_message_identifier_digit(const uint8_t *body, size_t n, size_t at, size_t length,
+                                      uint64_t i);
+nw_answer nw_message_network(const uint8_t *body, size_t n, size_t at, size_t length);
+nw_answer nw_message_start(const uint8_t *body, size_t n, size_t at, size_t length);
+nw_answer nw_message_end(const uint8_t *body, size_t n, size_t at, size_t length);
+nw_answer nw_message_type(const uint8_t *body, size_t n, size_t at, size_t length);
+nw_answer nw_message_class(const uint8_t *body, size_t n, size_t at, size_t length);
+nw_answer nw_message_level(const uint8_t *body, size_t n, size_t at, size_t length);
+nw_answer nw_message_resource_count(const uint8_t *body, size_t n, size_t at, size_t length);
+nw_answer nw_message_resource(const uint8_t *body, size_t n, size_t at, size_t length, uint64_t i);
+nw_answer nw_message_resource_digit(const uint8_t *body, size_t n, size_t at, size_t length, uint64_t i,
+                                    uint64_t j);
+nw_answer nw_message_channel_flag(const uint8_t *body, size_t n, size_t at, size_t length);
+nw_answer nw_message_channel_network(const uint8_t *body, size_t n, size_t at, size_t length);
+nw_answer nw_message_channel_stream(const uint8_t *body, size_t n, size_t at, size_t length);
+nw_answer nw_message_channel_program(const uint8_t *body, size_t n, size_t at, size_t length);
+nw_answer nw_message_pcr_pid(const uint8_t *body, size_t n, size_t at, size_t length);
+nw_answer nw_message_descriptors(const uint8_t *body, size_t n, size_t at, size_t length);
+nw_answer nw_message_streams(const uint8_t *body, size_t n, size_t at, size_t length);
+
+/* The local date and time of a message's start or end. Value: as of nw_time_unpack, whose macros take
+ * it apart. Refusals, in this order: those of nw_message_start or nw_message_end, with their places;
+ * those of nw_time_unpack (place 0), for which a live end is 18. */
+nw_answer nw_message_local_start(const uint8_t *body, size_t n, size_t at, size_t length,
+                                 int32_t offset);
+nw_answer nw_message_local_end(const uint8_t *body, size_t n, size_t at, size_t length,
+                               int32_t offset);
+
+/* A descriptor or a stream that begins at p in a part that ends at `end`: one that is told by
+ * nw_message_descriptors, nw_message_streams or nw_stream_descriptors. The first begins where the part
+ * does; the next one where this one's bytes, or this stream's descriptors, end, if that is before the
+ * part's end. In a body that was not accepted, look at the refusal before going on to the next.
+ * Value: the number, or the part that the bytes or the descriptors fill. Refusals, in this order: 19,
+ * end lies after the body's, or p is not before end (place 0); 14, 15 or 17 of the field, as
+ * nw_index_read judges it, at its place, which may lie after the body's end. */
+nw_answer nw_descriptor_tag(const uint8_t *body, size_t n, size_t end, size_t p);
+nw_answer nw_descriptor_bytes(const uint8_t *body, size_t n, size_t end, size_t p);
+nw_answer nw_stream_type(const uint8_t *body, size_t n, size_t end, size_t p);
+nw_answer nw_stream_pid(const uint8_t *body, size_t n, size_t end, size_t p);
+nw_answer nw_stream_descriptors(const uint8_t *body, size_t n, size_t end, size_t p);
+
+/* Writes the table of a form at the start of out; bytes of out after it stay. Value: its length. The
+ * tape has, where "bytes" are their start and their length in the pool:
+ *   the count of messages; for each the identifier (18 bytes), network, start, end, type (5 bytes),
+ *   class, level, the count of resources and each one (12 bytes), and 1 with a channel, else 0;
+ *   for a channel, right after its 1: network, stream, program, PCR PID, descriptors, the count of
+ *   streams, and for each its type, PID and descriptors;
+ *   for descriptors: their count, and for each its tag and bytes;
+ *   after the messages the signature (bytes).
+ * The first four bits of an identifier or resource in the pool do not matter.
+ * Refusals, in this order, with nothing written and place 0: that of the first field that is wrong, in
+ * the order of the tape (19, the tape is too short, a span is not in the pool or has not the length
+ * stated above, or a number is outside its set or has more bits than its field; 18, a digit above 9;
+ * 20, an impossible day or time); 19, the tape has entries left over; 22, a count or length too large
+ * for its field (descriptors: more than 1,023 bytes together), or more than NW_MOST_BODY bytes; 21, out
+ * is too small. */
+nw_answer nw_index_write(const uint8_t *pool, size_t pool_bytes, const uint64_t *tape, size_t entries,
+                         uint8_t *out, size_t room);
+
+/* Lays an accepted body onto a tape: the form from which, with the body itself as the pool,
+ * nw_index_write writes it again. Value: the entries laid, at most NW_INDEX_ENTRIES(n); entries after
+ * them stay. Refusals, with nothing laid: those of nw_index_read, then 21, the tape is too short. */
+nw_answer nw_index_lay(uint32_t kind, const uint8_t *body, size_t n, uint64_t *tape, size_t entries);
 
 #ifdef __cplusplus
 }

@@ -1,8 +1,9 @@
 // calls: puts requests from standard input to the library, one to a line, and prints a line of answer to each.
 //
 // A request is the name of a call and its arguments, one space before each: numbers in decimal, byte strings in
-// hexadecimal, tapes as numbers with a comma between two, `-` for what is empty. So are answers. In a request `5a*20`
-// is 5a twenty times over. A new call is a function and its line in `calls`.
+// hexadecimal, tapes as numbers with a comma between two, lists of records so too, with six numbers for each, `-` for
+// what is empty. So are answers. In a request `5a*20` is 5a twenty times over. A new call is a function and its line in
+// `calls`.
 #define _POSIX_C_SOURCE 200809L
 #include <errno.h>
 #include <inttypes.h>
@@ -14,20 +15,23 @@
 
 enum { MOST_ARGUMENTS = 8, GUARD = 64 };
 
-// A byte string or a tape stands in a block of exactly its length, so that a memory checker sees any byte read past it.
-// A lent output has guard bytes on both sides, which no call may change.
+// A byte string or a tape stands in a block of exactly its size, so that a memory checker sees any byte read past it.
+// A lent output has guard bytes on both sides, which no call may change. A length counts bytes, entries or records.
 struct argument {
     uint8_t *block;
     size_t guard;
+    size_t size;
     uint8_t *bytes;
     uint64_t *tape;
+    nw_record *records;
     size_t length;
     int64_t number;
     uint64_t wide;
 };
 
-// `takes` has a letter for each argument: b, a byte string; o, a lent output, given by what it holds before the call;
-// u, a number of 32 bits; i, a signed one; w, one of 64 bits; t, a tape, an array of these.
+// `takes` has a letter for each argument: b, a byte string; u, a number of 32 bits; i, a signed one; w, one of 64 bits;
+// t, a tape, an array of these; and lent outputs, given by what they hold before the call: o, of bytes; l, a tape to
+// lay on; r, a list of records.
 struct call {
     const char *name;
     const char *takes;
@@ -45,7 +49,7 @@ static uint8_t guard_byte(size_t i) { return (uint8_t)(i ^ 0xa5); }
 
 static void hold_guards(const struct argument *a) {
     for (size_t i = 0; i < a->guard; i++)
-        if (a->block[i] != guard_byte(i) || a->bytes[a->length + i] != guard_byte(i))
+        if (a->block[i] != guard_byte(i) || a->bytes[a->size + i] != guard_byte(i))
             stop("a byte beside a lent output changed");
 }
 
@@ -83,6 +87,14 @@ static void put_tape(const uint64_t *tape, size_t entries) {
     next_item();
     if (entries == 0) putchar('-');
     for (size_t i = 0; i < entries; i++) printf(i > 0 ? ",%" PRIu64 : "%" PRIu64, tape[i]);
+}
+
+static void put_records(const nw_record *list, size_t count) {
+    next_item();
+    if (count == 0) putchar('-');
+    for (const nw_record *r = list; r < list + count; r++)
+        printf("%s%zu,%zu,%" PRIu64 ",%" PRIu64 ",%" PRIu64 ",%" PRIu64, r > list ? "," : "", r->at, r->length,
+               r->start, r->end, r->class_, r->level);
 }
 
 // The refusal's number, 0 for none; then its place, or the value.
@@ -183,9 +195,9 @@ static struct argument state, store;
 static void keep(struct argument *kept, const struct argument *lent) {
     free(kept->block);
     *kept = *lent;
-    kept->block = malloc(lent->length + 2 * lent->guard);
+    kept->block = malloc(lent->size + 2 * lent->guard);
     if (kept->block == NULL) stop("out of memory");
-    memcpy(kept->block, lent->block, lent->length + 2 * lent->guard);
+    memcpy(kept->block, lent->block, lent->size + 2 * lent->guard);
     kept->bytes = kept->block + kept->guard;
 }
 
@@ -273,6 +285,158 @@ static void call_certificate_lay(const struct argument *a) {
     put_tape(a[2].tape, a[2].length);
 }
 
+// ---- the index table
+
+typedef nw_answer of_message(const uint8_t *body, size_t n, size_t at, size_t length);
+
+// What is asked of a message without a further number.
+static of_message *const of_messages[] = {
+    nw_message_identifier,      nw_message_network,        nw_message_start,
+    nw_message_end,             nw_message_type,           nw_message_class,
+    nw_message_level,           nw_message_resource_count, nw_message_channel_flag,
+    nw_message_channel_network, nw_message_channel_stream, nw_message_channel_program,
+    nw_message_pcr_pid,         nw_message_descriptors,    nw_message_streams,
+};
+
+static void put_message(const struct argument *body, size_t at, size_t length) {
+    for (size_t i = 0; i < sizeof of_messages / sizeof of_messages[0]; i++)
+        put_answer(of_messages[i](body->bytes, body->length, at, length));
+}
+
+static void put_local_times(const struct argument *body, size_t at, size_t length, int32_t offset) {
+    put_answer(nw_message_local_start(body->bytes, body->length, at, length, offset));
+    put_answer(nw_message_local_end(body->bytes, body->length, at, length, offset));
+}
+
+// A digit that was answered, or a sign that none was.
+static void put_digit(nw_answer got) {
+    putchar(NW_REFUSAL(got) == 0 && NW_VALUE(got) < 10 ? (int)('0' + NW_VALUE(got)) : '?');
+}
+
+static void put_identifier_digits(const struct argument *body, size_t at, size_t length) {
+    next_item();
+    for (uint64_t i = 0; i < 35; i++)
+        put_digit(nw_message_identifier_digit(body->bytes, body->length, at, length, i));
+}
+
+static void put_resources(const struct argument *body, size_t at, size_t length) {
+    uint64_t count = NW_VALUE(nw_message_resource_count(body->bytes, body->length, at, length));
+    for (uint64_t i = 0; i < count; i++) {
+        put_answer(nw_message_resource(body->bytes, body->length, at, length, i));
+        next_item();
+        for (uint64_t j = 0; j < 23; j++)
+            put_digit(nw_message_resource_digit(body->bytes, body->length, at, length, i, j));
+    }
+}
+
+// Where a part ends that must lie after p.
+static size_t end_after(size_t p, nw_answer part) {
+    size_t end = NW_PART_START(part) + NW_PART_LENGTH(part);
+    if (NW_REFUSAL(part) || end <= p) stop("a part that leads no further");
+    return end;
+}
+
+static void put_descriptor(const struct argument *body, size_t end, size_t p) {
+    put_answer(nw_descriptor_tag(body->bytes, body->length, end, p));
+    put_answer(nw_descriptor_bytes(body->bytes, body->length, end, p));
+}
+
+static void put_stream(const struct argument *body, size_t end, size_t p) {
+    put_answer(nw_stream_type(body->bytes, body->length, end, p));
+    put_answer(nw_stream_pid(body->bytes, body->length, end, p));
+    put_answer(nw_stream_descriptors(body->bytes, body->length, end, p));
+}
+
+static void put_descriptors(const struct argument *body, nw_answer part) {
+    size_t end = NW_PART_START(part) + NW_PART_LENGTH(part);
+    for (size_t p = NW_PART_START(part); p < end;) {
+        put_descriptor(body, end, p);
+        p = end_after(p, nw_descriptor_bytes(body->bytes, body->length, end, p));
+    }
+}
+
+static void put_streams(const struct argument *body, nw_answer part) {
+    size_t end = NW_PART_START(part) + NW_PART_LENGTH(part);
+    for (size_t p = NW_PART_START(part); p < end;) {
+        nw_answer descriptors = nw_stream_descriptors(body->bytes, body->length, end, p);
+        put_stream(body, end, p);
+        put_descriptors(body, descriptors);
+        p = end_after(p, descriptors);
+    }
+}
+
+// A message, its resources, and what its channel has.
+static void put_whole_message(const struct argument *body, nw_answer part, int32_t offset) {
+    size_t n = body->length, at = NW_PART_START(part), length = NW_PART_LENGTH(part);
+    put_answer(part);
+    put_message(body, at, length);
+    put_identifier_digits(body, at, length);
+    put_local_times(body, at, length, offset);
+    put_resources(body, at, length);
+    if (NW_VALUE(nw_message_channel_flag(body->bytes, n, at, length)) == 0) return;
+    put_descriptors(body, nw_message_descriptors(body->bytes, n, at, length));
+    put_streams(body, nw_message_streams(body->bytes, n, at, length));
+}
+
+// An accepted body's fields follow in their order, each as it is answered; the local times are those at an offset.
+static void call_index_read(const struct argument *a) {
+    const struct argument *body = &a[1];
+    nw_answer got = nw_index_read((uint32_t)a[0].number, body->bytes, body->length);
+    put_answer(got);
+    if (NW_REFUSAL(got)) return;
+    put_answer(got = nw_index_message_count(body->bytes, body->length));
+    for (uint64_t i = 0; i < NW_VALUE(got); i++)
+        put_whole_message(body, nw_index_message(body->bytes, body->length, i), (int32_t)a[2].number);
+    put_answer(nw_index_signature(body->bytes, body->length));
+}
+
+// The whole list is printed, what was written and what stayed.
+static void call_index_records(const struct argument *a) {
+    put_answer(nw_index_records((uint32_t)a[0].number, a[1].bytes, a[1].length, a[2].records, a[2].length));
+    put_records(a[2].records, a[2].length);
+}
+
+static void call_index_lay(const struct argument *a) {
+    put_answer(nw_index_lay((uint32_t)a[0].number, a[1].bytes, a[1].length, a[2].tape, a[2].length));
+    put_tape(a[2].tape, a[2].length);
+}
+
+static void call_index_write(const struct argument *a) {
+    put_answer(nw_index_write(a[0].bytes, a[0].length, a[1].tape, a[1].length, a[2].bytes, a[2].length));
+    put_bytes(a[2].bytes, a[2].length);
+}
+
+static void call_index_message_count(const struct argument *a) {
+    put_answer(nw_index_message_count(a[0].bytes, a[0].length));
+}
+
+static void call_index_message(const struct argument *a) {
+    put_answer(nw_index_message(a[0].bytes, a[0].length, a[1].wide));
+}
+
+static void call_index_signature(const struct argument *a) { put_answer(nw_index_signature(a[0].bytes, a[0].length)); }
+
+static void call_message_fields(const struct argument *a) { put_message(&a[0], a[1].wide, a[2].wide); }
+
+static void call_message_local_times(const struct argument *a) {
+    put_local_times(&a[0], a[1].wide, a[2].wide, (int32_t)a[3].number);
+}
+
+static void call_message_identifier_digit(const struct argument *a) {
+    put_answer(nw_message_identifier_digit(a[0].bytes, a[0].length, a[1].wide, a[2].wide, a[3].wide));
+}
+
+static void call_message_resource(const struct argument *a) {
+    put_answer(nw_message_resource(a[0].bytes, a[0].length, a[1].wide, a[2].wide, a[3].wide));
+}
+
+static void call_message_resource_digit(const struct argument *a) {
+    put_answer(nw_message_resource_digit(a[0].bytes, a[0].length, a[1].wide, a[2].wide, a[3].wide, a[4].wide));
+}
+
+static void call_descriptor_fields(const struct argument *a) { put_descriptor(&a[0], a[1].wide, a[2].wide); }
+static void call_stream_fields(const struct argument *a) { put_stream(&a[0], a[1].wide, a[2].wide); }
+
 static const struct call calls[] = {
     {"echo", "buiwot", call_echo},
     {"crc32", "b", call_crc32},
@@ -297,7 +461,21 @@ static const struct call calls[] = {
     {"certificate_authorization", "bw", call_certificate_authorization},
     {"certificate_part", "bw", call_certificate_part},
     {"certificate_write", "bto", call_certificate_write},
-    {"certificate_lay", "ubt", call_certificate_lay},
+    {"certificate_lay", "ubl", call_certificate_lay},
+    {"index_read", "ubi", call_index_read},
+    {"index_records", "ubr", call_index_records},
+    {"index_lay", "ubl", call_index_lay},
+    {"index_write", "bto", call_index_write},
+    {"index_message_count", "b", call_index_message_count},
+    {"index_message", "bw", call_index_message},
+    {"index_signature", "b", call_index_signature},
+    {"message_fields", "bww", call_message_fields},
+    {"message_local_times", "bwwi", call_message_local_times},
+    {"message_identifier_digit", "bwww", call_message_identifier_digit},
+    {"message_resource", "bwww", call_message_resource},
+    {"message_resource_digit", "bwwww", call_message_resource_digit},
+    {"descriptor_fields", "bww", call_descriptor_fields},
+    {"stream_fields", "bww", call_stream_fields},
 };
 
 // ---- what a request is read with
@@ -325,27 +503,31 @@ static struct argument wide_number(const char *word) {
     return a;
 }
 
+// So many things in a block of their own, with so many guard bytes on both sides.
+static struct argument block_of(size_t length, size_t each, size_t guard) {
+    struct argument a = {.length = length, .size = length * each, .guard = guard};
+    a.block = malloc(a.size + 2 * guard);
+    if (a.block == NULL && a.size + guard > 0) stop("out of memory");
+    a.bytes = a.block + guard;
+    for (size_t i = 0; i < guard; i++) a.block[i] = a.bytes[a.size + i] = guard_byte(i);
+    return a;
+}
+
 static struct argument byte_string(const char *word, size_t guard) {
     size_t digits = strcmp(word, "-") == 0 ? 0 : strcspn(word, "*"), unit = digits / 2;
     size_t times = word[digits] == '*' ? (size_t)number(word + digits + 1, 1, INT32_MAX).number : 1;
     if (digits % 2 != 0) stop("half a byte");
-    struct argument a = {.length = unit * times, .guard = guard};
-    a.block = malloc(a.length + 2 * guard);
-    if (a.block == NULL && a.length + guard > 0) stop("out of memory");
-    a.bytes = a.block + guard;
+    struct argument a = block_of(unit * times, 1, guard);
     for (size_t i = 0; i < a.length; i++)
         a.bytes[i] = i < unit ? (uint8_t)(digit(word[2 * i]) * 16 + digit(word[2 * i + 1])) : a.bytes[i - unit];
-    for (size_t i = 0; i < guard; i++) a.block[i] = a.bytes[a.length + i] = guard_byte(i);
     return a;
 }
 
-static struct argument tape(const char *word) {
+static struct argument tape(const char *word, size_t guard) {
     size_t entries = strcmp(word, "-") != 0;
     for (const char *c = word; *c != '\0'; c++) entries += *c == ',';
-    struct argument a = {.length = entries, .block = malloc(entries * sizeof(uint64_t))};
-    if (a.block == NULL && entries > 0) stop("out of memory");
-    a.bytes = a.block;
-    a.tape = (uint64_t *)(void *)a.block;
+    struct argument a = block_of(entries, sizeof(uint64_t), guard);
+    a.tape = (uint64_t *)(void *)a.bytes;
     for (size_t i = 0; i < entries; i++) {
         char *end;
         errno = 0;
@@ -353,6 +535,20 @@ static struct argument tape(const char *word) {
         if (*word < '0' || *word > '9' || *end != (i + 1 < entries ? ',' : '\0') || errno != 0) stop("not a tape");
         word = end + 1;
     }
+    return a;
+}
+
+// Each record is given as its six numbers.
+static struct argument record_list(const char *word) {
+    struct argument numbers = tape(word, 0);
+    if (numbers.length % 6 != 0) stop("not a list of records");
+    struct argument a = block_of(numbers.length / 6, sizeof(nw_record), GUARD);
+    a.records = (nw_record *)(void *)a.bytes;
+    for (size_t i = 0; i < a.length; i++) {
+        const uint64_t *t = numbers.tape + 6 * i;
+        a.records[i] = (nw_record){t[0], t[1], t[2], t[3], t[4], t[5]};
+    }
+    free(numbers.block);
     return a;
 }
 
@@ -368,7 +564,9 @@ static struct argument argument(char letter, const char *word) {
     case 'u': return number(word, 0, UINT32_MAX);
     case 'i': return number(word, INT32_MIN, INT32_MAX);
     case 'w': return wide_number(word);
-    case 't': return tape(word);
+    case 't': return tape(word, 0);
+    case 'l': return tape(word, GUARD);
+    case 'r': return record_list(word);
     default: stop("a letter that the table of calls must not have");
     }
 }

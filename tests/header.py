@@ -1,10 +1,14 @@
-"""The C header against the source: each export's parameters in number, order and width, the state's fields, the refusals."""
+"""The C header against the source: each export's parameters in number, order and width, lent structs, the refusals."""
 import glob
 import os
 import re
 import sys
 
 ROOT = os.path.join(os.path.dirname(os.path.abspath(__file__)), os.pardir)
+RECORDS = 'crates/records/src/lib.rt'
+
+# What C lends as a struct: its name there, and where the source has it under which name.
+STRUCTS = [('nw_gathering', 'crates/holding/src/lib.rt', 'Gathering'), ('nw_record', RECORDS, 'Record')]
 
 # What a type of the source is in C: a slice is a pointer and a length.
 IN_C = {
@@ -12,6 +16,7 @@ IN_C = {
     '&[u8]': ['const uint8_t *', 'size_t'], '&mut [u8]': ['uint8_t *', 'size_t'],
     '&[u64]': ['const uint64_t *', 'size_t'], '&mut [u64]': ['uint64_t *', 'size_t'],
     '&Gathering': ['const nw_gathering *'], '&mut Gathering': ['nw_gathering *'],
+    '&mut [Record]': ['nw_record *', 'size_t'],
 }
 
 
@@ -51,17 +56,17 @@ def declarations(header):
     return found
 
 
+def source_fields(path, name):
+    """A struct's fields in their order, as C has them: name, type, and how many of it where it is an array."""
+    body = re.search(r'pub struct %s \{(.*?)\}' % name, without_comments(read(path)), re.S).group(1)
+    fields = re.findall(r'pub (\w+): (?:\[(\w+);\s*(\d+)\]|(\w+))', body)
+    return [(field, IN_C[each or kind][0], count) for field, each, count, kind in fields]
 
-def source_fields():
-    """The state's fields in their order, with the width of each."""
-    body = re.search(r'pub struct Gathering \{(.*?)\}', without_comments(read('crates', 'holding', 'src', 'lib.rt')), re.S).group(1)
-    return [(name, kind.strip('[]').split(';')[0].strip().replace('u', 'uint') + '_t', kind.strip('[]').split(';')[1].strip() if ';' in kind else '')
-            for name, kind in re.findall(r'pub (\w+): ([^,]+),', body)]
 
-
-def header_fields(header):
-    body = re.search(r'typedef struct nw_gathering \{(.*?)\}', header, re.S).group(1)
-    return [(name, kind, count) for kind, name, count in re.findall(r'(\w+) (\w+)(?:\[(\d+)\])?;', body)]
+def header_fields(header, name):
+    """The same of the header, where a word that C++ keeps for itself has an underscore after it."""
+    body = re.search(r'typedef struct %s \{(.*?)\}' % name, header, re.S).group(1)
+    return [(field.rstrip('_'), kind, count) for kind, field, count in re.findall(r'(\w+) (\w+)(?:\[(\d+)\])?;', body)]
 
 
 def source_refusals():
@@ -78,7 +83,9 @@ def header_refusals(header):
 
 def main():
     header = without_comments(read('include', 'neapwillow.h'))
-    pairs = [('function', exports(), declarations(header)), ('refusal', source_refusals(), header_refusals(header))]
+    pairs = [('function', exports(), declarations(header)), ('refusal', source_refusals(), header_refusals(header)),
+             ('struct', {lent: source_fields(path, name) for lent, path, name in STRUCTS},
+              {lent: header_fields(header, lent) for lent, _, _ in STRUCTS})]
     wrong = 0
     for what, source, declared in pairs:
         for name in sorted(source.keys() | declared.keys()):
@@ -86,9 +93,6 @@ def main():
                 wrong += 1
                 print('%s %s: the source has %s, the header %s' % (what, name, source.get(name), declared.get(name)))
         print('%d of kind %s in the source' % (len(source), what))
-    if source_fields() != header_fields(header):
-        wrong += 1
-        print('the state: the source has %s, the header %s' % (source_fields(), header_fields(header)))
     if wrong or len(pairs[0][1]) < 14 or len(pairs[1][1]) != 25:
         sys.exit('%d differ' % wrong)
     print('the header declares them as they are')

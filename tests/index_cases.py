@@ -1,0 +1,175 @@
+"""Index bodies and calls made by hand, with what document 01's words say of them; every refusal that can be met."""
+
+KIND = 0xFD
+
+
+def message(start='ecc9074500', end='ffffffffff', rest='11' '00' 'fe'):
+    """A message: identifier at 3, network at 21, start at 23, end at 28, type at 33, class and level at 38."""
+    return 'f1' + '23' * 17 + '0007' + start + end + '3131413031' + rest
+
+
+def body(message, more='0000'):
+    return '01' + '%04x' % (len(message) // 2) + message + more
+
+
+# A message's rest up to its channel's PCR PID; the 12-bit length of its descriptors is at 49.
+CHANNEL = '11' '00' 'ff' '0001' '0002' '0003' 'ffff'
+
+# A body, and the number and place of its refusal.
+BODIES = [
+    ('000000', None), ('0000', (14, 1)), ('00000000', (16, 3)), ('', (14, 0)), ('00', (14, 1)), ('01', (14, 1)),
+    ('0100', (14, 1)), ('010001', (14, 1)), ('010000', (14, 3)), ('0100000000', (15, 3)),
+    # Reserved bits need only their byte; digits that pass the body's end are 14, the part's end 15.
+    ('010001f1', (14, 3)), ('010001e1', (17, 3)), ('010001f1' + '00' * 17, (15, 3)), ('010001f1' + '00' * 16, (14, 3)),
+    ('010001' '7a' + '00' * 17, (17, 3)), ('010012' 'fa' + '00' * 17, (18, 3)), ('010012' 'f0' + '0a' * 17, (18, 3)),
+    (body(message()), None), (body(message() + '00'), (15, 41)), (body(message(), '0001'), (14, 41)),
+    (body(message(), '000000'), (16, 43)),
+    # Times: the live mark only at the end, digits before days, an end before its start is good.
+    (body(message(start='ffffffffff')), (18, 23)), (body(message(start='00ffffffff')), (18, 23)),
+    (body(message(end='00ffffffff')), (18, 28)), (body(message(start='3ae6000000')), (20, 23)),
+    (body(message(start='3ae7000000', end='3ae7000000')), None), (body(message(start='3ae600000a')), (18, 23)),
+    (body(message(start='ecc9240000')), (20, 23)), (body(message(end='ecc9236000')), (20, 28)),
+    (body(message(end='ecc9235960')), (20, 28)), (body(message(end='3ae7000000')), None),
+    # Class and level, resources, channel flag.
+    (body(message(rest='01' '00' 'fe')), (19, 38)), (body(message(rest='15' '00' 'fe')), (19, 38)),
+    (body(message(rest='44' '01' 'f0' + '99' * 11 + 'fe')), None),
+    (body(message(rest='44' '01' 'f0' + '99' * 11)), (15, 52)),
+    (body(message(rest='44' '01' 'e0' + '9a' * 11 + 'fe')), (17, 40)),
+    (body(message(rest='44' '02' 'f0' + '9a' * 11 + 'fe')), (18, 40)),
+    (body(message(rest='44' '01' 'fe')), (14, 40)), (body(message(rest='11' '00' 'fc')), (17, 40)),
+    # 12-bit lengths: 17 of the reserved bits, 14 and 15 of the part, 17 of the top two bits, then the descriptors.
+    (body(message(rest=CHANNEL + 'f000' '0000')), None), (body(message(rest=CHANNEL + 'e001' '0000')), (17, 49)),
+    (body(message(rest=CHANNEL + 'f400' '0000')), (17, 49)), (body(message(rest=CHANNEL + 'f405' '0000')), (14, 49)),
+    (body(message(rest=CHANNEL + 'f403' '0000')), (15, 49)),
+    (body(message(rest=CHANNEL + 'f801' 'aa' '0000')), (17, 49)),
+    (body(message(rest=CHANNEL + 'f001' 'aa' '0000')), (15, 52)),
+    (body(message(rest=CHANNEL + 'f002' 'aa01' '0000')), (15, 52)),
+    (body(message(rest=CHANNEL + 'f002' 'aa00' '0000')), None),
+    (body(message(rest=CHANNEL + 'f000' '0001' 'aa')), (15, 54)),
+    (body(message(rest=CHANNEL + 'f000' '0001' 'aa'), ''), (14, 54)),
+    (body(message(rest=CHANNEL + 'f000' '0005' 'aae000f000')), None),
+    (body(message(rest=CHANNEL + 'f000' '0005' 'aae000f400')), (17, 56)),
+    (body(message(rest=CHANNEL + 'f000' '0005' 'aac000f000')), (17, 54)),
+    (body(message(rest=CHANNEL + 'f000' '0005' 'aae000f001')), (15, 56)),
+    (body(message(rest=CHANNEL + 'f000')), (15, 51))]
+
+ONE = bytes.fromhex(body(message()))
+RECORD = [3, 38, 0xECC9074500, 2**40 - 1, 1, 1]
+FULL = bytes.fromhex(body(message(rest=CHANNEL + 'f003' '0901aa' '0008' '1bffeef003' '0a01bb'), '0001cc'))
+LONG = bytes(1045505)
+
+# A call, and the whole answer.
+CALLS = [
+    # Kind, then size, then fields; the list of records and the tape last.
+    (('index_read', 0xFC, LONG, 0), '2 0'), (('index_read', KIND, LONG, 0), '22 0'),
+    (('index_read', 0xFC, b'', 0), '2 0'), (('index_read', KIND, bytes(3), 0), '0 0 0 0 0 %d' % (3 * 2**24)),
+    (('index_records', KIND, ONE, RECORD), '0 1 3,38,%d,%d,1,1' % (0xECC9074500, 2**40 - 1)),
+    (('index_records', KIND, ONE, []), '21 0 -'), (('index_records', KIND, ONE + b'\0', []), '16 43 -'),
+    (('index_records', KIND, ONE + b'\0', [7] * 6), '16 43 7,7,7,7,7,7'),
+    (('index_records', KIND, bytes(3), [7] * 6), '0 0 7,7,7,7,7,7'),
+    (('index_lay', KIND, ONE, [9] * 15), '0 14 1,3,18,7,%d,%d,33,5,1,1,0,0,43,0,9' % (0xECC9074500, 2**40 - 1)),
+    (('index_lay', KIND, ONE, [9] * 13), '21 0 9,9,9,9,9,9,9,9,9,9,9,9,9'),
+    # A writer's 22 before its 21, both after the fields.
+    (('index_write', bytes(65536), [0, 0, 65536], b''), '22 0 -'),
+    (('index_write', bytes(65535), [0, 0, 65535], b''), '21 0 -'),
+    (('index_write', bytes(65535), [0, 0, 65536], b''), '19 0 -'),
+    (('index_write', b'ab', [0, 1, 1], b'\xE5' * 6), '0 4 00000162e5e5'),
+    (('index_write', b'ab', [0, 1, 1], b'\xE5' * 3), '21 0 e5e5e5'),
+    (('index_write', b'ab', [0, 1, 1, 0], b'\xE5' * 6), '19 0 e5e5e5e5e5e5'),
+    # Fields asked for: the resource count is at 39, the channel's parts at 51 and 56.
+    (('index_message_count', b''), '14 0'), (('index_message', b'', 9), '14 0'), (('index_message', b'\1', 1), '19 0'),
+    (('index_message', b'\1', 0), '14 1'), (('index_message', ONE, 0), '0 %d' % (3 * 2**24 + 38)),
+    (('index_signature', ONE), '0 %d' % (43 * 2**24)), (('index_signature', ONE[:-1]), '14 41'),
+    (('message_resource', ONE, 3, 38, 0), '19 0'), (('message_resource', ONE, 3, 36, 0), '15 39'),
+    (('message_resource', ONE, 6, 38, 0), '19 0'), (('message_identifier_digit', ONE, 3, 38, 34), '0 3'),
+    (('message_identifier_digit', ONE, 3, 38, 35), '19 0'), (('message_identifier_digit', ONE, 3, 17, 0), '15 3'),
+    (('descriptor_fields', FULL, 54, 51), '0 9 0 %d' % (53 * 2**24 + 1)),
+    (('descriptor_fields', FULL, 53, 51), '0 9 15 52'), (('descriptor_fields', FULL, 51, 51), '19 0 19 0'),
+    (('stream_fields', FULL, 64, 56), '0 27 0 8174 0 %d' % (61 * 2**24 + 3)),
+    (('stream_fields', FULL, 63, 56), '0 27 0 8174 15 59'), (('stream_fields', FULL, 57, 56), '0 27 15 57 15 59'),
+    (('stream_fields', FULL, len(FULL) + 1, 56), '19 0 19 0 19 0'),
+    # 3 November 2024 07:45:00 at +480; a live end is 18, after the offset's 19.
+    (('message_local_times', ONE, 3, 38, 480), '0 %d 18 0' % int('7E80B030F2D00', 16)),
+    (('message_local_times', ONE, 3, 38, 841), '19 0 19 0')]
+
+
+# ---- every refusal that can be met
+
+
+def pairs(text):
+    """The numbers and fields of lines like `field: 14 15`."""
+    for line in text.strip().splitlines():
+        field, numbers = line.split(': ')
+        for number in numbers.split():
+            yield int(number), field
+
+
+def on_tape(counts, numbers, spans, fixed):
+    """What every entry of a kind can be refused for: names divided by commas."""
+    kinds = counts, numbers, spans, fixed
+    counts, numbers, spans, fixed = ([name.strip() for name in names.split(',')] for names in kinds)
+    found = {(19, name + ', tape ends') for name in counts + numbers} | {(19, name) for name in numbers}
+    for name in spans + fixed:
+        found |= {(19, name + end) for end in (' start, tape ends', ' length, tape ends', ', outside the pool')}
+    return found | {(19, name + ', wrong length') for name in fixed}
+
+
+READ = {*pairs("""
+kind: 2
+body: 22
+message count: 14
+EBM_length: 14
+identifier reserved: 14 15 17
+identifier: 14 15 18
+network: 14 15
+start: 14 15 18 20
+end: 14 15 18 20
+type: 14 15 19
+class: 14 15 19
+level: 19
+resource count: 14 15
+resource reserved: 14 15 17
+resource: 14 15 18
+channel flag reserved: 14 15 17
+channel network: 14 15
+channel stream: 14 15
+channel program: 14 15
+PCR PID reserved: 14 15 17
+PCR PID: 14 15
+program info length reserved: 14 15 17
+program info length: 14 15 17
+program descriptor length: 14 15
+stream info length: 14 15
+stream PID reserved: 14 15 17
+stream PID: 14 15
+ES info length reserved: 14 15 17
+ES info length: 14 15 17
+ES descriptor length: 14 15
+message left over: 15
+signature length: 14
+body left over: 16
+""")}
+
+WRITE = on_tape(
+    'message count, resource count, program descriptor count, stream count, ES descriptor count',
+    'network, start, end, class, level, channel flag, channel network, channel stream, channel program, PCR PID,'
+    'program descriptor tag, stream type, stream PID, ES descriptor tag',
+    'program descriptor data, ES descriptor data, signature', 'identifier, type, resource') | {*pairs("""
+tape left over: 19
+identifier: 18
+start: 18 20
+end: 18 20
+type: 19
+resource: 18
+message count: 22
+resource count: 22
+program descriptor length: 22
+program info length: 22
+ES descriptor length: 22
+ES info length: 22
+stream info length: 22
+EBM_length: 22
+signature length: 22
+body: 22
+room: 21
+""")}

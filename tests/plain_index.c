@@ -1,0 +1,807 @@
+// plain_index: the index table in plain C, made from document 01 and the header alone, to measure the library by.
+#include "plain_index.h"
+
+#include <string.h>
+
+enum {
+    PAST_BODY = NW_PAST_BODY,
+    PAST_PART = NW_PAST_PART,
+    RESERVED = NW_RESERVED_BIT_ZERO,
+    DIGIT = NW_DIGIT_ABOVE_NINE,
+    OUTSIDE = NW_OUTSIDE_SET,
+    IMPOSSIBLE = NW_IMPOSSIBLE_DAY,
+};
+
+// Fields of fixed width, and where those stand in a message that have a fixed place.
+enum { IDENTIFIER_BYTES = 18, TYPE_BYTES = 5, RESOURCE_BYTES = 12 };
+enum { NETWORK_AT = 18, START_AT = 20, END_AT = 25, TYPE_AT = 30, CLASS_AT = 35, COUNT_AT = 36, RESOURCES_AT = 37 };
+
+// Where fields of a channel stand after its flag.
+enum { STREAM_AT = 2, PROGRAM_AT = 4, PCR_AT = 6, DESCRIPTORS_AT = 8 };
+
+static nw_answer refused(unsigned number, size_t place) { return (nw_answer)place << 8 | number; }
+static nw_answer value(uint64_t x) { return x << 8; }
+static nw_answer part(size_t start, size_t length) { return value((uint64_t)start << 24 | length); }
+
+// ---- fields
+
+static inline uint64_t big_endian(const uint8_t *s, size_t width) {
+    uint64_t x = 0;
+    for (size_t i = 0; i < width; i++) x = x << 8 | s[i];
+    return x;
+}
+
+// Not 0 where one of the 4-bit digits of x is above 9: its 8 stands with its 4 or its 2.
+static inline uint64_t above_nine(uint64_t x) { return x >> 3 & (x >> 2 | x >> 1) & UINT64_C(0x1111111111111111); }
+
+// The first four bits are reserved and no digit. No way out at the first bad one, so that the loop can run wide.
+static inline int bad_digits(const uint8_t *s, size_t width) {
+    uint8_t bad = (uint8_t)above_nine(s[0] & 15u);
+    for (size_t i = 1; i < width; i++) bad |= (uint8_t)(s[i] >> 3 & (s[i] >> 2 | s[i] >> 1) & 0x11);
+    return bad != 0;
+}
+
+static inline unsigned digit_of(const uint8_t *s, size_t i) { return i % 2 ? s[(i + 1) / 2] >> 4 : s[i / 2] & 15u; }
+
+// 0, 18 or 20 of a time field. The live mark is a good end.
+static unsigned time_fault(uint64_t field, int is_end) {
+    if (is_end && field == NW_LIVE) return 0;
+    if (above_nine(field & 0xFFFFFF)) return DIGIT;
+    if (field >> 24 < 15079 || (field >> 16 & 0xFF) > 0x23 || (field >> 8 & 0xFF) > 0x59 || (field & 0xFF) > 0x59)
+        return IMPOSSIBLE;
+    return 0;
+}
+
+static int bad_type(const uint8_t *s) { return (s[0] | s[1] | s[2] | s[3] | s[4]) > 0x7F; }
+static int in_set(unsigned class_or_level) { return class_or_level - 1 < 4; }
+
+// A place in a body, and the end of the counted part that is being read. Each `take` passes a field and answers 0, or
+// answers the refusal's number and stays: the place of a refusal is where the reader then stands.
+struct reader {
+    const uint8_t *s;
+    size_t n, end, at;
+    size_t entries; // of the form that asks for what was passed
+};
+
+static inline unsigned need(const struct reader *r, size_t width) {
+    if (r->at + width <= r->end) return 0;
+    return r->at + width > r->n ? PAST_BODY : PAST_PART;
+}
+
+static inline unsigned take(struct reader *r, size_t width) {
+    unsigned no = need(r, width);
+    if (no == 0) r->at += width;
+    return no;
+}
+
+// The reserved bits at the top of the next byte, which is not passed.
+static inline unsigned reserved(const struct reader *r, unsigned mask) {
+    unsigned no = need(r, 1);
+    return no ? no : (r->s[r->at] & mask) == mask ? 0 : RESERVED;
+}
+
+static inline unsigned take_digits(struct reader *r, size_t width) {
+    unsigned no = reserved(r, 0xF0);
+    if (no || (no = need(r, width))) return no;
+    if (bad_digits(r->s + r->at, width)) return DIGIT;
+    r->at += width;
+    return 0;
+}
+
+static inline unsigned take_time(struct reader *r, int is_end) {
+    unsigned no = need(r, 5);
+    if (no || (no = time_fault(big_endian(r->s + r->at, 5), is_end))) return no;
+    r->at += 5;
+    return 0;
+}
+
+static inline unsigned take_type(struct reader *r) {
+    unsigned no = need(r, TYPE_BYTES);
+    if (no) return no;
+    if (bad_type(r->s + r->at)) return OUTSIDE;
+    r->at += TYPE_BYTES;
+    return 0;
+}
+
+static inline unsigned take_pid(struct reader *r) {
+    unsigned no = reserved(r, 0xE0);
+    return no ? no : take(r, 2);
+}
+
+// A length in so many bytes whose part, right after it, lies in the body and in the part that is being read.
+static inline unsigned take_length(struct reader *r, size_t width, size_t *length) {
+    unsigned no = need(r, width);
+    if (no) return no;
+    *length = big_endian(r->s + r->at, width);
+    if ((no = need(r, width + *length))) return no;
+    r->at += width;
+    return 0;
+}
+
+// Four reserved bits and a 12-bit length. The low ten bits count, and the two above them must be 0.
+static inline unsigned take_short_length(struct reader *r, size_t *length) {
+    unsigned no = reserved(r, 0xF0);
+    if (no || (no = need(r, 2))) return no;
+    size_t field = big_endian(r->s + r->at, 2);
+    *length = field & 0x3FF;
+    if ((no = need(r, 2 + *length))) return no;
+    if (field & 0xC00) return RESERVED;
+    r->at += 2;
+    return 0;
+}
+
+// ---- a whole body
+
+// A length and descriptors that fill their part.
+static inline unsigned take_descriptors(struct reader *r) {
+    size_t length, outer = r->end;
+    unsigned no = take_short_length(r, &length);
+    if (no) return no;
+    for (r->end = r->at + length; r->at < r->end; r->at += length) {
+        r->at++;
+        if ((no = take_length(r, 1, &length))) return no;
+        r->entries += 3;
+    }
+    r->end = outer;
+    r->entries++;
+    return 0;
+}
+
+static inline unsigned take_streams(struct reader *r) {
+    size_t length, outer = r->end;
+    unsigned no = take_length(r, 2, &length);
+    if (no) return no;
+    r->end = r->at + length;
+    while (r->at < r->end) {
+        r->at++;
+        if ((no = take_pid(r)) || (no = take_descriptors(r))) return no;
+        r->entries += 2;
+    }
+    r->end = outer;
+    r->entries++;
+    return 0;
+}
+
+static unsigned take_channel(struct reader *r) {
+    unsigned no;
+    for (int i = 0; i < 3; i++) // network, stream and program, each a field
+        if ((no = take(r, 2))) return no;
+    r->entries += 4;
+    if ((no = take_pid(r)) || (no = take_descriptors(r))) return no;
+    return take_streams(r);
+}
+
+static unsigned take_resources(struct reader *r) {
+    unsigned no = take(r, 1);
+    if (no) return no;
+    size_t count = r->s[r->at - 1];
+    r->entries += 1 + 2 * count;
+    for (; count > 0; count--)
+        if ((no = take_digits(r, RESOURCE_BYTES))) return no;
+    return 0;
+}
+
+static unsigned take_message(struct reader *r) {
+    size_t length, outer = r->end;
+    unsigned no = take_length(r, 2, &length);
+    if (no) return no;
+    r->end = r->at + length;
+    if ((no = take_digits(r, IDENTIFIER_BYTES)) || (no = take(r, 2)) || (no = take_time(r, 0)) ||
+        (no = take_time(r, 1)) || (no = take_type(r)) || (no = need(r, 1)))
+        return no;
+    if (!in_set(r->s[r->at] >> 4) || !in_set(r->s[r->at] & 15u)) return OUTSIDE;
+    r->at++;
+    if ((no = take_resources(r)) || (no = reserved(r, 0xFE))) return no;
+    r->entries += 10;
+    if (r->s[r->at++] & 1 && (no = take_channel(r))) return no;
+    if (r->at < r->end) return PAST_PART;
+    r->end = outer;
+    return 0;
+}
+
+static unsigned take_body(struct reader *r) {
+    size_t length;
+    unsigned no = take(r, 1);
+    if (no) return no;
+    for (size_t left = r->s[0]; left > 0; left--)
+        if ((no = take_message(r))) return no;
+    if ((no = take_length(r, 2, &length))) return no;
+    r->at += length;
+    r->entries += 3;
+    return r->at < r->n ? NW_LEFT_OVER : 0;
+}
+
+// Judges a body; the reader then has the entries of its form.
+static nw_answer judge(struct reader *r, uint32_t kind) {
+    if (kind != NW_INDEX) return NW_OTHER_KIND;
+    if (r->n > NW_MOST_BODY) return NW_TOO_LARGE;
+    unsigned no = take_body(r);
+    return no ? refused(no, r->at) : 0;
+}
+
+nw_answer plain_index_read(uint32_t kind, const uint8_t *body, size_t n) {
+    struct reader r = {body, n, n, 0, 0};
+    return judge(&r, kind);
+}
+
+nw_answer plain_index_records(uint32_t kind, const uint8_t *body, size_t n, nw_record *list, size_t room) {
+    nw_answer got = plain_index_read(kind, body, n);
+    if (NW_REFUSAL(got)) return got;
+    size_t count = body[0], at = 1;
+    if (count > room) return NW_OUTPUT_TOO_SMALL;
+    for (size_t i = 0; i < count; i++) {
+        size_t length = big_endian(body + at, 2);
+        const uint8_t *message = body + (at += 2);
+        list[i] = (nw_record){at, length, big_endian(message + START_AT, 5), big_endian(message + END_AT, 5),
+                              message[CLASS_AT] >> 4, message[CLASS_AT] & 15};
+        at += length;
+    }
+    return value(count);
+}
+
+// ---- an accepted body laid onto a tape: nothing is judged any more
+
+// What is still to be laid, and where the next entry goes.
+struct layer {
+    const uint8_t *s;
+    size_t at;
+    uint64_t *to;
+};
+
+static void lay_number(struct layer *l, size_t width, uint64_t mask) {
+    *l->to++ = big_endian(l->s + l->at, width) & mask;
+    l->at += width;
+}
+
+static void lay_span(struct layer *l, size_t length) {
+    *l->to++ = l->at;
+    *l->to++ = length;
+    l->at += length;
+}
+
+static void lay_descriptors(struct layer *l) {
+    size_t end = l->at + 2 + (big_endian(l->s + l->at, 2) & 0x3FF);
+    uint64_t *count = l->to++;
+    l->at += 2;
+    for (*count = 0; l->at < end; ++*count) {
+        lay_number(l, 1, 0xFF);
+        l->at++;
+        lay_span(l, l->s[l->at - 1]);
+    }
+}
+
+static void lay_channel(struct layer *l) {
+    for (int i = 0; i < 3; i++) lay_number(l, 2, 0xFFFF);
+    lay_number(l, 2, 0x1FFF);
+    lay_descriptors(l);
+    size_t end = l->at + 2 + big_endian(l->s + l->at, 2);
+    uint64_t *count = l->to++;
+    l->at += 2;
+    for (*count = 0; l->at < end; ++*count) {
+        lay_number(l, 1, 0xFF);
+        lay_number(l, 2, 0x1FFF);
+        lay_descriptors(l);
+    }
+}
+
+static void lay_message(struct layer *l) {
+    l->at += 2;
+    lay_span(l, IDENTIFIER_BYTES);
+    lay_number(l, 2, 0xFFFF);
+    lay_number(l, 5, NW_LIVE);
+    lay_number(l, 5, NW_LIVE);
+    lay_span(l, TYPE_BYTES);
+    *l->to++ = l->s[l->at] >> 4;
+    lay_number(l, 1, 15);
+    size_t resources = l->s[l->at];
+    lay_number(l, 1, 0xFF);
+    for (; resources > 0; resources--) lay_span(l, RESOURCE_BYTES);
+    lay_number(l, 1, 1);
+    if (l->to[-1]) lay_channel(l);
+}
+
+nw_answer plain_index_lay(uint32_t kind, const uint8_t *body, size_t n, uint64_t *tape, size_t entries) {
+    struct reader r = {body, n, n, 0, 0};
+    nw_answer got = judge(&r, kind);
+    if (NW_REFUSAL(got)) return got;
+    if (r.entries > entries) return NW_OUTPUT_TOO_SMALL;
+    struct layer l = {body, 0, tape};
+    lay_number(&l, 1, 0xFF);
+    for (size_t left = body[0]; left > 0; left--) lay_message(&l);
+    l.at += 2;
+    lay_span(&l, n - l.at);
+    return value(r.entries);
+}
+
+// ---- a form judged and measured
+
+// The entries that are left, the pool, the bytes that what was passed fills, and whether a count or length is too large
+// for its field. A `form_` function answers 0 or the refusal's number.
+struct form {
+    const uint64_t *t;
+    size_t left;
+    const uint8_t *pool;
+    size_t pool_bytes;
+    uint64_t bytes;
+    int large;
+};
+
+static inline unsigned form_number(struct form *f, uint64_t least, uint64_t most) {
+    if (f->left == 0 || *f->t < least || *f->t > most) return OUTSIDE;
+    f->t++;
+    f->left--;
+    return 0;
+}
+
+// A span of the pool, and its bytes.
+static inline unsigned form_span(struct form *f, const uint8_t **s, uint64_t *length) {
+    if (f->left < 2 || f->t[0] > f->pool_bytes || f->t[1] > f->pool_bytes - f->t[0]) return OUTSIDE;
+    *s = f->pool + f->t[0];
+    *length = f->t[1];
+    f->t += 2;
+    f->left -= 2;
+    return 0;
+}
+
+static inline unsigned form_digits(struct form *f, size_t width) {
+    const uint8_t *s;
+    uint64_t length;
+    unsigned no = form_span(f, &s, &length);
+    if (no || length != width) return OUTSIDE;
+    f->bytes += width;
+    return bad_digits(s, width) ? DIGIT : 0;
+}
+
+static inline unsigned form_type(struct form *f) {
+    const uint8_t *s;
+    uint64_t length;
+    unsigned no = form_span(f, &s, &length);
+    return no || length != TYPE_BYTES || bad_type(s) ? OUTSIDE : 0;
+}
+
+static inline unsigned form_time(struct form *f, int is_end) {
+    unsigned no = form_number(f, 0, NW_LIVE);
+    return no ? no : time_fault(f->t[-1], is_end);
+}
+
+// Bytes after a length field, whose most is given. What is too large is not measured: its size can't matter any more.
+static inline unsigned form_opaque(struct form *f, size_t width, uint64_t most) {
+    const uint8_t *s;
+    uint64_t length;
+    unsigned no = form_span(f, &s, &length);
+    if (no) return no;
+    if (length > most) f->large = 1;
+    else f->bytes += width + length;
+    return 0;
+}
+
+static unsigned form_descriptors(struct form *f) {
+    unsigned no = form_number(f, 0, UINT64_MAX);
+    if (no) return no;
+    uint64_t left = f->t[-1], before = f->bytes;
+    for (; left > 0; left--, f->bytes++)
+        if ((no = form_number(f, 0, 0xFF)) || (no = form_opaque(f, 1, 0xFF))) return no;
+    f->large |= f->bytes - before > 0x3FF;
+    f->bytes += 2;
+    return 0;
+}
+
+static unsigned form_streams(struct form *f) {
+    unsigned no = form_number(f, 0, UINT64_MAX);
+    if (no) return no;
+    uint64_t left = f->t[-1], before = f->bytes;
+    for (; left > 0; left--, f->bytes += 3)
+        if ((no = form_number(f, 0, 0xFF)) || (no = form_number(f, 0, 0x1FFF)) || (no = form_descriptors(f))) return no;
+    f->large |= f->bytes - before > 0xFFFF;
+    f->bytes += 2;
+    return 0;
+}
+
+static unsigned form_channel(struct form *f) {
+    unsigned no;
+    for (int i = 0; i < 3; i++)
+        if ((no = form_number(f, 0, 0xFFFF))) return no;
+    f->bytes += 8;
+    if ((no = form_number(f, 0, 0x1FFF)) || (no = form_descriptors(f))) return no;
+    return form_streams(f);
+}
+
+static unsigned form_resources(struct form *f) {
+    unsigned no = form_number(f, 0, UINT64_MAX);
+    if (no) return no;
+    uint64_t left = f->t[-1];
+    for (f->large |= left > 0xFF; left > 0; left--)
+        if ((no = form_digits(f, RESOURCE_BYTES))) return no;
+    return 0;
+}
+
+static unsigned form_message(struct form *f) {
+    uint64_t before = f->bytes;
+    unsigned no;
+    if ((no = form_digits(f, IDENTIFIER_BYTES)) || (no = form_number(f, 0, 0xFFFF)) || (no = form_time(f, 0)) ||
+        (no = form_time(f, 1)) || (no = form_type(f)) || (no = form_number(f, 1, 4)) || (no = form_number(f, 1, 4)) ||
+        (no = form_resources(f)) || (no = form_number(f, 0, 1)) || (f->t[-1] && (no = form_channel(f))))
+        return no;
+    f->bytes += RESOURCES_AT - IDENTIFIER_BYTES + 1;
+    f->large |= f->bytes - before > 0xFFFF;
+    f->bytes += 2;
+    return 0;
+}
+
+// 19, 18, 20 or 22 of a form, or its body's length.
+static nw_answer measure(struct form *f) {
+    unsigned no = form_number(f, 0, UINT64_MAX);
+    if (no) return no;
+    uint64_t left = f->t[-1];
+    f->bytes = 1;
+    for (f->large = left > 0xFF; left > 0; left--)
+        if ((no = form_message(f))) return no;
+    if ((no = form_opaque(f, 2, 0xFFFF))) return no;
+    if (f->left > 0) return OUTSIDE;
+    return f->large || f->bytes > NW_MOST_BODY ? NW_TOO_LARGE : value(f->bytes);
+}
+
+// ---- a form written: nothing is judged any more
+
+// The next entry, the pool, and where the next byte goes.
+struct writer {
+    const uint64_t *t;
+    const uint8_t *pool;
+    uint8_t *to;
+};
+
+static inline void put(uint8_t *to, uint64_t x, size_t width) {
+    for (size_t i = 0; i < width; i++) to[i] = (uint8_t)(x >> 8 * (width - 1 - i));
+}
+
+static inline void put_number(struct writer *w, size_t width, uint64_t fixed) {
+    put(w->to, fixed | *w->t++, width);
+    w->to += width;
+}
+
+static inline void put_span(struct writer *w) {
+    memcpy(w->to, w->pool + w->t[0], w->t[1]);
+    w->to += w->t[1];
+    w->t += 2;
+}
+
+static inline void put_digits(struct writer *w) {
+    uint8_t *first = w->to;
+    put_span(w);
+    *first |= 0xF0;
+}
+
+static inline void put_opaque(struct writer *w, size_t width) {
+    put(w->to, w->t[1], width);
+    w->to += width;
+    put_span(w);
+}
+
+// The length of what was put after its two bytes.
+static inline void put_length(struct writer *w, uint8_t *at, unsigned fixed) {
+    put(at, fixed | (uint64_t)(w->to - at - 2), 2);
+}
+
+static void put_descriptors(struct writer *w) {
+    uint8_t *length = w->to;
+    w->to += 2;
+    for (uint64_t left = *w->t++; left > 0; left--) {
+        put_number(w, 1, 0);
+        put_opaque(w, 1);
+    }
+    put_length(w, length, 0xF000);
+}
+
+static void put_channel(struct writer *w) {
+    for (int i = 0; i < 3; i++) put_number(w, 2, 0);
+    put_number(w, 2, 0xE000);
+    put_descriptors(w);
+    uint8_t *length = w->to;
+    w->to += 2;
+    for (uint64_t left = *w->t++; left > 0; left--) {
+        put_number(w, 1, 0);
+        put_number(w, 2, 0xE000);
+        put_descriptors(w);
+    }
+    put_length(w, length, 0);
+}
+
+static void put_message(struct writer *w) {
+    uint8_t *length = w->to;
+    w->to += 2;
+    put_digits(w);
+    put_number(w, 2, 0);
+    put_number(w, 5, 0);
+    put_number(w, 5, 0);
+    put_span(w);
+    *w->to++ = (uint8_t)(w->t[0] << 4 | w->t[1]);
+    w->t += 2;
+    uint64_t resources = *w->t;
+    for (put_number(w, 1, 0); resources > 0; resources--) put_digits(w);
+    uint64_t flag = *w->t;
+    put_number(w, 1, 0xFE);
+    if (flag) put_channel(w);
+    put_length(w, length, 0);
+}
+
+nw_answer plain_index_write(const uint8_t *pool, size_t pool_bytes, const uint64_t *tape, size_t entries, uint8_t *out,
+                            size_t room) {
+    struct form f = {tape, entries, pool, pool_bytes, 0, 0};
+    nw_answer got = measure(&f);
+    if (NW_REFUSAL(got)) return got;
+    if (NW_VALUE(got) > room) return NW_OUTPUT_TOO_SMALL;
+    struct writer w = {tape, pool, out};
+    uint64_t left = *w.t;
+    for (put_number(&w, 1, 0); left > 0; left--) put_message(&w);
+    put_opaque(&w, 2);
+    return got;
+}
+
+// ---- fields of a body asked for: what stands before them is passed by its length, and not judged
+
+nw_answer plain_index_message_count(const uint8_t *body, size_t n) { return n == 0 ? PAST_BODY : value(body[0]); }
+
+// Passes some messages from the second byte on.
+static unsigned skip_messages(struct reader *r, uint64_t count) {
+    size_t length;
+    unsigned no;
+    for (r->at = 1; count > 0; count--, r->at += length)
+        if ((no = take_length(r, 2, &length))) return no;
+    return 0;
+}
+
+static nw_answer part_after(struct reader *r, uint64_t messages) {
+    size_t length;
+    unsigned no = skip_messages(r, messages);
+    if (no || (no = take_length(r, 2, &length))) return refused(no, r->at);
+    return part(r->at, length);
+}
+
+nw_answer plain_index_message(const uint8_t *body, size_t n, uint64_t i) {
+    struct reader r = {body, n, n, 0, 0};
+    if (n == 0) return PAST_BODY;
+    return i < body[0] ? part_after(&r, i) : OUTSIDE;
+}
+
+nw_answer plain_index_signature(const uint8_t *body, size_t n) {
+    struct reader r = {body, n, n, 0, 0};
+    return n == 0 ? PAST_BODY : part_after(&r, body[0]);
+}
+
+// ---- fields of a message asked for, each at its own place
+
+// A reader at a place of the part of a body from `begin` to `end`; 0 where there is no such part.
+static int stands(struct reader *r, const uint8_t *body, size_t n, size_t begin, size_t length, size_t place) {
+    if (begin > n || length > n - begin) return 0;
+    *r = (struct reader){body, n, begin + length, begin + place, 0};
+    return 1;
+}
+
+// The number in the next `width` bytes.
+static nw_answer asked_number(struct reader *r, size_t width) {
+    unsigned no = take(r, width);
+    return no ? refused(no, r->at) : value(big_endian(r->s + r->at - width, width));
+}
+
+static nw_answer asked_digits(struct reader *r, size_t width) {
+    unsigned no = take_digits(r, width);
+    return no ? refused(no, r->at) : part(r->at - width, width);
+}
+
+static nw_answer asked_digit(const uint8_t *body, nw_answer digits, uint64_t i) {
+    if (NW_REFUSAL(digits)) return digits;
+    return i < 2 * NW_PART_LENGTH(digits) - 1 ? value(digit_of(body + NW_PART_START(digits), i)) : OUTSIDE;
+}
+
+static nw_answer asked_pid(struct reader *r) {
+    unsigned no = take_pid(r);
+    return no ? refused(no, r->at) : value(big_endian(r->s + r->at - 2, 2) & 0x1FFF);
+}
+
+static nw_answer asked_short_part(struct reader *r) {
+    size_t length;
+    unsigned no = take_short_length(r, &length);
+    return no ? refused(no, r->at) : part(r->at, length);
+}
+
+static nw_answer asked_part(struct reader *r, size_t width) {
+    size_t length;
+    unsigned no = take_length(r, width, &length);
+    return no ? refused(no, r->at) : part(r->at, length);
+}
+
+static nw_answer asked_time(struct reader *r, int is_end) {
+    unsigned no = take_time(r, is_end);
+    return no ? refused(no, r->at) : value(big_endian(r->s + r->at - 5, 5));
+}
+
+nw_answer plain_message_identifier(const uint8_t *body, size_t n, size_t at, size_t length) {
+    struct reader r;
+    return stands(&r, body, n, at, length, 0) ? asked_digits(&r, IDENTIFIER_BYTES) : OUTSIDE;
+}
+
+nw_answer plain_message_identifier_digit(const uint8_t *body, size_t n, size_t at, size_t length, uint64_t i) {
+    return asked_digit(body, plain_message_identifier(body, n, at, length), i);
+}
+
+nw_answer plain_message_network(const uint8_t *body, size_t n, size_t at, size_t length) {
+    struct reader r;
+    return stands(&r, body, n, at, length, NETWORK_AT) ? asked_number(&r, 2) : OUTSIDE;
+}
+
+nw_answer plain_message_start(const uint8_t *body, size_t n, size_t at, size_t length) {
+    struct reader r;
+    return stands(&r, body, n, at, length, START_AT) ? asked_time(&r, 0) : OUTSIDE;
+}
+
+nw_answer plain_message_end(const uint8_t *body, size_t n, size_t at, size_t length) {
+    struct reader r;
+    return stands(&r, body, n, at, length, END_AT) ? asked_time(&r, 1) : OUTSIDE;
+}
+
+nw_answer plain_message_type(const uint8_t *body, size_t n, size_t at, size_t length) {
+    struct reader r;
+    if (!stands(&r, body, n, at, length, TYPE_AT)) return OUTSIDE;
+    unsigned no = take_type(&r);
+    return no ? refused(no, r.at) : part(r.at - TYPE_BYTES, TYPE_BYTES);
+}
+
+// Class and level share a byte, and are judged together.
+static nw_answer half_of_class(const uint8_t *body, size_t n, size_t at, size_t length, unsigned shift) {
+    struct reader r;
+    if (!stands(&r, body, n, at, length, CLASS_AT)) return OUTSIDE;
+    unsigned no = need(&r, 1);
+    if (no) return refused(no, r.at);
+    unsigned both = body[r.at];
+    return in_set(both >> 4) && in_set(both & 15u) ? value(both >> shift & 15u) : refused(OUTSIDE, r.at);
+}
+
+nw_answer plain_message_class(const uint8_t *body, size_t n, size_t at, size_t length) {
+    return half_of_class(body, n, at, length, 4);
+}
+
+nw_answer plain_message_level(const uint8_t *body, size_t n, size_t at, size_t length) {
+    return half_of_class(body, n, at, length, 0);
+}
+
+nw_answer plain_message_resource_count(const uint8_t *body, size_t n, size_t at, size_t length) {
+    struct reader r;
+    return stands(&r, body, n, at, length, COUNT_AT) ? asked_number(&r, 1) : OUTSIDE;
+}
+
+nw_answer plain_message_resource(const uint8_t *body, size_t n, size_t at, size_t length, uint64_t i) {
+    nw_answer count = plain_message_resource_count(body, n, at, length);
+    if (NW_REFUSAL(count)) return count;
+    if (i >= NW_VALUE(count)) return OUTSIDE;
+    struct reader r = {body, n, at + length, at + RESOURCES_AT + RESOURCE_BYTES * i, 0};
+    return asked_digits(&r, RESOURCE_BYTES);
+}
+
+nw_answer plain_message_resource_digit(const uint8_t *body, size_t n, size_t at, size_t length, uint64_t i,
+                                       uint64_t j) {
+    return asked_digit(body, plain_message_resource(body, n, at, length, i), j);
+}
+
+// The channel flag, with the reader at it.
+static nw_answer flag_of(struct reader *r, const uint8_t *body, size_t n, size_t at, size_t length) {
+    nw_answer count = plain_message_resource_count(body, n, at, length);
+    if (NW_REFUSAL(count)) return count;
+    *r = (struct reader){body, n, at + length, at + RESOURCES_AT + RESOURCE_BYTES * NW_VALUE(count), 0};
+    unsigned no = reserved(r, 0xFE);
+    return no ? refused(no, r->at) : value(body[r->at] & 1);
+}
+
+// The reader at a place of the channel. Answers 0, what is wrong before it, or 19 where there is no channel.
+static nw_answer channel_of(struct reader *r, const uint8_t *body, size_t n, size_t at, size_t length, size_t place) {
+    nw_answer flag = flag_of(r, body, n, at, length);
+    if (NW_REFUSAL(flag)) return flag;
+    r->at += 1 + place;
+    return NW_VALUE(flag) ? 0 : OUTSIDE;
+}
+
+nw_answer plain_message_channel_flag(const uint8_t *body, size_t n, size_t at, size_t length) {
+    struct reader r;
+    return flag_of(&r, body, n, at, length);
+}
+
+nw_answer plain_message_channel_network(const uint8_t *body, size_t n, size_t at, size_t length) {
+    struct reader r;
+    nw_answer no = channel_of(&r, body, n, at, length, 0);
+    return no ? no : asked_number(&r, 2);
+}
+
+nw_answer plain_message_channel_stream(const uint8_t *body, size_t n, size_t at, size_t length) {
+    struct reader r;
+    nw_answer no = channel_of(&r, body, n, at, length, STREAM_AT);
+    return no ? no : asked_number(&r, 2);
+}
+
+nw_answer plain_message_channel_program(const uint8_t *body, size_t n, size_t at, size_t length) {
+    struct reader r;
+    nw_answer no = channel_of(&r, body, n, at, length, PROGRAM_AT);
+    return no ? no : asked_number(&r, 2);
+}
+
+nw_answer plain_message_pcr_pid(const uint8_t *body, size_t n, size_t at, size_t length) {
+    struct reader r;
+    nw_answer no = channel_of(&r, body, n, at, length, PCR_AT);
+    return no ? no : asked_pid(&r);
+}
+
+nw_answer plain_message_descriptors(const uint8_t *body, size_t n, size_t at, size_t length) {
+    struct reader r;
+    nw_answer no = channel_of(&r, body, n, at, length, DESCRIPTORS_AT);
+    return no ? no : asked_short_part(&r);
+}
+
+// The streams stand where the descriptors end.
+nw_answer plain_message_streams(const uint8_t *body, size_t n, size_t at, size_t length) {
+    nw_answer descriptors = plain_message_descriptors(body, n, at, length);
+    if (NW_REFUSAL(descriptors)) return descriptors;
+    struct reader r = {body, n, at + length, NW_PART_START(descriptors) + NW_PART_LENGTH(descriptors), 0};
+    return asked_part(&r, 2);
+}
+
+// ---- descriptors and streams asked for, in a part that ends at `end`
+
+nw_answer plain_descriptor_tag(const uint8_t *body, size_t n, size_t end, size_t p) {
+    return end > n || p >= end ? OUTSIDE : value(body[p]);
+}
+
+nw_answer plain_descriptor_bytes(const uint8_t *body, size_t n, size_t end, size_t p) {
+    if (end > n || p >= end) return OUTSIDE;
+    struct reader r = {body, n, end, p + 1, 0};
+    return asked_part(&r, 1);
+}
+
+nw_answer plain_stream_type(const uint8_t *body, size_t n, size_t end, size_t p) {
+    return plain_descriptor_tag(body, n, end, p);
+}
+
+nw_answer plain_stream_pid(const uint8_t *body, size_t n, size_t end, size_t p) {
+    if (end > n || p >= end) return OUTSIDE;
+    struct reader r = {body, n, end, p + 1, 0};
+    return asked_pid(&r);
+}
+
+nw_answer plain_stream_descriptors(const uint8_t *body, size_t n, size_t end, size_t p) {
+    if (end > n || p >= end) return OUTSIDE;
+    struct reader r = {body, n, end, p + 3, 0};
+    return asked_short_part(&r);
+}
+
+// ---- local times
+
+// The date of a day, as year, month and day of the answer's value. The year is taken to begin in March, so that a leap
+// day is its last, and days are counted from 1 March of the year 0, 678,881 days before day 0.
+static uint64_t date_of(uint64_t day) {
+    uint64_t z = day + 678881, era = z / 146097, of_era = z % 146097;
+    uint64_t year = (of_era - of_era / 1460 + of_era / 36524 - of_era / 146096) / 365;
+    uint64_t of_year = of_era - (365 * year + year / 4 - year / 100), month = (5 * of_year + 2) / 153;
+    uint64_t date = of_year - (153 * month + 2) / 5 + 1;
+    year += era * 400 + (month >= 10);
+    month += month < 10 ? 3 : (uint64_t)-9;
+    return year << 16 | month << 8 | date;
+}
+
+static uint64_t decimal(uint64_t digits) { return (digits >> 4 & 15) * 10 + (digits & 15); }
+
+// What nw_time_unpack answers of a good field: 19 for the offset, 18 for the live mark, 20 for a day out of range.
+static nw_answer local_time(nw_answer field, int32_t offset) {
+    if (NW_REFUSAL(field)) return field;
+    uint64_t x = NW_VALUE(field);
+    if (offset < -720 || offset > 840) return OUTSIDE;
+    if (x == NW_LIVE) return DIGIT;
+    uint64_t minute = (x >> 24) * 1440 + decimal(x >> 16) * 60 + decimal(x >> 8) + (uint64_t)(int64_t)offset;
+    uint64_t day = minute / 1440;
+    if (day < 15079 || day > 65535) return IMPOSSIBLE;
+    return value(date_of(day) << 24 | minute / 60 % 24 << 16 | minute % 60 << 8 | decimal(x));
+}
+
+nw_answer plain_message_local_start(const uint8_t *body, size_t n, size_t at, size_t length, int32_t offset) {
+    return local_time(plain_message_start(body, n, at, length), offset);
+}
+
+nw_answer plain_message_local_end(const uint8_t *body, size_t n, size_t at, size_t length, int32_t offset) {
+    return local_time(plain_message_end(body, n, at, length), offset);
+}

@@ -1,0 +1,296 @@
+"""The second program's answers to the index table's calls, no code shared with the library, in calls.c's order."""
+import functools
+
+import second_index
+import second_times
+from calls import Refused
+from second_fields import Reader, refuse
+
+
+def part(begin, length):
+    """As the library answers with a part: where it begins, above 24 bits of length."""
+    return begin * 2**24 + length
+
+
+def span(field):
+    return part(*field[:2])
+
+
+def unrefused(*values):
+    """An answer with each value: no refusal, and the value."""
+    return [item for value in values for item in (0, value)]
+
+
+def answered(call, *arguments):
+    """An answer: no refusal and the value, or the refusal's number and its place."""
+    try:
+        return [0, call(*arguments)]
+    except Refused as refusal:
+        return [refusal.args[0], refusal.place]
+
+
+# ---- whole bodies and forms
+
+
+@functools.lru_cache(maxsize=None)
+def table_of(kind, body):
+    """The table of a body, read once for all that is asked of it."""
+    return second_index.read(kind, body)
+
+
+def index_read(kind, body, offset):
+    """Of an accepted body every field, taken from the whole table that was read."""
+    table = table_of(kind, body)
+    found = unrefused(len(table['messages']))
+    for record, message in zip(table['records'], table['messages'], strict=True):
+        found += message_items(record, message, offset)
+    return 0, *found, *unrefused(span(table['signature']))
+
+
+def message_items(record, message, offset):
+    at, length, *_ = record
+    channel = message['channel']
+    found = unrefused(
+        part(at, length), span(message['identifier']), message['network'], message['start'], message['end'],
+        span(message['type']), message['class'], message['level'], len(message['resources']), int(channel is not None))
+    resources_end = at + 37 + 12 * len(message['resources'])
+    found += channel_items(resources_end + 1, channel) if channel else [19, 0] * 6
+    found += [message['identifier'][2], *local(message['start'], offset), *local(message['end'], offset)]
+    for resource in message['resources']:
+        found += [*unrefused(span(resource)), resource[2]]
+    return found + (things_in(resources_end + 1, channel) if channel else [])
+
+
+def local(field, offset):
+    return answered(lambda: second_times.time_unpack(field, offset)[0])
+
+
+def size_of(descriptors):
+    return sum(2 + descriptor['data'][1] for descriptor in descriptors)
+
+
+def channel_items(at, channel):
+    """The channel that begins at some place: the parts' places and lengths follow from what stands in them."""
+    descriptors = size_of(channel['descriptors'])
+    streams = sum(5 + size_of(stream['descriptors']) for stream in channel['streams'])
+    return unrefused(channel['network'], channel['stream'], channel['program'], channel['PCR PID'],
+                     part(at + 10, descriptors), part(at + 12 + descriptors, streams))
+
+
+def things_in(at, channel):
+    """The channel's descriptors and streams."""
+    found = descriptor_items(channel['descriptors'])
+    at += 12 + size_of(channel['descriptors'])
+    for stream in channel['streams']:
+        size = size_of(stream['descriptors'])
+        found += unrefused(stream['type'], stream['PID'], part(at + 5, size)) + descriptor_items(stream['descriptors'])
+        at += 5 + size
+    return found
+
+
+def descriptor_items(descriptors):
+    return [item for one in descriptors for item in unrefused(one['tag'], span(one['data']))]
+
+
+def with_lent(refusal, lent):
+    """A refusal after which what was lent is as it was."""
+    after = Refused(*refusal.args, lent, place=refusal.place)
+    after.field = refusal.field
+    return after
+
+
+def index_records(kind, body, numbers):
+    """A list of records is six numbers for each."""
+    try:
+        records = table_of(kind, body)['records']
+        if 6 * len(records) > len(numbers):
+            refuse(21, 'records')
+    except Refused as refusal:
+        raise with_lent(refusal, numbers)
+    return len(records), [number for record in records for number in record] + numbers[6 * len(records):]
+
+
+def index_lay(kind, body, tape):
+    try:
+        laid = second_index.tape_of(table_of(kind, body))
+        if len(laid) > len(tape):
+            refuse(21, 'tape')
+    except Refused as refusal:
+        raise with_lent(refusal, tape)
+    return len(laid), laid + tape[len(laid):]
+
+
+def index_write(pool, tape, out):
+    try:
+        body = second_index.write(pool, tape, len(out))
+    except Refused as refusal:
+        raise with_lent(refusal, out)
+    return len(body), body + out[len(body):]
+
+
+# ---- fields asked for, each judged alone where it stands, whatever else is wrong
+
+
+class Part(Reader):
+    """A counted part of any body, read from some place on."""
+
+    def __init__(self, body, at, end):
+        self.body, self.at, self.end = body, at, end
+
+    def span(self, length):
+        return part(self.at, length)
+
+
+def index_message_count(body):
+    return Part(body, 0, len(body)).number('message count', 1)
+
+
+def after_messages(body, count):
+    """At the length that stands after so many messages, which are passed by theirs."""
+    reader = Part(body, 1, len(body))
+    for _ in range(count):
+        reader.taken(reader.length('EBM_length', 2))
+    return reader
+
+
+def index_message(body, i):
+    if i >= index_message_count(body):
+        refuse(19, 'message number')
+    reader = after_messages(body, i)
+    return reader.span(reader.length('EBM_length', 2))
+
+
+def index_signature(body):
+    reader = after_messages(body, index_message_count(body))
+    return reader.span(reader.length('signature length', 2))
+
+
+def in_message(body, at, length, place):
+    """At a place of a message."""
+    if at + length > len(body):
+        refuse(19, 'message')
+    return Part(body, at + place, at + length)
+
+
+def identifier(*message):
+    return in_message(*message, 0).digits('identifier', 18)
+
+
+def class_or_level(message, which):
+    reader = in_message(*message, 35)
+    place = reader.at
+    both = divmod(reader.number('class', 1), 16)
+    if not all(1 <= value <= 4 for value in both):
+        refuse(19, 'class or level', place)
+    return both[which]
+
+
+def resource_count(*message):
+    return in_message(*message, 36).number('resource count', 1)
+
+
+def resource(body, at, length, i):
+    if i >= resource_count(body, at, length):
+        refuse(19, 'resource number')
+    return in_message(body, at, length, 37 + 12 * i).digits('resource', 12)
+
+
+def channel_flag(*message):
+    return in_message(*message, 37 + 12 * resource_count(*message)).shared('channel flag', 7)
+
+
+def in_channel(message, place):
+    """At a place of a message's channel."""
+    if not channel_flag(*message):
+        refuse(19, 'channel')
+    return in_message(*message, 38 + 12 * resource_count(*message) + place)
+
+
+def descriptors(*message):
+    reader = in_channel(message, 8)
+    return reader.span(reader.short_length('program info length'))
+
+
+def streams(*message):
+    reader = in_channel(message, 8)
+    reader.taken(reader.short_length('program info length'))
+    return reader.span(reader.length('stream info length', 2))
+
+
+# What is asked of a message without a further number, in the order of calls.c.
+OF_MESSAGE = (
+    lambda *message: span(identifier(*message)),
+    lambda *message: in_message(*message, 18).number('network', 2),
+    lambda *message: in_message(*message, 20).time('start', live=False),
+    lambda *message: in_message(*message, 25).time('end', live=True),
+    lambda *message: span(second_index.read_type(in_message(*message, 30))),
+    lambda *message: class_or_level(message, 0),
+    lambda *message: class_or_level(message, 1),
+    resource_count,
+    channel_flag,
+    lambda *message: in_channel(message, 0).number('channel network', 2),
+    lambda *message: in_channel(message, 2).number('channel stream', 2),
+    lambda *message: in_channel(message, 4).number('channel program', 2),
+    lambda *message: in_channel(message, 6).pid('PCR PID'),
+    descriptors,
+    streams)
+
+
+def joined(answers):
+    """Answers as calls.c prints them, one after the other; the first one's 0 is put there by who asks."""
+    items = [item for answer in answers for item in answer]
+    if items[0]:
+        raise Refused(items[0], *items[2:], place=items[1])
+    return tuple(items[1:])
+
+
+def message_fields(*message):
+    return joined(answered(call, *message) for call in OF_MESSAGE)
+
+
+def message_local_times(body, at, length, offset):
+    def local_time(place, live):
+        field = in_message(body, at, length, place).time('time', live)
+        return second_times.time_unpack(field, offset)[0]
+    return joined((answered(local_time, 20, False), answered(local_time, 25, True)))
+
+
+def digit(text, i):
+    """The field's own refusal comes first: it is met before there is a text."""
+    if i >= len(text):
+        refuse(19, 'digit number')
+    return int(text[i])
+
+
+def message_identifier_digit(body, at, length, i):
+    return digit(identifier(body, at, length)[2], i)
+
+
+def message_resource(body, at, length, i):
+    return span(resource(body, at, length, i))
+
+
+def message_resource_digit(body, at, length, i, j):
+    return digit(resource(body, at, length, i)[2], j)
+
+
+def in_part(body, end, p, place):
+    """At a place of a descriptor or a stream."""
+    if end > len(body) or p >= end:
+        refuse(19, 'part')
+    return Part(body, p + place, end)
+
+
+def descriptor_fields(body, end, p):
+    def data():
+        reader = in_part(body, end, p, 1)
+        return reader.span(reader.length('descriptor length', 1))
+    return joined((answered(lambda: in_part(body, end, p, 0).number('tag', 1)), answered(data)))
+
+
+def stream_fields(body, end, p):
+    def its_descriptors():
+        reader = in_part(body, end, p, 3)
+        return reader.span(reader.short_length('ES info length'))
+    return joined((answered(lambda: in_part(body, end, p, 0).number('stream type', 1)),
+                   answered(lambda: in_part(body, end, p, 1).pid('stream PID')), answered(its_descriptors)))
