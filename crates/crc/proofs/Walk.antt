@@ -9,9 +9,9 @@ use native.Mathlib.Omega.{arith}
 use lib.Bits.{bitXor}
 use lib.ListN.{length, getD, take, drop, replicate, take-append-drop, length-drop}
 use lib.Seq.{drop-cons, take-add, take-all}
-use Rattle.crc.specs.Crc.{bitsOf, bytesBits, crc}
-use Rattle.crc.proofs.Bits.{length-bits, bits-above, bits-append}
-use Rattle.crc.proofs.Laws.{crc-none, crc-append, crc-bytes-append, crc-apart, crc-whole}
+use Rattle.register.specs.Register.{bitsOf, bytesBits, crc}
+use Rattle.register.proofs.Bits.{length-bits, bits-above, bits-append}
+use Rattle.register.proofs.Laws.{crc-none, crc-append, crc-bytes-append, crc-apart, crc-whole}
 
 -- r is the check of the first i bytes of xs
 pub record Walk (w p s : ℕ) (xs : List ℕ) (i r : ℕ) : Type 0 where
@@ -67,14 +67,14 @@ walk-word k {p} {s} {xs} {i} {r} d r′ v h e = walk-more k r′ v (e ∙ sym (c
 -- twice as many, as the numbers d and e
 pub walk-words : (k : ℕ) {p s : ℕ} {xs : List ℕ} {i r : ℕ} (d e a b : ℕ) → Walk (8 * k) p s xs i r
     → bitsOf (8 * k) d ≡ bytesBits (take k (drop i xs)) → bitsOf (8 * k) e ≡ bytesBits (take k (drop (i + k) xs))
-    → a ≡ crc (8 * k) p 0 (bitsOf (8 * k) (bitXor r d) ++ replicate (8 * k) false) → b ≡ crc (8 * k) p 0 (bitsOf (8 * k) e ++ [])
+    → a ≡ crc (8 * k) p 0 (bitsOf (8 * k) (bitXor r d) ++ replicate (8 * k) false) → b ≡ crc (8 * k) p 0 (bitsOf (8 * k) e)
     → Walk (8 * k) p s xs (i + (k + k)) (bitXor a b)
 walk-words k {p} {s} {xs} {i} {r} d e a b v hd he ea eb =
     let w : ℕ = 8 * k in
     let x : List Bool = bitsOf w (bitXor r d) in
     subst (λ (n : ℕ). Walk w p s xs n (bitXor a b)) (add-assoc i k k)
     (walk-more k (bitXor a b) (walk-word k d (crc w p 0 x) v hd refl)
-    (ap₂ bitXor (ea ∙ ap (λ (n : ℕ). crc w p 0 (x ++ replicate n false)) (sym (length-bits w e))) (eb ∙ ap (crc w p 0) (append-nil (bitsOf w e)))
+    (ap₂ bitXor (ea ∙ ap (λ (n : ℕ). crc w p 0 (x ++ replicate n false)) (sym (length-bits w e))) eb
     ∙ sym (crc-apart w p 0 x (bitsOf w e)) ∙ crc-append w p 0 x (bitsOf w e) ∙ ap (crc w p (crc w p 0 x)) he))
 
 -- ---- four bytes as one number

@@ -7,10 +7,10 @@ use Rattle.crc.proofs.last_bytes.Statement.{statement}
 use Rattle.crc.proofs.last_bytes.Tie as tie
 
 abbrev Inv-loop : tie.InvT-loop
-Inv-loop t reg s r₀ i₀ r i = Walk 32 0x04C11DB7 reg s i r
+Inv-loop reg s r₀ i₀ r i = Walk 32 0x04C11DB7 reg s i r
 
 abbrev μ-loop : tie.MeasureT-loop
-μ-loop t reg s r₀ i₀ r i = length s - i
+μ-loop reg s r₀ i₀ r i = length s - i
 
 loop-holds : tie.Need-loop-holds Inv-loop μ-loop
 loop-holds c = walk-start (search needs)

@@ -1,0 +1,27 @@
+// The table of CRC-16 at a nibble, the low one of x.
+ghost use mathlib.Core.Path.{_≡_};
+ghost use Rattle.register.specs.Register.{entry};
+
+pub fn table0(x: u16) -> u16
+    ensures { λ r. ⌜ r ≡ entry 4 16 0x1021 0 x ⌝ }
+{
+    let k = x % 16;
+    match k {
+        0x0 => 0x0000,
+        0x1 => 0x1021,
+        0x2 => 0x2042,
+        0x3 => 0x3063,
+        0x4 => 0x4084,
+        0x5 => 0x50A5,
+        0x6 => 0x60C6,
+        0x7 => 0x70E7,
+        0x8 => 0x8108,
+        0x9 => 0x9129,
+        0xA => 0xA14A,
+        0xB => 0xB16B,
+        0xC => 0xC18C,
+        0xD => 0xD1AD,
+        0xE => 0xE1CE,
+        _ => 0xF1EF,
+    }
+}
