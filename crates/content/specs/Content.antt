@@ -6,7 +6,9 @@ use Rattle.refusal.specs.declared.Refusal.the-variants.{LeftOver, PastPart, Oth
 use Rattle.crc.specs.Crc.{crc16Of}
 use Rattle.fields.specs.Reading.{Reading, found, andThen, need}
 use Rattle.fields.specs.Format.{Format, _▷_, number, among, bytesAmong, reserved, digits, listOf, opaque, exact, view, lengthOf, counted}
+use Rattle.fields.specs.Answers.{stepOf}
 use Rattle.fields.specs.Body.{reading}
+use Rattle.fields.specs.declared.Step.{Step}
 
 -- "FE content"
 abbrev pub contentKind : ℕ
@@ -85,3 +87,7 @@ unfoldable pub readingOf : ℕ → ℕ → ℕ → List ℕ → Reading Content
 readingOf w kind extension s =
     andThen (reading (content w) contentKind kind s) (λ c q.
     need (eqb extension (extensionOf (c .identifier))) OtherChecksum (found c q))
+
+-- where the table ends, or why it is refused
+unfoldable pub contentRead : ℕ → ℕ → ℕ → List ℕ → Step
+contentRead w kind extension s = stepOf (readingOf w kind extension s)
