@@ -1,8 +1,9 @@
 /* neapwillow.h: the emergency tables of GD/J 086-2018 for adapters and set-top boxes.
  *
- * Every function here takes every input of every length, finishes, keeps nothing between calls and
- * allocates nothing. It is proved (in Rattle) to do what the comment above it says; this file itself
- * is not, so a test holds each declaration to the source.
+ * Every function declared here takes every input of every length, finishes, keeps nothing between
+ * calls and allocates nothing. It is proved (in Rattle) to do what the comment above it says; this file
+ * itself is not, nor are the few helpers that are written out in it, so tests hold each declaration to
+ * the source and the helpers to tables made by hand.
  *
  * A byte string goes in as a pointer and a length; with length 0 nothing is read behind the pointer.
  *

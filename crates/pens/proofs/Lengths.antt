@@ -1,17 +1,16 @@
 -- Laws of a pen through a counted part: room for its length, the part, and then the length.
 use Prim.Native.Nat.{ℕ, _+_, _-_, _^_, _≤_, _<_, min}
 use mathlib.Core.Path.{_≡_, refl, sym, ap, ap₂, _∙_}
-use mathlib.Core.List.{List, _++_, append-assoc}
+use mathlib.Core.List.{List}
 use mathlib.Core.Bool.{Bool, true, false, not, _||_}
 use native.Mathlib.Omega.{arith}
-use native.Mathlib.Nat.{zero-add, add-assoc}
-use lib.ListN.{length, take, drop, length-append}
-use lib.Seq.{length-take-le, take-append-le, drop-append-le, take-take, drop-at}
+use native.Mathlib.Nat.{zero-add}
+use lib.ListN.{length, length-append}
 use lib.Dec.{ltb}
 use borrow.Author.Tests.{ltb-true, ltb-false, lt-ltb, le-ltb, not-false}
 use Rattle.choices.specs.Choice.{if_then_else_}
 use Rattle.placing.specs.Placed.{placed}
-use Rattle.placing.proofs.Placing.{placed-length}
+use Rattle.placing.proofs.Placing.{placed-length, placed-before}
 use Rattle.refusal.specs.declared.Refusal.{Refusal}
 use Rattle.fields.specs.Reading.{Reading, found, refused}
 use Rattle.fields.specs.Format.{Format, bytesOf, count, reserved, Length, lengthOf, length12, counted}
@@ -22,24 +21,6 @@ use Rattle.pens.specs.declared.Pen.{Pen}
 use Rattle.pens.specs.declared.Pen.the-variants.{At, Refused}
 use Rattle.pens.proofs.Leaves.{more-exact}
 use Rattle.pens.proofs.Pairs.{pen-onward, pen-exact, penned-by}
-
--- bytes laid before others
-pub placed-before : (d : List ℕ) (at : ℕ) (s t : List ℕ) (k : ℕ) → k ≡ at + length s → k + length t ≤ length d → placed (placed d k t) at s ≡ placed d at (s ++ t)
-unfolding placed
-placed-before d at s t k e h = rw (front, ← e, back) (simp (append-assoc, length-append) (rw (← add-assoc, ← e)))
-  where
-    long : length (take k d ++ t) ≡ k + length t
-    long = length-append (take k d) t ∙ ap (λ (n : ℕ). n + length t) (length-take-le k d (omega arith))
-
-    front : take at (take k d ++ t ++ drop (k + length t) d) ≡ take at d
-    front =
-        take-append-le at (take k d ++ t) (drop (k + length t) d) (omega (arith, long))
-        ∙ take-append-le at (take k d) t (omega (arith, length-take-le k d (omega arith))) ∙ take-take at k d (omega arith)
-
-    back : drop k (take k d ++ t ++ drop (k + length t) d) ≡ t ++ drop (k + length t) d
-    back =
-        drop-append-le k (take k d ++ t) (drop (k + length t) d) (omega (arith, long))
-        ∙ ap (λ l. l ++ drop (k + length t) d) (drop-at (take k d) t k (length-take-le k d (omega arith)))
 
 -- ---- room for a length
 

@@ -1,14 +1,14 @@
 -- Walks through things that repeat to the end of their part: their entries go after a gap of one, and at the end their count into the gap.
 use Prim.Native.Nat.{ℕ, zero, suc, _+_, _-_, _≤_, _<_}
 use mathlib.Core.Path.{_≡_, refl, sym, ap, ap₂, _∙_, subst, subst₂}
-use mathlib.Core.List.{List, [], _∷_, _++_, append-assoc}
+use mathlib.Core.List.{List, [], _∷_}
 use mathlib.Core.Bool.{Bool, true, false}
 use native.Mathlib.Omega.{arith}
-use lib.ListN.{length, take, drop, length-append}
-use lib.Seq.{length-take-le, take-append-le, take-take, drop-at}
+use lib.ListN.{length, length-append}
 use borrow.Author.Tests.{le-leb}
 use Rattle.choices.proofs.Tests.{and-of}
 use Rattle.placing.specs.Placed.{placed}
+use Rattle.placing.proofs.Placing.{placed-before}
 use Rattle.refusal.specs.declared.Refusal.{Refusal}
 use Rattle.fields.specs.Reading.{Reading, found, refused, andThen}
 use Rattle.fields.specs.Format.{Format, followed, _▷_, printAll, every, some, tapeAll, parseMany, many}
@@ -24,20 +24,6 @@ use Rattle.walks.specs.declared.Walk.{Walk}
 use Rattle.walks.specs.declared.Walk.the-variants.{At, Refused}
 use Rattle.walks.proofs.Pairs.{walked-at, from, stays, empty, passed, went-on, stopped, dependent, renamed, regroup}
 use Rattle.walks.proofs.Counts.{Ahead, ahead-start}
-
--- entries before those that stand
-placed-before : (d : List ℕ) (at : ℕ) (xs ys : List ℕ) → at + length xs + length ys ≤ length d → placed (placed d (at + length xs) ys) at xs ≡ placed d at (xs ++ ys)
-unfolding placed
-placed-before d at xs ys h =
-    let k = at + length xs in
-    let front = take k d in
-    let back = drop (k + length ys) d in
-    let long : length front ≡ k = length-take-le k d (omega arith) in
-    let first : take at (front ++ ys ++ back) ≡ take at d =
-    take-append-le at (front ++ ys) back (omega (arith, length-append front ys)) ∙ take-append-le at front ys (omega arith) ∙ take-take at k d (omega arith) in
-    let last : drop k (front ++ ys ++ back) ≡ ys ++ back = ap (drop k) (append-assoc front ys back) ∙ drop-at front (ys ++ back) k long in
-    let end : k + length ys ≡ at + length (xs ++ ys) = omega (arith, length-append xs ys) in
-    rw (first, last, ← append-assoc (take at d ++ xs) ys back, append-assoc (take at d) xs ys, end)
 
 -- the things without their count
 unfoldable pub things : {A : Type 0} → Format A → Format (List A)
@@ -183,5 +169,5 @@ module _ {A : Type 0} {F : Format A} {s : List ℕ} {l p room : ℕ} {wet : Bool
           let place : length t′ + 1 - room ≡ gap = omega arith in
           let one : t′ ≡ placed t (gap + 1) (tapeAll F xs p) =
           all-behind .laid v p (room - 1) refl i xs q k (omega arith) (omega arith) ∙ ap (λ j. placed t j (tapeAll F xs p)) after in
-          put v (omega arith) (omega arith) ∙ ap₂ (λ d j. placed d j (n ∷ [])) one place ∙ placed-before t gap (n ∷ []) (tapeAll F xs p) (omega arith)
+          put v (omega arith) (omega arith) ∙ ap₂ (λ d j. placed d j (n ∷ [])) one place ∙ placed-before t gap (n ∷ []) (tapeAll F xs p) (gap + 1) refl (omega arith)
           ∙ ap (λ m. placed t gap (m ∷ tapeAll F xs p)) (all-counted xs q k)
