@@ -1,100 +1,98 @@
 // The fields of an index table for C, asked for one by one.
-use crate::answers;
-use fields::Number;
 ghost use mathlib.Core.Path.{_≡_};
 ghost use Rattle.local.specs.Clock.{unpackOf};
 ghost use Rattle.messages.specs.Asked.{messageCount, messagePart, signaturePart, identifierPart, identifierDigit, network, start, end, typePart, class, level, resourceCount, resourcePart, resourceDigit, flag, channelNetwork, channelStream, channelProgram, pcrPid, descriptorsPart, streamsPart, descriptorTag, descriptorPart, streamType, streamPid, streamDescriptors};
-ghost use Rattle.neapwillow.specs.Answers.{numberAnswer, partAnswer, localFieldAnswer};
+ghost use Rattle.telling.specs.Answers.{numberAnswer, partAnswer, localFieldAnswer};
 
 #[no_mangle]
 pub extern "C" fn nw_index_message_count(body: &[u8]) -> u64
     ensures { λ r. ⌜ r ≡ numberAnswer (messageCount (now (body .entry))) ⌝ }
 {
-    answers::number_answer(messages::message_count(body))
+    telling::number_answer(messages::message_count(body))
 }
 
 #[no_mangle]
 pub extern "C" fn nw_index_message(body: &[u8], i: u64) -> u64
     ensures { λ r. ⌜ r ≡ partAnswer (messagePart (now (body .entry)) i) ⌝ }
 {
-    answers::part_answer(messages::message(body, i))
+    telling::part_answer(messages::message(body, i))
 }
 
 #[no_mangle]
 pub extern "C" fn nw_index_signature(body: &[u8]) -> u64
     ensures { λ r. ⌜ r ≡ partAnswer (signaturePart (now (body .entry))) ⌝ }
 {
-    answers::part_answer(messages::signature(body))
+    telling::part_answer(messages::signature(body))
 }
 
 #[no_mangle]
 pub extern "C" fn nw_message_identifier(body: &[u8], at: usize, length: usize) -> u64
     ensures { λ r. ⌜ r ≡ partAnswer (identifierPart (now (body .entry)) at length) ⌝ }
 {
-    answers::part_answer(messages::identifier(body, at, length))
+    telling::part_answer(messages::identifier(body, at, length))
 }
 
 #[no_mangle]
 pub extern "C" fn nw_message_identifier_digit(body: &[u8], at: usize, length: usize, i: u64) -> u64
     ensures { λ r. ⌜ r ≡ numberAnswer (identifierDigit (now (body .entry)) at length i) ⌝ }
 {
-    answers::number_answer(messages::identifier_digit(body, at, length, i))
+    telling::number_answer(messages::identifier_digit(body, at, length, i))
 }
 
 #[no_mangle]
 pub extern "C" fn nw_message_network(body: &[u8], at: usize, length: usize) -> u64
     ensures { λ r. ⌜ r ≡ numberAnswer (network (now (body .entry)) at length) ⌝ }
 {
-    answers::number_answer(messages::network(body, at, length))
+    telling::number_answer(messages::network(body, at, length))
 }
 
 #[no_mangle]
 pub extern "C" fn nw_message_start(body: &[u8], at: usize, length: usize) -> u64
     ensures { λ r. ⌜ r ≡ numberAnswer (start (now (body .entry)) at length) ⌝ }
 {
-    answers::number_answer(messages::start(body, at, length))
+    telling::number_answer(messages::start(body, at, length))
 }
 
 #[no_mangle]
 pub extern "C" fn nw_message_end(body: &[u8], at: usize, length: usize) -> u64
     ensures { λ r. ⌜ r ≡ numberAnswer (end (now (body .entry)) at length) ⌝ }
 {
-    answers::number_answer(messages::end(body, at, length))
+    telling::number_answer(messages::end(body, at, length))
 }
 
 #[no_mangle]
 pub extern "C" fn nw_message_type(body: &[u8], at: usize, length: usize) -> u64
     ensures { λ r. ⌜ r ≡ partAnswer (typePart (now (body .entry)) at length) ⌝ }
 {
-    answers::part_answer(messages::type_part(body, at, length))
+    telling::part_answer(messages::type_part(body, at, length))
 }
 
 #[no_mangle]
 pub extern "C" fn nw_message_class(body: &[u8], at: usize, length: usize) -> u64
     ensures { λ r. ⌜ r ≡ numberAnswer (class (now (body .entry)) at length) ⌝ }
 {
-    answers::number_answer(messages::class(body, at, length))
+    telling::number_answer(messages::class(body, at, length))
 }
 
 #[no_mangle]
 pub extern "C" fn nw_message_level(body: &[u8], at: usize, length: usize) -> u64
     ensures { λ r. ⌜ r ≡ numberAnswer (level (now (body .entry)) at length) ⌝ }
 {
-    answers::number_answer(messages::level(body, at, length))
+    telling::number_answer(messages::level(body, at, length))
 }
 
 #[no_mangle]
 pub extern "C" fn nw_message_resource_count(body: &[u8], at: usize, length: usize) -> u64
     ensures { λ r. ⌜ r ≡ numberAnswer (resourceCount (now (body .entry)) at length) ⌝ }
 {
-    answers::number_answer(messages::resource_count(body, at, length))
+    telling::number_answer(messages::resource_count(body, at, length))
 }
 
 #[no_mangle]
 pub extern "C" fn nw_message_resource(body: &[u8], at: usize, length: usize, i: u64) -> u64
     ensures { λ r. ⌜ r ≡ partAnswer (resourcePart (now (body .entry)) at length i) ⌝ }
 {
-    answers::part_answer(messages::resource(body, at, length, i))
+    telling::part_answer(messages::resource(body, at, length, i))
 }
 
 #[no_mangle]
@@ -107,113 +105,103 @@ pub extern "C" fn nw_message_resource_digit(
 ) -> u64
     ensures { λ r. ⌜ r ≡ numberAnswer (resourceDigit (now (body .entry)) at length i j) ⌝ }
 {
-    answers::number_answer(messages::resource_digit(body, at, length, i, j))
+    telling::number_answer(messages::resource_digit(body, at, length, i, j))
 }
 
 #[no_mangle]
 pub extern "C" fn nw_message_channel_flag(body: &[u8], at: usize, length: usize) -> u64
     ensures { λ r. ⌜ r ≡ numberAnswer (flag (now (body .entry)) at length) ⌝ }
 {
-    answers::number_answer(messages::flag(body, at, length))
+    telling::number_answer(messages::flag(body, at, length))
 }
 
 #[no_mangle]
 pub extern "C" fn nw_message_channel_network(body: &[u8], at: usize, length: usize) -> u64
     ensures { λ r. ⌜ r ≡ numberAnswer (channelNetwork (now (body .entry)) at length) ⌝ }
 {
-    answers::number_answer(messages::channel_network(body, at, length))
+    telling::number_answer(messages::channel_network(body, at, length))
 }
 
 #[no_mangle]
 pub extern "C" fn nw_message_channel_stream(body: &[u8], at: usize, length: usize) -> u64
     ensures { λ r. ⌜ r ≡ numberAnswer (channelStream (now (body .entry)) at length) ⌝ }
 {
-    answers::number_answer(messages::channel_stream(body, at, length))
+    telling::number_answer(messages::channel_stream(body, at, length))
 }
 
 #[no_mangle]
 pub extern "C" fn nw_message_channel_program(body: &[u8], at: usize, length: usize) -> u64
     ensures { λ r. ⌜ r ≡ numberAnswer (channelProgram (now (body .entry)) at length) ⌝ }
 {
-    answers::number_answer(messages::channel_program(body, at, length))
+    telling::number_answer(messages::channel_program(body, at, length))
 }
 
 #[no_mangle]
 pub extern "C" fn nw_message_pcr_pid(body: &[u8], at: usize, length: usize) -> u64
     ensures { λ r. ⌜ r ≡ numberAnswer (pcrPid (now (body .entry)) at length) ⌝ }
 {
-    answers::number_answer(messages::pcr_pid(body, at, length))
+    telling::number_answer(messages::pcr_pid(body, at, length))
 }
 
 #[no_mangle]
 pub extern "C" fn nw_message_descriptors(body: &[u8], at: usize, length: usize) -> u64
     ensures { λ r. ⌜ r ≡ partAnswer (descriptorsPart (now (body .entry)) at length) ⌝ }
 {
-    answers::part_answer(messages::descriptors(body, at, length))
+    telling::part_answer(messages::descriptors(body, at, length))
 }
 
 #[no_mangle]
 pub extern "C" fn nw_message_streams(body: &[u8], at: usize, length: usize) -> u64
     ensures { λ r. ⌜ r ≡ partAnswer (streamsPart (now (body .entry)) at length) ⌝ }
 {
-    answers::part_answer(messages::streams(body, at, length))
+    telling::part_answer(messages::streams(body, at, length))
 }
 
 #[no_mangle]
 pub extern "C" fn nw_descriptor_tag(body: &[u8], end: usize, p: usize) -> u64
     ensures { λ r. ⌜ r ≡ numberAnswer (descriptorTag (now (body .entry)) end p) ⌝ }
 {
-    answers::number_answer(messages::descriptor_tag(body, end, p))
+    telling::number_answer(messages::descriptor_tag(body, end, p))
 }
 
 #[no_mangle]
 pub extern "C" fn nw_descriptor_bytes(body: &[u8], end: usize, p: usize) -> u64
     ensures { λ r. ⌜ r ≡ partAnswer (descriptorPart (now (body .entry)) end p) ⌝ }
 {
-    answers::part_answer(messages::descriptor_part(body, end, p))
+    telling::part_answer(messages::descriptor_part(body, end, p))
 }
 
 #[no_mangle]
 pub extern "C" fn nw_stream_type(body: &[u8], end: usize, p: usize) -> u64
     ensures { λ r. ⌜ r ≡ numberAnswer (streamType (now (body .entry)) end p) ⌝ }
 {
-    answers::number_answer(messages::stream_type(body, end, p))
+    telling::number_answer(messages::stream_type(body, end, p))
 }
 
 #[no_mangle]
 pub extern "C" fn nw_stream_pid(body: &[u8], end: usize, p: usize) -> u64
     ensures { λ r. ⌜ r ≡ numberAnswer (streamPid (now (body .entry)) end p) ⌝ }
 {
-    answers::number_answer(messages::stream_pid(body, end, p))
+    telling::number_answer(messages::stream_pid(body, end, p))
 }
 
 #[no_mangle]
 pub extern "C" fn nw_stream_descriptors(body: &[u8], end: usize, p: usize) -> u64
     ensures { λ r. ⌜ r ≡ partAnswer (streamDescriptors (now (body .entry)) end p) ⌝ }
 {
-    answers::part_answer(messages::stream_descriptors(body, end, p))
-}
-
-// The local time of a time field that was asked for.
-fn local_answer(field: Number, offset: i32) -> u64
-    ensures { λ r. ⌜ r ≡ localFieldAnswer (λ f. unpackOf f offset) field ⌝ }
-{
-    match field {
-        Number::Is(f, _after) => crate::clock::nw_time_unpack(f, offset),
-        Number::Refused(why) => refusal::refused(why),
-    }
+    telling::part_answer(messages::stream_descriptors(body, end, p))
 }
 
 #[no_mangle]
 pub extern "C" fn nw_message_local_start(body: &[u8], at: usize, length: usize, offset: i32) -> u64
     ensures { λ r. ⌜ r ≡ localFieldAnswer (λ f. unpackOf f offset) (start (now (body .entry)) at length) ⌝ }
 {
-    local_answer(messages::start(body, at, length), offset)
+    telling::local_field_answer(messages::start(body, at, length), offset)
 }
 
 #[no_mangle]
 pub extern "C" fn nw_message_local_end(body: &[u8], at: usize, length: usize, offset: i32) -> u64
     ensures { λ r. ⌜ r ≡ localFieldAnswer (λ f. unpackOf f offset) (end (now (body .entry)) at length) ⌝ }
 {
-    local_answer(messages::end(body, at, length), offset)
+    telling::local_field_answer(messages::end(body, at, length), offset)
 }

@@ -1,52 +1,51 @@
 // The certificate table for C.
-use crate::answers;
 ghost use mathlib.Core.Path.{_≡_};
 ghost use lib.ListN.{length};
 ghost use Rattle.fields.specs.Body.{bodyRead, bodyLaid, laidTape, bodyWritten, output};
 ghost use Rattle.certificate.specs.Certificate.{certificateKind, certificate};
 ghost use Rattle.certificate.specs.Asked.{authorizationCount, authorizationPart, certificateCount, certificatePart, signaturePart};
-ghost use Rattle.neapwillow.specs.Answers.{readAnswer, numberAnswer, partAnswer, writtenAnswer};
+ghost use Rattle.telling.specs.Answers.{readAnswer, numberAnswer, partAnswer, writtenAnswer};
 
 #[no_mangle]
 pub extern "C" fn nw_certificate_read(kind: u32, body: &[u8]) -> u64
     ensures { λ r. ⌜ r ≡ readAnswer (bodyRead certificate certificateKind kind (now (body .entry))) ⌝ }
 {
-    answers::read_answer(certificate::read(kind, body))
+    telling::read_answer(certificate::read(kind, body))
 }
 
 #[no_mangle]
 pub extern "C" fn nw_certificate_authorization_count(body: &[u8]) -> u64
     ensures { λ r. ⌜ r ≡ numberAnswer (authorizationCount (now (body .entry))) ⌝ }
 {
-    answers::number_answer(certificate::authorization_count(body))
+    telling::number_answer(certificate::authorization_count(body))
 }
 
 #[no_mangle]
 pub extern "C" fn nw_certificate_authorization(body: &[u8], i: u64) -> u64
     ensures { λ r. ⌜ r ≡ partAnswer (authorizationPart (now (body .entry)) i) ⌝ }
 {
-    answers::part_answer(certificate::authorization(body, i))
+    telling::part_answer(certificate::authorization(body, i))
 }
 
 #[no_mangle]
 pub extern "C" fn nw_certificate_count(body: &[u8]) -> u64
     ensures { λ r. ⌜ r ≡ numberAnswer (certificateCount (now (body .entry))) ⌝ }
 {
-    answers::number_answer(certificate::certificate_count(body))
+    telling::number_answer(certificate::certificate_count(body))
 }
 
 #[no_mangle]
 pub extern "C" fn nw_certificate_part(body: &[u8], i: u64) -> u64
     ensures { λ r. ⌜ r ≡ partAnswer (certificatePart (now (body .entry)) i) ⌝ }
 {
-    answers::part_answer(certificate::certificate_part(body, i))
+    telling::part_answer(certificate::certificate_part(body, i))
 }
 
 #[no_mangle]
 pub extern "C" fn nw_certificate_signature(body: &[u8]) -> u64
     ensures { λ r. ⌜ r ≡ partAnswer (signaturePart (now (body .entry))) ⌝ }
 {
-    answers::part_answer(certificate::signature(body))
+    telling::part_answer(certificate::signature(body))
 }
 
 #[no_mangle]
@@ -54,7 +53,7 @@ pub extern "C" fn nw_certificate_write(pool: &[u8], tape: &[u64], out: &mut [u8]
     ensures { λ r. ⌜ r ≡ writtenAnswer (bodyWritten certificate (now (pool .entry)) (now (tape .entry)) (length (now (out .entry)))) ⌝ }
     ensures { λ _. ⌜ now (out .exit) ≡ output certificate (now (pool .entry)) (now (tape .entry)) (now (out .entry)) ⌝ }
 {
-    answers::written_answer(certificate::write(pool, tape, out))
+    telling::written_answer(certificate::write(pool, tape, out))
 }
 
 #[no_mangle]
@@ -62,5 +61,5 @@ pub extern "C" fn nw_certificate_lay(kind: u32, body: &[u8], tape: &mut [u64]) -
     ensures { λ r. ⌜ r ≡ writtenAnswer (bodyLaid certificate certificateKind kind (now (body .entry)) (length (now (tape .entry)))) ⌝ }
     ensures { λ _. ⌜ now (tape .exit) ≡ laidTape certificate certificateKind kind (now (body .entry)) (now (tape .entry)) ⌝ }
 {
-    answers::written_answer(certificate::lay(kind, body, tape))
+    telling::written_answer(certificate::lay(kind, body, tape))
 }

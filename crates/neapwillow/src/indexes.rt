@@ -1,16 +1,15 @@
 // The index table for C: read, laid onto a form, written from one.
-use crate::answers;
 ghost use mathlib.Core.Path.{_≡_};
 ghost use lib.ListN.{length};
 ghost use Rattle.fields.specs.Body.{bodyRead, bodyLaid, laidTape, bodyWritten, output};
 ghost use Rattle.index.specs.Index.{indexKind, index};
-ghost use Rattle.neapwillow.specs.Answers.{readAnswer, writtenAnswer};
+ghost use Rattle.telling.specs.Answers.{readAnswer, writtenAnswer};
 
 #[no_mangle]
 pub extern "C" fn nw_index_read(kind: u32, body: &[u8]) -> u64
     ensures { λ r. ⌜ r ≡ readAnswer (bodyRead index indexKind kind (now (body .entry))) ⌝ }
 {
-    answers::read_answer(index::read(kind, body))
+    telling::read_answer(index::read(kind, body))
 }
 
 #[no_mangle]
@@ -18,7 +17,7 @@ pub extern "C" fn nw_index_lay(kind: u32, body: &[u8], tape: &mut [u64]) -> u64
     ensures { λ r. ⌜ r ≡ writtenAnswer (bodyLaid index indexKind kind (now (body .entry)) (length (now (tape .entry)))) ⌝ }
     ensures { λ _. ⌜ now (tape .exit) ≡ laidTape index indexKind kind (now (body .entry)) (now (tape .entry)) ⌝ }
 {
-    answers::written_answer(index::lay(kind, body, tape))
+    telling::written_answer(index::lay(kind, body, tape))
 }
 
 #[no_mangle]
@@ -26,5 +25,5 @@ pub extern "C" fn nw_index_write(pool: &[u8], tape: &[u64], out: &mut [u8]) -> u
     ensures { λ r. ⌜ r ≡ writtenAnswer (bodyWritten index (now (pool .entry)) (now (tape .entry)) (length (now (out .entry)))) ⌝ }
     ensures { λ _. ⌜ now (out .exit) ≡ output index (now (pool .entry)) (now (tape .entry)) (now (out .entry)) ⌝ }
 {
-    answers::written_answer(indexwriter::write(pool, tape, out))
+    telling::written_answer(indexwriter::write(pool, tape, out))
 }

@@ -1,5 +1,4 @@
-// What is offered to C: each function takes numbers and byte strings, and answers as its inner one does, by one convention.
-mod answers;
+// What is offered to C: each function takes numbers and byte strings, and tells what its inner one answers by one convention.
 mod asked;
 mod calendar;
 mod certificates;

@@ -1,7 +1,7 @@
 -- `neapwillow::nw_index_message_count` meets its contract: the inner answer, packed.
 use mathlib.Core.Path.{ap, _∙_}
 use borrow.Author.Needs.{needs}
-use Rattle.neapwillow.specs.Answers.{numberAnswer}
+use Rattle.telling.specs.Answers.{numberAnswer}
 use Rattle.neapwillow.proofs.asked.nw_index_message_count.Statement.{statement}
 use Rattle.neapwillow.proofs.asked.nw_index_message_count.Tie as tie
 

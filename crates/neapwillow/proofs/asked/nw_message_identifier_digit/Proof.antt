@@ -1,7 +1,7 @@
 -- `neapwillow::nw_message_identifier_digit` meets its contract: the inner answer, packed.
 use mathlib.Core.Path.{ap, _∙_}
 use borrow.Author.Needs.{needs}
-use Rattle.neapwillow.specs.Answers.{numberAnswer}
+use Rattle.telling.specs.Answers.{numberAnswer}
 use Rattle.neapwillow.proofs.asked.nw_message_identifier_digit.Statement.{statement}
 use Rattle.neapwillow.proofs.asked.nw_message_identifier_digit.Tie as tie
 

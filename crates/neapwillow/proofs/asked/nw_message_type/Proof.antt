@@ -1,7 +1,7 @@
 -- `neapwillow::nw_message_type` meets its contract: the inner answer, packed.
 use mathlib.Core.Path.{ap, _∙_}
 use borrow.Author.Needs.{needs}
-use Rattle.neapwillow.specs.Answers.{partAnswer}
+use Rattle.telling.specs.Answers.{partAnswer}
 use Rattle.neapwillow.proofs.asked.nw_message_type.Statement.{statement}
 use Rattle.neapwillow.proofs.asked.nw_message_type.Tie as tie
 

@@ -1,7 +1,7 @@
--- `neapwillow::nw_day_of` meets its contract: in either arm the inner answer is the arm's case, and is packed as that case is.
-use mathlib.Core.Path.{sym, ap, _∙_}
+-- `neapwillow::nw_day_of` meets its contract: the inner answer, packed.
+use mathlib.Core.Path.{ap, _∙_}
 use borrow.Author.Needs.{needs}
-use Rattle.neapwillow.specs.Answers.{dayAnswer}
+use Rattle.telling.specs.Answers.{dayAnswer}
 use Rattle.neapwillow.proofs.calendar.nw_day_of.Statement.{statement}
 use Rattle.neapwillow.proofs.calendar.nw_day_of.Tie as tie
 
@@ -10,10 +10,5 @@ nw-day-of-spec =
     tie.close
     (tie.spec
     (λ c κs. search needs)
-    (λ c. search needs)
-    (λ c. search needs)
     (λ c κs. search needs)
-    (λ c. search needs)
-    (λ c κs. search needs)
-    (λ c. c .answered .ensures ∙ ap dayAnswer (sym (c .before .before .n .given .1) ∙ c .before .before .before .before .day-of .ensures))
-    (λ c. c .refused .ensures ∙ ap dayAnswer (sym (c .before .before .why .given .1) ∙ c .before .before .before .before .day-of .ensures)))
+    (λ c. c .day-answer .ensures ∙ ap dayAnswer (c .before .day-of .ensures)))

@@ -1,7 +1,7 @@
--- `neapwillow::nw_weekday` meets its contract: in either arm the inner answer is the arm's case, and is packed as that case is.
-use mathlib.Core.Path.{sym, ap, _∙_}
+-- `neapwillow::nw_weekday` meets its contract: the inner answer, packed.
+use mathlib.Core.Path.{ap, _∙_}
 use borrow.Author.Needs.{needs}
-use Rattle.neapwillow.specs.Answers.{weekdayAnswer}
+use Rattle.telling.specs.Answers.{weekdayAnswer}
 use Rattle.neapwillow.proofs.calendar.nw_weekday.Statement.{statement}
 use Rattle.neapwillow.proofs.calendar.nw_weekday.Tie as tie
 
@@ -10,10 +10,5 @@ nw-weekday-spec =
     tie.close
     (tie.spec
     (λ c κs. search needs)
-    (λ c. search needs)
-    (λ c. search needs)
     (λ c κs. search needs)
-    (λ c. search needs)
-    (λ c κs. search needs)
-    (λ c. c .answered .ensures ∙ ap weekdayAnswer (sym (c .before .before .w .given .1) ∙ c .before .before .before .before .weekday .ensures))
-    (λ c. c .refused .ensures ∙ ap weekdayAnswer (sym (c .before .before .why .given .1) ∙ c .before .before .before .before .weekday .ensures)))
+    (λ c. c .weekday-answer .ensures ∙ ap weekdayAnswer (c .before .weekday .ensures)))

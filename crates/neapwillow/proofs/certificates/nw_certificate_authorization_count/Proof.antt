@@ -1,7 +1,7 @@
 -- `neapwillow::nw_certificate_authorization_count` meets its contract: the inner answer, packed.
 use mathlib.Core.Path.{sym, ap, _∙_}
 use borrow.Author.Needs.{needs}
-use Rattle.neapwillow.specs.Answers.{numberAnswer}
+use Rattle.telling.specs.Answers.{numberAnswer}
 use Rattle.neapwillow.proofs.certificates.nw_certificate_authorization_count.Statement.{statement}
 use Rattle.neapwillow.proofs.certificates.nw_certificate_authorization_count.Tie as tie
 

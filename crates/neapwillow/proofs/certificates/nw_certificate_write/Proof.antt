@@ -1,7 +1,7 @@
 -- `neapwillow::nw_certificate_write` meets its contract: the inner answer, packed, and the inner output.
 use mathlib.Core.Path.{sym, ap, _∙_}
 use borrow.Author.Needs.{needs}
-use Rattle.neapwillow.specs.Answers.{writtenAnswer}
+use Rattle.telling.specs.Answers.{writtenAnswer}
 use Rattle.neapwillow.proofs.certificates.nw_certificate_write.Statement.{statement}
 use Rattle.neapwillow.proofs.certificates.nw_certificate_write.Tie as tie
 

@@ -3,7 +3,7 @@ use mathlib.Core.Path.{sym, ap, _∙_}
 use mir.Facts.{toZ-ofZ}
 use borrow.Author.Needs.{needs}
 use Rattle.local.specs.Clock.{packOf}
-use Rattle.neapwillow.specs.Answers.{fieldAnswer}
+use Rattle.telling.specs.Answers.{fieldAnswer}
 use Rattle.neapwillow.proofs.clock.nw_time_pack.Statement.{statement}
 use Rattle.neapwillow.proofs.clock.nw_time_pack.Tie as tie
 

@@ -47,11 +47,11 @@ use Rattle.lent.proofs.feed as inner
 use Rattle.lent.proofs.feed.Symbol as inner-def
 use Rattle.lent.proofs.feed.Symbol.{name as #lent·feed}
 use Rattle.lent.proofs.feed.Met as inner-thm
-use Rattle.neapwillow.specs.Answers.{feedAnswer}
-use Rattle.neapwillow.proofs.gathering.fed_answer as pack
-use Rattle.neapwillow.proofs.gathering.fed_answer.Symbol as pack-def
-use Rattle.neapwillow.proofs.gathering.fed_answer.Symbol.{name as #neapwillow·gathering·fed-answer}
-use Rattle.neapwillow.proofs.gathering.fed_answer.Met as pack-thm
+use Rattle.telling.specs.Answers.{feedAnswer}
+use Rattle.telling.proofs.feed_answer as pack
+use Rattle.telling.proofs.feed_answer.Symbol as pack-def
+use Rattle.telling.proofs.feed_answer.Symbol.{name as #telling·feed-answer}
+use Rattle.telling.proofs.feed_answer.Met as pack-thm
 use Rattle.neapwillow.proofs.gathering.nw_gathering_feed.Key.{name as #neapwillow·gathering·nw-gathering-feed}
 use Rattle.neapwillow.proofs.gathering.nw_gathering_feed as outer
 use Rattle.neapwillow.proofs.gathering.nw_gathering_feed.Statement as stated
@@ -123,7 +123,7 @@ module _ {M : Type 1} (𝓤 : URA M) (H : Heap 𝓤) (A : Atoms 𝓤) (W : Given
       says ! (packed ∙ ap feedAnswer (e .0), e .1, e .2) $ frame ! $
       nothing ! $ move ! (3 ∷ 0 ∷ []) $ fjoin ! $ move ! (2 ∷ 0 ∷ []) $ fjoin ! $ move ! (1 ∷ 0 ∷ []) $ fjoin ! $ done !
 
-  module _ (C : Calls 𝓤 H) (Λ : Loops 𝓤 H) (fm : FmC 𝓤 H (W .laws) C) (known : Triple 𝓤 (C #lent·feed) (Inner 𝓤 H A at-mem run)) (known-pack : Triple 𝓤 (C #neapwillow·gathering·fed-answer) (Pack 𝓤 H A at-mem run)) where
+  module _ (C : Calls 𝓤 H) (Λ : Loops 𝓤 H) (fm : FmC 𝓤 H (W .laws) C) (known : Triple 𝓤 (C #lent·feed) (Inner 𝓤 H A at-mem run)) (known-pack : Triple 𝓤 (C #telling·feed-answer) (Pack 𝓤 H A at-mem run)) where
     walk : ent 𝓤 (onEntry 𝓤 H A outer.signature κs (q, (q₁, (q₂, tt))) a vals) (WpFn 𝓤 H C Λ code.function (vptr b o ∷ s₁ ∷ s₂ ∷ []) Post)
     walk =
         qed W (tokens ∷ ‵ Owns ∷ []) ∵ enter ! C Λ code.function (vptr b o ∷ s₁ ∷ s₂ ∷ []) _ $
@@ -159,13 +159,13 @@ module _ {M : Type 1} (𝓤 : URA M) (H : Heap 𝓤) (A : Atoms 𝓤) (W : Given
         keep ! (1 ∷ 4 ∷ 2 ∷ 5 ∷ 0 ∷ []) $ by ! (exits r n v (zs .0) (zs .1 .0) e packed l))))))))))))))))))))
 
 module _ {M : Type 1} (𝓤 : URA M) (H : Heap 𝓤) (A : Atoms 𝓤) (W : Given 𝓤 H A) (mem : Memory → SProp 𝓤) (run : Routine → Fun 𝓤) where
-  outer-walks : (C : Calls 𝓤 H) (Λ : Loops 𝓤 H) → FmC 𝓤 H (W .laws) C → Triple 𝓤 (C #lent·feed) (Inner 𝓤 H A mem run) → Triple 𝓤 (C #neapwillow·gathering·fed-answer) (Pack 𝓤 H A mem run) → Walks 𝓤 H A outer.ended stayed (WpFn 𝓤 H C Λ code.function) (outer.clauses 𝓤 H A mem run)
+  outer-walks : (C : Calls 𝓤 H) (Λ : Loops 𝓤 H) → FmC 𝓤 H (W .laws) C → Triple 𝓤 (C #lent·feed) (Inner 𝓤 H A mem run) → Triple 𝓤 (C #telling·feed-answer) (Pack 𝓤 H A mem run) → Walks 𝓤 H A outer.ended stayed (WpFn 𝓤 H C Λ code.function) (outer.clauses 𝓤 H A mem run)
   outer-walks C Λ fm known known-pack = walked 𝓤 H A outer.ended stayed (outer.clauses 𝓤 H A mem run) (WpFn 𝓤 H C Λ code.function) (λ κs. (ptr-vals, (slice-vals, (slice-vals, tt))))
       (λ κs. (mut-tells (named 0) (κs .0) G.the-row, (mut-slice-tells (named 1) (κs .1 .0) u8, (shr-slice-tells (named 2) (κs .1 .1 .0) u8, tt))))
       (λ κs qs bounds a _ are. via 𝓤 _ (fst∗ 𝓤 _ (emp 𝓤))
       (walk 𝓤 H A W mem run (κs .0) (κs .1 .0) (κs .1 .1 .0) (qs .0) (qs .1 .0) (qs .1 .1 .0) (a .0 .ptr .0) (a .0 .ptr .1) (a .0 .name) (a .0 .now) (a .1 .0) (a .1 .1 .0) (are .1 .0 .0 .1) (are .1 .1 .0 .0 .1) C Λ fm known known-pack))
 
-outer-meets : {M : Type 1} (𝓤 : URA M) (H : Heap 𝓤) (A : Atoms 𝓤) → Given 𝓤 H A → (mem : Memory → SProp 𝓤) (run : Routine → Fun 𝓤) (𝓣 : Tables 𝓤 H) → Triple 𝓤 (𝓣 .C #lent·feed) (Inner 𝓤 H A mem run) → Triple 𝓤 (𝓣 .C #neapwillow·gathering·fed-answer) (Pack 𝓤 H A mem run)
+outer-meets : {M : Type 1} (𝓤 : URA M) (H : Heap 𝓤) (A : Atoms 𝓤) → Given 𝓤 H A → (mem : Memory → SProp 𝓤) (run : Routine → Fun 𝓤) (𝓣 : Tables 𝓤 H) → Triple 𝓤 (𝓣 .C #lent·feed) (Inner 𝓤 H A mem run) → Triple 𝓤 (𝓣 .C #telling·feed-answer) (Pack 𝓤 H A mem run)
     → Meets 𝓤 H A outer.signature (WpFn 𝓤 H (𝓣 .C) (𝓣 .Λ) code.function) (outer.spec 𝓤 H A mem run)
 outer-meets 𝓤 H A W mem run 𝓣 known known-pack =
     walk-meets 𝓤 H A outer.ended stayed W (goes-gave-ref 𝓤 H A W 3 0 tt (plain (λ _. G.the-row)), (goes-gave-slice 𝓤 H A W 3 1 tt (plain (λ _. u8)), (goes-none-slice 𝓤 H A W 3 (2 ∷ []) tt (plain (λ _. u8)) yes, tt))) (outer.clauses 𝓤 H A mem run)
@@ -178,4 +178,4 @@ nw-gathering-feed-spec 𝓤 H 𝓜 𝓖 𝓡 =
     (tables 𝓤 H 𝓜 𝓡 code.env .C) (tables 𝓤 H 𝓜 𝓡 code.env .Λ) #neapwillow·gathering·nw-gathering-feed code.function (code.unfolded 𝓤 H 𝓜 𝓡)
     (outer-meets 𝓤 H (𝓖 .A) (givenOf 𝓤 H 𝓜 𝓖) (𝓜 .mem) (𝓡 .run) (tablesOf 𝓤 H 𝓜 (tables 𝓤 H 𝓜 𝓡 code.env))
     (cited 𝓤 H (Inner 𝓤 H (𝓖 .A) (𝓜 .mem) (𝓡 .run)) 𝓜 𝓡 code.env #lent·feed inner-def.routine code.calls-lent·feed (inner-thm.met 𝓤 H 𝓜 𝓖 𝓡))
-    (cited 𝓤 H (Pack 𝓤 H (𝓖 .A) (𝓜 .mem) (𝓡 .run)) 𝓜 𝓡 code.env #neapwillow·gathering·fed-answer pack-def.routine code.calls-neapwillow·gathering·fed-answer (pack-thm.met 𝓤 H 𝓜 𝓖 𝓡)))
+    (cited 𝓤 H (Pack 𝓤 H (𝓖 .A) (𝓜 .mem) (𝓡 .run)) 𝓜 𝓡 code.env #telling·feed-answer pack-def.routine code.calls-telling·feed-answer (pack-thm.met 𝓤 H 𝓜 𝓖 𝓡)))

@@ -1,7 +1,7 @@
 -- `neapwillow::nw_index_read` meets its contract: the inner answer, packed.
 use mathlib.Core.Path.{sym, ap, _∙_}
 use borrow.Author.Needs.{needs}
-use Rattle.neapwillow.specs.Answers.{readAnswer}
+use Rattle.telling.specs.Answers.{readAnswer}
 use Rattle.neapwillow.proofs.indexes.nw_index_read.Statement.{statement}
 use Rattle.neapwillow.proofs.indexes.nw_index_read.Tie as tie
 

@@ -47,11 +47,11 @@ use Rattle.records.proofs.read as inner
 use Rattle.records.proofs.read.Symbol as inner-def
 use Rattle.records.proofs.read.Symbol.{name as #records·read}
 use Rattle.records.proofs.read.Met as inner-thm
-use Rattle.neapwillow.specs.Answers.{writtenAnswer}
-use Rattle.neapwillow.proofs.answers.written_answer as pack
-use Rattle.neapwillow.proofs.answers.written_answer.Symbol as pack-def
-use Rattle.neapwillow.proofs.answers.written_answer.Symbol.{name as #neapwillow·answers·written-answer}
-use Rattle.neapwillow.proofs.answers.written_answer.Met as pack-thm
+use Rattle.telling.specs.Answers.{writtenAnswer}
+use Rattle.telling.proofs.written_answer as pack
+use Rattle.telling.proofs.written_answer.Symbol as pack-def
+use Rattle.telling.proofs.written_answer.Symbol.{name as #telling·written-answer}
+use Rattle.telling.proofs.written_answer.Met as pack-thm
 use Rattle.neapwillow.proofs.listed.nw_index_records.Key.{name as #neapwillow·listed·nw-index-records}
 use Rattle.neapwillow.proofs.listed.nw_index_records as outer
 use Rattle.neapwillow.proofs.listed.nw_index_records.Statement as stated
@@ -126,7 +126,7 @@ module _ {M : Type 1} (𝓤 : URA M) (H : Heap 𝓤) (A : Atoms 𝓤) (W : Given
       says ! (packed ∙ ap writtenAnswer (e .0), e .1) $ frame ! $
       nothing ! $ move ! (2 ∷ 0 ∷ []) $ fjoin ! $ move ! (1 ∷ 0 ∷ []) $ fjoin ! $ owned ! u32 (Is u32) (uint-makes 𝓤 H A W w32) kind _ (refl, kind-fits) $ fjoin ! $ done !
 
-  module _ (C : Calls 𝓤 H) (Λ : Loops 𝓤 H) (fm : FmC 𝓤 H (W .laws) C) (known : Triple 𝓤 (C #records·read) (Inner 𝓤 H A at-mem run)) (known-pack : Triple 𝓤 (C #neapwillow·answers·written-answer) (Pack 𝓤 H A at-mem run)) where
+  module _ (C : Calls 𝓤 H) (Λ : Loops 𝓤 H) (fm : FmC 𝓤 H (W .laws) C) (known : Triple 𝓤 (C #records·read) (Inner 𝓤 H A at-mem run)) (known-pack : Triple 𝓤 (C #telling·written-answer) (Pack 𝓤 H A at-mem run)) where
     walk : ent 𝓤 (onEntry 𝓤 H A outer.signature κs (q, (q₁, tt)) a vals) (WpFn 𝓤 H C Λ code.function (vint w32 kind ∷ s₀ ∷ s₁ ∷ []) Post)
     walk =
         qed W (tokens ∷ ‵ Owns ∷ []) ∵ enter ! C Λ code.function (vint w32 kind ∷ s₀ ∷ s₁ ∷ []) _ $
@@ -161,13 +161,13 @@ module _ {M : Type 1} (𝓤 : URA M) (H : Heap 𝓤) (A : Atoms 𝓤) (W : Given
         keep ! (1 ∷ 4 ∷ 2 ∷ 0 ∷ []) $ by ! (exits r n v (zs .1 .1 .0) e packed l)))))))))))))))))))
 
 module _ {M : Type 1} (𝓤 : URA M) (H : Heap 𝓤) (A : Atoms 𝓤) (W : Given 𝓤 H A) (mem : Memory → SProp 𝓤) (run : Routine → Fun 𝓤) where
-  outer-walks : (C : Calls 𝓤 H) (Λ : Loops 𝓤 H) → FmC 𝓤 H (W .laws) C → Triple 𝓤 (C #records·read) (Inner 𝓤 H A mem run) → Triple 𝓤 (C #neapwillow·answers·written-answer) (Pack 𝓤 H A mem run) → Walks 𝓤 H A outer.ended stayed (WpFn 𝓤 H C Λ code.function) (outer.clauses 𝓤 H A mem run)
+  outer-walks : (C : Calls 𝓤 H) (Λ : Loops 𝓤 H) → FmC 𝓤 H (W .laws) C → Triple 𝓤 (C #records·read) (Inner 𝓤 H A mem run) → Triple 𝓤 (C #telling·written-answer) (Pack 𝓤 H A mem run) → Walks 𝓤 H A outer.ended stayed (WpFn 𝓤 H C Λ code.function) (outer.clauses 𝓤 H A mem run)
   outer-walks C Λ fm known known-pack = walked 𝓤 H A outer.ended stayed (outer.clauses 𝓤 H A mem run) (WpFn 𝓤 H C Λ code.function) (λ κs. (uint-vals w32, (slice-vals, (slice-vals, tt))))
       (λ κs. (uint-tells w32, (shr-slice-tells (named 0) (κs .0) u8, (mut-slice-tells (named 1) (κs .1 .0) R, tt))))
       (λ κs qs bounds a _ are. via 𝓤 _ (fst∗ 𝓤 _ (emp 𝓤))
       (walk 𝓤 H A W mem run (κs .0) (κs .1 .0) (qs .0) (qs .1 .0) (a .0) (a .1 .0) (a .1 .1 .0) (are .0 .1) (are .1 .0 .0 .1) (are .1 .1 .0 .0 .1) C Λ fm known known-pack))
 
-outer-meets : {M : Type 1} (𝓤 : URA M) (H : Heap 𝓤) (A : Atoms 𝓤) → Given 𝓤 H A → (mem : Memory → SProp 𝓤) (run : Routine → Fun 𝓤) (𝓣 : Tables 𝓤 H) → Triple 𝓤 (𝓣 .C #records·read) (Inner 𝓤 H A mem run) → Triple 𝓤 (𝓣 .C #neapwillow·answers·written-answer) (Pack 𝓤 H A mem run)
+outer-meets : {M : Type 1} (𝓤 : URA M) (H : Heap 𝓤) (A : Atoms 𝓤) → Given 𝓤 H A → (mem : Memory → SProp 𝓤) (run : Routine → Fun 𝓤) (𝓣 : Tables 𝓤 H) → Triple 𝓤 (𝓣 .C #records·read) (Inner 𝓤 H A mem run) → Triple 𝓤 (𝓣 .C #telling·written-answer) (Pack 𝓤 H A mem run)
     → Meets 𝓤 H A outer.signature (WpFn 𝓤 H (𝓣 .C) (𝓣 .Λ) code.function) (outer.spec 𝓤 H A mem run)
 outer-meets 𝓤 H A W mem run 𝓣 known known-pack =
     walk-meets 𝓤 H A outer.ended stayed W (goes-none 𝓤 H A W 2 (λ _. u32) yes (λ κs x f. refl), (goes-none-slice 𝓤 H A W 2 (0 ∷ []) tt (plain (λ _. u8)) yes, (goes-gave-slice 𝓤 H A W 2 1 tt (plain (λ _. R)), tt))) (outer.clauses 𝓤 H A mem run)
@@ -180,4 +180,4 @@ nw-index-records-spec 𝓤 H 𝓜 𝓖 𝓡 =
     (tables 𝓤 H 𝓜 𝓡 code.env .C) (tables 𝓤 H 𝓜 𝓡 code.env .Λ) #neapwillow·listed·nw-index-records code.function (code.unfolded 𝓤 H 𝓜 𝓡)
     (outer-meets 𝓤 H (𝓖 .A) (givenOf 𝓤 H 𝓜 𝓖) (𝓜 .mem) (𝓡 .run) (tablesOf 𝓤 H 𝓜 (tables 𝓤 H 𝓜 𝓡 code.env))
     (cited 𝓤 H (Inner 𝓤 H (𝓖 .A) (𝓜 .mem) (𝓡 .run)) 𝓜 𝓡 code.env #records·read inner-def.routine code.calls-records·read (inner-thm.met 𝓤 H 𝓜 𝓖 𝓡))
-    (cited 𝓤 H (Pack 𝓤 H (𝓖 .A) (𝓜 .mem) (𝓡 .run)) 𝓜 𝓡 code.env #neapwillow·answers·written-answer pack-def.routine code.calls-neapwillow·answers·written-answer (pack-thm.met 𝓤 H 𝓜 𝓖 𝓡)))
+    (cited 𝓤 H (Pack 𝓤 H (𝓖 .A) (𝓜 .mem) (𝓡 .run)) 𝓜 𝓡 code.env #telling·written-answer pack-def.routine code.calls-telling·written-answer (pack-thm.met 𝓤 H 𝓜 𝓖 𝓡)))

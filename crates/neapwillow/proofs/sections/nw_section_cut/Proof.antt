@@ -1,7 +1,7 @@
 -- `neapwillow::nw_section_cut` meets its contract: the inner answer, packed, and the inner output.
-use mathlib.Core.Path.{sym, ap, _∙_}
+use mathlib.Core.Path.{ap, _∙_}
 use borrow.Author.Needs.{needs}
-use Rattle.neapwillow.specs.Answers.{lengthAnswer}
+use Rattle.telling.specs.Answers.{lengthAnswer}
 use Rattle.neapwillow.proofs.sections.nw_section_cut.Statement.{statement}
 use Rattle.neapwillow.proofs.sections.nw_section_cut.Tie as tie
 
@@ -10,11 +10,6 @@ nw-section-cut-spec =
     tie.close
     (tie.spec
     (λ c κs. search needs)
-    (λ c. search needs)
     (λ c κs. search needs)
     (λ c. search needs)
-    (λ c κs. search needs)
-    (λ c. search needs)
-    (λ c. (c .answered .ensures ∙ ap lengthAnswer (sym (c .before .before .length .given .1) ∙ c .before .before .before .before .before .before .cut-section .ensures .0), c .before .before .before .before .before .before .cut-section .ensures .1))
-    (λ c. search needs)
-    (λ c. (c .refused .ensures ∙ ap lengthAnswer (sym (c .before .before .why .given .1) ∙ c .before .before .before .before .before .before .cut-section .ensures .0), c .before .before .before .before .before .before .cut-section .ensures .1)))
+    (λ c. (c .length-answer .ensures ∙ ap lengthAnswer (c .before .before .before .cut-section .ensures .0), c .before .before .before .cut-section .ensures .1)))

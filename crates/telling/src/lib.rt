@@ -1,0 +1,210 @@
+// How each answer of the library becomes one number for C: the refusal's number in the low byte, and above it its place or the value.
+use days::DateAnswer;
+use days::DayAnswer;
+use days::WeekdayAnswer;
+use feeding::Answer;
+use fields::Number;
+use fields::Part;
+use fields::Step;
+use framing::Counted;
+use framing::Cut;
+use framing::Heading;
+use framing::Sectioned;
+use handing::Handed;
+use local::LocalTime;
+use local::Unpacked;
+use times::Fielded;
+use times::Showing;
+ghost use mathlib.Core.Path.{_≡_};
+ghost use Prim.Native.Nat.{_≤_};
+ghost use Rattle.crc.specs.Crc.{digit};
+ghost use Rattle.local.specs.Clock.{unpackOf};
+ghost use Rattle.telling.specs.Answers.{dayAnswer, dateAnswer, weekdayAnswer, fieldAnswer, packedTime, localAnswer, showingAnswer, headingPacked, sectionAnswer, countAnswer, lengthAnswer, feedAnswer, handAnswer, readAnswer, numberAnswer, partAnswer, writtenAnswer, localFieldAnswer};
+
+pub fn day_answer(a: DayAnswer) -> u64
+    ensures { λ r. ⌜ r ≡ dayAnswer a ⌝ }
+{
+    match a {
+        DayAnswer::Day(n) => refusal::answered(n as u64),
+        DayAnswer::Refused(why) => refusal::refused(why),
+    }
+}
+
+// The year above 16 bits, the month above 8, the day in the lowest.
+pub fn date_answer(a: DateAnswer) -> u64
+    ensures { λ r. ⌜ r ≡ dateAnswer a ⌝ }
+{
+    match a {
+        DateAnswer::On(d) => {
+            refusal::answered((d.year as u64) * 65536 + (d.month as u64) * 256 + (d.day as u64))
+        }
+        DateAnswer::Refused(why) => refusal::refused(why),
+    }
+}
+
+pub fn weekday_answer(a: WeekdayAnswer) -> u64
+    ensures { λ r. ⌜ r ≡ weekdayAnswer a ⌝ }
+{
+    match a {
+        WeekdayAnswer::Weekday(w) => refusal::answered(w as u64),
+        WeekdayAnswer::Refused(why) => refusal::refused(why),
+    }
+}
+
+pub fn field_answer(f: Fielded) -> u64
+    ensures { λ r. ⌜ r ≡ fieldAnswer f ⌝ }
+{
+    match f {
+        Fielded::Field(field) => refusal::answered(field),
+        Fielded::Refused(why) => refusal::refused(why),
+    }
+}
+
+// A local time as one number, a byte for each part but two for the year.
+fn packed_time(t: LocalTime) -> u64
+    ensures { λ r. ⌜ r ≡ packedTime t ⌝ }
+{
+    (t.year % 65536) as u64 * 0x100_0000_0000
+        + (t.month % 256) as u64 * 0x1_0000_0000
+        + (t.day % 256) as u64 * 0x100_0000
+        + (t.hour % 256) as u64 * 0x1_0000
+        + (t.minute % 256) as u64 * 0x100
+        + (t.second % 256) as u64
+}
+
+pub fn local_answer(a: Unpacked) -> u64
+    ensures { λ r. ⌜ r ≡ localAnswer a ⌝ }
+{
+    match a {
+        Unpacked::At(t) => refusal::answered(packed_time(t)),
+        Unpacked::Refused(why) => refusal::refused(why),
+    }
+}
+
+pub fn showing_answer(a: Showing) -> u64
+    ensures { λ r. ⌜ r ≡ showingAnswer a ⌝ }
+{
+    match a {
+        Showing::Before => refusal::answered(0),
+        Showing::On => refusal::answered(1),
+        Showing::Ended => refusal::answered(2),
+        Showing::Refused(why) => refusal::refused(why),
+    }
+}
+
+fn bit(b: bool) -> u64
+    ensures { λ r. ⌜ (r ≡ digit b) × (r ≤ 1) ⌝ }
+{
+    if b { 1 } else { 0 }
+}
+
+// A heading as one number, a byte for each field but two for the extension.
+fn heading_packed(h: Heading) -> u64
+    ensures { λ r. ⌜ r ≡ headingPacked h ⌝ }
+{
+    (h.kind as u64) * 0x1_0000_0000_0000
+        + (h.extension as u64) * 0x1_0000_0000
+        + (h.version as u64) * 0x100_0000
+        + bit(h.current) * 0x1_0000
+        + (h.number as u64) * 0x100
+        + (h.last as u64)
+}
+
+pub fn section_answer(a: Sectioned) -> u64
+    ensures { λ r. ⌜ r ≡ sectionAnswer a ⌝ }
+{
+    match a {
+        Sectioned::Good(h, _length) => refusal::answered(heading_packed(h)),
+        Sectioned::Refused(why) => refusal::refused(why),
+    }
+}
+
+pub fn count_answer(a: Counted) -> u64
+    ensures { λ r. ⌜ r ≡ countAnswer a ⌝ }
+{
+    match a {
+        Counted::Sections(count) => refusal::answered(count as u64),
+        Counted::Refused(why) => refusal::refused(why),
+    }
+}
+
+pub fn length_answer(a: Cut) -> u64
+    ensures { λ r. ⌜ r ≡ lengthAnswer a ⌝ }
+{
+    match a {
+        Cut::Written(length) => refusal::answered(length as u64),
+        Cut::Refused(why) => refusal::refused(why),
+    }
+}
+
+pub fn feed_answer(a: Answer) -> u64
+    ensures { λ r. ⌜ r ≡ feedAnswer a ⌝ }
+{
+    match a {
+        Answer::Taken => refusal::answered(0),
+        Answer::HeldAlready => refusal::answered(1),
+        Answer::Refused(why) => refusal::refused(why),
+    }
+}
+
+pub fn hand_answer(h: Handed) -> u64
+    ensures { λ r. ⌜ r ≡ handAnswer h ⌝ }
+{
+    match h {
+        Handed::Body(n) => refusal::answered(n as u64),
+        Handed::Refused(why) => refusal::refused(why),
+    }
+}
+
+// What reading a body answers: nothing more where it is accepted.
+pub fn read_answer(s: Step) -> u64
+    ensures { λ r. ⌜ r ≡ readAnswer s ⌝ }
+{
+    match s {
+        Step::At(_end) => refusal::answered(0),
+        Step::Refused(why) => refusal::refused(why),
+    }
+}
+
+pub fn number_answer(n: Number) -> u64
+    ensures { λ r. ⌜ r ≡ numberAnswer n ⌝ }
+{
+    match n {
+        Number::Is(x, _after) => refusal::answered(x),
+        Number::Refused(why) => refusal::refused(why),
+    }
+}
+
+// The part of a body that opaque bytes fill: its start above its length.
+pub fn part_answer(p: Part) -> u64
+    ensures { λ r. ⌜ r ≡ partAnswer p ⌝ }
+{
+    match p {
+        Part::Of(start, length) => {
+            refusal::answered(
+                (start as u64) % 0x1_0000_0000 * 0x100_0000 + (length as u64) % 0x100_0000,
+            )
+        }
+        Part::Refused(why) => refusal::refused(why),
+    }
+}
+
+// What writing a body answers, or laying one onto a tape: how many bytes, or entries.
+pub fn written_answer(s: Step) -> u64
+    ensures { λ r. ⌜ r ≡ writtenAnswer s ⌝ }
+{
+    match s {
+        Step::At(end) => refusal::answered(end as u64),
+        Step::Refused(why) => refusal::refused(why),
+    }
+}
+
+// The local time of a time field that was asked for.
+pub fn local_field_answer(field: Number, offset: i32) -> u64
+    ensures { λ r. ⌜ r ≡ localFieldAnswer (λ f. unpackOf f offset) field ⌝ }
+{
+    match field {
+        Number::Is(f, _after) => local_answer(local::unpack(f, offset)),
+        Number::Refused(why) => refusal::refused(why),
+    }
+}
