@@ -4,56 +4,37 @@ use mathlib.Core.Path.{_≡_, refl, sym, ap, ap₂, _∙_}
 use mathlib.Core.List.{List}
 use mathlib.Core.Bool.{Bool, true, false, _&&_}
 use native.Mathlib.Omega.{arith}
-use native.Mathlib.Nat.{add-zero, zero-add, div-add-mod', add-sub-cancel, add-sub-cancel-left}
-use lib.ListN.{length, getD, take, drop, length-drop}
+use native.Mathlib.Nat.{add-zero, zero-add, div-add-mod'}
+use lib.ListN.{length, getD, drop, length-drop}
 use lib.Seq.{length-take-le}
 use lib.Dec.{ltb, leb}
-use borrow.Author.Tests.{ltb-true, leb-true, leb-false, le-leb, lt-leb, lt-ltb, le-ltb}
-use Rattle.choices.proofs.Tests.{both}
+use borrow.Author.Tests.{lt-ltb, le-ltb}
 use Rattle.refusal.specs.declared.Refusal.{Refusal}
 use Rattle.refusal.specs.declared.Refusal.the-variants.{OutsideSet, PastBody, PastPart}
-use Rattle.fields.specs.Reading.{Reading, found, refused, andThen, need, fine, unless, judged}
-use Rattle.fields.specs.Format.{Format, numberAt, count, number, only, nibbles, nibblesAmong, reserved, listOf, opaque, rest, Length, length12, counted}
-use Rattle.fields.specs.Answers.{numberOf, partOf, fieldOf, ended, numberRead, partRead, digitRead}
+use Rattle.fields.specs.Reading.{Reading, found, refused, andThen, need, unless, judged}
+use Rattle.fields.specs.Format.{Format, numberAt, count, only, nibbles, nibblesAmong, reserved, listOf, opaque, rest, length12, counted}
+use Rattle.fields.specs.Answers.{numberOf, fieldOf, ended, partRead, digitRead}
 use Rattle.fields.specs.declared.Step.the-variants.{At, Refused as NoStep}
 use Rattle.fields.specs.declared.Number.the-variants.{Is, Refused as NoNumber}
 use Rattle.fields.specs.declared.Part.the-variants.{Of, Refused as NoPart}
 use Rattle.fields.proofs.Outcomes.{found-inj, andThen-found, need-found, judged-found, within-found}
 use Rattle.fields.proofs.Classes.{Bytes}
 use Rattle.fields.proofs.Leaves.{number-below}
-use Rattle.fields.proofs.Bits.{number-is-count, reserved-inside}
+use Rattle.fields.proofs.Bits.{reserved-inside}
 use Rattle.fields.proofs.Readers.{number-found, number-refused, step-found, step-refused}
+use Rattle.asking.specs.Asking.{fieldIn}
+use Rattle.asking.proofs.Answers.{number-in, found-in, part-refused, part-found}
+use Rattle.asking.proofs.Parts.{counted-holds}
 use Rattle.index.specs.Index.{resource}
-use Rattle.messages.specs.Asked.{signaturePart, fieldIn, identifierDigit, network, class, level, resourceCount, resourceAt, resourcePart, resourceDigit, flagAt, flag, channelAt, inChannel, descriptorsPart, streamsPart}
+use Rattle.messages.specs.Asked.{signaturePart, identifierDigit, network, class, level, resourceCount, resourceAt, resourcePart, resourceDigit, flagAt, flag, channelAt, inChannel, descriptorsPart, streamsPart}
 
 -- ---- tests
-
-pub room : (at n l : ℕ) → at ≤ l → leb n (l - at) ≡ leb (at + n) l
-room at n l h = go (leb n (l - at)) refl
-  where
-    go : (t : Bool) → leb n (l - at) ≡ t → t ≡ leb (at + n) l
-    go true e = sym (le-leb (at + n) l (omega (arith, leb-true n (l - at) e)))
-    go false e = sym (lt-leb (at + n) l (omega (arith, leb-false n (l - at) e)))
-
-pub no-room : (at n l : ℕ) → l < at → false ≡ leb (at + n) l
-no-room at n l h = sym (lt-leb (at + n) l (omega arith))
 
 pub and-second : (t u : Bool) → t ≡ true → u ≡ (t && u)
 and-second t u e = rw e
 
 pub and-none : (t u : Bool) → t ≡ false → false ≡ (t && u)
 and-none t u e = rw e
-
-pub needed : {A : Type 0} (t : Bool) (r : Refusal) (x : Reading A) → t ≡ true → x ≡ need t r x
-needed t r x e = rw e
-
-pub not-needed : {A : Type 0} (t : Bool) (r : Refusal) (x : Reading A) → t ≡ false → refused r ≡ need t r x
-not-needed t r x e = rw e
-
-pub in-part : (s : List ℕ) (l p : ℕ) → (ltb p l && leb l (length s)) ≡ true → (p < l) × (l ≤ length s)
-in-part s l p e =
-    let t = both (ltb p l) (leb l (length s)) e in
-    (ltb-true p l (t .0), leb-true l (length s) (t .1))
 
 -- ---- the table
 
@@ -66,11 +47,7 @@ module _ (s : List ℕ) where
   unfolding signaturePart partRead
   signature-is q e = rw (step-found (listOf (count 1) (opaque 2)) s (length s) 0 q e .1)
 
--- ---- numbers, and the byte of class and level
-
-pub count-number : (w : ℕ) (s : List ℕ) (l p : ℕ) → Bytes s → numberOf (count w .parse s l p) ≡ numberOf (number w .parse s l p)
-unfolding numberRead
-count-number w s l p b = number-is-count w s l p b
+-- ---- the byte of class and level
 
 one-byte : (s : List ℕ) (p : ℕ) → numberAt s p 1 ≡ getD s p 0
 unfolding numberAt
@@ -98,16 +75,9 @@ split-byte s l p = rw (one-byte s p) (go (leb (p + 1) (length s)) (leb (p + 1) l
     go false u = refl
 
 module _ (s : List ℕ) (at n : ℕ) where
-  number-in : (w k : ℕ) → Bytes s → numberOf (fieldIn (count w) k s at n) ≡ numberOf (fieldIn (number w) k s at n)
-  number-in w k b = go (leb (at + n) (length s))
-    where
-      go : (t : Bool) → numberOf (need t (OutsideSet 0) (count w .parse s (at + n) (at + k))) ≡ numberOf (need t (OutsideSet 0) (number w .parse s (at + n) (at + k)))
-      go true = count-number w s (at + n) (at + k) b
-      go false = refl
-
   pub network-is : Bytes s → numberOf (fieldIn (count 2) 18 s at n) ≡ network s at n
   unfolding network
-  network-is b = number-in 2 18 b
+  network-is b = number-in s at n 2 18 b
 
   pub identifier-digit-no : (i : ℕ) → leb (at + n) (length s) ≡ false → NoNumber (OutsideSet 0) ≡ identifierDigit s at n i
   unfolding identifierDigit
@@ -116,12 +86,6 @@ module _ (s : List ℕ) (at n : ℕ) where
   pub identifier-digit-is : (i : ℕ) → leb (at + n) (length s) ≡ true → digitRead 17 i s (at + n) at ≡ identifierDigit s at n i
   unfolding identifierDigit
   identifier-digit-is i e = rw e
-
-  -- what was found in a message
-  message-found : {A : Type 0} (F : Format A) (k : ℕ) (a : A) (q : ℕ) → fieldIn F k s at n ≡ found a q → (at + n ≤ length s) × (F .parse s (at + n) (at + k) ≡ found a q)
-  message-found F k a q e =
-      let f = need-found (leb (at + n) (length s)) (OutsideSet 0) _ a q e in
-      (leb-true (at + n) (length s) (f .0), f .1)
 
   split-in : fieldIn (nibblesAmong 1 4) 35 s at n ≡ andThen (fieldIn (count 1) 35 s at n) (split (at + 35))
   split-in = rw (split-byte s (at + n) (at + 35)) (go (leb (at + n) (length s)))
@@ -139,7 +103,7 @@ module _ (s : List ℕ) (at n : ℕ) where
 
   module _ (b q : ℕ) (e : Is b q ≡ numberOf (fieldIn (count 1) 35 s at n)) where
     pub shared-in : at + n ≤ length s
-    shared-in = message-found (count 1) 35 b q (number-found (fieldIn (count 1) 35 s at n) b q e) .0
+    shared-in = found-in s at n (count 1) 35 b q (number-found (fieldIn (count 1) 35 s at n) b q e) .0
 
     pub shared-is : halvesGood b ≡ true → Is b q ≡ numberOf shared
     shared-is h = rw (split-in, number-found (fieldIn (count 1) 35 s at n) b q e, h, div-add-mod' b 16)
@@ -201,7 +165,7 @@ module _ (s : List ℕ) (at n : ℕ) where
     pub resources-in : Bytes s → (at + n ≤ length s) × (q ≤ length s) × (m < 256)
     unfolding count
     resources-in b =
-        let f = message-found (count 1) 36 m q counted-there in
+        let f = found-in s at n (count 1) 36 m q counted-there in
         let w = within-found s (at + n) (at + 36) (at + 36 + 1) _ m q (f .1) in
         let i = found-inj (w .2) in
         (f .0, rw (← i .1) (w .0), rw (← i .0) (number-below s (at + 36) 1 b))
@@ -232,7 +196,7 @@ module _ (s : List ℕ) (at n : ℕ) where
     unfolding resourceAt count
     resource-there =
         let f = andThen-found (fieldIn (count 1) 36 s at n) _ m p (number-found (resourceAt s at n i) m p e) in
-        let g = message-found (count 1) 36 (f .0) (f .1) (f .2) in
+        let g = found-in s at n (count 1) 36 (f .0) (f .1) (f .2) in
         let w = within-found s (at + n) (at + 36) (at + 36 + 1) _ (f .0) (f .1) (g .1) in
         let t = need-found (ltb i (f .0)) (OutsideSet 0) _ m p (f .3) in
         (g .0, omega (arith, found-inj (w .2) .1, found-inj (t .1) .1))
@@ -277,60 +241,7 @@ module _ (s : List ℕ) (at n : ℕ) where
         let j = need-found (ltb 0 (i .0)) (OutsideSet 0) _ f q (i .3) in
         let g = andThen-found (fieldIn (count 1) 36 s at n) _ (i .0) (i .1) (i .2) in
         let h = reserved-inside s (at + n) (g .1 + 12 * g .0) 7 0 (i .0) (i .1) (ap numberOf (sym (g .3))) in
-        (message-found (count 1) 36 (g .0) (g .1) (g .2) .0, omega (arith, h, found-inj (j .1) .1))
-
--- ---- counted parts
-
-part-refused : (x : Reading (List ℕ)) (r : Refusal) → NoPart r ≡ partOf x → x ≡ refused r
-part-refused (refused t) r e = let z : t ≡ r = cc in ap refused z
-part-refused (found xs q) r e = absurd (let z : _≡_ {A = ℕ} 0 1 = cc in omega arith)
-
-part-found : (x : Reading (List ℕ)) (a m : ℕ) → Of a m ≡ partOf x → ((xs : List ℕ) (q : ℕ) → x ≡ found xs q → length xs ≤ q)
-    → (xs : List ℕ) × (x ≡ found xs (a + m))
-part-found (found xs q) a m e h =
-    let u : a ≡ q - length xs = cc in
-    let v : m ≡ length xs = cc in
-    (xs, ap (found xs) (let k = h xs q refl in omega arith))
-part-found (refused r) a m e h = absurd (let z : _≡_ {A = ℕ} 0 1 = cc in omega arith)
-
--- what a part holds is found in it, from where its bytes begin to where they end
-pub record Holds {A : Type 0} (L : Length) (F : Format A) (s : List ℕ) (l p : ℕ) (x : A) (q : ℕ) : Type 0 where
-  pub counts : ℕ
-  pub at : ℕ
-  pub told : L .field .parse s l p ≡ found counts at
-  pub size : ℕ
-  pub in-body : at + size ≤ length s
-  pub within-part : at + size ≤ l
-  pub inner : F .parse s (at + size) at ≡ found x q
-  pub bytes : counted L rest .parse s l p ≡ found (take size (drop at s)) (at + size)
-  pub part : partOf (counted L rest .parse s l p) ≡ Of at size
-
-bytes-there : (L : Length) (s : List ℕ) (l p n r : ℕ) → L .field .parse s l p ≡ found n r → r + n % L .limit ≤ length s → r + n % L .limit ≤ l → L .fault n p ≡ fine
-    → counted L rest .parse s l p ≡ found (take (n % L .limit) (drop r s)) (r + n % L .limit)
-unfolding counted rest
-bytes-there L s l p n r e h k f =
-    rw (e, le-leb (r + n % L .limit) (length s) h, le-leb (r + n % L .limit) l k, f, add-sub-cancel-left r (n % L .limit))
-
-pub counted-holds : {A : Type 0} (L : Length) (F : Format A) (s : List ℕ) (l p : ℕ) (x : A) (q : ℕ) → counted L F .parse s l p ≡ found x q → Holds L F s l p x q
-unfolding counted
-counted-holds L F s l p x q e =
-    let i = andThen-found (L .field .parse s l p) _ x q e in
-    let m = i .0 % L .limit in
-    let g = within-found s l p (i .1 + m) _ x q (i .3) in
-    let j = judged-found (L .fault (i .0) p) _ x q (g .2) in
-    let bytes = bytes-there L s l p (i .0) (i .1) (i .2) (g .0) (g .1) (j .0) in
-    let many = length-take-le m (drop (i .1) s) (simp length-drop (omega (arith, g .0))) in
-    record {
-      counts = i .0;
-      at = i .1;
-      told = i .2;
-      size = m;
-      in-body = g .0;
-      within-part = g .1;
-      inner = j .1;
-      bytes = bytes;
-      part = ap partOf bytes ∙ rw (many, add-sub-cancel (i .1) m);
-    }
+        (found-in s at n (count 1) 36 (g .0) (g .1) (g .2) .0, omega (arith, h, found-inj (j .1) .1))
 
 -- ---- streams
 

@@ -1,70 +1,35 @@
 -- The fields asked for of an accepted body are its table's: of the body, of its messages, and of the descriptors and streams in their parts.
-use Prim.Native.Nat.{ℕ, zero, suc, _+_, _-_, _*_, _/_, _≤_, _<_}
+use Prim.Native.Nat.{ℕ, _+_, _-_, _*_, _/_, _≤_, _<_}
 use mathlib.Core.Path.{_≡_, refl, sym, ap, subst, _∙_}
-use mathlib.Core.List.{List, [], _∷_}
+use mathlib.Core.List.{List, []}
 use mathlib.Core.Bool.{true, _&&_}
 use native.Mathlib.Omega.{arith}
-use native.Mathlib.Nat.{add-zero, add-sub-cancel-left, le-add-right}
-use lib.ListN.{length, getD, take, drop, length-append}
+use native.Mathlib.Nat.{add-zero, add-sub-cancel-left}
+use lib.ListN.{length, getD, take, drop}
 use lib.Dec.{ltb, leb}
 use borrow.Author.Tests.{le-leb, lt-ltb, le-ltb}
-use Rattle.choices.proofs.Tests.{both, and-of}
+use Rattle.choices.proofs.Tests.{and-of}
 use Rattle.refusal.specs.declared.Refusal.the-variants.{LeftOver, PastPart, OutsideSet}
-use Rattle.fields.specs.Reading.{found, refused, andThen}
-use Rattle.fields.specs.Format.{Format, count, number, nibblesAmong, bytesAmong, reserved, digits, followed, under, _▷_, listOf, many, opaque, rest, Length, lengthOf, length12, counted, exact, view, repeat, printAll, every, some}
+use Rattle.fields.specs.Reading.{found, refused}
+use Rattle.fields.specs.Format.{count, number, nibblesAmong, bytesAmong, reserved, under, _▷_, listOf, many, opaque, rest, lengthOf, length12, counted, exact, view, repeat}
 use Rattle.fields.specs.Time.{time, endTime}
 use Rattle.fields.specs.Body.{reading}
-use Rattle.fields.specs.Answers.{numberOf, partOf, numberRead, partListed, after, listed, digitRead}
+use Rattle.fields.specs.Answers.{numberOf, partOf, numberRead, partListed, listed}
 use Rattle.fields.specs.declared.Number.the-variants.{Is}
 use Rattle.fields.specs.declared.Part.{Part}
 use Rattle.fields.specs.declared.Part.the-variants.{Of, Refused as NoPart}
-use Rattle.fields.proofs.Outcomes.{found-inj, andThen-found, neither}
-use Rattle.fields.proofs.Stand.{stands-left, stands-right}
-use Rattle.fields.proofs.Classes.{Bytes, Lawful, Filling}
+use Rattle.fields.proofs.Classes.{Bytes}
 use Rattle.fields.proofs.Parts.{rest-filling}
 use Rattle.fields.proofs.Elements.{exact-found, view-found, followed-found, list-found}
-use Rattle.fields.proofs.Strings.{digits-part, digits-fill}
 use Rattle.fields.proofs.RoundTrips as trips
+use Rattle.asking.specs.Asking.{fieldIn}
+use Rattle.asking.proofs.Sizes.{count-sized, number-sized, number-inside, time-sized, end-sized, nibbles-among-sized, bytes-are, bytes-sized, reserved-sized, digits-sized, next, repeat-sized, nth-sized}
+use Rattle.asking.proofs.Answers.{asked}
+use Rattle.asking.proofs.Entries.{all-same, after-same}
+use Rattle.asking.proofs.Parts.{PartHolds, part-holds, bytes-hold, part-begins, digit-is, digits-bytes, depending-found}
 use Rattle.index.specs.Index.{Descriptor, descriptor, descriptors, Stream, streamFields, stream, streams, Channel, ChannelFields, channelFields, channel, Flagged, flagged, identifier, resource, Message, HeadFields, MessageFields, head, messageFields, named, unnamed, message, Index, fields, index, indexKind}
-use Rattle.messages.specs.Asked.{messageCount, messagePart, signaturePart, fieldIn, identifierPart, identifierDigit, network, start, end, typePart, class, level, resourceCount, resourceAt, resourcePart, resourceDigit, flagAt, flag, channelAt, channelNetwork, channelStream, channelProgram, pcrPid, descriptorsPart, streamsPart, descriptorTag, descriptorPart, streamType, streamPid, streamDescriptors}
+use Rattle.messages.specs.Asked.{messageCount, messagePart, signaturePart, identifierPart, identifierDigit, network, start, end, typePart, class, level, resourceCount, resourceAt, resourcePart, resourceDigit, flagAt, flag, channelAt, channelNetwork, channelStream, channelProgram, pcrPid, descriptorsPart, streamsPart, firstByte, descriptorTag, descriptorPart, streamType, streamPid, streamDescriptors}
 use Rattle.index.proofs.Lawful.{all-descriptors-filling, all-streams-filling, inner-filling, index-filling}
-use Rattle.messages.proofs.Answers.{counted-holds}
-use Rattle.messages.proofs.Sizes.{count-sized, number-sized, number-inside, time-sized, end-sized, nibbles-among-sized, bytes-are, bytes-sized, reserved-sized, digits-sized, next, repeat-sized, nth-sized}
-
--- ---- parts
-
--- the part answered, which ends at q, holds what F reads in it
-pub record PartHolds {A : Type 0} (F : Format A) (s : List ℕ) (part : Part) (x : A) (q : ℕ) : Type 0 where
-  pub at : ℕ
-  pub size : ℕ
-  pub is : part ≡ Of at size
-  pub ends : at + size ≡ q
-  pub in-body : q ≤ length s
-  pub inner : F .parse s q at ≡ found x q
-
-module _ {A : Type 0} (L : Length) (F : Format A) (f : Filling F) (s : List ℕ) (b : Bytes s) (l p : ℕ) (x : A) (q : ℕ) (e : counted L F .parse s l p ≡ found x q) where
-  ends-there : counted-holds L F s l p x q e .at + counted-holds L F s l p x q e .size ≡ q
-  ends-there =
-      let h = counted-holds L F s l p x q e in
-      sym (f .ends s (h .at + h .size) (h .at) x q b (h .in-body) (le-add-right (h .at) (h .size)) (h .inner))
-
-  pub part-holds : PartHolds F s (partOf (counted L rest .parse s l p)) x q
-  part-holds =
-      let h = counted-holds L F s l p x q e in
-      record {
-        at = h .at;
-        size = h .size;
-        is = h .part;
-        ends = ends-there;
-        in-body = rw (← ends-there) (h .in-body);
-        inner = subst (λ (t : ℕ). F .parse s t (h .at) ≡ found x q) ends-there (h .inner);
-      }
-
-  -- its bytes end where it ends
-  pub bytes-hold : (xs : List ℕ) × (counted L rest .parse s l p ≡ found xs q)
-  bytes-hold =
-      let h = counted-holds L F s l p x q e in
-      (take (h .size) (drop (h .at) s), h .bytes ∙ ap (found (take (h .size) (drop (h .at) s))) ends-there)
 
 -- ---- descriptors and streams, each at p in a part that ends at l
 
@@ -83,7 +48,7 @@ module _ (s : List ℕ) (b : Bytes s) (l : ℕ) (inside : l ≤ length s) (p q :
   byte-there v e = and-of (lt-ltb p l (omega (arith, number-inside 1 s l p v (p + 1) e))) (le-leb l (length s) inside)
 
   descriptor-fields : (x : ℕ × List ℕ) → (number 1 ▷ opaque 1) .parse s l p ≡ found x q → DescriptorAsked s l p (record { tag = x .0; bytes = x .1 }) q
-  unfolding descriptorTag descriptorPart
+  unfolding firstByte descriptorTag descriptorPart
   descriptor-fields x e =
       let f = next (number 1) (opaque 1) 1 (number-sized 1) s l p (p + 1) x q refl e in
       let t = byte-there (x .0) (f .0) in
@@ -99,7 +64,7 @@ module _ (s : List ℕ) (b : Bytes s) (l : ℕ) (inside : l ≤ length s) (p q :
       subst (λ (y : Descriptor). DescriptorAsked s l p y q) (v .2) (descriptor-fields (v .0) (v .1))
 
   stream-fields : (x : ℕ × (ℕ × List Descriptor)) → streamFields .parse s l p ≡ found x q → StreamAsked s l p (record { type = x .0; pid = x .1 .0; descriptors = x .1 .1 }) q
-  unfolding streamFields streamType streamPid streamDescriptors descriptors
+  unfolding streamFields firstByte streamType streamPid streamDescriptors descriptors
   stream-fields x e =
       let f = next (number 1) (reserved 3 1 ▷ descriptors) 1 (number-sized 1) s l p (p + 1) x q refl e in
       let g = next (reserved 3 1) descriptors 2 (reserved-sized 3 1) s l (p + 1) (p + 3) (x .1) q (omega arith) (f .1) in
@@ -115,25 +80,6 @@ module _ (s : List ℕ) (b : Bytes s) (l : ℕ) (inside : l ≤ length s) (p q :
   stream-asked t e =
       let v = view-found _ _ streamFields s l p t q e in
       subst (λ (y : Stream). StreamAsked s l p y q) (v .2) (stream-fields (v .0) (v .1))
-
--- a part of several has the first one at its start, and the others from where that one ends
-module _ {A : Type 0} (F : Format A) (f : Lawful F) (g : Filling (many F)) (s : List ℕ) (b : Bytes s) (l p : ℕ) (inside : l ≤ length s) (left : p ≤ l) where
-  pub many-none : (q : ℕ) → many F .parse s l p ≡ found [] q → p ≡ l
-  unfolding many printAll
-  many-none q e = omega (arith, g .forth s l p [] q b inside left e .next, g .ends s l p [] q b inside left e)
-
-  pub many-first : (x : A) (xs : List A) (q : ℕ) → many F .parse s l p ≡ found (x ∷ xs) q → (r : ℕ) × (F .parse s l p ≡ found x r) × (many F .parse s l r ≡ found xs q)
-  unfolding many printAll every some
-  many-first x xs q e =
-      let u = g .forth s l p (x ∷ xs) q b inside left e in
-      let z = g .ends s l p (x ∷ xs) q b inside left e in
-      let r = both (F .right x) (every (F .right) xs) (u .ok .right) in
-      let m = neither (F .over x) (some (F .over) xs) (u .ok .small) in
-      let ps = printAll (F .print) xs in
-      let n = length-append (F .print x) ps in
-      let one = f .back s l p x (record { right = r .0; small = m .0 }) (stands-left s p (F .print x) ps (u .stands)) (omega (arith, u .next, z, n)) inside in
-      let more = g .back s l (p + length (F .print x)) xs (record { right = r .1; small = m .1 }) (stands-right s p (F .print x) ps (u .stands)) (omega (arith, u .next, z, n)) inside in
-      (p + length (F .print x), one, more ∙ ap (found xs) (sym z))
 
 -- ---- a message that begins at `at` and has n bytes
 
@@ -156,17 +102,6 @@ pub record MessageAsked (s : List ℕ) (at n : ℕ) (m : Message) : Type 0 where
   pub resource-past : (i : ℕ) → length (m .resources) ≤ i → resourcePart s at n i ≡ NoPart (OutsideSet 0)
   pub flag-is : flag s at n ≡ Is (m .channel .0) (at + 38 + 12 * length (m .resources))
 
--- digits asked for one by one, and the bytes that hold them
-module _ (s : List ℕ) (l p h : ℕ) (ds : List ℕ) (q : ℕ) (e : digits h .parse s l p ≡ found ds q) where
-  digit-is : (i : ℕ) → i < length ds → digitRead h i s l p ≡ Is (getD ds i 0) (p + (i + 1) / 2)
-  unfolding digitRead
-  digit-is i k = rw (e, lt-ltb i (length ds) k)
-
-  digits-bytes : Bytes s → take (h + 1) (drop p s) ≡ digits h .print ds
-  digits-bytes b =
-      let f = digits-fill s l p h p (h + 1) b (digits-part s l p h ds q e) .2 in
-      f .printed ∙ ap (digits h .print) (found-inj (sym (f .parsed) ∙ e) .0)
-
 -- the fields before the resources
 module _ (s : List ℕ) (at n : ℕ) (x : HeadFields) (q : ℕ) (e : head .parse s (at + n) at ≡ found x q) where
   heads : (identifier .parse s (at + n) at ≡ found (x .0) (at + 18)) × (number 2 .parse s (at + n) (at + 18) ≡ found (x .1 .0) (at + 20))
@@ -184,21 +119,6 @@ module _ (s : List ℕ) (at n : ℕ) (x : HeadFields) (q : ℕ) (e : head .parse
       let k : q ≡ at + 36 = nibbles-among-sized 1 4 s l (at + 35) (x .1 .1 .1 .1 .1) q (j .1) ∙ omega arith in
       (f .0, g .0, h .0, i .0, j .0, j .1 ∙ ap (found (x .1 .1 .1 .1 .1)) k, k)
 
--- what is found in the message is what is asked for
-asked : {A : Type 0} (F : Format A) (k : ℕ) (s : List ℕ) (at n : ℕ) (a : A) (r : ℕ) → at + n ≤ length s → F .parse s (at + n) (at + k) ≡ found a r → fieldIn F k s at n ≡ found a r
-asked F k s at n a r h e = rw (le-leb (at + n) (length s) h, e)
-
--- the second field may depend on the first
-depending-found : {A : Type 0} {B : A → Type 0} (F : Format A) (G : (a : A) → Format (B a)) (s : List ℕ) (l p : ℕ) (x : (a : A) × B a) (q : ℕ) → followed F G .parse s l p ≡ found x q
-    → (r : ℕ) × (F .parse s l p ≡ found (x .0) r) × (G (x .0) .parse s l r ≡ found (x .1) q)
-unfolding followed
-depending-found {A} {B} F G s l p x q e =
-    let i = andThen-found (F .parse s l p) _ x q e in
-    let j = andThen-found (G (i .0) .parse s l (i .1)) _ x q (i .3) in
-    let g = found-inj (j .3) in
-    subst (λ (y : (a : A) × B a). (r : ℕ) × (F .parse s l p ≡ found (y .0) r) × (G (y .0) .parse s l r ≡ found (y .1) q)) (g .0)
-    (i .1, i .2, j .2 ∙ ap (found (j .0)) (g .1))
-
 module _ (s : List ℕ) (at n : ℕ) (b : Bytes s) (there : at + n ≤ length s) (x : MessageFields) (q : ℕ) (e : messageFields .parse s (at + n) at ≡ found x q) where
   -- the head, and the resources with their count, and the flag
   parts : (head .parse s (at + n) at ≡ found (x .0) (at + 36)) × (fieldIn (count 1) 36 s at n ≡ found (length (x .1 .0)) (at + 37))
@@ -214,7 +134,7 @@ module _ (s : List ℕ) (at n : ℕ) (b : Bytes s) (there : at + n ≤ length s)
       let j : i .0 ≡ at + 37 = count-sized 1 s l (f .0) (length rs) (i .0) (i .1) ∙ omega (arith, h) in
       let k = repeat-sized resource 12 (digits-sized 11) s l (length rs) (i .0) rs (g .0) (i .2) in (
         f .1 ∙ ap (found (x .0)) h,
-        asked (count 1) 36 s at n (length rs) (at + 37) there (ap (count 1 .parse s l) (sym h) ∙ i .1 ∙ ap (found (length rs)) j),
+        asked s at n (count 1) 36 (length rs) (at + 37) there (ap (count 1 .parse s l) (sym h) ∙ i .1 ∙ ap (found (length rs)) j),
         g .0,
         ap (repeat (resource .parse s l) (length rs)) (sym j) ∙ i .2,
         ap (flagged .parse s l) (let z : at + 37 + 12 * length rs ≡ g .0 = omega (arith, j, k) in z) ∙ g .2,
@@ -248,13 +168,13 @@ module _ (s : List ℕ) (at n : ℕ) (b : Bytes s) (there : at + n ≤ length s)
         identifier-is = rw (le-leb (at + n) (length s) there, h .0, add-sub-cancel-left at 18);
         identifier-bytes = digits-bytes s (at + n) at 17 (x .0 .0) (at + 18) (h .0) b;
         identifier-digits = λ i k. rw (le-leb (at + n) (length s) there) (digit-is s (at + n) at 17 (x .0 .0) (at + 18) (h .0) i k);
-        network-is = rw (asked (number 2) 18 s at n _ _ there (h .1));
-        start-is = rw (asked time 20 s at n _ _ there (h .2));
-        end-is = rw (asked endTime 25 s at n _ _ there (h .3));
-        type-is = rw (asked (bytesAmong 0 0x7F 5) 30 s at n _ _ there (h .4)) (let z : at + 35 - (at + 30) ≡ 5 = omega arith in ap (Of (at + 30)) z);
+        network-is = rw (asked s at n (number 2) 18 _ _ there (h .1));
+        start-is = rw (asked s at n time 20 _ _ there (h .2));
+        end-is = rw (asked s at n endTime 25 _ _ there (h .3));
+        type-is = rw (asked s at n (bytesAmong 0 0x7F 5) 30 _ _ there (h .4)) (let z : at + 35 - (at + 30) ≡ 5 = omega arith in ap (Of (at + 30)) z);
         type-bytes = bytes-are 0 0x7F 5 s (at + n) (at + 30) (x .0 .1 .1 .1 .1 .0) (at + 35) (h .4) .0;
-        class-is = rw (asked (nibblesAmong 1 4) 35 s at n _ _ there (h .5));
-        level-is = rw (asked (nibblesAmong 1 4) 35 s at n _ _ there (h .5));
+        class-is = rw (asked s at n (nibblesAmong 1 4) 35 _ _ there (h .5));
+        level-is = rw (asked s at n (nibblesAmong 1 4) 35 _ _ there (h .5));
         resources-counted = rw (parts .1);
         resource-is = λ i k. rw (resource-at i k, resource-found i k, add-sub-cancel-left (at + 37 + 12 * i) 12);
         resource-bytes = λ i k. digits-bytes s (at + n) (at + 37 + 12 * i) 11 (getD (x .1 .0) i []) _ (resource-found i k) b;
@@ -347,32 +267,6 @@ pub record TableAsked (s : List ℕ) (t : Index) (q : ℕ) : Type 0 where
   pub message-past : (i : ℕ) → length (t .messages) ≤ i → messagePart s i ≡ NoPart (OutsideSet 0)
   pub signature-holds : PartHolds rest s (signaturePart s) (t .signature) q
 
--- parts whose ends are those of the things they hold: all of them, and the one after i others
-module _ {A B : Type 0} (F : Format A) (G : Format B) (s : List ℕ) (l : ℕ) (same : (p : ℕ) (a : A) (q : ℕ) → F .parse s l p ≡ found a q → (y : B) × (G .parse s l p ≡ found y q)) where
-  all-same : (n p : ℕ) (xs : List A) (q : ℕ) → repeat (F .parse s l) n p ≡ found xs q → (ys : List B) × (repeat (G .parse s l) n p ≡ found ys q)
-  unfolding repeat
-  all-same zero p xs q e = ([], ap (found []) (found-inj e .1))
-  all-same (suc n) p xs q e =
-      let i = andThen-found (F .parse s l p) _ xs q e in
-      let j = andThen-found (repeat (F .parse s l) n (i .1)) _ xs q (i .3) in
-      let y = same p (i .0) (i .1) (i .2) in
-      let ys = all-same n (i .1) (j .0) (j .1) (j .2) in
-      (y .0 ∷ ys .0, rw (y .1, ys .1) (ap (found (y .0 ∷ ys .0)) (found-inj (j .3) .1)))
-
-  after-same : (d : A) (n i p : ℕ) (xs : List A) (q : ℕ) → repeat (F .parse s l) n p ≡ found xs q → i < n
-      → (t r : ℕ) × (after G i s l p ≡ G .parse s l t) × (F .parse s l t ≡ found (getD xs i d) r)
-  unfolding repeat after
-  after-same d zero i p xs q e h = absurd (omega arith)
-  after-same d (suc n) zero p xs q e h =
-      let i = andThen-found (F .parse s l p) _ xs q e in
-      let j = andThen-found (repeat (F .parse s l) n (i .1)) _ xs q (i .3) in
-      (p, i .1, refl, i .2 ∙ ap (λ x. found x (i .1)) (ap (λ ys. getD ys 0 d) (found-inj (j .3) .0)))
-  after-same d (suc n) (suc k) p xs q e h =
-      let i = andThen-found (F .parse s l p) _ xs q e in
-      let j = andThen-found (repeat (F .parse s l) n (i .1)) _ xs q (i .3) in
-      let t = after-same d n k (i .1) (j .0) (j .1) (j .2) (omega arith) in
-      (t .0, t .1, ap (λ x. andThen x (λ y r. after G k s l r)) (same p (i .0) (i .1) (i .2) .1) ∙ t .2, t .3 ∙ ap (λ x. found x (t .1)) (ap (λ ys. getD ys (suc k) d) (found-inj (j .3) .0)))
-
 module _ (s : List ℕ) (b : Bytes s) (x : List Message × List ℕ) (q : ℕ) (e : fields .parse s (length s) 0 ≡ found x q) where
   -- where the messages end
   two : (r : ℕ) × (listOf (count 1) message .parse s (length s) 0 ≡ found (x .0) r) × (opaque 2 .parse s (length s) r ≡ found (x .1) q)
@@ -390,15 +284,11 @@ module _ (s : List ℕ) (b : Bytes s) (x : List Message × List ℕ) (q : ℕ) (
   same p m r h = bytes-hold (lengthOf 2) _ inner-filling s b (length s) p m r h
 
   message-there : (p : ℕ) (m : Message) (r : ℕ) → message .parse s (length s) p ≡ found m r → MessageHolds s (partOf (opaque 2 .parse s (length s) p)) m
-  unfolding message lengthOf part-holds
+  unfolding message
   message-there p m r h =
-      let g = counted-holds (lengthOf 2) (exact PastPart (view named unnamed messageFields)) s (length s) p m r h in
-      let z : g .at - 2 ≡ p = omega (arith, count-sized 2 s (length s) p (g .counts) (g .at) (g .told)) in
-      record {
-        end = r;
-        holds = part-holds (lengthOf 2) _ inner-filling s b (length s) p m r h;
-        stands = ap (message .parse s (length s)) z ∙ h;
-      }
+      let g = part-holds (lengthOf 2) _ inner-filling s b (length s) p m r h in
+      let z : g .at - 2 ≡ p = omega (arith, part-begins 2 _ inner-filling s b (length s) p m r h) in
+      record { end = r; holds = g; stands = ap (message .parse s (length s)) z ∙ h }
 
   table-fields : TableAsked s (record { messages = x .0; signature = x .1 }) q
   unfolding messageCount messagePart signaturePart numberRead partListed listed listOf

@@ -1,17 +1,16 @@
 -- What a reader has to believe of the fields asked for: each stands at its place in its message, whether or not the whole body is good.
 use Prim.Native.Nat.{ℕ, _+_, _*_}
 use mathlib.Core.List.{List}
-use mathlib.Core.Bool.{_&&_}
 use lib.ListN.{length}
-use lib.Dec.{ltb, leb}
+use lib.Dec.{ltb}
 use Rattle.refusal.specs.declared.Refusal.the-variants.{OutsideSet}
-use Rattle.fields.specs.Reading.{Reading, found, refused, andThen, need}
+use Rattle.fields.specs.Reading.{Reading, found, andThen, need}
 use Rattle.fields.specs.Format.{Format, count, number, reserved, nibblesAmong, bytesAmong, listOf, opaque, rest, counted, lengthOf, length12}
 use Rattle.fields.specs.Time.{time, endTime}
 use Rattle.fields.specs.Answers.{numberOf, partOf, fieldOf, numberRead, partListed, digitRead}
 use Rattle.fields.specs.declared.Number.{Number}
-use Rattle.fields.specs.declared.Number.the-variants.{Refused as NoNumber}
 use Rattle.fields.specs.declared.Part.{Part}
+use Rattle.asking.specs.Asking.{inBody, fieldIn, askedAt, inPart}
 use Rattle.index.specs.Index.{identifier, resource}
 
 -- ---- the table
@@ -28,24 +27,11 @@ signaturePart s = partOf (andThen (listOf (count 1) (opaque 2) .parse s (length 
 
 -- ---- a message, told by where it begins and its length, as its record has them
 
--- "one that isn't there is 19, place 0": a message that does not lie in the body
-abbrev pub inMessage : {A : Type 0} → List ℕ → ℕ → ℕ → (ℕ → Reading A) → Reading A
-inMessage s at n k = need (leb (at + n) (length s)) (OutsideSet 0) (k (at + n))
-
--- a number asked for at the position found
-abbrev pub askedAt : {A : Type 0} → Reading A → (ℕ → Number) → Number
-askedAt (found a p) k = k p
-askedAt (refused r) k = NoNumber r
-
--- the field k bytes into the message
-abbrev pub fieldIn : {A : Type 0} → Format A → ℕ → List ℕ → ℕ → ℕ → Reading A
-fieldIn F k s at n = inMessage s at n (λ l. F .parse s l (at + k))
-
 unfoldable pub identifierPart : List ℕ → ℕ → ℕ → Part
-identifierPart s at n = fieldOf at (inMessage s at n (λ l. identifier .parse s l at))
+identifierPart s at n = fieldOf at (inBody s at n (λ l. identifier .parse s l at))
 
 unfoldable pub identifierDigit : List ℕ → ℕ → ℕ → ℕ → Number
-identifierDigit s at n i = askedAt (inMessage s at n (λ l. found l at)) (λ p. digitRead 17 i s (at + n) p)
+identifierDigit s at n i = askedAt (inBody s at n (λ l. found l at)) (λ p. digitRead 17 i s (at + n) p)
 
 unfoldable pub network : List ℕ → ℕ → ℕ → Number
 network s at n = numberOf (fieldIn (number 2) 18 s at n)
@@ -115,18 +101,18 @@ streamsPart s at n = partOf (andThen (inChannel (counted length12 rest) 8 s at n
 
 -- ---- a descriptor or a stream at p, in the part that ends at l: the next one begins where it ends
 
--- "one that isn't there is 19, place 0": a part that does not lie in the body, or has no byte at p
-abbrev pub inPart : {A : Type 0} → List ℕ → ℕ → ℕ → Reading A → Reading A
-inPart s l p x = need (ltb p l && leb l (length s)) (OutsideSet 0) x
+-- both begin with a byte
+unfoldable pub firstByte : List ℕ → ℕ → ℕ → Number
+firstByte s l p = numberOf (inPart s l p (number 1 .parse s l p))
 
 unfoldable pub descriptorTag : List ℕ → ℕ → ℕ → Number
-descriptorTag s l p = numberOf (inPart s l p (number 1 .parse s l p))
+descriptorTag s l p = firstByte s l p
 
 unfoldable pub descriptorPart : List ℕ → ℕ → ℕ → Part
 descriptorPart s l p = partOf (inPart s l p (opaque 1 .parse s l (p + 1)))
 
 unfoldable pub streamType : List ℕ → ℕ → ℕ → Number
-streamType s l p = numberOf (inPart s l p (number 1 .parse s l p))
+streamType s l p = firstByte s l p
 
 unfoldable pub streamPid : List ℕ → ℕ → ℕ → Number
 streamPid s l p = numberOf (inPart s l p (reserved 3 1 .parse s l (p + 1)))

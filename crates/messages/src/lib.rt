@@ -6,12 +6,12 @@ use refusal::Refusal;
 ghost use mathlib.Core.Path.{_≡_};
 ghost use mathlib.Core.Bool.{_&&_};
 ghost use Prim.Native.Nat.{_+_, _*_, _/_, _%_, _≤_};
-ghost use lib.ListN.{length};
-ghost use lib.Dec.{ltb, leb};
+ghost use lib.Dec.{leb};
 ghost use Rattle.fields.specs.Reading.{found, andThen};
-ghost use Rattle.fields.specs.Format.{number, count, nibblesAmong};
+ghost use Rattle.fields.specs.Format.{number, nibblesAmong};
 ghost use Rattle.fields.specs.Answers.{numberOf};
-ghost use Rattle.messages.specs.Asked.{messageCount, messagePart, signaturePart, fieldIn, identifierPart, identifierDigit, network, start, end, typePart, class, level, resourceCount, resourceAt, resourcePart, resourceDigit, flag, channelAt, inChannel, channelNetwork, channelStream, channelProgram, pcrPid, descriptorsPart, streamsPart, inPart, descriptorTag, descriptorPart, streamType, streamPid, streamDescriptors};
+ghost use Rattle.asking.specs.Asking.{fieldIn};
+ghost use Rattle.messages.specs.Asked.{messageCount, messagePart, signaturePart, identifierPart, identifierDigit, network, start, end, typePart, class, level, resourceCount, resourceAt, resourcePart, resourceDigit, flag, channelAt, inChannel, channelNetwork, channelStream, channelProgram, pcrPid, descriptorsPart, streamsPart, firstByte, descriptorTag, descriptorPart, streamType, streamPid, streamDescriptors};
 
 // How many messages there are.
 pub fn message_count(s: &[u8]) -> Number
@@ -38,22 +38,11 @@ pub fn signature(s: &[u8]) -> Part
     }
 }
 
-// Whether the n bytes from at on lie in the body.
-fn in_body(s: &[u8], at: usize, n: usize) -> bool
-    ensures { λ r. ⌜ r ≡ leb (at + n) (length (now (s .entry))) ⌝ }
-{
-    let l = s.len();
-    if l < at {
-        return false;
-    }
-    n <= l - at
-}
-
 // The part of the body that the identifier fills.
 pub fn identifier(s: &[u8], at: usize, n: usize) -> Part
     ensures { λ r. ⌜ r ≡ identifierPart (now (s .entry)) at n ⌝ }
 {
-    if in_body(s, at, n) {
+    if asking::in_body(s, at, n) {
         return fields::read_digits(s, at + n, at, 17);
     }
     Part::Refused(Refusal::OutsideSet(0))
@@ -63,19 +52,8 @@ pub fn identifier(s: &[u8], at: usize, n: usize) -> Part
 pub fn identifier_digit(s: &[u8], at: usize, n: usize, i: u64) -> Number
     ensures { λ r. ⌜ r ≡ identifierDigit (now (s .entry)) at n i ⌝ }
 {
-    if in_body(s, at, n) {
+    if asking::in_body(s, at, n) {
         return fields::digit_at(s, at + n, at, 17, i);
-    }
-    Number::Refused(Refusal::OutsideSet(0))
-}
-
-// The number of w bytes that stands k bytes into the message.
-fn message_number(s: &[u8], at: usize, n: usize, k: usize, w: usize) -> Number
-    requires { ⌜ (k ≤ 36) × (w ≤ 7) ⌝ }
-    ensures { λ r. ⌜ r ≡ numberOf (fieldIn (count w) k (now (s .entry)) at n) ⌝ }
-{
-    if in_body(s, at, n) {
-        return fields::read_number(s, at + n, at + k, w);
     }
     Number::Refused(Refusal::OutsideSet(0))
 }
@@ -83,13 +61,13 @@ fn message_number(s: &[u8], at: usize, n: usize, k: usize, w: usize) -> Number
 pub fn network(s: &[u8], at: usize, n: usize) -> Number
     ensures { λ r. ⌜ r ≡ network (now (s .entry)) at n ⌝ }
 {
-    message_number(s, at, n, 18, 2)
+    asking::number_in(s, at, n, 18, 2)
 }
 
 pub fn start(s: &[u8], at: usize, n: usize) -> Number
     ensures { λ r. ⌜ r ≡ start (now (s .entry)) at n ⌝ }
 {
-    if in_body(s, at, n) {
+    if asking::in_body(s, at, n) {
         return fields::read_time(s, at + n, at + 20);
     }
     Number::Refused(Refusal::OutsideSet(0))
@@ -98,7 +76,7 @@ pub fn start(s: &[u8], at: usize, n: usize) -> Number
 pub fn end(s: &[u8], at: usize, n: usize) -> Number
     ensures { λ r. ⌜ r ≡ end (now (s .entry)) at n ⌝ }
 {
-    if in_body(s, at, n) {
+    if asking::in_body(s, at, n) {
         return fields::read_end(s, at + n, at + 25);
     }
     Number::Refused(Refusal::OutsideSet(0))
@@ -108,7 +86,7 @@ pub fn end(s: &[u8], at: usize, n: usize) -> Number
 pub fn type_part(s: &[u8], at: usize, n: usize) -> Part
     ensures { λ r. ⌜ r ≡ typePart (now (s .entry)) at n ⌝ }
 {
-    if in_body(s, at, n) {
+    if asking::in_body(s, at, n) {
         return fields::read_bytes(s, at + n, at + 30, 5, 0, 0x7F);
     }
     Part::Refused(Refusal::OutsideSet(0))
@@ -137,7 +115,7 @@ fn halves_good(b: u64) -> bool
 fn class_and_level(s: &[u8], at: usize, n: usize) -> Number
     ensures { λ r. ⌜ r ≡ numberOf (andThen (fieldIn (nibblesAmong 1 4) 35 (now (s .entry)) at n) (λ x q. found (x .0 * 16 + x .1) q)) ⌝ }
 {
-    match message_number(s, at, n, 35, 1) {
+    match asking::number_in(s, at, n, 35, 1) {
         Number::Refused(r) => Number::Refused(r),
         Number::Is(b, q) => {
             if halves_good(b) {
@@ -170,7 +148,7 @@ pub fn level(s: &[u8], at: usize, n: usize) -> Number
 pub fn resource_count(s: &[u8], at: usize, n: usize) -> Number
     ensures { λ r. ⌜ r ≡ resourceCount (now (s .entry)) at n ⌝ }
 {
-    message_number(s, at, n, 36, 1)
+    asking::number_in(s, at, n, 36, 1)
 }
 
 // How many resources there are, and where the i-th begins: each has 12 bytes. 19 where there is none.
@@ -291,21 +269,11 @@ pub fn streams(s: &[u8], at: usize, n: usize) -> Part
     }
 }
 
-// Whether a byte stands at p in the part that ends at l, in the body.
-fn in_part(s: &[u8], l: usize, p: usize) -> bool
-    ensures { λ r. ⌜ r ≡ (ltb p l && leb l (length (now (s .entry)))) ⌝ }
-{
-    if p < l {
-        return l <= s.len();
-    }
-    false
-}
-
 // The byte at p: a descriptor's tag, or a stream's type.
 fn first_byte(s: &[u8], l: usize, p: usize) -> Number
-    ensures { λ r. ⌜ r ≡ numberOf (inPart (now (s .entry)) l p (number 1 .parse (now (s .entry)) l p)) ⌝ }
+    ensures { λ r. ⌜ r ≡ firstByte (now (s .entry)) l p ⌝ }
 {
-    if in_part(s, l, p) {
+    if asking::in_part(s, l, p) {
         return fields::read_number(s, l, p, 1);
     }
     Number::Refused(Refusal::OutsideSet(0))
@@ -321,7 +289,7 @@ pub fn descriptor_tag(s: &[u8], l: usize, p: usize) -> Number
 pub fn descriptor_part(s: &[u8], l: usize, p: usize) -> Part
     ensures { λ r. ⌜ r ≡ descriptorPart (now (s .entry)) l p ⌝ }
 {
-    if in_part(s, l, p) {
+    if asking::in_part(s, l, p) {
         return fields::read_part(s, l, p + 1, 1);
     }
     Part::Refused(Refusal::OutsideSet(0))
@@ -336,7 +304,7 @@ pub fn stream_type(s: &[u8], l: usize, p: usize) -> Number
 pub fn stream_pid(s: &[u8], l: usize, p: usize) -> Number
     ensures { λ r. ⌜ r ≡ streamPid (now (s .entry)) l p ⌝ }
 {
-    if in_part(s, l, p) {
+    if asking::in_part(s, l, p) {
         return fields::read_reserved(s, l, p + 1, 3, 1);
     }
     Number::Refused(Refusal::OutsideSet(0))
@@ -346,7 +314,7 @@ pub fn stream_pid(s: &[u8], l: usize, p: usize) -> Number
 pub fn stream_descriptors(s: &[u8], l: usize, p: usize) -> Part
     ensures { λ r. ⌜ r ≡ streamDescriptors (now (s .entry)) l p ⌝ }
 {
-    if in_part(s, l, p) {
+    if asking::in_part(s, l, p) {
         return fields::read_part12(s, l, p + 3);
     }
     Part::Refused(Refusal::OutsideSet(0))

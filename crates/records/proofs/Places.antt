@@ -1,6 +1,6 @@
 -- What stands at a message's fixed places is what its format reads there, so that the records found by places are the table's.
 use Prim.Native.Nat.{ℕ, zero, suc, _+_, _-_, _/_, _%_, _^_, _≤_, _<_, min}
-use mathlib.Core.Path.{_≡_, sym, ap, ap₂, _∙_}
+use mathlib.Core.Path.{_≡_, sym, ap, _∙_}
 use mathlib.Core.List.{List, _∷_}
 use native.Mathlib.Omega.{arith}
 use native.Mathlib.Nat.{mod-eq-of-lt, min-eq-left, one-le-pow, le-refl, add-zero, zero-add}
@@ -8,17 +8,17 @@ use lib.ListN.{length, getD}
 use borrow.Author.Tests.{le-leb}
 use Rattle.refusal.specs.declared.Refusal.{Refusal}
 use Rattle.refusal.specs.declared.Refusal.the-variants.{PastPart}
-use Rattle.fields.specs.Reading.{found, Fault}
-use Rattle.fields.specs.Format.{Format, numberAt, count, only, number, nibbles, nibblesAmong, digits, bytesAmong, repeat, counted, lengthOf}
+use Rattle.fields.specs.Reading.{found}
+use Rattle.fields.specs.Format.{numberAt, count, number, nibbles, nibblesAmong, repeat, counted, lengthOf}
 use Rattle.fields.specs.Time.{time, endTime}
-use Rattle.fields.specs.Answers.{numberOf, fieldOf, numberRead}
+use Rattle.fields.specs.Answers.{numberOf, numberRead}
 use Rattle.fields.specs.Body.{longest}
 use Rattle.fields.specs.declared.Number.the-variants.{Is, Refused as NoNumber}
 use Rattle.fields.proofs.Classes.{Bytes}
-use Rattle.fields.proofs.Outcomes.{found-inj, andThen-found, judged-found, within-found}
+use Rattle.fields.proofs.Outcomes.{found-inj, andThen-found, within-found}
 use Rattle.fields.proofs.Elements.{exact-found, view-found, followed-found}
 use Rattle.fields.proofs.Readers.{number-facts}
-use Rattle.fields.proofs.Strings.{bytes-fill, digits-fill}
+use Rattle.asking.proofs.Sizes.{only-found, bytes-sized, digits-sized}
 use Rattle.walks.specs.Entries.{worth}
 use Rattle.index.specs.Index.{HeadFields, head, messageFields, named, unnamed, Message, message}
 use Rattle.index.proofs.Lawful.{inner-filling, message-lawful}
@@ -37,13 +37,6 @@ unfolding standing
 number-stood s p w v q b e = (ap worth e, number-facts s (length s) p w v q b e .2)
 
 -- ---- one field
-
-only-found : {A : Type 0} (fault : A → ℕ → Fault) (F : Format A) (s : List ℕ) (l p : ℕ) (a : A) (q : ℕ) → only fault F .parse s l p ≡ found a q → F .parse s l p ≡ found a q
-unfolding only
-only-found fault F s l p a q e =
-    let i = andThen-found (F .parse s l p) _ a q e in
-    let g = found-inj (judged-found (fault (i .0) p) _ a q (i .3) .1) in
-    i .2 ∙ ap₂ found (g .0) (g .1)
 
 -- in whatever part it was read
 pub count-stands : (w : ℕ) (s : List ℕ) (l p v q : ℕ) → count w .parse s l p ≡ found v q → (standing s p w ≡ v) × (q ≡ p + w)
@@ -68,12 +61,6 @@ nibbles-stand lo hi s l p x q e =
     let i = found-inj (f .2) .0 in
     (rw (byte-stands s p (f .0)) (ap (λ y. y .0) i), rw (byte-stands s p (f .0)) (ap (λ y. y .1) i))
 
-digits-end : (h : ℕ) (s : List ℕ) (l p : ℕ) (ds : List ℕ) (q : ℕ) → Bytes s → digits h .parse s l p ≡ found ds q → q ≡ p + (h + 1)
-digits-end h s l p ds q b e = found-inj (sym e ∙ digits-fill s l p h p (q - p) b (sym (ap (fieldOf p) e)) .2 .parsed) .1
-
-bytes-end : (lo hi n : ℕ) (s : List ℕ) (l p : ℕ) (xs : List ℕ) (q : ℕ) → bytesAmong lo hi n .parse s l p ≡ found xs q → q ≡ p + n
-bytes-end lo hi n s l p xs q e = found-inj (sym e ∙ bytes-fill s l p n lo hi p (q - p) (sym (ap (fieldOf p) e)) .2 .parsed) .1
-
 -- ---- the fixed fields of a message
 
 -- those of the message whose EBM_length stands at p
@@ -83,19 +70,19 @@ record Head (s : List ℕ) (p : ℕ) (h : HeadFields) : Type 0 where
   classed : standing s (p + 37) 1 / 16 ≡ h .1 .1 .1 .1 .1 .0
   levelled : standing s (p + 37) 1 % 16 ≡ h .1 .1 .1 .1 .1 .1
 
-head-stands : (s : List ℕ) (p l at : ℕ) (h : HeadFields) (q : ℕ) → Bytes s → at ≡ p + 2 → head .parse s l at ≡ found h q → Head s p h
+head-stands : (s : List ℕ) (p l at : ℕ) (h : HeadFields) (q : ℕ) → at ≡ p + 2 → head .parse s l at ≡ found h q → Head s p h
 unfolding head time endTime
-head-stands s p l at h q b from e =
+head-stands s p l at h q from e =
     let f₀ = followed-found _ _ s l at h q e in
     let f₁ = followed-found _ _ s l (f₀ .0) (h .1) q (f₀ .2) in
     let f₂ = followed-found _ _ s l (f₁ .0) (h .1 .1) q (f₁ .2) in
     let f₃ = followed-found _ _ s l (f₂ .0) (h .1 .1 .1) q (f₂ .2) in
     let f₄ = followed-found _ _ s l (f₃ .0) (h .1 .1 .1 .1) q (f₃ .2) in
-    let e₀ = digits-end 17 s l at (h .0) (f₀ .0) b (f₀ .1) in
+    let e₀ = digits-sized 17 s l at (h .0) (f₀ .0) (f₀ .1) in
     let e₁ = number-stands 2 s l (f₀ .0) (h .1 .0) (f₁ .0) (f₁ .1) in
     let e₂ = number-stands 5 s l (f₁ .0) (h .1 .1 .0) (f₂ .0) (only-found _ (number 5) s l (f₁ .0) (h .1 .1 .0) (f₂ .0) (f₂ .1)) in
     let e₃ = number-stands 5 s l (f₂ .0) (h .1 .1 .1 .0) (f₃ .0) (only-found _ (number 5) s l (f₂ .0) (h .1 .1 .1 .0) (f₃ .0) (f₃ .1)) in
-    let e₄ = bytes-end 0 0x7F 5 s l (f₃ .0) (h .1 .1 .1 .1 .0) (f₄ .0) (f₄ .1) in
+    let e₄ = bytes-sized 0 0x7F 5 s l (f₃ .0) (h .1 .1 .1 .1 .0) (f₄ .0) (f₄ .1) in
     let e₅ = nibbles-stand 1 4 s l (f₄ .0) (h .1 .1 .1 .1 .1) q (f₄ .2) in
     let at₁ : p + 22 ≡ f₁ .0 = omega (arith, from, e₀, e₁ .1) in
     let at₂ : p + 27 ≡ f₂ .0 = omega (arith, at₁, e₂ .1) in
@@ -137,7 +124,7 @@ message-placed s p m q b small e =
     let end = inner-filling .ends s l (i .1) m q b (f .0) (omega arith) (f .2) in
     let v = view-found named unnamed messageFields s l (i .1) m q (exact-found PastPart _ s l (i .1) m q (f .2) .0) in
     let g = followed-found head _ s l (i .1) (v .0) q (v .1) in
-    let h = head-stands s p l (i .1) (v .0 .0) (g .0) b (c .1) (g .1) in
+    let h = head-stands s p l (i .1) (v .0 .0) (g .0) (c .1) (g .1) in
     let next = message-lawful .forth s (length s) p m q b (le-refl (length s)) (omega (arith, c .1, f .0)) e .next in
     let past : p + 2 + standing s p 2 ≡ q = omega (arith, c .0, end, low, c .1) in
     let here : min p longest ≡ p = min-eq-left (omega (arith, c .1, f .0)) in

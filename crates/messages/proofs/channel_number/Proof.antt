@@ -2,7 +2,8 @@
 use mathlib.Core.Path.{sym, ap, _∙_}
 use Rattle.fields.specs.Format.{number}
 use Rattle.fields.specs.Answers.{numberOf, numberRead}
-use Rattle.messages.proofs.Answers.{count-number, in-channel-no, in-channel, channel-in}
+use Rattle.asking.proofs.Answers.{count-number}
+use Rattle.messages.proofs.Answers.{in-channel-no, in-channel, channel-in}
 use native.Mathlib.Omega.{arith}
 use borrow.Author.Needs.{needs}
 use Rattle.messages.proofs.channel_number.Statement.{statement}

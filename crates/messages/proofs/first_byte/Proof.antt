@@ -1,8 +1,9 @@
 -- `messages::first_byte` meets its contract: it is asked for where a byte stands in a part of the body, and is not refused for its value.
 use mathlib.Core.Path.{sym, ap, _∙_}
 use Rattle.fields.specs.Answers.{numberOf, numberRead}
-use Rattle.messages.proofs.Answers.{count-number, needed, not-needed}
 use borrow.Author.Needs.{needs}
+use Rattle.asking.proofs.Answers.{count-number, needed, not-needed}
+use Rattle.messages.specs.Asked.{firstByte}
 use Rattle.messages.proofs.first_byte.Statement.{statement}
 use Rattle.messages.proofs.first_byte.Tie as tie
 
@@ -12,5 +13,5 @@ first-byte-spec =
     (tie.spec
     (λ c κs. search needs)
     (λ c κs. search needs)
-    (λ c. unfold numberRead in c .read-number .ensures ∙ count-number 1 _ _ _ (λ i. c .before .before .before .shared-slice-known .given i .fits) ∙ ap numberOf (needed _ _ _ (sym (c .before .before .in-part .ensures) ∙ c .before .if1 .taken)))
-    (λ c. ap numberOf (not-needed _ _ _ (sym (c .before .in-part .ensures) ∙ c .if1 .left))))
+    (λ c. unfold numberRead firstByte in c .read-number .ensures ∙ count-number 1 _ _ _ (λ i. c .before .before .before .shared-slice-known .given i .fits) ∙ ap numberOf (needed _ _ _ (sym (c .before .before .in-part .ensures) ∙ c .before .if1 .taken)))
+    (λ c. unfold firstByte in ap numberOf (not-needed _ _ _ (sym (c .before .in-part .ensures) ∙ c .if1 .left))))

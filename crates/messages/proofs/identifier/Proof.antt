@@ -2,8 +2,8 @@
 use Prim.Native.Nat.{_+_}
 use mathlib.Core.Path.{sym, ap, _∙_}
 use Rattle.fields.specs.Answers.{fieldOf}
+use Rattle.asking.proofs.Answers.{needed, not-needed}
 use Rattle.messages.specs.Asked.{identifierPart}
-use Rattle.messages.proofs.Answers.{needed, not-needed}
 use native.Mathlib.Omega.{arith}
 use lib.ListN.{length}
 use borrow.Author.Tests.{leb-true}

@@ -10,4 +10,4 @@ network-spec =
     tie.close
     (tie.spec
     (λ c κs. search needs)
-    (λ c. c .message-number .ensures ∙ network-is _ _ _ (λ i. c .before .shared-slice-known .given i .fits)))
+    (λ c. c .number-in .ensures ∙ network-is _ _ _ (λ i. c .before .shared-slice-known .given i .fits)))

@@ -9,4 +9,4 @@ resource-count-spec =
     tie.close
     (tie.spec
     (λ c κs. search needs)
-    (λ c. unfold resourceCount in c .message-number .ensures))
+    (λ c. unfold resourceCount in c .number-in .ensures))

@@ -1,7 +1,7 @@
--- `messages::in_part` meets its contract: its tests are the two of a byte in a part of the body.
+-- `asking::in_part` meets its contract: its tests are the two of a byte in a part of the body.
 use borrow.Author.Tests.{lt-ltb, le-ltb}
-use Rattle.messages.proofs.in_part.Statement.{statement}
-use Rattle.messages.proofs.in_part.Tie as tie
+use Rattle.asking.proofs.in_part.Statement.{statement}
+use Rattle.asking.proofs.in_part.Tie as tie
 
 pub in-part-spec : {M : Type 1} → statement M
 in-part-spec =

@@ -1,17 +1,17 @@
--- `messages::message_number` meets its contract: it is asked for where the message lies in the body.
+-- `asking::number_in` meets its contract: it is asked for where the part lies in the body.
 use Prim.Native.Nat.{_+_}
 use mathlib.Core.Path.{sym, ap, _∙_}
 use Rattle.fields.specs.Answers.{numberOf, numberRead}
-use Rattle.messages.proofs.Answers.{needed, not-needed}
+use Rattle.asking.proofs.Answers.{needed, not-needed}
 use native.Mathlib.Omega.{arith}
 use lib.ListN.{length}
 use borrow.Author.Tests.{leb-true}
 use borrow.Author.Needs.{needs}
-use Rattle.messages.proofs.message_number.Statement.{statement}
-use Rattle.messages.proofs.message_number.Tie as tie
+use Rattle.asking.proofs.number_in.Statement.{statement}
+use Rattle.asking.proofs.number_in.Tie as tie
 
-pub message-number-spec : {M : Type 1} → statement M
-message-number-spec =
+pub number-in-spec : {M : Type 1} → statement M
+number-in-spec =
     tie.close
     (tie.spec
     (λ c κs. search needs)

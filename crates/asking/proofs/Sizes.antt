@@ -7,7 +7,7 @@ use native.Mathlib.Nat.{mul-zero, mul-suc}
 use lib.ListN.{getD, take, drop}
 use Rattle.refusal.specs.declared.Refusal.the-variants.{DigitAboveNine}
 use Rattle.fields.specs.Reading.{found, Fault}
-use Rattle.fields.specs.Format.{Format, count, only, number, nibbles, nibblesAmong, reserved, bytes, bytesAmong, halves, tail, decimal, digits, _▷_, repeat}
+use Rattle.fields.specs.Format.{Format, count, only, among, number, nibbles, nibblesAmong, reserved, bytes, bytesAmong, halves, tail, decimal, digits, _▷_, repeat}
 use Rattle.fields.specs.Time.{time, endTime}
 use Rattle.fields.proofs.Outcomes.{found-inj, andThen-found, need-found, judged-found, within-found}
 use Rattle.fields.proofs.Leaves.{reserved-found}
@@ -32,6 +32,9 @@ only-found fault F s l p a q e =
 
 only-sized : {A : Type 0} (fault : A → ℕ → Fault) (F : Format A) (n : ℕ) → Sized F n → Sized (only fault F) n
 only-sized fault F n z s l p a q e = z s l p a q (only-found fault F s l p a q e)
+
+pub among-sized : (lo hi : ℕ) (F : Format ℕ) (n : ℕ) → Sized F n → Sized (among lo hi F) n
+among-sized lo hi F n z = only-sized _ F n z
 
 pub number-sized : (w : ℕ) → Sized (number w) w
 unfolding number

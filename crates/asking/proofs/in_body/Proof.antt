@@ -1,9 +1,9 @@
--- `messages::in_body` meets its contract: its tests are the sum's, without the sum.
-use Rattle.messages.proofs.Answers.{room, no-room}
+-- `asking::in_body` meets its contract: its tests are the sum's, without the sum.
+use Rattle.asking.proofs.Answers.{room, no-room}
 use native.Mathlib.Omega.{arith}
 use lib.ListN.{length}
-use Rattle.messages.proofs.in_body.Statement.{statement}
-use Rattle.messages.proofs.in_body.Tie as tie
+use Rattle.asking.proofs.in_body.Statement.{statement}
+use Rattle.asking.proofs.in_body.Tie as tie
 
 pub in-body-spec : {M : Type 1} → statement M
 in-body-spec =

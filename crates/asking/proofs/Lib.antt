@@ -1,0 +1,5 @@
+-- The laws that other crates cite.
+pub mod Sizes
+pub mod Answers
+pub mod Entries
+pub mod Parts
