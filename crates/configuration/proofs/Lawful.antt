@@ -12,7 +12,7 @@ use Rattle.days.specs.Calendar.{dayOf}
 use Rattle.days.specs.declared.DayAnswer.{DayAnswer}
 use Rattle.days.specs.declared.DayAnswer.the-variants.{Day, Refused}
 use Rattle.fields.specs.Reading.{Fault, fine, faulty, isFine}
-use Rattle.fields.specs.Format.{_▷_, only, outside, count, number, rest, leastOf}
+use Rattle.fields.specs.Format.{_▷_, only, outside, count, number, rest, leastOf, counted}
 use Rattle.fields.proofs.Classes.{Lawful, Filling}
 use Rattle.fields.proofs.Leaves.{count-lawful, count-small, small-count, digits-lawful}
 use Rattle.fields.proofs.Bits.{among-lawful}
@@ -91,11 +91,16 @@ said-filling setVolume = exact-filling PastPart _ (followed-lawful _ _ (among-la
 said-filling query = exact-filling PastPart _ (followed-lawful _ _ (list-lawful (number 1) (number-lawful 1) (count 1) (count-lawful 1)) (λ a. terminals-lawful))
 said-filling other = rest-filling
 
+module _ (tag : ℕ) where
+  pub content-counts : Counts (leastOf 2 (least tag)) (said (orderOf tag))
+  content-counts = least-counts 2 (least tag) (said (orderOf tag)) (enough tag)
+
+  pub content-lawful : Lawful (counted (leastOf 2 (least tag)) (said (orderOf tag)))
+  content-lawful = counted-lawful (leastOf 2 (least tag)) (said (orderOf tag)) content-counts (said-filling (orderOf tag))
+
 pub command-lawful : Lawful command
 unfolding command
-command-lawful =
-    followed-lawful _ _ (number-lawful 1) (λ tag.
-    counted-lawful (leastOf 2 (least tag)) (said (orderOf tag)) (least-counts 2 (least tag) (said (orderOf tag)) (enough tag)) (said-filling (orderOf tag)))
+command-lawful = followed-lawful _ _ (number-lawful 1) content-lawful
 
 -- ---- the table
 

@@ -4,3 +4,6 @@ pub mod Lawful
 pub mod RoundTrips
 pub mod Values
 pub mod Hosts
+pub mod ClockWalks
+pub mod AddressWalks
+pub mod Commands

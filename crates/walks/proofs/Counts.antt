@@ -1,19 +1,19 @@
--- Walks that a number decides: what a flag says is there, a part by its length, and things after their count.
-use Prim.Native.Nat.{ℕ, zero, suc, _+_, _-_, _%_, _≤_, _<_}
+-- Walks that a number decides: what depends on it, what a flag says is there, a part by its length, and things after their count.
+use Prim.Native.Nat.{ℕ, zero, suc, _+_, _-_, _%_, _^_, _≤_, _<_}
 use mathlib.Core.Path.{_≡_, refl, sym, ap, ap₂, _∙_, subst}
 use mathlib.Core.List.{List, [], _∷_, _++_}
 use mathlib.Core.Bool.{Bool, true, false}
 use native.Mathlib.Omega.{arith}
-use native.Mathlib.Nat.{add-sub-cancel-left}
+use native.Mathlib.Nat.{add-sub-cancel-left, one-le-pow}
 use lib.ListN.{length, take, drop, length-append, length-drop}
 use lib.Seq.{length-take-le}
-use lib.Dec.{leb}
-use borrow.Author.Tests.{leb-true, le-leb}
+use lib.Dec.{ltb, leb}
+use borrow.Author.Tests.{ltb-true, leb-true, le-leb}
 use Rattle.placing.specs.Placed.{placed}
 use Rattle.refusal.specs.declared.Refusal.{Refusal}
-use Rattle.refusal.specs.declared.Refusal.the-variants.{PastBody, PastPart}
-use Rattle.fields.specs.Reading.{Reading, found, refused, andThen, need, Fault, fine, faulty, judged, within}
-use Rattle.fields.specs.Format.{Format, followed, _▷_, nothing, under, repeat, times, tapeAll, listOf, rest, Length, counted}
+use Rattle.refusal.specs.declared.Refusal.the-variants.{PastBody, PastPart, OutsideSet}
+use Rattle.fields.specs.Reading.{Reading, found, refused, andThen, need, Fault, fine, faulty, unless, judged, within}
+use Rattle.fields.specs.Format.{Format, count, only, number, followed, _▷_, nothing, under, repeat, times, tapeAll, listOf, rest, Length, counted}
 use Rattle.fields.specs.Answers.{partOf}
 use Rattle.fields.specs.declared.Part.{Part}
 use Rattle.fields.proofs.Outcomes.{found-inj, andThen-found, judged-found, within-found}
@@ -29,10 +29,38 @@ use Rattle.walks.specs.declared.Opened.{Opened}
 use Rattle.walks.proofs.Pairs.{stays, passed, Steady, empty, dependent, renamed, regroup}
 
 -- the number told is the number found
-value-found : {C : Format ℕ} {s : List ℕ} {l : ℕ} {x : Walk} {wet : Bool} {t : List ℕ} {c : Count} {t₁ : List ℕ}
+pub value-found : {C : Format ℕ} {s : List ℕ} {l : ℕ} {x : Walk} {wet : Bool} {t : List ℕ} {c : Count} {t₁ : List ℕ}
     → Counted C s l x wet t c t₁ → (n p q room : ℕ) → x ≡ At p room → C .parse s l p ≡ found n q → c .n ≡ n
 unfolding valueAt
 value-found {C} {s} {l} w n p q room e h = w .value ∙ ap (valueAt C s l) e ∙ ap valueOf h
+
+-- a number of w bytes is told as one of w bytes
+pub told-below : (w : ℕ) {s : List ℕ} {l : ℕ} {x : Walk} {wet : Bool} {t : List ℕ} {c : Count} {t₁ : List ℕ} → Counted (number w) s l x wet t c t₁ → c .n < 256 ^ w
+unfolding number only valueAt
+told-below w {s} {l} {x} k = rw (k .value) (go x)
+  where
+    none : 0 < 256 ^ w
+    none = one-le-pow w 256 (omega arith)
+
+    test : (v q p : ℕ) (b : Bool) → ltb v (256 ^ w) ≡ b → valueOf (judged (unless b (OutsideSet p)) (found v q)) < 256 ^ w
+    test v q p true e = ltb-true v (256 ^ w) e
+    test v q p false e = none
+
+    read : (p : ℕ) (y : Reading ℕ) → valueOf (andThen y (λ v q. judged (unless (ltb v (256 ^ w)) (OutsideSet p)) (found v q))) < 256 ^ w
+    read p (refused e) = none
+    read p (found v q) = test v q p (ltb v (256 ^ w)) refl
+
+    go : (x : Walk) → valueAt (number w) s l x < 256 ^ w
+    go (Refused e) = none
+    go (At p room) = read p (count w .parse s l p)
+
+-- what depends on a number that was told
+pub told-walk : {B : ℕ → Type 0} {C : Format ℕ} {G : (n : ℕ) → Format (B n)} {s : List ℕ} {l : ℕ} {x : Walk} {wet : Bool} {t : List ℕ} {c : Count} {t₁ : List ℕ} {r : Walk} {t₂ : List ℕ}
+    → Lawful C → ((n : ℕ) → Formal (G n)) → Counted C s l x wet t c t₁ → Walked (G (c .n)) s l (c .walk) wet t₁ r t₂ → Walked (followed C G) s l x wet t r t₂
+told-walk {G} {s} {l} {wet} {c} {t₁} {r} {t₂} f g w v =
+    dependent f (λ n. g n .steady) (w .past)
+    (λ n p q room e h. subst (λ m. Walked (G m) s l (c .walk) wet t₁ r t₂) (value-found w n p q room e h) v)
+    (passed v) (v .dry)
 
 -- ---- what a flag says is there
 

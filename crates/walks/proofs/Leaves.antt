@@ -5,7 +5,8 @@ use mathlib.Core.List.{List, [], _∷_, _++_}
 use mathlib.Core.Bool.{Bool, true, false, _&&_}
 use native.Mathlib.Omega.{arith}
 use native.Mathlib.Nat.{add-zero, zero-add}
-use lib.ListN.{length, getD, set, take, drop, length-append}
+use lib.ListN.{length, getD, set, take, drop, length-append, length-drop}
+use lib.Seq.{length-take-le}
 use lib.Dec.{leb}
 use borrow.Author.Tests.{le-leb, lt-leb}
 use Rattle.placing.specs.Placed.{placed}
@@ -186,6 +187,17 @@ part-leaf s l x wet tape p room e w (Of a n) f r tape′ t =
 part-leaf s l x wet tape p room e w (NoPart r) f r′ tape′ t =
     let g = part-refused s l p w r f in
     leaf (opaque w) s l x wet tape p room e _ _ r′ tape′ t (rw g) (λ i xs q h. absurd (let z : _≡_ {A = ℕ} 0 1 = cc in omega arith))
+
+-- ---- all bytes that are left in a part, and their two entries
+
+pub rest-leaf : (s : List ℕ) (l : ℕ) (x : Walk) (wet : Bool) (tape : List ℕ) (p room : ℕ) → x ≡ At p room → (n left : ℕ) (tape′ : List ℕ) → n ≡ l - p → left ≡ room - 2
+    → Laid tape room wet (p ∷ n ∷ []) tape′ → Walked rest s l x wet tape (At l left) tape′
+unfolding rest
+rest-leaf s l x wet tape p room e n left tape′ f g t =
+    leaf rest s l x wet tape p room e (At l left) (p ∷ n ∷ []) (At l left) tape′ record { said = refl; laid = t } (ap (At l) g)
+    (λ i xs q h.
+    let long : length xs ≡ n = sym (ap length (found-inj h .0)) ∙ length-take-le (l - p) (drop p s) (simp length-drop (omega (arith, i .part))) ∙ sym f in
+    rw long)
 
 -- ---- a field of n bytes, and where it stands
 

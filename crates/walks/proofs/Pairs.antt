@@ -1,4 +1,4 @@
--- Walks put together: one thing after the other, the same fields under other names, and no byte left.
+-- Walks put together: one thing after the other, the same fields under other names, no byte left, and a value judged once it was read.
 use Prim.Native.Nat.{ℕ, _+_, _-_, _≤_, _<_}
 use mathlib.Core.Path.{_≡_, refl, sym, ap, _∙_, subst}
 use mathlib.Core.List.{List, [], _++_}
@@ -11,12 +11,13 @@ use Rattle.choices.specs.Choice.{if_then_else_}
 use Rattle.placing.specs.Placed.{placed}
 use Rattle.placing.proofs.Placing.{placed-next, placed-length, placed-none}
 use Rattle.refusal.specs.declared.Refusal.{Refusal}
-use Rattle.fields.specs.Reading.{Reading, found, refused, andThen, need}
-use Rattle.fields.specs.Format.{Format, followed, _▷_, view, exact}
-use Rattle.fields.proofs.Outcomes.{found-inj, andThen-found}
+use Rattle.fields.specs.Reading.{Reading, found, refused, andThen, need, Fault, unless, judged}
+use Rattle.fields.specs.Format.{Format, only, followed, _▷_, view, exact}
+use Rattle.fields.proofs.Outcomes.{found-inj, andThen-found, judged-found}
 use Rattle.fields.proofs.Classes.{Formal, Lawful}
+use Rattle.fields.proofs.Parts.{exact-filling}
 use Rattle.fields.proofs.Elements.{exact-found}
-use Rattle.walks.specs.Walked.{onward, walked, leaving, Walked}
+use Rattle.walks.specs.Walked.{onward, walked, leaving, judgedFrom, Walked}
 use Rattle.walks.specs.declared.Walk.{Walk}
 use Rattle.walks.specs.declared.Walk.the-variants.{At, Refused}
 
@@ -240,3 +241,80 @@ exact-walk {A} {F} leftOver {s} {l} {x} w h =
     go : (x : Walk) → leaving leftOver l (walked F s l x) ≡ walked (exact leftOver F) s l x
     go (Refused e) = ap (leaving leftOver l) (walked-refused F s l e) ∙ sym (walked-refused (exact leftOver F) s l e)
     go (At p room) = ap (leaving leftOver l) (walked-at F s l p room) ∙ read room (F .parse s l p) ∙ sym (walked-at (exact leftOver F) s l p room)
+
+-- the last of several things fills the part where all of them do
+module _ {A : Type 0} {B : A → Type 0} (leftOver : ℕ → Refusal) (F : Format A) (G : (a : A) → Format (B a)) {s : List ℕ} {l : ℕ} {x : Walk} {wet : Bool} {t : List ℕ} {r : Walk} {t′ : List ℕ} where
+  pub exact-last : Walked (followed F (λ a. exact leftOver (G a))) s l x wet t r t′ → Walked (exact leftOver (followed F G)) s l x wet t r t′
+  unfolding exact followed
+  exact-last w = renamed {F = followed F (λ a. exact leftOver (G a))} (λ z. z) (λ p room e. first (F .parse s l p)) (λ z p q k e. refl) w
+    where
+      third : (a : A) (b : B a) (v : ℕ) (u : Bool)
+          → need u (leftOver v) (let z : (a : A) × B a = (a, b) in found z v)
+          ≡ andThen (andThen (need u (leftOver v) (found b v)) (λ b v. let z : (a : A) × B a = (a, b) in found z v)) (λ z q. found z q)
+      third a b v true = refl
+      third a b v false = refl
+
+      second : (a : A) (y : Reading (B a))
+          → andThen (andThen y (λ b v. let z : (a : A) × B a = (a, b) in found z v)) (λ z q. need (leb l q) (leftOver q) (found z q))
+          ≡ andThen (andThen (andThen y (λ b q. need (leb l q) (leftOver q) (found b q))) (λ b v. let z : (a : A) × B a = (a, b) in found z v)) (λ z q. found z q)
+      second a (refused e) = refl
+      second a (found b v) = third a b v (leb l v)
+
+      first : (y : Reading A)
+          → andThen (andThen y (λ a q. andThen (G a .parse s l q) (λ b v. let z : (a : A) × B a = (a, b) in found z v))) (λ z q. need (leb l q) (leftOver q) (found z q))
+          ≡ andThen (andThen y (λ a q. andThen (andThen (G a .parse s l q) (λ b q. need (leb l q) (leftOver q) (found b q))) (λ b v. let z : (a : A) × B a = (a, b) in found z v))) (λ z q. found z q)
+      first (refused e) = refl
+      first (found a q) = second a (G a .parse s l q)
+
+pub exact-pair : {A B : Type 0} {F : Format A} {G : Format B} (leftOver : ℕ → Refusal) {s : List ℕ} {l : ℕ} {x : Walk} {wet : Bool} {t : List ℕ} {r : Walk} {t₁ : List ℕ} {r′ : Walk} {t₂ : List ℕ}
+    → Lawful F → Lawful G → Walked F s l x wet t r t₁ → Walked (exact leftOver G) s l r wet t₁ r′ t₂ → Walked (exact leftOver (F ▷ G)) s l x wet t r′ t₂
+exact-pair {F} {G} leftOver f g w v = exact-last leftOver F (λ a. G) (pair f (exact-filling leftOver G g .formal) w v)
+
+-- ---- a value judged once it was read
+
+module _ (refusal : ℕ → Refusal) {x y : Walk} (holds : Bool) where
+  pub judged-before : {e : Refusal} → x ≡ Refused e → y ≡ judgedFrom refusal x holds y
+  unfolding judgedFrom
+  judged-before h = rw h
+
+  module _ {p room : ℕ} (h : x ≡ At p room) where
+    pub judged-refused : {e : Refusal} → y ≡ Refused e → Refused e ≡ judgedFrom refusal x holds y
+    unfolding judgedFrom
+    judged-refused k = rw (h, k)
+
+    module _ {q left : ℕ} (k : y ≡ At q left) where
+      pub judged-holds : holds ≡ true → At q left ≡ judgedFrom refusal x holds y
+      unfolding judgedFrom
+      judged-holds b = rw (h, k, b)
+
+      pub judged-fails : holds ≡ false → Refused (refusal p) ≡ judgedFrom refusal x holds y
+      unfolding judgedFrom
+      judged-fails b = rw (h, k, b)
+
+-- the test says of what F found whether it is at fault
+pub only-walk : {A : Type 0} {F : Format A} {fault : A → ℕ → Fault} (refusal : ℕ → Refusal) {s : List ℕ} {l : ℕ} {x : Walk} {wet : Bool} {t : List ℕ} {r : Walk} {t′ : List ℕ} {r′ : Walk} (holds : Bool)
+    → ((a : A) (p q room : ℕ) → x ≡ At p room → F .parse s l p ≡ found a q → fault a p ≡ unless holds (refusal p))
+    → Walked F s l x wet t r t′ → r′ ≡ judgedFrom refusal x holds r → Walked (only fault F) s l x wet t r′ t′
+unfolding only judgedFrom
+only-walk {A} {F} {fault} refusal {s} {l} {x} holds says w h =
+    record {
+      said = h ∙ ap (judgedFrom refusal x holds) (w .said) ∙ go x says;
+      dry = w .dry;
+      laid = λ v p room e here a q i small fits.
+          let d = andThen-found (F .parse s l p) _ a q i in
+          w .laid v p room e here a q (d .2 ∙ judged-found (fault (d .0) p) _ a q (d .3) .1) small fits;
+    }
+  where
+    last : (p room : ℕ) (a : A) (q : ℕ) (b : Bool) → (if b then At q (room - length (F .tape a 0)) else Refused (refusal p)) ≡ onward (only fault F) room (judged (unless b (refusal p)) (found a q))
+    last p room a q true = refl
+    last p room a q false = refl
+
+    read : (p room : ℕ) (y : Reading A) → ((a : A) (q : ℕ) → y ≡ found a q → fault a p ≡ unless holds (refusal p))
+        → judgedFrom refusal (At p room) holds (onward F room y) ≡ onward (only fault F) room (andThen y (λ a q. judged (fault a p) (found a q)))
+    read p room (refused e) k = refl
+    read p room (found a q) k = last p room a q holds ∙ ap (λ f. onward (only fault F) room (judged f (found a q))) (sym (k a q refl))
+
+    go : (x : Walk) → ((a : A) (p q room : ℕ) → x ≡ At p room → F .parse s l p ≡ found a q → fault a p ≡ unless holds (refusal p)) → judgedFrom refusal x holds (walked F s l x) ≡ walked (only fault F) s l x
+    go (Refused e) k = walked-refused F s l e ∙ sym (walked-refused (only fault F) s l e)
+    go (At p room) k =
+        ap (judgedFrom refusal (At p room) holds) (walked-at F s l p room) ∙ read p room (F .parse s l p) (λ a q. k a p q room refl) ∙ sym (walked-at (only fault F) s l p room)

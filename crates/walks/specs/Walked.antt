@@ -34,6 +34,12 @@ unfoldable pub leaving : (ℕ → Refusal) → ℕ → Walk → Walk
 leaving leftOver l (At q room) = if leb l q then At q room else Refused (leftOver q)
 leaving leftOver l (Refused r) = Refused r
 
+-- what was walked from x to y, judged once it was read: where the test fails, it is refused at x
+unfoldable pub judgedFrom : (ℕ → Refusal) → Walk → Bool → Walk → Walk
+judgedFrom refusal (At p room) holds (At q left) = if holds then At q left else Refused (refusal p)
+judgedFrom refusal (At p room) holds (Refused r) = Refused r
+judgedFrom refusal (Refused r) holds y = y
+
 -- a position in a part of a body of bytes
 pub record Inside (s : List ℕ) (l p : ℕ) : Type 0 where
   pub bytes : (i : ℕ) → getD s i 0 < 256

@@ -7,10 +7,10 @@ ghost use mathlib.Core.List.{[], _∷_};
 ghost use mathlib.Core.Bool.{_&&_};
 ghost use lib.Dec.{leb};
 ghost use Prim.Native.Nat.{_-_, _≤_};
-ghost use Rattle.fields.specs.Format.{count, among, number, nibblesAmong, reserved, bytesAmong, digits, lengthOf, leastOf, length12, opaque};
+ghost use Rattle.fields.specs.Format.{count, among, number, nibblesAmong, reserved, bytesAmong, digits, rest, lengthOf, leastOf, length12, opaque};
 ghost use Rattle.fields.specs.Time.{time, endTime};
-ghost use Rattle.refusal.specs.declared.Refusal.the-variants.{PastPart, LeftOver};
-ghost use Rattle.walks.specs.Walked.{Walked, leaving, Counted, openedBy, entered};
+ghost use Rattle.refusal.specs.declared.Refusal.the-variants.{PastPart, LeftOver, ImpossibleDay};
+ghost use Rattle.walks.specs.Walked.{Walked, leaving, judgedFrom, Counted, openedBy, entered};
 ghost use Rattle.walks.specs.Entries.{Laid, Stepped, entryOf, pastNumber, Told, spanOf, pastPart, endOf};
 
 // Where a walk stands: the position, and the room on the tape, one more than the entries that still fit; or why it stopped.
@@ -136,6 +136,46 @@ pub fn walk_among(
     }
 }
 
+// Past a number of w bytes, and the number.
+pub fn walk_told(s: &[u8], l: usize, x: Walk, w: usize, tape: &mut [u64], wet: bool) -> Count
+    requires { ⌜ w ≤ 7 ⌝ }
+    ensures { λ r. ⌜ Counted (number w) (now (s .entry)) l x wet (now (tape .entry)) r (now (tape .exit)) ⌝ }
+{
+    match x {
+        Walk::Refused(r) => Count {
+            walk: Walk::Refused(r),
+            n: 0,
+        },
+        Walk::At(p, room) => told(fields::read_number(s, l, p, w), tape, room, wet),
+    }
+}
+
+// Past a number of w bytes from lo to hi, and the number.
+pub fn walk_told_among(
+    s: &[u8],
+    l: usize,
+    x: Walk,
+    w: usize,
+    lo: u64,
+    hi: u64,
+    tape: &mut [u64],
+    wet: bool,
+) -> Count
+    requires { ⌜ w ≤ 7 ⌝ }
+    ensures { λ r. ⌜ Counted (among lo hi (number w)) (now (s .entry)) l x wet (now (tape .entry)) r (now (tape .exit)) ⌝ }
+{
+    match x {
+        Walk::Refused(r) => Count {
+            walk: Walk::Refused(r),
+            n: 0,
+        },
+        Walk::At(p, room) => {
+            let n = fields::read_number(s, l, p, w);
+            told(fields::among(n, p, lo, hi), tape, room, wet)
+        }
+    }
+}
+
 // Past a count or a length of w bytes.
 pub fn walk_count(s: &[u8], l: usize, x: Walk, w: usize, tape: &mut [u64], wet: bool) -> Count
     requires { ⌜ w ≤ 7 ⌝ }
@@ -227,6 +267,19 @@ pub fn walk_part(s: &[u8], l: usize, x: Walk, w: usize, tape: &mut [u64], wet: b
     match x {
         Walk::Refused(r) => Walk::Refused(r),
         Walk::At(p, room) => past_part(fields::read_part(s, l, p, w), tape, room, wet),
+    }
+}
+
+// Past all bytes that are left in the part.
+pub fn walk_rest(s: &[u8], l: usize, x: Walk, tape: &mut [u64], wet: bool) -> Walk
+    ensures { λ r. ⌜ Walked rest (now (s .entry)) l x wet (now (tape .entry)) r (now (tape .exit)) ⌝ }
+{
+    match x {
+        Walk::Refused(r) => Walk::Refused(r),
+        Walk::At(p, room) => {
+            lay_two(tape, room, p as u64, less(l, p) as u64, wet);
+            Walk::At(l, less(room, 2))
+        }
     }
 }
 
@@ -385,5 +438,23 @@ pub fn finish(x: Walk, end: usize) -> Walk
             }
             Walk::At(p, room)
         }
+    }
+}
+
+// Past a day or a time that was walked from x to y: 20 at x where it is not possible.
+pub fn possible(x: Walk, y: Walk, holds: bool) -> Walk
+    ensures { λ r. ⌜ r ≡ judgedFrom ImpossibleDay x holds y ⌝ }
+{
+    match x {
+        Walk::Refused(r) => y,
+        Walk::At(p, room) => match y {
+            Walk::Refused(r) => Walk::Refused(r),
+            Walk::At(q, left) => {
+                if holds {
+                    return Walk::At(q, left);
+                }
+                Walk::Refused(Refusal::ImpossibleDay(p))
+            }
+        },
     }
 }
