@@ -1,0 +1,12 @@
+-- `languages::identifier` meets its contract: it begins the body.
+use Rattle.languages.specs.Asked.{identifierPart}
+use borrow.Author.Needs.{needs}
+use Rattle.languages.proofs.identifier.Statement.{statement}
+use Rattle.languages.proofs.identifier.Tie as tie
+
+pub identifier-spec : {M : Type 1} → statement M
+identifier-spec =
+    tie.close
+    (tie.spec
+    (λ c κs. search needs)
+    (λ c. unfold identifierPart in c .read-digits .ensures))

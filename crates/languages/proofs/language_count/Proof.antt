@@ -1,0 +1,12 @@
+-- `languages::language_count` meets its contract: it follows the 18 bytes of the identifier.
+use Rattle.languages.specs.Asked.{languageCount}
+use borrow.Author.Needs.{needs}
+use Rattle.languages.proofs.language_count.Statement.{statement}
+use Rattle.languages.proofs.language_count.Tie as tie
+
+pub language-count-spec : {M : Type 1} → statement M
+language-count-spec =
+    tie.close
+    (tie.spec
+    (λ c κs. search needs)
+    (λ c. unfold languageCount in c .number-among .ensures))

@@ -1,0 +1,22 @@
+-- `languages::letters` meets its contract: they begin the language, and are asked for where it lies in the body.
+use Prim.Native.Nat.{_+_}
+use mathlib.Core.Path.{sym, ap, _∙_}
+use Rattle.fields.specs.Answers.{fieldOf}
+use Rattle.asking.proofs.Answers.{needed, not-needed}
+use Rattle.languages.specs.Asked.{lettersPart}
+use native.Mathlib.Omega.{arith}
+use lib.ListN.{length}
+use borrow.Author.Tests.{leb-true}
+use borrow.Author.Needs.{needs}
+use Rattle.languages.proofs.letters.Statement.{statement}
+use Rattle.languages.proofs.letters.Tie as tie
+
+pub letters-spec : {M : Type 1} → statement M
+letters-spec =
+    tie.close
+    (tie.spec
+    (λ c κs. search needs)
+    (λ c. let a = c .before .before .before .args in omega (arith, leb-true (a .at + a .n) (length (a .s .now)) (sym (c .before .in-body .ensures) ∙ c .if1 .taken)))
+    (λ c κs. search needs)
+    (λ c. unfold lettersPart in c .read-bytes .ensures ∙ ap (fieldOf _) (needed _ _ _ (sym (c .before .before .in-body .ensures) ∙ c .before .if1 .taken)))
+    (λ c. unfold lettersPart in ap (fieldOf _) (not-needed _ _ _ (sym (c .before .in-body .ensures) ∙ c .if1 .left))))

@@ -1,0 +1,15 @@
+-- `languages::number_among` meets its contract: the number read is judged as the format does.
+use mathlib.Core.Path.{ap, _∙_}
+use Rattle.fields.specs.Answers.{numberAmong}
+use Rattle.fields.proofs.Bits.{number-among}
+use borrow.Author.Needs.{needs}
+use Rattle.languages.proofs.number_among.Statement.{statement}
+use Rattle.languages.proofs.number_among.Tie as tie
+
+pub number-among-spec : {M : Type 1} → statement M
+number-among-spec =
+    tie.close
+    (tie.spec
+    (λ c κs. search needs)
+    (λ c κs. search needs)
+    (λ c. c .among .ensures ∙ ap (numberAmong _ _ _) (c .before .read-reserved .ensures) ∙ number-among _ _ _ _ _ _))
