@@ -1,5 +1,5 @@
 // The configuration table: its body read, and laid onto a form; the least content of each command.
-mod addresses; // addresses.rt: return addresses
+pub mod addresses; // addresses.rt: return addresses
 mod clocks; // clocks.rt: days and times of day
 mod walking; // walking.rt: the walk through a body
 

@@ -1,0 +1,12 @@
+-- `commands::mapping` meets its contract: it is a byte of the content, in its set.
+use Rattle.commands.specs.Asked.{mapping}
+use borrow.Author.Needs.{needs}
+use Rattle.commands.proofs.mapping.Statement.{statement}
+use Rattle.commands.proofs.mapping.Tie as tie
+
+pub mapping-spec : {M : Type 1} → statement M
+mapping-spec =
+    tie.close
+    (tie.spec
+    (λ c κs. search needs)
+    (λ c. unfold mapping in c .among-in .ensures))

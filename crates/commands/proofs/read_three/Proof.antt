@@ -1,0 +1,24 @@
+-- `commands::read_three` meets its contract: each number begins where the one before ends.
+use mathlib.Core.Path.{sym, _∙_}
+use Rattle.commands.proofs.Answers.{three-no-first, three-no-second, three-no-third, three-is}
+use borrow.Author.Needs.{needs}
+use Rattle.commands.proofs.read_three.Statement.{statement}
+use Rattle.commands.proofs.read_three.Tie as tie
+
+pub read-three-spec : {M : Type 1} → statement M
+read-three-spec =
+    tie.close
+    (tie.spec
+    (λ c κs. search needs)
+    (λ c. search needs)
+    (λ c. search needs)
+    (λ c κs. search needs)
+    (λ c. search needs)
+    (λ c. search needs)
+    (λ c κs. search needs)
+    (λ c. search needs)
+    (λ c. search needs)
+    (λ c. three-no-first _ (λ i. c .before .before .before .before .shared-slice-known .given i .fits) _ _ _ _ (sym (c .before .r .given .1) ∙ c .before .before .before .read-number .ensures))
+    (λ c. three-no-second _ (λ i. c .before .before .before .before .before .before .before .before .shared-slice-known .given i .fits) _ _ _ _ _ (sym (c .before .before .before .before .before .a .given .1) ∙ c .before .before .before .before .before .before .before .read-number .ensures) _ (sym (c .before .r2 .given .1) ∙ c .before .before .before .read-number2 .ensures))
+    (λ c. three-no-third _ (λ i. c .before .before .before .before .before .before .before .before .before .before .before .before .shared-slice-known .given i .fits) _ _ _ _ _ (sym (c .before .before .before .before .before .before .before .before .before .a .given .1) ∙ c .before .before .before .before .before .before .before .before .before .before .before .read-number .ensures) _ _ (sym (c .before .before .before .before .before .b .given .1) ∙ c .before .before .before .before .before .before .before .read-number2 .ensures) _ (sym (c .before .r3 .given .1) ∙ c .before .before .before .read-number3 .ensures))
+    (λ c. three-is _ (λ i. c .before .before .before .before .before .before .before .before .before .before .before .before .shared-slice-known .given i .fits) _ _ _ _ _ (sym (c .before .before .before .before .before .before .before .before .before .a .given .1) ∙ c .before .before .before .before .before .before .before .before .before .before .before .read-number .ensures) _ _ (sym (c .before .before .before .before .before .b .given .1) ∙ c .before .before .before .before .before .before .before .read-number2 .ensures) _ _ (sym (c .before .c .given .1) ∙ c .before .before .before .read-number3 .ensures)))
