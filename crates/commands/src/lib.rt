@@ -1,6 +1,7 @@
 // The fields of a configuration table, asked for one by one: of the body, and of a command told by p, where its tag stands.
 use configuration::addresses::is_address;
 use configuration::addresses::length_fits;
+use configuration::clocks;
 use configuration::least_content;
 use days::DayAnswer;
 use fields::Number;
@@ -8,10 +9,8 @@ use fields::Part;
 use fields::Step;
 use refusal::Refusal;
 ghost use mathlib.Core.Path.{_≡_};
-ghost use mathlib.Core.Bool.{_&&_};
 ghost use Prim.Native.Nat.{_≤_};
 ghost use lib.ListN.{length};
-ghost use lib.Dec.{leb};
 ghost use Rattle.fields.specs.Format.{count, number, among, _▷_};
 ghost use Rattle.fields.specs.Answers.{numberOf, partOf};
 ghost use Rattle.configuration.specs.Configuration.{address};
@@ -150,19 +149,6 @@ fn clock_date(s: &[u8], p: usize) -> Three
     }
 }
 
-// Whether a day has this time.
-fn is_time(hour: u64, minute: u64, second: u64) -> bool
-    ensures { λ r. ⌜ r ≡ (leb hour 23 && (leb minute 59 && leb second 59)) ⌝ }
-{
-    if 23 < hour {
-        return false;
-    }
-    if 59 < minute {
-        return false;
-    }
-    second <= 59
-}
-
 // The hour, minute and second, which are one time, or none is answered.
 fn clock_time(s: &[u8], p: usize) -> Three
     ensures { λ r. ⌜ r ≡ clockTime (now (s .entry)) p ⌝ }
@@ -172,7 +158,7 @@ fn clock_time(s: &[u8], p: usize) -> Three
         Place::In(q, l) => match read_three(s, l, q + 4, 1) {
             Three::Refused(r) => Three::Refused(r),
             Three::Are(hour, minute, second, end) => {
-                if is_time(hour, minute, second) {
+                if clocks::is_time(hour, minute, second) {
                     return Three::Are(hour, minute, second, end);
                 }
                 Three::Refused(Refusal::ImpossibleDay(q + 4))

@@ -1,6 +1,6 @@
 // The configuration table: its body read, and laid onto a form; the least content of each command.
 pub mod addresses; // addresses.rt: return addresses
-mod clocks; // clocks.rt: days and times of day
+pub mod clocks; // clocks.rt: days and times of day
 mod walking; // walking.rt: the walk through a body
 
 use fields::Step;

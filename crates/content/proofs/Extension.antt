@@ -1,21 +1,27 @@
--- The extension: the first 18 bytes of an accepted body are its identifier, whose CRC-16 the extension has to be.
-use Prim.Native.Nat.{ℕ, _≤_}
-use mathlib.Core.Path.{_≡_, sym, ap, _∙_}
+-- The extension: the first 18 bytes of an accepted or a written body are its identifier, whose CRC-16 the extension has to be.
+use Prim.Native.Nat.{ℕ, _+_, _-_, _≤_}
+use mathlib.Core.Path.{_≡_, refl, sym, ap, _∙_}
 use mathlib.Core.List.{List}
 use native.Mathlib.Omega.{arith}
-use lib.ListN.{length, take}
-use lib.Seq.{length-take-le}
+use native.Mathlib.Nat.{le-refl}
+use lib.ListN.{length, take, length-append}
+use lib.Seq.{length-take-le, take-at}
 use lib.Dec.{leb, eqb}
 use borrow.Author.Tests.{eq-eqb, ne-eqb}
+use Rattle.choices.proofs.Tests.{both}
 use Rattle.refusal.specs.declared.Refusal.{Refusal}
 use Rattle.refusal.specs.declared.Refusal.the-variants.{OtherKind, LeftOver, OtherChecksum, TooLarge}
 use Rattle.crc.specs.Crc.{crc16Of}
 use Rattle.fields.specs.Reading.{Reading, found, refused, andThen, need}
-use Rattle.fields.specs.Answers.{stepOf}
+use Rattle.fields.specs.Format.{followed, digits, exact, view}
+use Rattle.fields.specs.Answers.{stepOf, fieldOf}
 use Rattle.fields.specs.Body.{longest, reading, bodyRead}
 use Rattle.fields.specs.declared.Step.the-variants.{At, Refused as NoStep}
+use Rattle.fields.specs.declared.Part.the-variants.{Of}
 use Rattle.fields.proofs.Outcomes.{found-inj, need-found}
-use Rattle.fields.proofs.Classes.{Bytes}
+use Rattle.fields.proofs.Stand.{stands-whole}
+use Rattle.fields.proofs.Classes.{Bytes, Ok}
+use Rattle.fields.proofs.Leaves.{digits-lawful}
 use Rattle.fields.proofs.Elements.{exact-found, view-found, followed-found}
 use Rattle.fields.proofs.Laying.{table}
 use Rattle.fields.proofs.Strings.{digits-part, digits-fill}
@@ -32,6 +38,23 @@ module _ (w : ℕ) (s : List ℕ) (b : Bytes s) where
       let f = digits-fill s (length s) 0 17 _ _ b (digits-part s (length s) 0 17 (v .0 .0) (d .0) (d .1)) .2 in
       let same : f .value ≡ c .identifier = found-inj (sym (f .parsed) ∙ d .1) .0 ∙ ap (λ (y : Content). y .identifier) (v .2) in
       (f .in-body, f .printed ∙ ap (identifier .print) same)
+
+-- and so does a printed one
+identifier-length : (ds : List ℕ) → Ok identifier ds → 18 ≡ length (identifier .print ds)
+identifier-length ds o =
+    let bs = identifier .print ds in
+    let n = length bs in
+    let e = digits-lawful 17 .back bs n 0 ds o (stands-whole bs) (omega arith) (le-refl n) in
+    let z : Of 0 18 ≡ Of 0 (0 + n - 0) = digits-part bs n 0 17 ds (0 + n) e ∙ ap (fieldOf 0) e in
+    let y : 18 ≡ 0 + n - 0 = cc in
+    omega arith
+
+pub printed-identifier : (w : ℕ) (c : Content) → Ok (content w) c → (18 ≤ length (content w .print c)) × (take 18 (content w .print c) ≡ identifier .print (c .identifier))
+unfolding content fields exact view followed digits
+printed-identifier w c o =
+    let right = both (identifier .right (c .identifier)) _ (o .right) .0 in
+    let long = identifier-length (c .identifier) (record { right = right; small = refl }) in
+    (simp length-append (omega (arith, long)), take-at (identifier .print (c .identifier)) _ 18 (sym long))
 
 module _ (w kind : ℕ) (s : List ℕ) where
   -- what else is wrong with a body comes before its extension

@@ -11,7 +11,7 @@ use Rattle.refusal.specs.declared.Refusal.{Refusal}
 use Rattle.fields.specs.Reading.{Reading, found, refused, andThen, Fault, fine, faulty, judged}
 use Rattle.fields.specs.Format.{Format, followed, _▷_, nothing, under, view, exact, only}
 use Rattle.fields.proofs.Outcomes.{found-inj, not-found, andThen-found, judged-found, neither}
-use Rattle.pens.specs.Penned.{more, onward, penned, Penned, valueAt, Counted}
+use Rattle.pens.specs.Penned.{more, onward, penned, Penned, valueAt, Counted, refusing}
 use Rattle.pens.specs.declared.Pen.{Pen}
 use Rattle.pens.specs.declared.Pen.the-variants.{At, Refused}
 use Rattle.pens.specs.declared.Count.{Count}
@@ -158,16 +158,16 @@ pair-pen {A} {B} {F} {G} p q = followed-pen (λ a. G) p (λ size k e a j f. q) (
 
 -- ---- after a number that is told: a count, a flag, or a tag
 
-module _ {B : ℕ → Type 0} {C : Format ℕ} (G : (n : ℕ) → Format (B n)) {pool tape : List ℕ} {x : Pen} {wet : Bool} {out : List ℕ} {c : Count} {mid : List ℕ}
-    (p : Counted C pool tape x wet out c mid) where
-  told : (size k : ℕ) → x ≡ At size k → (n j : ℕ) → C .form pool tape k ≡ found n j → c .n ≡ n
-  unfolding valueAt
-  told size k e n j f = p .value ∙ rw (e, f)
+pub told : {C : Format ℕ} {pool tape : List ℕ} {x : Pen} {wet : Bool} {out : List ℕ} {c : Count} {mid : List ℕ} → Counted C pool tape x wet out c mid
+    → (size k : ℕ) → x ≡ At size k → (n j : ℕ) → C .form pool tape k ≡ found n j → c .n ≡ n
+unfolding valueAt
+told p size k e n j f = p .value ∙ rw (e, f)
 
-  pub after-number : {r : Pen} {out′ : List ℕ} → Penned (G (c .n)) pool tape (c .pen) wet mid r out′ → Penned (followed C G) pool tape x wet out r out′
-  after-number {r} {out′} q =
-      followed-pen G (p .past) (λ size k e n j f. subst (λ m. Penned (G m) pool tape (c .pen) wet mid r out′) (told size k e n j f) q)
-      (pen-refused q) (q .dry)
+pub after-number : {B : ℕ → Type 0} {C : Format ℕ} (G : (n : ℕ) → Format (B n)) {pool tape : List ℕ} {x : Pen} {wet : Bool} {out : List ℕ} {c : Count} {mid : List ℕ}
+    → Counted C pool tape x wet out c mid → {r : Pen} {out′ : List ℕ} → Penned (G (c .n)) pool tape (c .pen) wet mid r out′ → Penned (followed C G) pool tape x wet out r out′
+after-number G {pool} {tape} {x} {wet} {out} {c} {mid} p {r} {out′} q =
+    followed-pen G (p .past) (λ size k e n j f. subst (λ m. Penned (G m) pool tape (c .pen) wet mid r out′) (told p size k e n j f) q)
+    (pen-refused q) (q .dry)
 
 -- nothing, where the bytes so far are within their bound
 pub nothing-pen : {pool tape : List ℕ} {x : Pen} {wet : Bool} {out : List ℕ} → ((size k : ℕ) → x ≡ At size k → size ≤ 1045505) → Penned nothing pool tape x wet out x out
@@ -239,6 +239,15 @@ module _ {A : Type 0} {F : Format A} {pool tape : List ℕ} {x : Pen} {wet : Boo
 
 -- ---- values of a stated set: the pen through F, and what is said of the value that it went through
 
+module _ (x : Pen) (u : Refusal) where
+  pub refusing-at : (size k : ℕ) → x ≡ At size k → refusing x u ≡ Refused u
+  unfolding refusing
+  refusing-at size k e = rw e
+
+  pub refusing-refused : (r : Refusal) → x ≡ Refused r → refusing x u ≡ Refused r
+  unfolding refusing
+  refusing-refused r e = rw e
+
 module _ {A : Type 0} (fault : A → ℕ → Fault) {F : Format A} {pool tape : List ℕ} {x : Pen} {wet : Bool} {out : List ℕ} {r : Pen} {out′ : List ℕ}
     (p : Penned F pool tape x wet out r out′) where
   only-form : (k : ℕ) (y : Reading A) → F .form pool tape k ≡ y → only fault F .form pool tape k ≡ andThen y (λ a j. judged (fault a 0) (found a j))
@@ -272,19 +281,20 @@ module _ {A : Type 0} (fault : A → ℕ → Fault) {F : Format A} {pool tape : 
           ∙ ap (onward (only fault F) size) (sym (only-form k (found a j) f ∙ ap (λ v. judged v (found a j)) (h size k e a j f)))
       go size k e (refused u) f = pen-onward p size k e (refused u) f ∙ ap (onward (only fault F) size) (sym (only-form k (refused u) f))
 
-  -- it is not, and the pen had not stopped before
+  -- it is not; a refusal before it stands
   pub only-faulty : (u : Refusal) → ((size k : ℕ) → x ≡ At size k → (a : A) (j : ℕ) → F .form pool tape k ≡ found a j → fault a 0 ≡ faulty u)
-      → (size k : ℕ) → r ≡ At size k → Penned (only fault F) pool tape x wet out (Refused u) out′
-  only-faulty u h z i q =
+      → Penned (only fault F) pool tape x wet out (refusing r u) out′
+  only-faulty u h =
       record {
-        said = penned-by (only fault F) pool tape x (Refused u) (λ size k e. go size k e (F .form pool tape k) refl)
-            (λ v e. absurd (let c : _≡_ {A = ℕ} 0 1 = cc (pen-refused p v e) in omega arith));
+        said = penned-by (only fault F) pool tape x (refusing r u) (λ size k e. go size k e (F .form pool tape k) refl) (λ v e. refusing-refused r u v (pen-refused p v e));
         dry = p .dry;
         put = λ w size k e a j f o l m.
             let g = only-put k a j f in
             absurd (not-found (sym (only-form k (found a j) g ∙ ap (λ v. judged v (found a j)) (h size k e a j g)) ∙ f));
       }
     where
-      go : (size k : ℕ) → x ≡ At size k → (y : Reading A) → F .form pool tape k ≡ y → Refused u ≡ onward (only fault F) size (only fault F .form pool tape k)
-      go size k e (found a j) f = ap (onward (only fault F) size) (sym (only-form k (found a j) f ∙ ap (λ v. judged v (found a j)) (h size k e a j f)))
-      go size k e (refused v) f = absurd (let c : _≡_ {A = ℕ} 0 1 = cc (pen-onward p size k e (refused v) f) in omega arith)
+      go : (size k : ℕ) → x ≡ At size k → (y : Reading A) → F .form pool tape k ≡ y → refusing r u ≡ onward (only fault F) size (only fault F .form pool tape k)
+      go size k e (found a j) f =
+          refusing-at r u _ j (pen-onward p size k e (found a j) f)
+          ∙ ap (onward (only fault F) size) (sym (only-form k (found a j) f ∙ ap (λ v. judged v (found a j)) (h size k e a j f)))
+      go size k e (refused v) f = refusing-refused r u v (pen-onward p size k e (refused v) f) ∙ ap (onward (only fault F) size) (sym (only-form k (refused v) f))

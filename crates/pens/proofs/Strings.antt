@@ -38,6 +38,17 @@ module _ (w : ℕ) (pool tape : List ℕ) (x : Pen) (wet : Bool) (out : List ℕ
       written-twice (opaque w) pool tape x wet out size k e (take n (drop a pool)) (k + 2) f (leb p n)
       (rw l (or-none _ ∙ count-over w n p ep)) (bytesOf w n) (take n (drop a pool)) (rw l) w n (length-bytes w n) l y z ey ez mid out′ i i′
 
+module _ (pool tape : List ℕ) (x : Pen) (wet : Bool) (out : List ℕ) (size k : ℕ) (e : x ≡ At size k) where
+  pub rest-refused : (r : Refusal) → span pool tape k ≡ refused r → Penned rest pool tape x wet out (Refused r) out
+  unfolding rest
+  rest-refused r f = refused-here rest pool tape x wet out size k e r f
+
+  pub rest-written : (a n : ℕ) → a + n ≤ length pool → span pool tape k ≡ found (take n (drop a pool)) (k + 2) → (z : ℕ) → z ≡ more size n false
+      → (out′ : List ℕ) → Inked wet out size n (take n (drop a pool)) out′ → Penned rest pool tape x wet out (At z (k + 2)) out′
+  unfolding rest
+  rest-written a n h f z ez out′ ink =
+      written rest pool tape x wet out size k e (take n (drop a pool)) (k + 2) f false refl (take n (drop a pool)) refl n (span-length pool a n h) z ez out′ ink
+
 -- ---- several bytes that are one field
 
 module _ (lo hi n : ℕ) (pool tape : List ℕ) (x : Pen) (wet : Bool) (out : List ℕ) (size k : ℕ) (e : x ≡ At size k) where

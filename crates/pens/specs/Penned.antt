@@ -7,6 +7,7 @@ use lib.ListN.{length}
 use lib.Dec.{ltb}
 use Rattle.choices.specs.Choice.{if_then_else_}
 use Rattle.placing.specs.Placed.{placed}
+use Rattle.refusal.specs.declared.Refusal.{Refusal}
 use Rattle.fields.specs.Reading.{Reading, found, refused}
 use Rattle.fields.specs.Format.{Format, entry, bytesOf}
 use Rattle.pens.specs.declared.Pen.{Pen}
@@ -48,6 +49,13 @@ valueAt C pool tape (Refused r) = 0
 pub record Counted (C : Format ℕ) (pool tape : List ℕ) (x : Pen) (wet : Bool) (out : List ℕ) (r : Count) (out′ : List ℕ) : Type 0 where
   pub past : Penned C pool tape x wet out (r .pen) out′
   pub value : r .n ≡ valueAt C pool tape x
+
+-- ---- values of a stated set
+
+-- the refusal of a value that the pen went past; the first refusal stands
+unfoldable pub refusing : Pen → Refusal → Pen
+refusing (At size k) u = Refused u
+refusing (Refused r) u = Refused r
 
 -- ---- counted parts: a length stands before its part, and is known after it
 

@@ -13,11 +13,11 @@ ghost use lib.Dec.{leb, ltb};
 ghost use Rattle.placing.specs.Placed.{placed};
 ghost use Rattle.refusal.specs.declared.Refusal.the-variants.{OutsideSet};
 ghost use Rattle.fields.specs.Reading.{found, refused, andThen, need};
-ghost use Rattle.fields.specs.Format.{entry, span, bytesOf, count, among, number, nibblesAmong, reserved, bytesAmong, digits, opaque};
+ghost use Rattle.fields.specs.Format.{entry, span, bytesOf, count, among, number, nibblesAmong, reserved, bytesAmong, digits, rest, opaque};
 ghost use Rattle.fields.specs.Time.{time, endTime};
 ghost use Rattle.fields.specs.Answers.{numberOf};
 ghost use Rattle.fields.specs.declared.Part.the-variants.{Of, Refused as NoPart};
-ghost use Rattle.pens.specs.Penned.{more, Penned, Counted, gapped, Closed, unprinted};
+ghost use Rattle.pens.specs.Penned.{more, Penned, Counted, refusing, gapped, Closed, unprinted};
 
 // Where a pen stands: the bytes so far, up to one more than a body may have, and the next entry of the tape; or why it stopped.
 pub enum Pen {
@@ -131,7 +131,7 @@ fn number_among(tape: &[u64], k: usize, bound: u64, lo: u64, hi: u64) -> Number
 }
 
 // The span of the pool that the entries k and k + 1 say; 19 where there is none.
-fn span_at(pool: &[u8], tape: &[u64], k: usize) -> Part
+pub fn span_at(pool: &[u8], tape: &[u64], k: usize) -> Part
     ensures { λ r. ⌜ ((e : Refusal) → r ≡ NoPart e → span (now (pool .entry)) (now (tape .entry)) k ≡ refused e) × ((a n : ℕ) → r ≡ Of a n → (k + 2 ≤ length (now (tape .entry))) × (a + n ≤ length (now (pool .entry))) × (span (now (pool .entry)) (now (tape .entry)) k ≡ found (take n (drop a (now (pool .entry)))) (k + 2))) ⌝ }
 {
     if tape.len() < 2 {
@@ -227,12 +227,36 @@ pub fn put_reserved(tape: &[u64], x: Pen, k: usize, w: usize, out: &mut [u8], we
     put_reserved_among(tape, x, k, w, 0, 0xFFFF_FFFF_FFFF_FFFF, out, wet)
 }
 
-// A number of w bytes from lo to hi: one with no reserved bits.
+// A number of w bytes from lo to hi, which is told too: one with no reserved bits.
+pub fn put_told_among(
+    tape: &[u64],
+    x: Pen,
+    w: usize,
+    lo: u64,
+    hi: u64,
+    out: &mut [u8],
+    wet: bool,
+) -> Count
+    requires { ⌜ (0 < w) × (w ≤ 7) ⌝ }
+    ensures { λ r. ⌜ ((pool : List ℕ) → Counted (among lo hi (number w)) pool (now (tape .entry)) x wet (now (out .entry)) r (now (out .exit))) ⌝ }
+{
+    put_reserved_among(tape, x, 0, w - 1, lo, hi, out, wet)
+}
+
+// A number of w bytes, which is told too.
+pub fn put_told(tape: &[u64], x: Pen, w: usize, out: &mut [u8], wet: bool) -> Count
+    requires { ⌜ (0 < w) × (w ≤ 7) ⌝ }
+    ensures { λ r. ⌜ ((pool : List ℕ) → Counted (number w) pool (now (tape .entry)) x wet (now (out .entry)) r (now (out .exit))) ⌝ }
+{
+    put_told_among(tape, x, w, 0, 0xFFFF_FFFF_FFFF_FFFF, out, wet)
+}
+
+// A number of w bytes from lo to hi.
 pub fn put_among(tape: &[u64], x: Pen, w: usize, lo: u64, hi: u64, out: &mut [u8], wet: bool) -> Pen
     requires { ⌜ (0 < w) × (w ≤ 7) ⌝ }
     ensures { λ r. ⌜ ((pool : List ℕ) → Penned (among lo hi (number w)) pool (now (tape .entry)) x wet (now (out .entry)) r (now (out .exit))) ⌝ }
 {
-    let past = put_reserved_among(tape, x, 0, w - 1, lo, hi, out, wet);
+    let past = put_told_among(tape, x, w, lo, hi, out, wet);
     past.pen
 }
 
@@ -241,7 +265,8 @@ pub fn put_number(tape: &[u64], x: Pen, w: usize, out: &mut [u8], wet: bool) -> 
     requires { ⌜ (0 < w) × (w ≤ 7) ⌝ }
     ensures { λ r. ⌜ ((pool : List ℕ) → Penned (number w) pool (now (tape .entry)) x wet (now (out .entry)) r (now (out .exit))) ⌝ }
 {
-    put_among(tape, x, w, 0, 0xFFFF_FFFF_FFFF_FFFF, out, wet)
+    let past = put_told(tape, x, w, out, wet);
+    past.pen
 }
 
 // Opaque bytes after a length of w bytes: one that is too large for them is as a body that is too long.
@@ -259,6 +284,22 @@ pub fn put_part(pool: &[u8], tape: &[u64], x: Pen, w: usize, out: &mut [u8], wet
                 put_at(out, size, w, m, wet);
                 copy_span(pool, a, n, out, start, wet);
                 Pen::At(grown(start, m, false), k + 2)
+            }
+        },
+    }
+}
+
+// Opaque bytes that fill their part.
+pub fn put_rest(pool: &[u8], tape: &[u64], x: Pen, out: &mut [u8], wet: bool) -> Pen
+    ensures { λ r. ⌜ Penned rest (now (pool .entry)) (now (tape .entry)) x wet (now (out .entry)) r (now (out .exit)) ⌝ }
+{
+    match x {
+        Pen::Refused(r) => Pen::Refused(r),
+        Pen::At(size, k) => match span_at(pool, tape, k) {
+            Part::Refused(r) => Pen::Refused(r),
+            Part::Of(a, n) => {
+                copy_span(pool, a, n, out, size, wet);
+                Pen::At(grown(size, n as u64, false), k + 2)
             }
         },
     }
@@ -411,6 +452,18 @@ pub fn put_end(tape: &[u64], x: Pen, out: &mut [u8], wet: bool) -> Pen
                 Pen::At(grown(size, 5, false), j)
             }
         },
+    }
+}
+
+// ---- values of a stated set
+
+// The refusal of a value that the pen went past; one before it stands.
+pub fn refuse(x: Pen, u: Refusal) -> Pen
+    ensures { λ r. ⌜ r ≡ refusing x u ⌝ }
+{
+    match x {
+        Pen::Refused(r) => Pen::Refused(r),
+        Pen::At(size, k) => Pen::Refused(u),
     }
 }
 

@@ -1,6 +1,4 @@
--- `pens::put_among` meets its contract: its number is one beside no reserved bits.
-use Rattle.pens.proofs.Numbers.{alike-penned, reserved-none}
-use native.Mathlib.Omega.{arith}
+-- `pens::put_among` meets its contract: it is the pen past a number that is told.
 use borrow.Author.Needs.{needs}
 use Rattle.pens.proofs.put_among.Statement.{statement}
 use Rattle.pens.proofs.put_among.Tie as tie
@@ -9,7 +7,6 @@ pub put-among-spec : {M : Type 1} → statement M
 put-among-spec =
     tie.close
     (tie.spec
-    (λ c. search needs)
     (λ c κs. search needs)
     (λ c. search needs)
-    (λ c pool. let a = c .before .before .before .before .before .before .args in alike-penned _ _ pool _ (reserved-none (a .w) (a .lo) (a .hi) (omega arith) pool _) _ _ _ _ _ (c .before .before .put-reserved-among .ensures pool .past)))
+    (λ c pool. c .before .before .put-told-among .ensures pool .past))

@@ -1,6 +1,4 @@
--- `pens::put_number` meets its contract: the range leaves out no number.
-use Rattle.pens.proofs.Numbers.{alike-penned, number-all}
-use native.Mathlib.Omega.{arith}
+-- `pens::put_number` meets its contract: it is the pen past a number that is told.
 use borrow.Author.Needs.{needs}
 use Rattle.pens.proofs.put_number.Statement.{statement}
 use Rattle.pens.proofs.put_number.Tie as tie
@@ -11,4 +9,4 @@ put-number-spec =
     (tie.spec
     (λ c κs. search needs)
     (λ c. search needs)
-    (λ c pool. let a = c .before .before .before .before .before .before .args in alike-penned _ _ pool _ (number-all (a .w) (omega arith) pool _) _ _ _ _ _ (c .before .before .put-among .ensures pool)))
+    (λ c pool. c .before .before .put-told .ensures pool .past))
