@@ -435,6 +435,214 @@ nw_answer nw_index_write(const uint8_t *pool, size_t pool_bytes, const uint64_t 
  * them stay. Refusals, with nothing laid: those of nw_index_read, then 21, the tape is too short. */
 nw_answer nw_index_lay(uint32_t kind, const uint8_t *body, size_t n, uint64_t *tape, size_t entries);
 
+/* ---- The content table ------------------------------------------------------------------------
+ *
+ * Its body is the message's identifier, one to five languages and a signature:
+ *
+ *   identifier  35 decimal digits (18 bytes, four reserved bits before the first digit)
+ *   language    letters (three bytes a to z), character set (0 to 4), text (up to 65,535 bytes), agency
+ *               (up to 255 bytes), and up to two auxiliary files
+ *   file        type (8 bits, free) and up to 16,777,215 bytes
+ *
+ * The table's extension, in the headings of its sections, is the CRC-16 of the identifier's 18 bytes.
+ * A language is told by where it begins in the body, the byte after its length, and that length. Text,
+ * agency, files and signature are opaque. The smallest body has 33 bytes. */
+
+/* Entries that are always enough to lay a body: counted by hand and tested, not proved. */
+#define NW_CONTENT_ENTRIES 75u
+
+/* Judges a body and the extension that its sections had. Value: 0. Refusals, in this order: 2, the
+ * kind is not NW_CONTENT; 22, more than NW_MOST_BODY bytes; then that of the first field that is
+ * wrong, in the order of the body and at the byte where the field begins; 16, bytes after the
+ * signature, at the first of them; 23, the extension is not the CRC-16 of the identifier (place 0).
+ * At one field, in this order: 14, it passes the body's end; 15, it passes the end of its language;
+ * 17, a reserved bit is 0; 18, a digit above 9; 19, a letter that is not a to z, a character set above
+ * 4, a language count that is not 1 to 5, an auxiliary count above 2. A length is 14 or 15 too if what
+ * it counts passes an end. Bytes left in a language are 15, at the first of them. Reserved bits are a
+ * field before the one whose byte they share. */
+nw_answer nw_content_read(uint32_t kind, uint32_t extension, const uint8_t *body, size_t n);
+
+/* The fields of the body, each judged as nw_content_read judges this field, whatever else is wrong
+ * with the body: so of an accepted body they are told. Value: the CRC-16; a digit, 0 to 34; a count;
+ * or a part of the body, see NW_PART_START and NW_PART_LENGTH.
+ * Refusals, in this order: for a language and the signature, those of the language count; for a
+ * language, 19, there is no i-th, counted from 0 (place 0); for both, 14, a length before the part, or
+ * its own, is cut off or passes the body's end, at its place; for the identifier, its digits and the
+ * extension, 14, 17 or 18 of the identifier (place 0), and for the language count 14, 17 or 19 of it
+ * (place 18); last, for a digit, 19, there is no such digit (place 0). */
+nw_answer nw_content_identifier(const uint8_t *body, size_t n);
+nw_answer nw_content_identifier_digit(const uint8_t *body, size_t n, uint64_t i);
+nw_answer nw_content_extension(const uint8_t *body, size_t n);
+nw_answer nw_content_language_count(const uint8_t *body, size_t n);
+nw_answer nw_content_language(const uint8_t *body, size_t n, uint64_t i);
+nw_answer nw_content_signature(const uint8_t *body, size_t n);
+
+/* The fields of the language of `length` bytes at `at`, as nw_content_language tells them, each judged
+ * as nw_content_read judges this field, whatever else is wrong with the language or the body. Value:
+ * the number; or the part of the body that the bytes fill (letters, text, agency and an auxiliary
+ * file's data). Files are counted from 0.
+ * Refusals, in this order: 19, the language does not lie in the body (place 0); for what stands after
+ * the text, those of its length; for what stands after the agency, those of its length; for a file,
+ * those of the auxiliary count, then 19, there is no i-th (place 0), then 14 or 15 of a type or a
+ * length before it; last 14 to 19 of the field itself, at its place, which may lie after the body's
+ * end. */
+nw_answer nw_language_letters(const uint8_t *body, size_t n, size_t at, size_t length);
+nw_answer nw_language_character_set(const uint8_t *body, size_t n, size_t at, size_t length);
+nw_answer nw_language_text(const uint8_t *body, size_t n, size_t at, size_t length);
+nw_answer nw_language_agency(const uint8_t *body, size_t n, size_t at, size_t length);
+nw_answer nw_language_auxiliary_count(const uint8_t *body, size_t n, size_t at, size_t length);
+nw_answer nw_language_auxiliary_type(const uint8_t *body, size_t n, size_t at, size_t length,
+                                     uint64_t i);
+nw_answer nw_language_auxiliary(const uint8_t *body, size_t n, size_t at, size_t length, uint64_t i);
+
+/* Writes the table of a form at the start of out; bytes of out after it stay. Value: the extension for
+ * its sections, and the body's length, see the macros. The tape has, where "bytes" are their start and
+ * their length in the pool:
+ *   the identifier (18 bytes); the count of languages, and for each its letters (3 bytes), character
+ *   set, text (bytes), agency (bytes), the count of auxiliary files, and for each its type and data
+ *   (bytes); the signature (bytes).
+ * The first four bits of the identifier in the pool do not matter.
+ * Refusals, in this order, with nothing written and place 0: that of the first field that is wrong, in
+ * the order of the tape (19, the tape is too short, a span is not in the pool or has not the length
+ * stated above, or a number or a letter is outside its set, the two counts too; 18, a digit above 9);
+ * 19, the tape has entries left over; 22, a length too large for its field, or more than NW_MOST_BODY
+ * bytes; 21, out is too small. */
+nw_answer nw_content_write(const uint8_t *pool, size_t pool_bytes, const uint64_t *tape, size_t entries,
+                           uint8_t *out, size_t room);
+#define NW_CONTENT_EXTENSION(answer) ((unsigned)(NW_VALUE(answer) >> 24))
+#define NW_CONTENT_LENGTH(answer) ((size_t)(NW_VALUE(answer) & 0xFFFFFFu))
+
+/* Lays an accepted body, whatever its extension, onto a tape: the form from which, with the body
+ * itself as the pool, nw_content_write writes it again. Value: the entries laid, at most
+ * NW_CONTENT_ENTRIES; entries after them stay. Refusals, with nothing laid: those of nw_content_read
+ * but 23, then 21, the tape is too short. */
+nw_answer nw_content_lay(uint32_t kind, const uint8_t *body, size_t n, uint64_t *tape, size_t entries);
+
+/* ---- The configuration table ------------------------------------------------------------------
+ *
+ * Its body is a list of commands and a signature. A command is a tag, the 16-bit length of its content
+ * and the content, which has by the tag, in this order:
+ *
+ *   1  clock         year (16 bits), month, day, hour, minute and second (8 bits each), plain binary
+ *   2  code          address (up to 255 bytes), resource
+ *   3  frequency     frequency and symbol rate (32 bits each), mapping (0 to 5), terminals
+ *   4  return        address kind (1 to 3), address, terminals
+ *   5  period        period (32 bits), terminals
+ *   6  volume        volume (0 to 100), terminals
+ *   7  query         parameters (8 bits each), terminals
+ *
+ * Other tags have any bytes as their content. A resource is 23 decimal digits (12 bytes, four reserved
+ * bits before the first digit), and so is each of the terminals. A return address is of kind 1 eleven
+ * ASCII digits, of kind 2 six bytes, and of kind 3 a name of one or more bytes 0x21 to 0x7E that are no
+ * colon, one colon, and one to five digits worth at most 65,535. */
+
+/* Entries that are enough to lay a body of so many bytes: counted by hand and tested, not proved. */
+#define NW_CONFIGURATION_ENTRIES(bytes) ((size_t)(bytes))
+
+/* The tags that have fields. */
+enum nw_command {
+    NW_CLOCK = 1,
+    NW_CODE = 2,
+    NW_FREQUENCY = 3,
+    NW_RETURN = 4,
+    NW_PERIOD = 5,
+    NW_VOLUME = 6,
+    NW_QUERY = 7
+};
+
+/* Judges a body. Value: 0. Refusals, in this order: 2, the kind is not NW_CONFIGURATION; 22, more than
+ * NW_MOST_BODY bytes; then that of the first field that is wrong, in the order of the body and at the
+ * byte where the field begins; 16, bytes after the signature, at the first of them.
+ * At one field, in this order: 14, it passes the body's end; 15, it passes the end of its command's
+ * content; 17, a reserved bit is 0; 18, a digit above 9; 19, a mapping above 5, an address kind that
+ * is not 1 to 3, a volume above 100; 20, at the year, an impossible day or one outside the range of
+ * days, and at the hour an impossible time. A length is 14 or 15 too if what it counts passes an end.
+ * A content shorter than its least, 7, 13, 10, 3, 5, 2, 2 bytes for tags 1 to 7, is 15 at its length;
+ * bytes left in it are 15, at the first of them. An address of kind 1 or 2 of another length is 15 at
+ * its length, any other wrong return address 19 where it begins. Reserved bits are a field before the
+ * digits whose byte they share. */
+nw_answer nw_configuration_read(uint32_t kind, const uint8_t *body, size_t n);
+
+/* How many commands there are, and the part that the signature fills, asked for without reading inside
+ * a command, whatever else is wrong with the body. Refusals: 14, the body is empty (place 0); for the
+ * signature, 14, a tag or a length before it, or its own, is cut off or passes the body's end, at its
+ * place. Least lengths are not looked at. */
+nw_answer nw_configuration_command_count(const uint8_t *body, size_t n);
+nw_answer nw_configuration_signature(const uint8_t *body, size_t n);
+
+/* The command whose tag stands at p: the first at 1, the next one where this one's content ends. In a
+ * body that was not accepted, look at the refusal before going on to the next. Value: the tag; or the
+ * part that the content fills. Refusals, in this order: 19, the body has no byte at p (place 0); for the
+ * content, 14, its length is cut off or passes the body's end, or 15, is below the least of the tag, at
+ * the length. */
+nw_answer nw_command_tag(const uint8_t *body, size_t n, size_t p);
+nw_answer nw_command_content(const uint8_t *body, size_t n, size_t p);
+
+/* The fields of the command whose tag stands at p, each judged as nw_configuration_read judges this
+ * field, whatever else is wrong with the command or the body: so of an accepted body's commands they
+ * are told. Value: the number; a digit, 0 to 22; or the part of the body that the bytes fill
+ * (addresses, resource and terminals). Parameters, terminals and digits are counted from 0.
+ * Refusals, in this order: those of nw_command_tag; 19, the command has another tag than the field's
+ * (place 0; terminals are tags 3 to 7's); those of nw_command_content; for what stands after an
+ * address, those of its length, and of the return address also those of its kind and its own; for a
+ * parameter, and for the terminals after them, those of the parameter count; for a terminal, those of
+ * the terminal count; for a parameter or a terminal, 19, there is no i-th (place 0); then 14 to 20 of
+ * the field itself, at its place, which may lie after the body's end; last, for a digit, 19, there is
+ * no such digit (place 0). Year, month and day are judged together, and so are hour, minute and
+ * second, whether or not the day is good. */
+nw_answer nw_command_clock_year(const uint8_t *body, size_t n, size_t p);
+nw_answer nw_command_clock_month(const uint8_t *body, size_t n, size_t p);
+nw_answer nw_command_clock_day(const uint8_t *body, size_t n, size_t p);
+nw_answer nw_command_clock_hour(const uint8_t *body, size_t n, size_t p);
+nw_answer nw_command_clock_minute(const uint8_t *body, size_t n, size_t p);
+nw_answer nw_command_clock_second(const uint8_t *body, size_t n, size_t p);
+nw_answer nw_command_code_address(const uint8_t *body, size_t n, size_t p);
+nw_answer nw_command_code_resource(const uint8_t *body, size_t n, size_t p);
+nw_answer nw_command_code_digit(const uint8_t *body, size_t n, size_t p, uint64_t j);
+nw_answer nw_command_frequency(const uint8_t *body, size_t n, size_t p);
+nw_answer nw_command_symbol_rate(const uint8_t *body, size_t n, size_t p);
+nw_answer nw_command_mapping(const uint8_t *body, size_t n, size_t p);
+nw_answer nw_command_return_kind(const uint8_t *body, size_t n, size_t p);
+nw_answer nw_command_return_address(const uint8_t *body, size_t n, size_t p);
+nw_answer nw_command_period(const uint8_t *body, size_t n, size_t p);
+nw_answer nw_command_volume(const uint8_t *body, size_t n, size_t p);
+nw_answer nw_command_parameter_count(const uint8_t *body, size_t n, size_t p);
+nw_answer nw_command_parameter(const uint8_t *body, size_t n, size_t p, uint64_t i);
+nw_answer nw_command_terminal_count(const uint8_t *body, size_t n, size_t p);
+nw_answer nw_command_terminal(const uint8_t *body, size_t n, size_t p, uint64_t i);
+nw_answer nw_command_terminal_digit(const uint8_t *body, size_t n, size_t p, uint64_t i, uint64_t j);
+
+/* Writes the table of a form at the start of out; bytes of out after it stay. Value: its length. The
+ * tape has, where "bytes" are their start and their length in the pool:
+ *   the count of commands; for each its tag and then, by the tag,
+ *     1  year, month, day, hour, minute, second
+ *     2  address (bytes), resource (12 bytes)
+ *     3  frequency, symbol rate, mapping, terminals
+ *     4  address kind, address (bytes), terminals
+ *     5  period, terminals
+ *     6  volume, terminals
+ *     7  the count of parameters and each one, terminals
+ *     another tag: its content (bytes);
+ *   for terminals: their count, and each one (12 bytes);
+ *   after the commands the signature (bytes).
+ * The first four bits of a resource or terminal in the pool do not matter.
+ * Refusals, in this order, with nothing written and place 0: that of the first field that is wrong, in
+ * the order of the tape (19, the tape is too short, a span is not in the pool or has not the length
+ * stated above, a number is outside its set or has more bits than its field, or a return address is
+ * not of its kind's form; 15, a return address of kind 1 or 2 has another length; 18, a digit above 9;
+ * 20, an impossible day, once its three numbers are taken, or time, once its three are); 19, the tape
+ * has entries left over; 22, a count or length too large for its field, or more than NW_MOST_BODY
+ * bytes; 21, out is too small. */
+nw_answer nw_configuration_write(const uint8_t *pool, size_t pool_bytes, const uint64_t *tape,
+                                 size_t entries, uint8_t *out, size_t room);
+
+/* Lays an accepted body onto a tape: the form from which, with the body itself as the pool,
+ * nw_configuration_write writes it again. Value: the entries laid, at most
+ * NW_CONFIGURATION_ENTRIES(n); entries after them stay. Refusals, with nothing laid: those of
+ * nw_configuration_read, then 21, the tape is too short. */
+nw_answer nw_configuration_lay(uint32_t kind, const uint8_t *body, size_t n, uint64_t *tape,
+                               size_t entries);
+
 #ifdef __cplusplus
 }
 #endif

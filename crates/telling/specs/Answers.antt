@@ -29,6 +29,8 @@ use Rattle.fields.specs.declared.Number.{Number}
 use Rattle.fields.specs.declared.Number.the-variants as number
 use Rattle.fields.specs.declared.Part.{Part}
 use Rattle.fields.specs.declared.Part.the-variants as part
+use Rattle.contentwriter.specs.declared.Written.{Written}
+use Rattle.contentwriter.specs.declared.Written.the-variants as written
 use Rattle.feeding.specs.declared.Answer.{Answer}
 use Rattle.feeding.specs.declared.Answer.the-variants as fed
 use Rattle.handing.specs.declared.Handed.{Handed}
@@ -132,6 +134,11 @@ partAnswer (part.Refused why) = refusedOf why
 abbrev pub writtenAnswer : Step → ℕ
 writtenAnswer (step.At end) = answerOf 0 end
 writtenAnswer (step.Refused why) = refusedOf why
+
+-- the extension above 24 bits of length: a body is shorter than that field allows
+abbrev pub contentAnswer : Written → ℕ
+contentAnswer (written.Of length extension) = answerOf 0 (extension % 2 ^ 16 * 2 ^ 24 + length % 2 ^ 24)
+contentAnswer (written.Refused why) = refusedOf why
 
 -- the local time of a time field that was asked for
 abbrev pub localFieldAnswer : (ℕ → Unpacked) → Number → ℕ

@@ -1,4 +1,5 @@
 // How each answer of the library becomes one number for C: the refusal's number in the low byte, and above it its place or the value.
+use contentwriter::Written;
 use days::DateAnswer;
 use days::DayAnswer;
 use days::WeekdayAnswer;
@@ -19,7 +20,7 @@ ghost use mathlib.Core.Path.{_≡_};
 ghost use Prim.Native.Nat.{_≤_};
 ghost use Rattle.crc.specs.Crc.{digit};
 ghost use Rattle.local.specs.Clock.{unpackOf};
-ghost use Rattle.telling.specs.Answers.{dayAnswer, dateAnswer, weekdayAnswer, fieldAnswer, packedTime, localAnswer, showingAnswer, headingPacked, sectionAnswer, countAnswer, lengthAnswer, feedAnswer, handAnswer, readAnswer, numberAnswer, partAnswer, writtenAnswer, localFieldAnswer};
+ghost use Rattle.telling.specs.Answers.{dayAnswer, dateAnswer, weekdayAnswer, fieldAnswer, packedTime, localAnswer, showingAnswer, headingPacked, sectionAnswer, countAnswer, lengthAnswer, feedAnswer, handAnswer, readAnswer, numberAnswer, partAnswer, writtenAnswer, contentAnswer, localFieldAnswer};
 
 pub fn day_answer(a: DayAnswer) -> u64
     ensures { λ r. ⌜ r ≡ dayAnswer a ⌝ }
@@ -196,6 +197,20 @@ pub fn written_answer(s: Step) -> u64
     match s {
         Step::At(end) => refusal::answered(end as u64),
         Step::Refused(why) => refusal::refused(why),
+    }
+}
+
+// What writing a content table answers: the extension above the length.
+pub fn content_answer(a: Written) -> u64
+    ensures { λ r. ⌜ r ≡ contentAnswer a ⌝ }
+{
+    match a {
+        Written::Of(length, extension) => {
+            refusal::answered(
+                (extension as u64) % 0x1_0000 * 0x100_0000 + (length as u64) % 0x100_0000,
+            )
+        }
+        Written::Refused(why) => refusal::refused(why),
     }
 }
 

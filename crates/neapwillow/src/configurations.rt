@@ -1,0 +1,29 @@
+// The configuration table for C: read, laid onto a form, written from one.
+ghost use mathlib.Core.Path.{_≡_};
+ghost use lib.ListN.{length};
+ghost use Rattle.fields.specs.Body.{bodyRead, bodyLaid, laidTape, bodyWritten, output};
+ghost use Rattle.configuration.specs.Configuration.{configurationKind, configuration};
+ghost use Rattle.telling.specs.Answers.{readAnswer, writtenAnswer};
+
+#[no_mangle]
+pub extern "C" fn nw_configuration_read(kind: u32, body: &[u8]) -> u64
+    ensures { λ r. ⌜ r ≡ readAnswer (bodyRead configuration configurationKind kind (now (body .entry))) ⌝ }
+{
+    telling::read_answer(configuration::read(kind, body))
+}
+
+#[no_mangle]
+pub extern "C" fn nw_configuration_lay(kind: u32, body: &[u8], tape: &mut [u64]) -> u64
+    ensures { λ r. ⌜ r ≡ writtenAnswer (bodyLaid configuration configurationKind kind (now (body .entry)) (length (now (tape .entry)))) ⌝ }
+    ensures { λ _. ⌜ now (tape .exit) ≡ laidTape configuration configurationKind kind (now (body .entry)) (now (tape .entry)) ⌝ }
+{
+    telling::written_answer(configuration::lay(kind, body, tape))
+}
+
+#[no_mangle]
+pub extern "C" fn nw_configuration_write(pool: &[u8], tape: &[u64], out: &mut [u8]) -> u64
+    ensures { λ r. ⌜ r ≡ writtenAnswer (bodyWritten configuration (now (pool .entry)) (now (tape .entry)) (length (now (out .entry)))) ⌝ }
+    ensures { λ _. ⌜ now (out .exit) ≡ output configuration (now (pool .entry)) (now (tape .entry)) (now (out .entry)) ⌝ }
+{
+    telling::written_answer(configurationwriter::write(pool, tape, out))
+}
