@@ -10,9 +10,15 @@
 #include <time.h>
 
 #include "neapwillow.h"
+#include "plain_configuration.h"
+#include "plain_content.h"
 #include "plain_index.h"
 
 enum { MOST_CONTENDERS = 4, MOST_SIZES = 8, ROUNDS = 75 };
+
+// The sizes of a table of which a body, a form and every field are looked at.
+#define TABLE_SIZES {4 * 1024, 64 * 1024, MOST_TABLE}
+enum { MOST_TABLE = 1000000 };
 
 static uint8_t input[512 * NW_MOST_SECTION], output[256 * NW_MOST_SECTION];
 
@@ -289,10 +295,8 @@ static uint64_t writing_library(const uint8_t *s, size_t n) {
 
 // ---- an index body read, written from a form, and asked for every field of every message
 
-enum { MOST_INDEX = 1000000 };
-
 // The form of the body that is read, which is its pool.
-static uint64_t index_tape[NW_INDEX_ENTRIES(MOST_INDEX)];
+static uint64_t index_tape[NW_INDEX_ENTRIES(MOST_TABLE)];
 static size_t index_entries;
 
 static uint64_t index_library(const uint8_t *s, size_t n) { return nw_index_read(NW_INDEX, s, n); }
@@ -380,6 +384,166 @@ static uint64_t ask_all(const struct askers *ask, const uint8_t *s, size_t n) {
 
 static uint64_t asking_library(const uint8_t *s, size_t n) { return ask_all(&library_askers, s, n); }
 static uint64_t asking_plain(const uint8_t *s, size_t n) { return ask_all(&plain_askers, s, n); }
+
+// ---- a content body read, written from a form, and asked for every field
+
+static uint64_t content_tape[NW_CONTENT_ENTRIES];
+static size_t content_entries;
+static uint32_t content_extension;
+
+static uint64_t content_library(const uint8_t *s, size_t n) {
+    return nw_content_read(NW_CONTENT, content_extension, s, n);
+}
+
+static uint64_t content_plain(const uint8_t *s, size_t n) {
+    return plain_content_read(NW_CONTENT, content_extension, s, n);
+}
+
+static uint64_t content_writing_library(const uint8_t *s, size_t n) {
+    return nw_content_write(s, n, content_tape, content_entries, output, sizeof output);
+}
+
+static uint64_t content_writing_plain(const uint8_t *s, size_t n) {
+    return plain_content_write(s, n, content_tape, content_entries, output, sizeof output);
+}
+
+typedef nw_answer of_body(const uint8_t *body, size_t n);
+typedef nw_answer numbered(const uint8_t *body, size_t n, size_t at, size_t length, uint64_t i);
+
+enum { OF_CONTENT = 3, OF_LANGUAGE = 4 };
+
+struct content_askers {
+    of_body *of_content[OF_CONTENT], *language_count;
+    nw_answer (*language)(const uint8_t *body, size_t n, uint64_t i);
+    placed *of_language[OF_LANGUAGE], *auxiliary_count;
+    numbered *auxiliary_type, *auxiliary;
+};
+
+#define CONTENT_ASKERS(prefix)                                                                                       \
+    {                                                                                                                \
+        {prefix##_content_identifier, prefix##_content_extension, prefix##_content_signature},                       \
+        prefix##_content_language_count, prefix##_content_language,                                                  \
+        {prefix##_language_letters, prefix##_language_character_set, prefix##_language_text,                         \
+         prefix##_language_agency},                                                                                  \
+        prefix##_language_auxiliary_count, prefix##_language_auxiliary_type, prefix##_language_auxiliary             \
+    }
+
+static const struct content_askers content_by_library = CONTENT_ASKERS(nw), content_by_plain = CONTENT_ASKERS(plain);
+
+static uint64_t ask_language(const struct content_askers *ask, const uint8_t *s, size_t n, nw_answer part,
+                             uint64_t so_far) {
+    size_t at = NW_PART_START(part), length = NW_PART_LENGTH(part);
+    for (size_t i = 0; i < OF_LANGUAGE; i++) so_far = answered(so_far, ask->of_language[i](s, n, at, length));
+    nw_answer count = ask->auxiliary_count(s, n, at, length);
+    so_far = answered(so_far, count);
+    for (uint64_t i = 0; i < NW_VALUE(count); i++) {
+        so_far = answered(so_far, ask->auxiliary_type(s, n, at, length, i));
+        so_far = answered(so_far, ask->auxiliary(s, n, at, length, i));
+    }
+    return so_far;
+}
+
+static uint64_t ask_content(const struct content_askers *ask, const uint8_t *s, size_t n) {
+    nw_answer count = ask->language_count(s, n), part;
+    uint64_t so_far = count;
+    for (size_t i = 0; i < OF_CONTENT; i++) so_far = answered(so_far, ask->of_content[i](s, n));
+    for (uint64_t i = 0; i < NW_VALUE(count); i++) {
+        so_far = answered(so_far, part = ask->language(s, n, i));
+        so_far = ask_language(ask, s, n, part, so_far);
+    }
+    return so_far;
+}
+
+static uint64_t content_asking_library(const uint8_t *s, size_t n) { return ask_content(&content_by_library, s, n); }
+static uint64_t content_asking_plain(const uint8_t *s, size_t n) { return ask_content(&content_by_plain, s, n); }
+
+// ---- a configuration body read, written from a form, and asked for every field of every command
+
+static uint64_t configuration_tape[NW_CONFIGURATION_ENTRIES(MOST_TABLE)];
+static size_t configuration_entries;
+
+static uint64_t configuration_library(const uint8_t *s, size_t n) {
+    return nw_configuration_read(NW_CONFIGURATION, s, n);
+}
+
+static uint64_t configuration_plain(const uint8_t *s, size_t n) {
+    return plain_configuration_read(NW_CONFIGURATION, s, n);
+}
+
+static uint64_t configuration_writing_library(const uint8_t *s, size_t n) {
+    return nw_configuration_write(s, n, configuration_tape, configuration_entries, output, sizeof output);
+}
+
+static uint64_t configuration_writing_plain(const uint8_t *s, size_t n) {
+    return plain_configuration_write(s, n, configuration_tape, configuration_entries, output, sizeof output);
+}
+
+typedef nw_answer of_command(const uint8_t *body, size_t n, size_t p);
+typedef nw_answer counted(const uint8_t *body, size_t n, size_t p, uint64_t i);
+
+enum { MOST_OF_TAG = 6 };
+
+struct command_askers {
+    of_body *command_count, *signature;
+    of_command *tag, *content, *of_tag[NW_QUERY + 1][MOST_OF_TAG], *parameter_count, *terminal_count;
+    counted *parameter, *terminal;
+};
+
+#define COMMAND_ASKERS(prefix)                                                                                       \
+    {                                                                                                                \
+        prefix##_configuration_command_count, prefix##_configuration_signature,                                      \
+        prefix##_command_tag, prefix##_command_content,                                                              \
+        {[NW_CLOCK] = {prefix##_command_clock_year, prefix##_command_clock_month, prefix##_command_clock_day,        \
+                       prefix##_command_clock_hour, prefix##_command_clock_minute, prefix##_command_clock_second},   \
+         [NW_CODE] = {prefix##_command_code_address, prefix##_command_code_resource},                                \
+         [NW_FREQUENCY] = {prefix##_command_frequency, prefix##_command_symbol_rate, prefix##_command_mapping},      \
+         [NW_RETURN] = {prefix##_command_return_kind, prefix##_command_return_address},                              \
+         [NW_PERIOD] = {prefix##_command_period},                                                                    \
+         [NW_VOLUME] = {prefix##_command_volume}},                                                                   \
+        prefix##_command_parameter_count, prefix##_command_terminal_count,                                           \
+        prefix##_command_parameter, prefix##_command_terminal                                                        \
+    }
+
+static const struct command_askers commands_by_library = COMMAND_ASKERS(nw), commands_by_plain = COMMAND_ASKERS(plain);
+
+// A count, and each of the things.
+static uint64_t ask_counted(const uint8_t *s, size_t n, size_t p, nw_answer count, counted *each, uint64_t so_far) {
+    so_far = answered(so_far, count);
+    for (uint64_t i = 0; i < NW_VALUE(count); i++) so_far = answered(so_far, each(s, n, p, i));
+    return so_far;
+}
+
+static uint64_t ask_command(const struct command_askers *ask, const uint8_t *s, size_t n, size_t p, uint64_t so_far) {
+    nw_answer tag = ask->tag(s, n, p);
+    so_far = answered(so_far, tag);
+    if (NW_VALUE(tag) > NW_QUERY) return so_far;
+    of_command *const *its = ask->of_tag[NW_VALUE(tag)];
+    for (size_t i = 0; i < MOST_OF_TAG && its[i]; i++) so_far = answered(so_far, its[i](s, n, p));
+    if (NW_VALUE(tag) == NW_QUERY)
+        so_far = ask_counted(s, n, p, ask->parameter_count(s, n, p), ask->parameter, so_far);
+    if (NW_VALUE(tag) >= NW_FREQUENCY)
+        so_far = ask_counted(s, n, p, ask->terminal_count(s, n, p), ask->terminal, so_far);
+    return so_far;
+}
+
+static uint64_t ask_configuration(const struct command_askers *ask, const uint8_t *s, size_t n) {
+    nw_answer count = ask->command_count(s, n), content;
+    uint64_t so_far = answered(count, ask->signature(s, n));
+    size_t p = 1;
+    for (uint64_t left = NW_VALUE(count); left > 0; left--, p = part_after(content)) {
+        so_far = answered(so_far, content = ask->content(s, n, p));
+        so_far = ask_command(ask, s, n, p, so_far);
+    }
+    return so_far;
+}
+
+static uint64_t configuration_asking_library(const uint8_t *s, size_t n) {
+    return ask_configuration(&commands_by_library, s, n);
+}
+
+static uint64_t configuration_asking_plain(const uint8_t *s, size_t n) {
+    return ask_configuration(&commands_by_plain, s, n);
+}
 
 // ---- what they are given
 
@@ -509,6 +673,91 @@ static void fill_index(size_t n) {
     if (NW_REFUSAL(laid) || index_writing_plain(input, n) != n << 8 || memcmp(input, output, n) != 0) abort();
 }
 
+// A content body: what is opaque keeps the bytes that were there.
+enum { LANGUAGES = 5, FILES = 2, AGENCY_BYTES = 20, MOST_TEXT = 65535 };
+
+// A length in so many bytes, and what it counts.
+static uint8_t *put_opaque(uint8_t *to, size_t width, size_t length) {
+    for (size_t i = 0; i < width; i++) to[i] = (uint8_t)(length >> 8 * (width - 1 - i));
+    return to + width + length;
+}
+
+// A language of so many bytes: a third of them text, if that is not too long for its length, the others mostly files.
+static uint8_t *put_language(uint8_t *to, size_t bytes) {
+    size_t text = bytes / 3 < MOST_TEXT ? bytes / 3 : MOST_TEXT;
+    size_t data = (bytes - 8 - text - AGENCY_BYTES) / FILES - 4;
+    put_opaque(to, 4, 8 + text + AGENCY_BYTES + FILES * (4 + data));
+    memcpy(to + 4, "zho\xF9", 4);
+    to = put_opaque(to + 8, 2, text);
+    to = put_opaque(to, 1, AGENCY_BYTES);
+    *to++ = 0xF0 | FILES;
+    for (int i = 0; i < FILES; i++) to = put_opaque(to + 1, 3, data);
+    return to;
+}
+
+// A content body of n bytes, the signature having what the languages leave, and its form.
+static void fill_content(size_t n) {
+    fill_bytes(n);
+    uint8_t *to = put_digits(input, 18);
+    *to++ = 0xF0 | LANGUAGES;
+    for (int i = 0; i < LANGUAGES; i++) to = put_language(to, (n - 100) / LANGUAGES - 4);
+    put_opaque(to, 2, n - 2 - (size_t)(to - input));
+    content_extension = (uint32_t)NW_VALUE(plain_content_extension(input, n));
+    nw_answer laid = plain_content_lay(NW_CONTENT, input, n, content_tape, NW_CONTENT_ENTRIES);
+    content_entries = NW_VALUE(laid);
+    if (NW_REFUSAL(laid) || content_plain(input, n) != 0 ||
+        NW_CONTENT_LENGTH(content_writing_plain(input, n)) != n || memcmp(input, output, n) != 0)
+        abort();
+}
+
+// A configuration body of so many rounds, each of a command of each tag; the bytes of a round without terminals.
+enum { TAGS = NW_QUERY, ROUND_BYTES = 117, MOST_COMMAND_ROUNDS = 34, PARAMETERS = 10 };
+
+// What stands in a command after its length and before its terminals.
+static uint8_t *put_head(uint8_t *to, int tag) {
+    static const uint8_t clock[] = {0x07, 0xDE, 11, 3, 7, 45, 0}, name[] = "\3\30www.chinaeb-lab.org:8080";
+    switch (tag) {
+    case NW_CLOCK: memcpy(to, clock, sizeof clock); return to + sizeof clock;
+    case NW_CODE: return put_digits(put_opaque(to, 1, 20), 12);
+    case NW_FREQUENCY: to[8] = 3; return to + 9;
+    case NW_RETURN: memcpy(to, name, sizeof name - 1); return to + sizeof name - 1;
+    case NW_PERIOD: return to + 4;
+    case NW_VOLUME: *to = 100; return to + 1;
+    default: return put_opaque(to, 1, PARAMETERS);
+    }
+}
+
+static uint8_t *put_command(uint8_t *to, int tag, size_t terminals) {
+    uint8_t *content = to + 3, *end = put_head(content, tag);
+    if (tag >= NW_FREQUENCY) {
+        *end++ = (uint8_t)terminals;
+        for (size_t i = 0; i < terminals; i++) end = put_digits(end, 12);
+    }
+    *to = (uint8_t)tag;
+    put_two(to + 1, (size_t)(end - content));
+    return end;
+}
+
+// A configuration body of n bytes, opaque commands and the signature having what the others leave, and its form.
+static void fill_configuration(size_t n) {
+    fill_bytes(n);
+    size_t rounds = n / (2 * ROUND_BYTES) < MOST_COMMAND_ROUNDS ? n / (2 * ROUND_BYTES) : MOST_COMMAND_ROUNDS;
+    size_t terminals = ((n - 3) / rounds - ROUND_BYTES) / (5 * 12);
+    if (terminals > 255) terminals = 255;
+    uint8_t *to = input + 1, *end = input + n;
+    for (size_t i = 0; i < rounds * TAGS; i++) to = put_command(to, (int)(i % TAGS) + 1, terminals);
+    input[0] = (uint8_t)(rounds * TAGS);
+    for (; end - to > 65537; input[0]++) {
+        *to = 200;
+        to = put_opaque(to + 1, 2, 60000);
+    }
+    put_two(to, (size_t)(end - to) - 2);
+    nw_answer laid = plain_configuration_lay(NW_CONFIGURATION, input, n, configuration_tape,
+                                             sizeof configuration_tape / sizeof configuration_tape[0]);
+    configuration_entries = NW_VALUE(laid);
+    if (NW_REFUSAL(laid) || configuration_writing_plain(input, n) != n << 8 || memcmp(input, output, n) != 0) abort();
+}
+
 static const struct operation operations[] = {
     {"CRC_32",
      fill_bytes,
@@ -549,15 +798,39 @@ static const struct operation operations[] = {
     {"index read",
      fill_index,
      {{"neapwillow", index_library}, {"C", index_plain}},
-     {4 * 1024, 64 * 1024, MOST_INDEX}},
+     TABLE_SIZES},
     {"index written",
      fill_index,
      {{"neapwillow", index_writing_library}, {"C", index_writing_plain}},
-     {4 * 1024, 64 * 1024, MOST_INDEX}},
+     TABLE_SIZES},
     {"index asked",
      fill_index,
      {{"neapwillow", asking_library}, {"C", asking_plain}},
-     {4 * 1024, 64 * 1024, MOST_INDEX}},
+     TABLE_SIZES},
+    {"content read",
+     fill_content,
+     {{"neapwillow", content_library}, {"C", content_plain}},
+     TABLE_SIZES},
+    {"content written",
+     fill_content,
+     {{"neapwillow", content_writing_library}, {"C", content_writing_plain}},
+     TABLE_SIZES},
+    {"content asked",
+     fill_content,
+     {{"neapwillow", content_asking_library}, {"C", content_asking_plain}},
+     TABLE_SIZES},
+    {"configuration read",
+     fill_configuration,
+     {{"neapwillow", configuration_library}, {"C", configuration_plain}},
+     TABLE_SIZES},
+    {"configuration written",
+     fill_configuration,
+     {{"neapwillow", configuration_writing_library}, {"C", configuration_writing_plain}},
+     TABLE_SIZES},
+    {"configuration asked",
+     fill_configuration,
+     {{"neapwillow", configuration_asking_library}, {"C", configuration_asking_plain}},
+     TABLE_SIZES},
 };
 
 // ---- measuring
@@ -614,13 +887,13 @@ static void measure(const struct operation *o, size_t n) {
             if (each < best[i]) best[i] = each;
         }
     for (size_t i = 0; i < count; i++)
-        printf("%-19s %7zu  %-16s %10.1f %9.3f %8.1f %6.2f\n", o->name, n, o->contenders[i].name, best[i],
+        printf("%-21s %7zu  %-16s %10.1f %9.5f %10.1f %6.2f\n", o->name, n, o->contenders[i].name, best[i],
                best[i] / (double)n, (double)n * 1e3 / best[i], best[0] / best[i]);
 }
 
 int main(void) {
     fill_slices();
-    printf("%-19s %7s  %-16s %10s %9s %8s %6s\n", "", "bytes", "", "ns a call", "ns a byte", "MB/s", "ratio");
+    printf("%-21s %7s  %-16s %10s %9s %10s %6s\n", "", "bytes", "", "ns a call", "ns a byte", "MB/s", "ratio");
     for (size_t k = 0; k < sizeof operations / sizeof operations[0]; k++) {
         const struct operation *o = &operations[k];
         for (size_t i = 0; i < MOST_SIZES && o->sizes[i] > 0; i++) {

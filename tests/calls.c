@@ -287,10 +287,10 @@ static void call_certificate_lay(const struct argument *a) {
 
 // ---- the index table
 
-typedef nw_answer of_message(const uint8_t *body, size_t n, size_t at, size_t length);
+typedef nw_answer of_part(const uint8_t *body, size_t n, size_t at, size_t length);
 
 // What is asked of a message without a further number.
-static of_message *const of_messages[] = {
+static of_part *const of_messages[] = {
     nw_message_identifier,      nw_message_network,        nw_message_start,
     nw_message_end,             nw_message_type,           nw_message_class,
     nw_message_level,           nw_message_resource_count, nw_message_channel_flag,
@@ -437,6 +437,172 @@ static void call_message_resource_digit(const struct argument *a) {
 static void call_descriptor_fields(const struct argument *a) { put_descriptor(&a[0], a[1].wide, a[2].wide); }
 static void call_stream_fields(const struct argument *a) { put_stream(&a[0], a[1].wide, a[2].wide); }
 
+// ---- the content table
+
+typedef nw_answer of_body(const uint8_t *body, size_t n);
+
+// What is asked of a body, and of a language, without a further number.
+static of_body *const of_contents[] = {
+    nw_content_identifier, nw_content_extension, nw_content_language_count, nw_content_signature,
+};
+static of_part *const of_languages[] = {
+    nw_language_letters, nw_language_character_set, nw_language_text, nw_language_agency, nw_language_auxiliary_count,
+};
+
+static void put_content(const struct argument *body) {
+    for (size_t i = 0; i < sizeof of_contents / sizeof of_contents[0]; i++)
+        put_answer(of_contents[i](body->bytes, body->length));
+}
+
+static void put_language(const struct argument *body, size_t at, size_t length) {
+    for (size_t i = 0; i < sizeof of_languages / sizeof of_languages[0]; i++)
+        put_answer(of_languages[i](body->bytes, body->length, at, length));
+}
+
+static void put_auxiliary(const struct argument *body, size_t at, size_t length, uint64_t i) {
+    put_answer(nw_language_auxiliary_type(body->bytes, body->length, at, length, i));
+    put_answer(nw_language_auxiliary(body->bytes, body->length, at, length, i));
+}
+
+static void put_whole_language(const struct argument *body, nw_answer part) {
+    size_t at = NW_PART_START(part), length = NW_PART_LENGTH(part);
+    put_answer(part);
+    put_language(body, at, length);
+    uint64_t count = NW_VALUE(nw_language_auxiliary_count(body->bytes, body->length, at, length));
+    for (uint64_t i = 0; i < count; i++) put_auxiliary(body, at, length, i);
+}
+
+// An accepted body's fields follow, each as it is answered.
+static void call_content_read(const struct argument *a) {
+    const struct argument *body = &a[2];
+    nw_answer got = nw_content_read((uint32_t)a[0].number, (uint32_t)a[1].number, body->bytes, body->length);
+    put_answer(got);
+    if (NW_REFUSAL(got)) return;
+    put_content(body);
+    next_item();
+    for (uint64_t i = 0; i < 35; i++) put_digit(nw_content_identifier_digit(body->bytes, body->length, i));
+    uint64_t count = NW_VALUE(nw_content_language_count(body->bytes, body->length));
+    for (uint64_t i = 0; i < count; i++) put_whole_language(body, nw_content_language(body->bytes, body->length, i));
+}
+
+static void call_content_lay(const struct argument *a) {
+    put_answer(nw_content_lay((uint32_t)a[0].number, a[1].bytes, a[1].length, a[2].tape, a[2].length));
+    put_tape(a[2].tape, a[2].length);
+}
+
+static void call_content_write(const struct argument *a) {
+    nw_answer got = nw_content_write(a[0].bytes, a[0].length, a[1].tape, a[1].length, a[2].bytes, a[2].length);
+    put_answer(got);
+    if (NW_REFUSAL(got) == 0) {
+        put_number(NW_CONTENT_EXTENSION(got));
+        put_number(NW_CONTENT_LENGTH(got));
+    }
+    put_bytes(a[2].bytes, a[2].length);
+}
+
+static void call_content_fields(const struct argument *a) { put_content(&a[0]); }
+
+static void call_content_identifier_digit(const struct argument *a) {
+    put_answer(nw_content_identifier_digit(a[0].bytes, a[0].length, a[1].wide));
+}
+
+static void call_content_language(const struct argument *a) {
+    put_answer(nw_content_language(a[0].bytes, a[0].length, a[1].wide));
+}
+
+static void call_language_fields(const struct argument *a) { put_language(&a[0], a[1].wide, a[2].wide); }
+static void call_auxiliary_fields(const struct argument *a) { put_auxiliary(&a[0], a[1].wide, a[2].wide, a[3].wide); }
+
+// ---- the configuration table
+
+typedef nw_answer of_command(const uint8_t *body, size_t n, size_t p);
+
+// What is asked of a command without a further number.
+static of_command *const of_commands[] = {
+    nw_command_tag,           nw_command_content,         nw_command_clock_year,    nw_command_clock_month,
+    nw_command_clock_day,     nw_command_clock_hour,      nw_command_clock_minute,  nw_command_clock_second,
+    nw_command_code_address,  nw_command_code_resource,   nw_command_frequency,     nw_command_symbol_rate,
+    nw_command_mapping,       nw_command_return_kind,     nw_command_return_address, nw_command_period,
+    nw_command_volume,        nw_command_parameter_count, nw_command_terminal_count,
+};
+
+static void put_configuration(const struct argument *body) {
+    put_answer(nw_configuration_command_count(body->bytes, body->length));
+    put_answer(nw_configuration_signature(body->bytes, body->length));
+}
+
+static void put_command(const struct argument *body, size_t p) {
+    for (size_t i = 0; i < sizeof of_commands / sizeof of_commands[0]; i++)
+        put_answer(of_commands[i](body->bytes, body->length, p));
+}
+
+// So many things of a command; where there are none of these, its count is refused.
+static uint64_t count_of(nw_answer count) { return NW_REFUSAL(count) ? 0 : NW_VALUE(count); }
+
+static void put_terminals(const struct argument *body, size_t p) {
+    uint64_t count = count_of(nw_command_terminal_count(body->bytes, body->length, p));
+    for (uint64_t i = 0; i < count; i++) {
+        put_answer(nw_command_terminal(body->bytes, body->length, p, i));
+        next_item();
+        for (uint64_t j = 0; j < 23; j++) put_digit(nw_command_terminal_digit(body->bytes, body->length, p, i, j));
+    }
+}
+
+// A command, and what is counted in it.
+static void put_whole_command(const struct argument *body, size_t p) {
+    put_command(body, p);
+    if (NW_VALUE(nw_command_tag(body->bytes, body->length, p)) == NW_CODE) {
+        next_item();
+        for (uint64_t j = 0; j < 23; j++) put_digit(nw_command_code_digit(body->bytes, body->length, p, j));
+    }
+    uint64_t parameters = count_of(nw_command_parameter_count(body->bytes, body->length, p));
+    for (uint64_t i = 0; i < parameters; i++) put_answer(nw_command_parameter(body->bytes, body->length, p, i));
+    put_terminals(body, p);
+}
+
+// An accepted body's fields follow, each as it is answered.
+static void call_configuration_read(const struct argument *a) {
+    const struct argument *body = &a[1];
+    nw_answer got = nw_configuration_read((uint32_t)a[0].number, body->bytes, body->length);
+    put_answer(got);
+    if (NW_REFUSAL(got)) return;
+    put_configuration(body);
+    size_t p = 1;
+    for (uint64_t left = NW_VALUE(nw_configuration_command_count(body->bytes, body->length)); left > 0; left--) {
+        put_whole_command(body, p);
+        p = end_after(p, nw_command_content(body->bytes, body->length, p));
+    }
+}
+
+static void call_configuration_lay(const struct argument *a) {
+    put_answer(nw_configuration_lay((uint32_t)a[0].number, a[1].bytes, a[1].length, a[2].tape, a[2].length));
+    put_tape(a[2].tape, a[2].length);
+}
+
+static void call_configuration_write(const struct argument *a) {
+    put_answer(nw_configuration_write(a[0].bytes, a[0].length, a[1].tape, a[1].length, a[2].bytes, a[2].length));
+    put_bytes(a[2].bytes, a[2].length);
+}
+
+static void call_configuration_fields(const struct argument *a) { put_configuration(&a[0]); }
+static void call_command_fields(const struct argument *a) { put_command(&a[0], a[1].wide); }
+
+static void call_command_code_digit(const struct argument *a) {
+    put_answer(nw_command_code_digit(a[0].bytes, a[0].length, a[1].wide, a[2].wide));
+}
+
+static void call_command_parameter(const struct argument *a) {
+    put_answer(nw_command_parameter(a[0].bytes, a[0].length, a[1].wide, a[2].wide));
+}
+
+static void call_command_terminal(const struct argument *a) {
+    put_answer(nw_command_terminal(a[0].bytes, a[0].length, a[1].wide, a[2].wide));
+}
+
+static void call_command_terminal_digit(const struct argument *a) {
+    put_answer(nw_command_terminal_digit(a[0].bytes, a[0].length, a[1].wide, a[2].wide, a[3].wide));
+}
+
 static const struct call calls[] = {
     {"echo", "buiwot", call_echo},
     {"crc32", "b", call_crc32},
@@ -476,6 +642,23 @@ static const struct call calls[] = {
     {"message_resource_digit", "bwwww", call_message_resource_digit},
     {"descriptor_fields", "bww", call_descriptor_fields},
     {"stream_fields", "bww", call_stream_fields},
+    {"content_read", "uub", call_content_read},
+    {"content_lay", "ubl", call_content_lay},
+    {"content_write", "bto", call_content_write},
+    {"content_fields", "b", call_content_fields},
+    {"content_identifier_digit", "bw", call_content_identifier_digit},
+    {"content_language", "bw", call_content_language},
+    {"language_fields", "bww", call_language_fields},
+    {"auxiliary_fields", "bwww", call_auxiliary_fields},
+    {"configuration_read", "ub", call_configuration_read},
+    {"configuration_lay", "ubl", call_configuration_lay},
+    {"configuration_write", "bto", call_configuration_write},
+    {"configuration_fields", "b", call_configuration_fields},
+    {"command_fields", "bw", call_command_fields},
+    {"command_code_digit", "bww", call_command_code_digit},
+    {"command_parameter", "bww", call_command_parameter},
+    {"command_terminal", "bww", call_command_terminal},
+    {"command_terminal_digit", "bwww", call_command_terminal_digit},
 };
 
 // ---- what a request is read with

@@ -1,119 +1,44 @@
 """Index bodies, forms, fields asked for, good, damaged, by chance: as the library takes them and a second program."""
-import collections
 import itertools
 import random
-import types
 
-import calls
 import index_cases
 import make_fields
 import make_index
-import second_fields
 import second_index
 import second_index_calls
+import table_checks as checks
 from make_index import KIND, MOST_BODY
+from table_checks import COUNT, SEED, TOP
 
-SEED, COUNT = 86, 20000
 chance = random.Random(SEED)
 
 # Offsets on both sides of the ends of their range, and some within it.
 OFFSETS = (-720, -721, 840, 841, 0, 1, -1, 480, 1440, -2**31, 2**31 - 1)
-TOP = 2**64
-# A body above this many bytes is put in fewer ways.
-LARGE = 20000
-
-# How often each call was refused with each number at each field.
-met = collections.Counter()
 
 
-def noted(call):
-    """A second program's function, which also notes its refusals."""
-    def run(*arguments):
-        try:
-            return call(*arguments)
-        except calls.Refused as refusal:
-            met[call.__name__, refusal.args[0], getattr(refusal, 'field', None)] += 1
-            raise
-    return run
-
-
-program = types.SimpleNamespace(**{
-    name: noted(call) for name, call in vars(second_index_calls).items()
-    if name.startswith(('index_', 'message_', 'descriptor_', 'stream_')) and callable(call)})
-
-
-def compare(cases):
-    return calls.compare('a second program', program, cases)
-
-
-def met_by(call):
-    return {(number, field) for name, number, field in met if name == call}
-
-
-def by_refusal(cases, got):
-    """How often each refusal number was answered by each call."""
-    found = {}
-    for case, answer in zip(cases, got, strict=True):
-        found.setdefault(case[0], collections.Counter())[int(answer.split(None, 1)[0])] += 1
-    for call, numbers in found.items():
-        shown = ', '.join('%d: %d' % pair for pair in sorted(numbers.items()))
-        print('  %s, %d times: %s' % (call, sum(numbers.values()), shown))
-    return {call: set(numbers) for call, numbers in found.items()}
-
-
-# ---- the second program by itself
-
-
-def hand_made():
-    """It says what document 01's words give at once; so the library, which is held to it, does too."""
+def by_hand():
     for body, expected in index_cases.BODIES:
-        data = bytes.fromhex(body)
-        told = calls.told(second_index_calls.index_read, KIND, data, 0)
-        assert told.startswith('0 0 ') if expected is None else told == '%d %d' % expected, (body, told, expected)
-        yield 'index_read', KIND, data, 0
-    for case, expected in index_cases.CALLS:
-        told = calls.told(getattr(second_index_calls, case[0]), *case[1:])
-        assert told == expected, (case, told, expected)
-        yield case
-
-
-def there_and_back():
-    """It reads each table from the body that the generator made of its values, and writes that body from its form."""
-    tables = [make_index.table(chance) for _ in range(400)] + [*make_index.large(chance)]
-    for table in tables:
-        body = make_fields.body_of(make_index.items(table))
-        assert second_fields.plain(second_index.read(KIND, body)) == table
-        assert second_index.write(*make_index.form(chance, table), len(body)) == body
-    print('%d tables are read and written by the second program as they were made' % len(tables))
+        yield ('index_read', KIND, bytes.fromhex(body), 0), expected and '%d %d' % expected
+    yield from index_cases.CALLS
 
 
 # ---- bodies
 
 
-def tape_of(entries):
-    """A lent tape, all its numbers others, and none of them one that a body can have."""
-    return [10**7 + k for k in range(entries)]
-
-
 def list_of(records):
     """A lent list of so many records, six numbers for each."""
-    return tape_of(6 * records)
-
-
-def out(room):
-    """An output, whose bytes are seen to stay or go."""
-    return b'\xE5' * room
+    return checks.lent_tape(6 * records)
 
 
 def whole(kind, body, table):
     """An accepted body: its records, its tape, the body written again, each with room enough and too little."""
     count, laid = len(table['messages']), second_index.tape_of(table)
     assert len(laid) <= len(body) // 2 * 3 + 1
-    ways = (0, -1, 2) if len(body) < LARGE else (chance.choice((0, 2)),)
-    for more in ways:
+    rooms = checks.ways(chance, body)
+    for more in rooms:
         yield 'index_records', kind, body, list_of(max(count + more, 0))
-        yield 'index_lay', kind, body, tape_of(len(laid) + more)
-        yield 'index_write', body, laid, out(len(body) + more)
+    yield from checks.laid_and_written('index', kind, body, laid, rooms)
 
 
 def refused(i, kind, body):
@@ -122,7 +47,7 @@ def refused(i, kind, body):
     if i % 2 or too_long:
         yield 'index_records', kind, body, list_of(room)
     if i % 2 == 0 or too_long:
-        yield 'index_lay', kind, body, tape_of(12 * room)
+        yield 'index_lay', kind, body, checks.lent_tape(12 * room)
 
 
 def readings(bodies, tables):
@@ -136,46 +61,11 @@ def readings(bodies, tables):
             yield from refused(i, kind, body)
 
 
-def table_or_none(kind, body):
-    try:
-        return second_index_calls.table_of(kind, body)
-    except calls.Refused:
-        return None
-
-
 # ---- fields asked for
 
 
 def lengths_of(body):
-    """Where messages begin and how long they are, by their lengths alone, as far as these lie in the body."""
-    at, found = 1, []
-    for _ in range(body[0] if body else 0):
-        if at + 2 > len(body):
-            break
-        found.append((at + 2, int.from_bytes(body[at:at + 2], 'big')))
-        at += 2 + found[-1][1]
-    return found
-
-
-# Many of these end in the body if their sum is taken in 64 bits.
-NOT_IN_BODY = ((TOP - 1, 1), (TOP - 1, 2), (1, TOP - 1), (TOP - 3, 45), (3, TOP - 3), (2**63, 2**63),
-               (2**63 + 3, 2**63 + 38), (2**32, 0), (0, 2**32), (TOP - 1, 0), (0, TOP - 1))
-
-
-def messages_near(body, at, length):
-    """The message, and what begins or ends elsewhere, in the body and not."""
-    rest = len(body) - at
-    sizes = {length, length - 1, length + 1, rest, rest + 1, chance.randrange(max(length, 1)),
-             chance.choice((17, 19, 36, 37, 38))}
-    yield from ((at, size) for size in sorted(sizes) if size >= 0)
-    yield at + chance.choice((1, -1, -2)), length
-    yield chance.randrange(len(body) + 2), chance.randrange(60)
-
-
-def numbers_near(most):
-    """Numbers of things of which there are so many: of the last, of none, and some that end in the bits of one."""
-    far = chance.sample((0, 255, 256, 2**8 + 1, 2**32, 2**63, TOP - 1), 2)
-    return most - 1, most, chance.randrange(max(most, 1)), *far
+    return checks.parts_by_length(body, 1, body[0] if body else 0, 2)
 
 
 def of_message(body, at, length):
@@ -183,11 +73,11 @@ def of_message(body, at, length):
     message = body, at, length
     yield 'message_fields', *message
     yield 'message_local_times', *message, chance.choice((*OFFSETS, chance.randint(-720, 840)))
-    yield 'message_identifier_digit', *message, chance.choice(numbers_near(35))
+    yield 'message_identifier_digit', *message, chance.choice(checks.numbers_near(chance, 35))
     count = body[at + 36] if at + 36 < len(body) else 2
-    for i in chance.sample([i for i in numbers_near(count) if i >= 0], 2):
+    for i in chance.sample(checks.numbers_near(chance, count), 2):
         yield 'message_resource', *message, i
-        yield 'message_resource_digit', *message, i, chance.choice(numbers_near(23))
+        yield 'message_resource_digit', *message, i, chance.choice(checks.numbers_near(chance, 23))
 
 
 def of_body(body):
@@ -199,7 +89,7 @@ def of_body(body):
     for i in sorted({0, len(found), count, max(count, 1) - 1, chance.choice((255, 256, 2**32, TOP - 1))}):
         yield 'index_message', body, i
     for at, length in found[:2]:
-        for near in messages_near(body, at, length):
+        for near in checks.parts_near(chance, body, at, length, chance.choice((17, 19, 36, 37, 38))):
             yield from of_message(body, *near)
 
 
@@ -250,7 +140,7 @@ def of_sample(body):
             yield 'message_local_times', body, at, length, offset
     for at in range(len(body) + 2):
         yield 'message_fields', body, at, max(len(body) - at, 0)
-    for at, length in NOT_IN_BODY:
+    for at, length in checks.NOT_IN_BODY:
         yield from of_message(body, at, length)
     ends = (*range(1, len(body) + 2, 3), len(body), len(body) + 1, 2**32, 2**63, TOP - 1)
     for end, p in itertools.product(ends, (*range(0, len(body) + 1, 2), 2**32, 2**63, TOP - 2, TOP - 1)):
@@ -281,28 +171,28 @@ def askings(bodies, tables):
 
 def writings():
     for pool, tape, room in make_index.writings(SEED, COUNT):
-        yield 'index_write', pool, tape, out(room)
+        yield 'index_write', pool, tape, checks.out(room)
 
 
 def main():
-    there_and_back()
+    checks.there_and_back(chance, second_index.read, second_index.write, make_index)
+    library = checks.Comparison(second_index_calls, 'index_', 'message_', 'descriptor_', 'stream_')
     bodies = [*make_index.readings(SEED, COUNT)]
-    tables = {case: table for case in bodies if (table := table_or_none(*case))}
+    tables = {case: table for case in bodies if (table := checks.table_or_none(second_index_calls.table_of, *case))}
     assert len(set(bodies)) > COUNT and len(tables) > COUNT // 4
 
-    cases = [*hand_made(), *readings(bodies, tables)]
-    told = by_refusal(cases, compare(cases))
-    assert met_by('index_read') == index_cases.READ, met_by('index_read') ^ index_cases.READ
+    told = library.compare([*checks.hand_made(second_index_calls, by_hand()), *readings(bodies, tables)])
+    library.must_meet('index_read', index_cases.READ)
     body_numbers = {0, 2, 14, 15, 16, 17, 18, 19, 20, 22}
     assert told['index_read'] == body_numbers and told['index_records'] == told['index_lay'] == body_numbers | {21}
 
     cases = [*writings()]
-    told = by_refusal(cases, compare(cases))
+    told = library.compare(cases)
     assert len(cases) > COUNT and told == {'index_write': {0, 18, 19, 20, 21, 22}}
-    assert met_by('index_write') == index_cases.WRITE, met_by('index_write') ^ index_cases.WRITE
+    library.must_meet('index_write', index_cases.WRITE)
 
     cases = [*askings(bodies, tables)]
-    told = by_refusal(cases, compare(cases))
+    told = library.compare(cases)
     assert told['index_message_count'] == told['index_signature'] == {0, 14} and told['index_message'] == {0, 14, 19}
     digits = {0, 14, 15, 17, 18, 19}
     assert told['message_fields'] == told['message_resource'] == told['message_resource_digit'] == digits

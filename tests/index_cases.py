@@ -1,4 +1,5 @@
 """Index bodies and calls made by hand, with what document 01's words say of them; every refusal that can be met."""
+from table_checks import on_tape, pairs
 
 KIND = 0xFD
 
@@ -96,24 +97,6 @@ CALLS = [
 # ---- every refusal that can be met
 
 
-def pairs(text):
-    """The numbers and fields of lines like `field: 14 15`."""
-    for line in text.strip().splitlines():
-        field, numbers = line.split(': ')
-        for number in numbers.split():
-            yield int(number), field
-
-
-def on_tape(counts, numbers, spans, fixed):
-    """What every entry of a kind can be refused for: names divided by commas."""
-    kinds = counts, numbers, spans, fixed
-    counts, numbers, spans, fixed = ([name.strip() for name in names.split(',')] for names in kinds)
-    found = {(19, name + ', tape ends') for name in counts + numbers} | {(19, name) for name in numbers}
-    for name in spans + fixed:
-        found |= {(19, name + end) for end in (' start, tape ends', ' length, tape ends', ', outside the pool')}
-    return found | {(19, name + ', wrong length') for name in fixed}
-
-
 READ = {*pairs("""
 kind: 2
 body: 22
@@ -155,7 +138,6 @@ WRITE = on_tape(
     'network, start, end, class, level, channel flag, channel network, channel stream, channel program, PCR PID,'
     'program descriptor tag, stream type, stream PID, ES descriptor tag',
     'program descriptor data, ES descriptor data, signature', 'identifier, type, resource') | {*pairs("""
-tape left over: 19
 identifier: 18
 start: 18 20
 end: 18 20
@@ -171,5 +153,4 @@ stream info length: 22
 EBM_length: 22
 signature length: 22
 body: 22
-room: 21
 """)}

@@ -3,30 +3,8 @@ import functools
 
 import second_index
 import second_times
-from calls import Refused
-from second_fields import Reader, refuse
-
-
-def part(begin, length):
-    """As the library answers with a part: where it begins, above 24 bits of length."""
-    return begin * 2**24 + length
-
-
-def span(field):
-    return part(*field[:2])
-
-
-def unrefused(*values):
-    """An answer with each value: no refusal, and the value."""
-    return [item for value in values for item in (0, value)]
-
-
-def answered(call, *arguments):
-    """An answer: no refusal and the value, or the refusal's number and its place."""
-    try:
-        return [0, call(*arguments)]
-    except Refused as refusal:
-        return [refusal.args[0], refusal.place]
+from second_calls import Part, answered, digit, inside, joined, lent, part, span, unrefused, up_to, written
+from second_fields import refuse
 
 
 # ---- whole bodies and forms
@@ -92,53 +70,22 @@ def descriptor_items(descriptors):
     return [item for one in descriptors for item in unrefused(one['tag'], span(one['data']))]
 
 
-def with_lent(refusal, lent):
-    """A refusal after which what was lent is as it was."""
-    after = Refused(*refusal.args, lent, place=refusal.place)
-    after.field = refusal.field
-    return after
-
-
 def index_records(kind, body, numbers):
     """A list of records is six numbers for each."""
-    try:
-        records = table_of(kind, body)['records']
-        if 6 * len(records) > len(numbers):
-            refuse(21, 'records')
-    except Refused as refusal:
-        raise with_lent(refusal, numbers)
-    return len(records), [number for record in records for number in record] + numbers[6 * len(records):]
+    count, after = lent(numbers, lambda: [number for record in table_of(kind, body)['records'] for number in record])
+    return count // 6, after
 
 
 def index_lay(kind, body, tape):
-    try:
-        laid = second_index.tape_of(table_of(kind, body))
-        if len(laid) > len(tape):
-            refuse(21, 'tape')
-    except Refused as refusal:
-        raise with_lent(refusal, tape)
-    return len(laid), laid + tape[len(laid):]
+    return lent(tape, lambda: second_index.tape_of(table_of(kind, body)))
 
 
 def index_write(pool, tape, out):
-    try:
-        body = second_index.write(pool, tape, len(out))
-    except Refused as refusal:
-        raise with_lent(refusal, out)
-    return len(body), body + out[len(body):]
+    body, after = written(second_index.write, pool, tape, out)
+    return len(body), after
 
 
 # ---- fields asked for, each judged alone where it stands, whatever else is wrong
-
-
-class Part(Reader):
-    """A counted part of any body, read from some place on."""
-
-    def __init__(self, body, at, end):
-        self.body, self.at, self.end = body, at, end
-
-    def span(self, length):
-        return part(self.at, length)
 
 
 def index_message_count(body):
@@ -154,30 +101,19 @@ def after_messages(body, count):
 
 
 def index_message(body, i):
-    if i >= index_message_count(body):
-        refuse(19, 'message number')
-    reader = after_messages(body, i)
-    return reader.span(reader.length('EBM_length', 2))
+    return after_messages(body, up_to(i, index_message_count(body))).counted('EBM_length', 2)
 
 
 def index_signature(body):
-    reader = after_messages(body, index_message_count(body))
-    return reader.span(reader.length('signature length', 2))
-
-
-def in_message(body, at, length, place):
-    """At a place of a message."""
-    if at + length > len(body):
-        refuse(19, 'message')
-    return Part(body, at + place, at + length)
+    return after_messages(body, index_message_count(body)).counted('signature length', 2)
 
 
 def identifier(*message):
-    return in_message(*message, 0).digits('identifier', 18)
+    return inside(*message, 0).digits('identifier', 18)
 
 
 def class_or_level(message, which):
-    reader = in_message(*message, 35)
+    reader = inside(*message, 35)
     place = reader.at
     both = divmod(reader.number('class', 1), 16)
     if not all(1 <= value <= 4 for value in both):
@@ -186,24 +122,23 @@ def class_or_level(message, which):
 
 
 def resource_count(*message):
-    return in_message(*message, 36).number('resource count', 1)
+    return inside(*message, 36).number('resource count', 1)
 
 
 def resource(body, at, length, i):
-    if i >= resource_count(body, at, length):
-        refuse(19, 'resource number')
-    return in_message(body, at, length, 37 + 12 * i).digits('resource', 12)
+    up_to(i, resource_count(body, at, length))
+    return inside(body, at, length, 37 + 12 * i).digits('resource', 12)
 
 
 def channel_flag(*message):
-    return in_message(*message, 37 + 12 * resource_count(*message)).shared('channel flag', 7)
+    return inside(*message, 37 + 12 * resource_count(*message)).shared('channel flag', 7)
 
 
 def in_channel(message, place):
     """At a place of a message's channel."""
     if not channel_flag(*message):
         refuse(19, 'channel')
-    return in_message(*message, 38 + 12 * resource_count(*message) + place)
+    return inside(*message, 38 + 12 * resource_count(*message) + place)
 
 
 def descriptors(*message):
@@ -214,16 +149,16 @@ def descriptors(*message):
 def streams(*message):
     reader = in_channel(message, 8)
     reader.taken(reader.short_length('program info length'))
-    return reader.span(reader.length('stream info length', 2))
+    return reader.counted('stream info length', 2)
 
 
 # What is asked of a message without a further number, in the order of calls.c.
 OF_MESSAGE = (
     lambda *message: span(identifier(*message)),
-    lambda *message: in_message(*message, 18).number('network', 2),
-    lambda *message: in_message(*message, 20).time('start', live=False),
-    lambda *message: in_message(*message, 25).time('end', live=True),
-    lambda *message: span(second_index.read_type(in_message(*message, 30))),
+    lambda *message: inside(*message, 18).number('network', 2),
+    lambda *message: inside(*message, 20).time('start', live=False),
+    lambda *message: inside(*message, 25).time('end', live=True),
+    lambda *message: span(second_index.read_type(inside(*message, 30))),
     lambda *message: class_or_level(message, 0),
     lambda *message: class_or_level(message, 1),
     resource_count,
@@ -236,30 +171,15 @@ OF_MESSAGE = (
     streams)
 
 
-def joined(answers):
-    """Answers as calls.c prints them, one after the other; the first one's 0 is put there by who asks."""
-    items = [item for answer in answers for item in answer]
-    if items[0]:
-        raise Refused(items[0], *items[2:], place=items[1])
-    return tuple(items[1:])
-
-
 def message_fields(*message):
     return joined(answered(call, *message) for call in OF_MESSAGE)
 
 
 def message_local_times(body, at, length, offset):
     def local_time(place, live):
-        field = in_message(body, at, length, place).time('time', live)
+        field = inside(body, at, length, place).time('time', live)
         return second_times.time_unpack(field, offset)[0]
     return joined((answered(local_time, 20, False), answered(local_time, 25, True)))
-
-
-def digit(text, i):
-    """The field's own refusal comes first: it is met before there is a text."""
-    if i >= len(text):
-        refuse(19, 'digit number')
-    return int(text[i])
 
 
 def message_identifier_digit(body, at, length, i):
@@ -282,10 +202,8 @@ def in_part(body, end, p, place):
 
 
 def descriptor_fields(body, end, p):
-    def data():
-        reader = in_part(body, end, p, 1)
-        return reader.span(reader.length('descriptor length', 1))
-    return joined((answered(lambda: in_part(body, end, p, 0).number('tag', 1)), answered(data)))
+    return joined((answered(lambda: in_part(body, end, p, 0).number('tag', 1)),
+                   answered(lambda: in_part(body, end, p, 1).counted('descriptor length', 1))))
 
 
 def stream_fields(body, end, p):

@@ -1,0 +1,221 @@
+"""Content tables by chance, as values, bodies and forms, good and damaged; all from a seed."""
+import binascii
+import random
+
+import make_fields as make
+from make_fields import END, MOST_BODY, TOP
+
+KIND = 0xFE
+LETTERS = (b'zho', b'eng', b'bod', b'uig', b'aaa', b'zzz')
+
+
+def extension(body):
+    """The extension of a table: its identifier's CRC-16, by the standard library."""
+    return binascii.crc_hqx(body[:18], 0xFFFF)
+
+
+# ---- tables as values
+
+
+def table(chance):
+    return table_of(chance, [language(chance) for _ in range(chance.choice((1, 1, 2, 3, 4, 5)))])
+
+
+def table_of(chance, languages, signature=None):
+    return {'identifier': make.digits(chance, 35), 'languages': languages,
+            'signature': make.data(chance, 70) if signature is None else signature}
+
+
+def language(chance, **fields):
+    """A language, with some fields given."""
+    return {
+        'letters': chance.choice((*LETTERS, bytes(chance.randint(0x61, 0x7A) for _ in range(3)))),
+        'character set': chance.randint(0, 4),
+        'text': make.data(chance, 40),
+        'agency': make.data(chance, 20),
+        'files': [file(chance, make.data(chance, 30)) for _ in range(chance.choice((0, 1, 2)))],
+        **fields}
+
+
+def file(chance, data):
+    return {'type': make.number(chance, 0xFF), 'data': data}
+
+
+def large(chance):
+    """Each length at its most or near it."""
+    for size in 255, 256, 65534, 65535:
+        yield table_of(chance, [language(chance, text=chance.randbytes(size))])
+        yield table_of(chance, [language(chance)], chance.randbytes(size))
+    for size in 254, 255:
+        yield table_of(chance, [language(chance, agency=chance.randbytes(size)) for _ in range(5)])
+    for size in 255, 256, 65535, 65536, 70000:
+        yield table_of(chance, [language(chance), language(chance, files=[file(chance, chance.randbytes(size))] * 2)])
+    yield table_of(chance, [language(chance, files=[file(chance, b'')] * 2) for _ in range(5)])
+
+
+def largest(chance):
+    """A body of 1,045,504 bytes, and one of a byte less: 37 bytes are not the file's."""
+    for size in MOST_BODY, MOST_BODY - 1:
+        data = chance.randbytes(size - 37)
+        yield table_of(chance, [language(chance, text=b'', agency=b'', files=[file(chance, data)])], b'')
+
+
+def sample_table(chance):
+    """A table with every field."""
+    files = [file(chance, b'abc'), file(chance, b'')]
+    languages = [language(chance, files=[]), language(chance, text=b't', agency=b'ag', files=files)]
+    return table_of(chance, languages, b'sig')
+
+
+def smallest():
+    return {'identifier': '0' * 35, 'languages': [
+        {'letters': b'zho', 'character set': 0, 'text': b'', 'agency': b'', 'files': []}], 'signature': b''}
+
+
+# ---- bodies
+
+
+def items(table):
+    return [('identifier', make.digit_bytes(table['identifier'])),
+            ('language count', bytes([0xF0 + len(table['languages'])])),
+            *(item for language in table['languages'] for item in language_items(language)),
+            ('signature length', 2), ('signature', table['signature']), END]
+
+
+def language_items(language):
+    return [
+        ('language length', 4),
+        ('letters', language['letters']),
+        ('character set', bytes([0xF8 + language['character set']])),
+        ('text length', 2), ('text', language['text']), END,
+        ('agency length', 1), ('agency', language['agency']), END,
+        ('auxiliary count', bytes([0xF0 + len(language['files'])])),
+        *(item for file in language['files'] for item in file_items(file)),
+        END]
+
+
+def file_items(file):
+    return [('auxiliary type', bytes([file['type']])), ('auxiliary length', 3), ('auxiliary data', file['data']), END]
+
+
+def count_in_low_bits(chance, what):
+    """A count in four bits is one more or less, or any."""
+    old = what[0] % 16 if what else 0
+    return bytes([0xF0 + chance.choice((old + 1, old - 1, 0, 3, 6, 15, chance.randrange(16))) % 16])
+
+
+BAD = {
+    'identifier': [make.cleared(4), make.digit_above_nine],
+    'language count': [make.cleared(4), count_in_low_bits, count_in_low_bits],
+    'letters': [make.one_byte(0, 0x60), make.one_byte(0x7B, 0xFF), make.one_of(b'ZHO', b'zh ', b'zh0', b'\xFAho')],
+    'character set': [make.cleared(5), make.low_bits(3)],
+    'auxiliary count': [make.cleared(4), count_in_low_bits, count_in_low_bits]}
+
+
+def right_and_wrong(chance, body):
+    """The body with its extension, or now and then another one."""
+    right = extension(body)
+    wrong = chance.choice((right ^ 1 << chance.randrange(16), right ^ 0xFFFF, right + 65536, 0, 0xFFFF,
+                           chance.randrange(65536), binascii.crc_hqx(body[:18], 0),
+                           (right >> 8 | right << 8) & 0xFFFF))
+    return KIND, body, right if chance.random() < 0.85 else wrong
+
+
+def readings(seed, count):
+    """About so many bodies by chance, good and damaged, and some more that are always the same: what `read` takes."""
+    chance = random.Random(seed)
+    sample = sample_table(chance)
+    names = ('language count', 'character set', 'auxiliary count')
+    found = [*make.all_short(), *make.near(items(smallest())), *make.near(items(sample)),
+             *make.every_value(items(sample), (*names, 'letters')), *make.every_value(items(smallest()), names)]
+    tables = (table(chance) for _ in range(count // 5))
+    yield from ((KIND, body, extension(body)) for body in found)
+    yield from (right_and_wrong(chance, body) for body in make.bodies(chance, tables, items, BAD, large(chance)))
+    yield from ((KIND, body, extension(body)) for body in map(make.body_of, map(items, largest(chance))))
+    for kind, body in make.kinds_and_sizes(KIND, make.body_of(items(sample))):
+        yield kind, body, extension(body)
+        yield kind, body, 0
+
+
+# ---- forms
+
+
+def form(chance, table):
+    """The pool and the tape of a table."""
+    made = form_of(chance, table)
+    pool = made.laid(chance)
+    return pool, made.tape
+
+
+def form_of(chance, table):
+    made = make.Form()
+    made.digits('identifier', table['identifier'], chance)
+    made.count('language count', table['languages'])
+    for language in table['languages']:
+        made.span('letters', language['letters'])
+        made.number('character set', language['character set'])
+        made.span('text', language['text'])
+        made.span('agency', language['agency'])
+        made.count('auxiliary count', language['files'])
+        for file in language['files']:
+            made.number('auxiliary type', file['type'])
+            made.span('auxiliary data', file['data'])
+    made.span('signature', table['signature'])
+    return made
+
+
+BAD_ENTRIES = {
+    'language count': lambda chance: chance.choice((0, 6, 15, 16, 17, 257, 2**32 + 1, TOP - 1)),
+    'character set': lambda chance: chance.choice((5, 7, 8, 255, 256, 2**32)),
+    'auxiliary count': lambda chance: chance.choice((3, 15, 16, 256, 2**32, 2**63, TOP - 1)),
+    'auxiliary type': lambda chance: chance.choice((256, 257, 511, 65536, 2**32, TOP - 1))}
+COUNTS = ('language count', 'auxiliary count')
+
+
+def tape(text=0, agency=0, files=(), signature=0, languages=1):
+    """The tape of languages all alike, from lengths: in a pool of the letter a all of these are good."""
+    language = [0, 3, 4, 0, text, 0, agency, len(files), *(entry for size in files for entry in (7, 0, size))]
+    return [0, 18, languages, *language * languages, 0, signature]
+
+
+def too_large():
+    """Tapes with each length at its most and above it, and with counts that are none."""
+    for length in 254, 255, 256, 257, 511, 512:
+        yield tape(agency=length)
+        yield tape(agency=length, files=(3, 0))
+    for length in 65534, 65535, 65536, 65537:
+        yield tape(text=length)
+        yield tape(text=length, languages=5)
+        yield tape(files=(length, length))
+        yield tape(signature=length)
+    for languages in 0, 1, 2, 5, 6, 16, 17:
+        yield tape(languages=languages)
+    for files in range(5):
+        yield tape(files=(1,) * files)
+
+
+def around_most_body():
+    """One file with which the body is as long as it may be, or longer, also longer than its field can say."""
+    for size in MOST_BODY - 38, MOST_BODY - 37, MOST_BODY - 36, 2**24 - 1, 2**24, 2**24 + 5:
+        yield tape(files=(size,))
+    yield tape(text=65535, files=(300000, 600000))
+    yield tape(text=65535, agency=255, files=(65535, 65535), languages=5, signature=61600)
+    yield tape(text=65535, agency=255, files=(65535, 65535), languages=5, signature=65535)
+
+
+def writings(seed, count):
+    """About so many forms by chance, good and damaged, and some more that are always the same: what `write` takes."""
+    chance = random.Random(seed)
+    tables = (table(chance) for _ in range(count // 5))
+    yield from make.forms(chance, tables, items, form_of, BAD_ENTRIES)
+    yield from make.forms(chance, large(chance), items, form_of, BAD_ENTRIES)
+    for one in too_large():
+        yield from make.with_faults(b'a' * 65537, one, sum(one) + 100)
+    for one in around_most_body():
+        pool = b'a' * max(65535, *one)
+        for room in 0, MOST_BODY - 1, MOST_BODY:
+            yield pool, one, room
+    made = form_of(chance, sample_table(chance))
+    pool = made.laid(chance)
+    yield from make.huge_counts(pool, made.names, made.tape, COUNTS)
+    yield from ((*one, 1000) for one in make.near_form(pool, made.tape))

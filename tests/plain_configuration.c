@@ -1,0 +1,517 @@
+// plain_configuration: the configuration table in plain C, made from document 01 and the header, to measure by.
+#include "plain_configuration.h"
+
+#include "plain_fields.h"
+
+enum { FIRST_AT = 1, HEAD = 3, MOST_MAPPING = 5, MOST_VOLUME = 100 };
+
+// Least content lengths, and where the terminals begin in the content of those tags that have them at a fixed place.
+static const uint8_t leasts[8] = {0, 7, 13, 10, 3, 5, 2, 2};
+static const uint8_t terminals_at[8] = {[NW_FREQUENCY] = 9, [NW_PERIOD] = 4, [NW_VOLUME] = 1};
+
+static size_t least_of(unsigned tag) { return tag < 8 ? leasts[tag] : 0; }
+
+// ---- what holds of the fields, read or to be written
+
+static int is_day(uint64_t year, uint64_t month, uint64_t day) {
+    static const uint8_t days[12] = {31, 28, 31, 30, 31, 30, 31, 31, 30, 31, 30, 31};
+    if (month < 1 || month > 12 || day < 1 || year < 1900 || year > 2038) return 0;
+    // 1900 has no leap day either, but its February lies before the range.
+    if (day > days[month - 1] + (uint64_t)(month == 2 && year % 4 == 0)) return 0;
+    uint64_t date = year << 16 | month << 8 | day;
+    return date >= (1900 << 16 | 3 << 8 | 1) && date <= (2038 << 16 | 4 << 8 | 22);
+}
+
+static int is_time(uint64_t hour, uint64_t minute, uint64_t second) { return hour < 24 && minute < 60 && second < 60; }
+
+static int is_digit(uint8_t c) { return c >= '0' && c <= '9'; }
+
+static int is_name_and_port(const uint8_t *s, size_t n) {
+    size_t at = 0, port = 0;
+    while (at < n && s[at] >= 0x21 && s[at] <= 0x7E && s[at] != ':') at++;
+    if (at == 0 || at == n || s[at] != ':' || n - at < 2 || n - at > 6) return 0;
+    for (at++; at < n; at++) {
+        if (!is_digit(s[at])) return 0;
+        port = port * 10 + s[at] - '0';
+    }
+    return port <= 65535;
+}
+
+// 0, 15 or 19 of an address.
+static unsigned address_fault(uint64_t kind, const uint8_t *s, size_t n) {
+    if ((kind == 1 && n != 11) || (kind == 2 && n != 6)) return PAST_PART;
+    if (kind == 3) return is_name_and_port(s, n) ? 0 : OUTSIDE;
+    for (size_t i = 0; kind == 1 && i < n; i++)
+        if (!is_digit(s[i])) return OUTSIDE;
+    return 0;
+}
+
+// ---- a whole body
+
+static unsigned take_day(struct reader *r) {
+    const uint8_t *s = r->s + r->at;
+    unsigned no = need(r, 4);
+    if (no) return no;
+    if (!is_day(big_endian(s, 2), s[2], s[3])) return IMPOSSIBLE;
+    r->at += 4;
+    return 0;
+}
+
+static unsigned take_time(struct reader *r) {
+    const uint8_t *s = r->s + r->at;
+    unsigned no = need(r, 3);
+    if (no) return no;
+    if (!is_time(s[0], s[1], s[2])) return IMPOSSIBLE;
+    r->at += 3;
+    return 0;
+}
+
+static unsigned take_up_to(struct reader *r, unsigned least, unsigned most) {
+    unsigned no = need(r, 1);
+    if (no) return no;
+    if (r->s[r->at] < least || r->s[r->at] > most) return OUTSIDE;
+    r->at++;
+    return 0;
+}
+
+// Kind and address. A wrong length is refused at the length, another fault where the address begins.
+static unsigned take_return(struct reader *r) {
+    size_t length;
+    unsigned no = take_up_to(r, 1, 3);
+    if (no || (no = take_length(r, 1, &length))) return no;
+    no = address_fault(r->s[r->at - 2], r->s + r->at, length);
+    if (no == PAST_PART) r->at--;
+    if (no == 0) r->at += length;
+    return no;
+}
+
+static unsigned take_parameters(struct reader *r) {
+    unsigned no = take(r, 1);
+    if (no) return no;
+    size_t left = r->s[r->at - 1];
+    r->entries += 1 + left;
+    for (; left > 0; left--)
+        if ((no = take(r, 1))) return no;
+    return 0;
+}
+
+static unsigned take_terminals(struct reader *r) {
+    unsigned no = take(r, 1);
+    if (no) return no;
+    size_t left = r->s[r->at - 1];
+    r->entries += 1 + 2 * left;
+    for (; left > 0; left--)
+        if ((no = take_digits(r, RESOURCE_BYTES))) return no;
+    return 0;
+}
+
+// What stands before the terminals, or all that there is where there are none.
+static unsigned take_head(struct reader *r, unsigned tag) {
+    unsigned no;
+    switch (tag) {
+    case NW_CLOCK: r->entries += 6; return (no = take_day(r)) ? no : take_time(r);
+    case NW_CODE: r->entries += 4; return (no = skip_part(r, 1)) ? no : take_digits(r, RESOURCE_BYTES);
+    case NW_FREQUENCY:
+        r->entries += 3;
+        if ((no = take(r, 4)) || (no = take(r, 4))) return no;
+        return take_up_to(r, 0, MOST_MAPPING);
+    case NW_RETURN: r->entries += 3; return take_return(r);
+    case NW_PERIOD: r->entries++; return take(r, 4);
+    case NW_VOLUME: r->entries++; return take_up_to(r, 0, MOST_VOLUME);
+    case NW_QUERY: return take_parameters(r);
+    default: r->entries += 2; r->at = r->end; return 0;
+    }
+}
+
+static int has_terminals(uint64_t tag) { return tag >= NW_FREQUENCY && tag <= NW_QUERY; }
+
+// A command's length, not below the least of its tag.
+static unsigned take_content_length(struct reader *r, unsigned tag, size_t *length) {
+    unsigned no = take_length(r, 2, length);
+    if (no || *length >= least_of(tag)) return no;
+    r->at -= 2;
+    return PAST_PART;
+}
+
+static unsigned take_command(struct reader *r) {
+    size_t length, outer = r->end;
+    unsigned tag, no = take(r, 1);
+    if (no) return no;
+    tag = r->s[r->at - 1];
+    if ((no = take_content_length(r, tag, &length))) return no;
+    r->entries++;
+    r->end = r->at + length;
+    if ((no = take_head(r, tag)) || (has_terminals(tag) && (no = take_terminals(r)))) return no;
+    if (r->at < r->end) return PAST_PART;
+    r->end = outer;
+    return 0;
+}
+
+static unsigned take_body(struct reader *r) {
+    unsigned no = take(r, 1);
+    if (no) return no;
+    for (size_t left = r->s[0]; left > 0; left--)
+        if ((no = take_command(r))) return no;
+    if ((no = skip_part(r, 2))) return no;
+    r->entries += 3;
+    return r->at < r->n ? NW_LEFT_OVER : 0;
+}
+
+// Judges a body; the reader then has the entries of its form.
+static nw_answer judge(struct reader *r, uint32_t kind) {
+    if (kind != NW_CONFIGURATION) return NW_OTHER_KIND;
+    if (r->n > NW_MOST_BODY) return NW_TOO_LARGE;
+    unsigned no = take_body(r);
+    return no ? refused(no, r->at) : 0;
+}
+
+nw_answer plain_configuration_read(uint32_t kind, const uint8_t *body, size_t n) {
+    struct reader r = {body, n, n, 0, 0};
+    return judge(&r, kind);
+}
+
+// ---- an accepted body laid onto a tape: nothing is judged any more
+
+static void lay_numbers(struct layer *l, size_t width, size_t count) {
+    for (; count > 0; count--) lay_number(l, width, UINT32_MAX);
+}
+
+static void lay_head(struct layer *l, unsigned tag, size_t length) {
+    switch (tag) {
+    case NW_CLOCK: lay_number(l, 2, UINT16_MAX); lay_numbers(l, 1, 5); return;
+    case NW_CODE: lay_part(l, 1); lay_span(l, RESOURCE_BYTES); return;
+    case NW_FREQUENCY: lay_numbers(l, 4, 2); lay_numbers(l, 1, 1); return;
+    case NW_RETURN: lay_numbers(l, 1, 1); lay_part(l, 1); return;
+    case NW_PERIOD: lay_numbers(l, 4, 1); return;
+    case NW_VOLUME: lay_numbers(l, 1, 1); return;
+    case NW_QUERY: lay_numbers(l, 1, 1 + (size_t)l->s[l->at]); return;
+    default: lay_span(l, length);
+    }
+}
+
+static void lay_command(struct layer *l) {
+    unsigned tag = l->s[l->at];
+    size_t length = big_endian(l->s + l->at + 1, 2);
+    lay_number(l, 1, UINT8_MAX);
+    l->at += 2;
+    lay_head(l, tag, length);
+    if (!has_terminals(tag)) return;
+    lay_number(l, 1, UINT8_MAX);
+    for (uint64_t left = l->to[-1]; left > 0; left--) lay_span(l, RESOURCE_BYTES);
+}
+
+nw_answer plain_configuration_lay(uint32_t kind, const uint8_t *body, size_t n, uint64_t *tape, size_t entries) {
+    struct reader r = {body, n, n, 0, 0};
+    nw_answer got = judge(&r, kind);
+    if (NW_REFUSAL(got)) return got;
+    if (r.entries > entries) return NW_OUTPUT_TOO_SMALL;
+    struct layer l = {body, 0, tape};
+    lay_number(&l, 1, UINT8_MAX);
+    for (size_t left = body[0]; left > 0; left--) lay_command(&l);
+    lay_part(&l, 2);
+    return value(r.entries);
+}
+
+// ---- a form judged and measured
+
+static unsigned form_clock(struct form *f) {
+    unsigned no;
+    if ((no = form_number(f, 0, 0xFFFF)) || (no = form_number(f, 0, 0xFF)) || (no = form_number(f, 0, 0xFF))) return no;
+    if (!is_day(f->t[-3], f->t[-2], f->t[-1])) return IMPOSSIBLE;
+    for (int i = 0; i < 3; i++)
+        if ((no = form_number(f, 0, 0xFF))) return no;
+    f->bytes += 7;
+    return is_time(f->t[-3], f->t[-2], f->t[-1]) ? 0 : IMPOSSIBLE;
+}
+
+static unsigned form_return(struct form *f) {
+    unsigned no = form_number(f, 1, 3);
+    if (no || (no = form_opaque(f, 1, 0xFF))) return no;
+    f->bytes++;
+    return address_fault(f->t[-3], f->pool + f->t[-2], f->t[-1]);
+}
+
+static unsigned form_parameters(struct form *f) {
+    unsigned no = form_number(f, 0, UINT64_MAX);
+    if (no) return no;
+    uint64_t left = f->t[-1];
+    f->bytes++;
+    for (f->large |= left > 0xFF; left > 0; left--, f->bytes++)
+        if ((no = form_number(f, 0, 0xFF))) return no;
+    return 0;
+}
+
+static unsigned form_terminals(struct form *f) {
+    unsigned no = form_number(f, 0, UINT64_MAX);
+    if (no) return no;
+    uint64_t left = f->t[-1];
+    f->bytes++;
+    for (f->large |= left > 0xFF; left > 0; left--)
+        if ((no = form_digits(f, RESOURCE_BYTES))) return no;
+    return 0;
+}
+
+static unsigned form_head(struct form *f, uint64_t tag) {
+    unsigned no;
+    switch (tag) {
+    case NW_CLOCK: return form_clock(f);
+    case NW_CODE: return (no = form_opaque(f, 1, 0xFF)) ? no : form_digits(f, RESOURCE_BYTES);
+    case NW_FREQUENCY:
+        f->bytes += 9;
+        if ((no = form_number(f, 0, UINT32_MAX)) || (no = form_number(f, 0, UINT32_MAX))) return no;
+        return form_number(f, 0, MOST_MAPPING);
+    case NW_RETURN: return form_return(f);
+    case NW_PERIOD: f->bytes += 4; return form_number(f, 0, UINT32_MAX);
+    case NW_VOLUME: f->bytes++; return form_number(f, 0, MOST_VOLUME);
+    case NW_QUERY: return form_parameters(f);
+    default: return form_opaque(f, 0, 0xFFFF);
+    }
+}
+
+// A content is too large for its length only if one of its own counts or lengths is too large.
+static unsigned form_command(struct form *f) {
+    unsigned no = form_number(f, 0, 0xFF);
+    if (no) return no;
+    uint64_t tag = f->t[-1];
+    f->bytes += HEAD;
+    if ((no = form_head(f, tag))) return no;
+    return has_terminals(tag) ? form_terminals(f) : 0;
+}
+
+// 19, 18, 20, 15 or 22 of a form, or its body's length.
+static nw_answer measure(struct form *f) {
+    unsigned no = form_number(f, 0, UINT64_MAX);
+    if (no) return no;
+    uint64_t left = f->t[-1];
+    f->bytes = 1;
+    for (f->large = left > 0xFF; left > 0; left--)
+        if ((no = form_command(f))) return no;
+    if ((no = form_opaque(f, 2, 0xFFFF))) return no;
+    if (f->left > 0) return OUTSIDE;
+    return f->large || f->bytes > NW_MOST_BODY ? NW_TOO_LARGE : value(f->bytes);
+}
+
+// ---- a form written: nothing is judged any more
+
+static void put_numbers(struct writer *w, size_t width, uint64_t count) {
+    for (; count > 0; count--) put_number(w, width, 0);
+}
+
+static void put_head(struct writer *w, uint64_t tag) {
+    switch (tag) {
+    case NW_CLOCK: put_number(w, 2, 0); put_numbers(w, 1, 5); return;
+    case NW_CODE: put_opaque(w, 1); put_digits(w); return;
+    case NW_FREQUENCY: put_numbers(w, 4, 2); put_numbers(w, 1, 1); return;
+    case NW_RETURN: put_number(w, 1, 0); put_opaque(w, 1); return;
+    case NW_PERIOD: put_number(w, 4, 0); return;
+    case NW_VOLUME: put_number(w, 1, 0); return;
+    case NW_QUERY: put_numbers(w, 1, 1 + *w->t); return;
+    default: put_span(w);
+    }
+}
+
+static void put_command(struct writer *w) {
+    uint64_t tag = *w->t;
+    put_number(w, 1, 0);
+    uint8_t *length = w->to;
+    w->to += 2;
+    put_head(w, tag);
+    if (has_terminals(tag)) {
+        uint64_t left = *w->t;
+        for (put_number(w, 1, 0); left > 0; left--) put_digits(w);
+    }
+    put(length, (uint64_t)(w->to - length - 2), 2);
+}
+
+nw_answer plain_configuration_write(const uint8_t *pool, size_t pool_bytes, const uint64_t *tape, size_t entries,
+                                    uint8_t *out, size_t room) {
+    struct form f = {tape, entries, pool, pool_bytes, 0, 0};
+    nw_answer got = measure(&f);
+    if (NW_REFUSAL(got)) return got;
+    if (NW_VALUE(got) > room) return NW_OUTPUT_TOO_SMALL;
+    struct writer w = {tape, pool, out};
+    uint64_t left = *w.t;
+    for (put_number(&w, 1, 0); left > 0; left--) put_command(&w);
+    put_opaque(&w, 2);
+    return got;
+}
+
+// ---- fields of a body asked for: what stands before them is passed by its length, and not judged
+
+nw_answer plain_configuration_command_count(const uint8_t *body, size_t n) {
+    return n == 0 ? PAST_BODY : value(body[0]);
+}
+
+nw_answer plain_configuration_signature(const uint8_t *body, size_t n) {
+    struct reader r = {body, n, n, FIRST_AT, 0};
+    unsigned no;
+    if (n == 0) return PAST_BODY;
+    for (size_t left = body[0]; left > 0; left--)
+        if ((no = take(&r, 1)) || (no = skip_part(&r, 2))) return refused(no, r.at);
+    return asked_part(&r, 2);
+}
+
+// ---- fields of a command asked for, each at its own place
+
+nw_answer plain_command_tag(const uint8_t *body, size_t n, size_t p) {
+    return p >= n ? OUTSIDE : value(body[p]);
+}
+
+// The reader at the beginning of a command's content, of which it then has the end.
+static nw_answer enter(struct reader *r, const uint8_t *body, size_t n, size_t p) {
+    nw_answer tag = plain_command_tag(body, n, p);
+    if (NW_REFUSAL(tag)) return tag;
+    size_t length;
+    *r = (struct reader){body, n, n, p + 1, 0};
+    unsigned no = take_content_length(r, (unsigned)NW_VALUE(tag), &length);
+    r->end = r->at + (no ? 0 : length);
+    return no ? refused(no, r->at) : 0;
+}
+
+nw_answer plain_command_content(const uint8_t *body, size_t n, size_t p) {
+    struct reader r;
+    nw_answer no = enter(&r, body, n, p);
+    return no ? no : part(r.at, r.end - r.at);
+}
+
+// The reader at a place of the content of a command of this tag.
+static nw_answer enter_as(struct reader *r, const uint8_t *body, size_t n, size_t p, unsigned tag, size_t place) {
+    nw_answer its = plain_command_tag(body, n, p), no;
+    if (NW_REFUSAL(its)) return its;
+    if (NW_VALUE(its) != tag) return OUTSIDE;
+    if ((no = enter(r, body, n, p))) return no;
+    r->at += place;
+    return 0;
+}
+
+static nw_answer asked_day(const uint8_t *body, size_t n, size_t p, size_t place, size_t width) {
+    struct reader r;
+    nw_answer no = enter_as(&r, body, n, p, NW_CLOCK, 0);
+    if (no) return no;
+    unsigned fault = take_day(&r);
+    return fault ? refused(fault, r.at) : value(big_endian(body + r.at - 4 + place, width));
+}
+
+static nw_answer asked_time(const uint8_t *body, size_t n, size_t p, size_t place) {
+    struct reader r;
+    nw_answer no = enter_as(&r, body, n, p, NW_CLOCK, 4);
+    if (no) return no;
+    unsigned fault = take_time(&r);
+    return fault ? refused(fault, r.at) : value(body[r.at - 3 + place]);
+}
+
+nw_answer plain_command_clock_year(const uint8_t *body, size_t n, size_t p) { return asked_day(body, n, p, 0, 2); }
+nw_answer plain_command_clock_month(const uint8_t *body, size_t n, size_t p) { return asked_day(body, n, p, 2, 1); }
+nw_answer plain_command_clock_day(const uint8_t *body, size_t n, size_t p) { return asked_day(body, n, p, 3, 1); }
+nw_answer plain_command_clock_hour(const uint8_t *body, size_t n, size_t p) { return asked_time(body, n, p, 0); }
+nw_answer plain_command_clock_minute(const uint8_t *body, size_t n, size_t p) { return asked_time(body, n, p, 1); }
+nw_answer plain_command_clock_second(const uint8_t *body, size_t n, size_t p) { return asked_time(body, n, p, 2); }
+
+nw_answer plain_command_code_address(const uint8_t *body, size_t n, size_t p) {
+    struct reader r;
+    nw_answer no = enter_as(&r, body, n, p, NW_CODE, 0);
+    return no ? no : asked_part(&r, 1);
+}
+
+nw_answer plain_command_code_resource(const uint8_t *body, size_t n, size_t p) {
+    struct reader r;
+    nw_answer no = enter_as(&r, body, n, p, NW_CODE, 0);
+    if (no) return no;
+    unsigned fault = skip_part(&r, 1);
+    return fault ? refused(fault, r.at) : asked_digits(&r, RESOURCE_BYTES);
+}
+
+nw_answer plain_command_code_digit(const uint8_t *body, size_t n, size_t p, uint64_t j) {
+    return asked_digit(body, plain_command_code_resource(body, n, p), j);
+}
+
+static nw_answer asked_wide(const uint8_t *body, size_t n, size_t p, unsigned tag, size_t place) {
+    struct reader r;
+    nw_answer no = enter_as(&r, body, n, p, tag, place);
+    return no ? no : asked_number(&r, 4);
+}
+
+static nw_answer asked_up_to(const uint8_t *body, size_t n, size_t p, unsigned tag, size_t place, unsigned least,
+                             unsigned most) {
+    struct reader r;
+    nw_answer no = enter_as(&r, body, n, p, tag, place);
+    if (no) return no;
+    unsigned fault = take_up_to(&r, least, most);
+    return fault ? refused(fault, r.at) : value(body[r.at - 1]);
+}
+
+nw_answer plain_command_frequency(const uint8_t *body, size_t n, size_t p) {
+    return asked_wide(body, n, p, NW_FREQUENCY, 0);
+}
+
+nw_answer plain_command_symbol_rate(const uint8_t *body, size_t n, size_t p) {
+    return asked_wide(body, n, p, NW_FREQUENCY, 4);
+}
+
+nw_answer plain_command_mapping(const uint8_t *body, size_t n, size_t p) {
+    return asked_up_to(body, n, p, NW_FREQUENCY, 8, 0, MOST_MAPPING);
+}
+
+nw_answer plain_command_return_kind(const uint8_t *body, size_t n, size_t p) {
+    return asked_up_to(body, n, p, NW_RETURN, 0, 1, 3);
+}
+
+nw_answer plain_command_return_address(const uint8_t *body, size_t n, size_t p) {
+    struct reader r;
+    nw_answer no = enter_as(&r, body, n, p, NW_RETURN, 0);
+    if (no) return no;
+    size_t begin = r.at + 2;
+    unsigned fault = take_return(&r);
+    return fault ? refused(fault, r.at) : part(begin, r.at - begin);
+}
+
+nw_answer plain_command_period(const uint8_t *body, size_t n, size_t p) { return asked_wide(body, n, p, NW_PERIOD, 0); }
+
+nw_answer plain_command_volume(const uint8_t *body, size_t n, size_t p) {
+    return asked_up_to(body, n, p, NW_VOLUME, 0, 0, MOST_VOLUME);
+}
+
+nw_answer plain_command_parameter_count(const uint8_t *body, size_t n, size_t p) {
+    struct reader r;
+    nw_answer no = enter_as(&r, body, n, p, NW_QUERY, 0);
+    return no ? no : asked_number(&r, 1);
+}
+
+nw_answer plain_command_parameter(const uint8_t *body, size_t n, size_t p, uint64_t i) {
+    struct reader r;
+    nw_answer count = plain_command_parameter_count(body, n, p);
+    if (NW_REFUSAL(count)) return count;
+    if (i >= NW_VALUE(count)) return OUTSIDE;
+    nw_answer no = enter_as(&r, body, n, p, NW_QUERY, 1 + i);
+    return no ? no : asked_number(&r, 1);
+}
+
+// The terminal count, with the reader after it.
+static nw_answer count_of(struct reader *r, const uint8_t *body, size_t n, size_t p) {
+    nw_answer tag = plain_command_tag(body, n, p), no;
+    if (NW_REFUSAL(tag)) return tag;
+    if (!has_terminals(NW_VALUE(tag))) return OUTSIDE;
+    if ((no = enter(r, body, n, p))) return no;
+    unsigned fault = NW_VALUE(tag) == NW_RETURN ? take_return(r) : 0;
+    if (fault) return refused(fault, r->at);
+    r->at += NW_VALUE(tag) == NW_QUERY ? 1u + body[r->at] : terminals_at[NW_VALUE(tag)];
+    return asked_number(r, 1);
+}
+
+nw_answer plain_command_terminal_count(const uint8_t *body, size_t n, size_t p) {
+    struct reader r;
+    return count_of(&r, body, n, p);
+}
+
+nw_answer plain_command_terminal(const uint8_t *body, size_t n, size_t p, uint64_t i) {
+    struct reader r;
+    nw_answer count = count_of(&r, body, n, p);
+    if (NW_REFUSAL(count)) return count;
+    if (i >= NW_VALUE(count)) return OUTSIDE;
+    r.at += RESOURCE_BYTES * i;
+    return asked_digits(&r, RESOURCE_BYTES);
+}
+
+nw_answer plain_command_terminal_digit(const uint8_t *body, size_t n, size_t p, uint64_t i, uint64_t j) {
+    return asked_digit(body, plain_command_terminal(body, n, p, i), j);
+}

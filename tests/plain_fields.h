@@ -1,0 +1,240 @@
+// plain_fields.h: what the tables in plain C share: fields read, laid, judged on a form, written and asked for.
+#ifndef PLAIN_FIELDS_H
+#define PLAIN_FIELDS_H
+
+#include <string.h>
+
+#include "neapwillow.h"
+
+enum {
+    PAST_BODY = NW_PAST_BODY,
+    PAST_PART = NW_PAST_PART,
+    RESERVED = NW_RESERVED_BIT_ZERO,
+    DIGIT = NW_DIGIT_ABOVE_NINE,
+    OUTSIDE = NW_OUTSIDE_SET,
+    IMPOSSIBLE = NW_IMPOSSIBLE_DAY,
+};
+
+// Digits and the reserved bits before them.
+enum { IDENTIFIER_BYTES = 18, RESOURCE_BYTES = 12 };
+
+static inline nw_answer refused(unsigned number, size_t place) { return (nw_answer)place << 8 | number; }
+static inline nw_answer value(uint64_t x) { return x << 8; }
+static inline nw_answer part(size_t start, size_t length) { return value((uint64_t)start << 24 | length); }
+
+// ---- fields of a body
+
+static inline uint64_t big_endian(const uint8_t *s, size_t width) {
+    uint64_t x = 0;
+    for (size_t i = 0; i < width; i++) x = x << 8 | s[i];
+    return x;
+}
+
+// Not 0 where one of the 4-bit digits of x is above 9: its 8 stands with its 4 or its 2.
+static inline uint64_t above_nine(uint64_t x) { return x >> 3 & (x >> 2 | x >> 1) & UINT64_C(0x1111111111111111); }
+
+// The first four bits are reserved and no digit. No way out at the first bad one, so that the loop can run wide.
+static inline int bad_digits(const uint8_t *s, size_t width) {
+    uint8_t bad = (uint8_t)above_nine(s[0] & 15u);
+    for (size_t i = 1; i < width; i++) bad |= (uint8_t)(s[i] >> 3 & (s[i] >> 2 | s[i] >> 1) & 0x11);
+    return bad != 0;
+}
+
+static inline unsigned digit_of(const uint8_t *s, size_t i) { return i % 2 ? s[(i + 1) / 2] >> 4 : s[i / 2] & 15u; }
+
+// A place in a body, and the end of the counted part that is being read. Each `take` passes a field and answers 0, or
+// answers the refusal's number and stays: the place of a refusal is where the reader then stands.
+struct reader {
+    const uint8_t *s;
+    size_t n, end, at;
+    size_t entries; // of the form that asks for what was passed
+};
+
+static inline unsigned need(const struct reader *r, size_t width) {
+    if (r->at + width <= r->end) return 0;
+    return r->at + width > r->n ? PAST_BODY : PAST_PART;
+}
+
+static inline unsigned take(struct reader *r, size_t width) {
+    unsigned no = need(r, width);
+    if (no == 0) r->at += width;
+    return no;
+}
+
+// The reserved bits at the top of the next byte, which is not passed.
+static inline unsigned reserved(const struct reader *r, unsigned mask) {
+    unsigned no = need(r, 1);
+    return no ? no : (r->s[r->at] & mask) == mask ? 0 : RESERVED;
+}
+
+static inline unsigned take_digits(struct reader *r, size_t width) {
+    unsigned no = reserved(r, 0xF0);
+    if (no || (no = need(r, width))) return no;
+    if (bad_digits(r->s + r->at, width)) return DIGIT;
+    r->at += width;
+    return 0;
+}
+
+// A length in so many bytes whose part, right after it, lies in the body and in the part that is being read.
+static inline unsigned take_length(struct reader *r, size_t width, size_t *length) {
+    unsigned no = need(r, width);
+    if (no) return no;
+    *length = big_endian(r->s + r->at, width);
+    if ((no = need(r, width + *length))) return no;
+    r->at += width;
+    return 0;
+}
+
+// A length and what it counts.
+static inline unsigned skip_part(struct reader *r, size_t width) {
+    size_t length;
+    unsigned no = take_length(r, width, &length);
+    if (no == 0) r->at += length;
+    return no;
+}
+
+// ---- an accepted body laid onto a tape
+
+// What is still to be laid, and where the next entry goes.
+struct layer {
+    const uint8_t *s;
+    size_t at;
+    uint64_t *to;
+};
+
+static inline void lay_number(struct layer *l, size_t width, uint64_t mask) {
+    *l->to++ = big_endian(l->s + l->at, width) & mask;
+    l->at += width;
+}
+
+static inline void lay_span(struct layer *l, size_t length) {
+    *l->to++ = l->at;
+    *l->to++ = length;
+    l->at += length;
+}
+
+// A length, which is passed, and what it counts.
+static inline void lay_part(struct layer *l, size_t width) {
+    size_t length = big_endian(l->s + l->at, width);
+    l->at += width;
+    lay_span(l, length);
+}
+
+// ---- a form judged and measured
+
+// The entries that are left, the pool, the bytes that what was passed fills, and whether a count or length is too large
+// for its field. A `form_` function answers 0 or the refusal's number.
+struct form {
+    const uint64_t *t;
+    size_t left;
+    const uint8_t *pool;
+    size_t pool_bytes;
+    uint64_t bytes;
+    int large;
+};
+
+static inline unsigned form_number(struct form *f, uint64_t least, uint64_t most) {
+    if (f->left == 0 || *f->t < least || *f->t > most) return OUTSIDE;
+    f->t++;
+    f->left--;
+    return 0;
+}
+
+// A span of the pool, and its bytes.
+static inline unsigned form_span(struct form *f, const uint8_t **s, uint64_t *length) {
+    if (f->left < 2 || f->t[0] > f->pool_bytes || f->t[1] > f->pool_bytes - f->t[0]) return OUTSIDE;
+    *s = f->pool + f->t[0];
+    *length = f->t[1];
+    f->t += 2;
+    f->left -= 2;
+    return 0;
+}
+
+static inline unsigned form_digits(struct form *f, size_t width) {
+    const uint8_t *s;
+    uint64_t length;
+    unsigned no = form_span(f, &s, &length);
+    if (no || length != width) return OUTSIDE;
+    f->bytes += width;
+    return bad_digits(s, width) ? DIGIT : 0;
+}
+
+// Bytes after a length field, whose most is given. What is too large is not measured: its size can't matter any more.
+static inline unsigned form_opaque(struct form *f, size_t width, uint64_t most) {
+    const uint8_t *s;
+    uint64_t length;
+    unsigned no = form_span(f, &s, &length);
+    if (no) return no;
+    if (length > most) f->large = 1;
+    else f->bytes += width + length;
+    return 0;
+}
+
+// ---- a form written
+
+// The next entry, the pool, and where the next byte goes.
+struct writer {
+    const uint64_t *t;
+    const uint8_t *pool;
+    uint8_t *to;
+};
+
+static inline void put(uint8_t *to, uint64_t x, size_t width) {
+    for (size_t i = 0; i < width; i++) to[i] = (uint8_t)(x >> 8 * (width - 1 - i));
+}
+
+static inline void put_number(struct writer *w, size_t width, uint64_t fixed) {
+    put(w->to, fixed | *w->t++, width);
+    w->to += width;
+}
+
+static inline void put_span(struct writer *w) {
+    memcpy(w->to, w->pool + w->t[0], w->t[1]);
+    w->to += w->t[1];
+    w->t += 2;
+}
+
+static inline void put_digits(struct writer *w) {
+    uint8_t *first = w->to;
+    put_span(w);
+    *first |= 0xF0;
+}
+
+static inline void put_opaque(struct writer *w, size_t width) {
+    put(w->to, w->t[1], width);
+    w->to += width;
+    put_span(w);
+}
+
+// ---- fields asked for
+
+// A reader at a place of the part of a body from `begin` to `end`; 0 where there is no such part.
+static inline int stands(struct reader *r, const uint8_t *body, size_t n, size_t begin, size_t length, size_t place) {
+    if (begin > n || length > n - begin) return 0;
+    *r = (struct reader){body, n, begin + length, begin + place, 0};
+    return 1;
+}
+
+// The number in the next `width` bytes.
+static inline nw_answer asked_number(struct reader *r, size_t width) {
+    unsigned no = take(r, width);
+    return no ? refused(no, r->at) : value(big_endian(r->s + r->at - width, width));
+}
+
+static inline nw_answer asked_digits(struct reader *r, size_t width) {
+    unsigned no = take_digits(r, width);
+    return no ? refused(no, r->at) : part(r->at - width, width);
+}
+
+static inline nw_answer asked_digit(const uint8_t *body, nw_answer digits, uint64_t i) {
+    if (NW_REFUSAL(digits)) return digits;
+    return i < 2 * NW_PART_LENGTH(digits) - 1 ? value(digit_of(body + NW_PART_START(digits), i)) : OUTSIDE;
+}
+
+static inline nw_answer asked_part(struct reader *r, size_t width) {
+    size_t length;
+    unsigned no = take_length(r, width, &length);
+    return no ? refused(no, r->at) : part(r->at, length);
+}
+
+#endif

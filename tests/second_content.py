@@ -1,0 +1,153 @@
+"""The second program for the content table, no code shared with the library: read, written, laid on a tape."""
+from second_fields import Reader, Tape, counted, digits, entries, opaque, part, places, refuse, within
+
+KIND = 0xFE
+
+
+def extension(identifier):
+    """The CRC-16 of the identifier's 18 bytes, bit by bit."""
+    register = 0xFFFF
+    for byte in identifier:
+        for bit in range(7, -1, -1):
+            out = register >> 15 ^ byte >> bit & 1
+            register = register << 1 & 0xFFFF
+            if out:
+                register ^= 0x1021
+    return register
+
+
+# ---- reading
+
+
+def judge_extension(body, given):
+    """23 if the extension that is given isn't the identifier's."""
+    if given != extension(body[:18]):
+        refuse(23, 'extension')
+
+
+def read(kind, body):
+    """The table, whatever the extension."""
+    reader = Reader(kind, KIND, body)
+    return {'identifier': reader.digits('identifier', 18),
+            'languages': read_languages(reader),
+            'signature': reader.signature()}
+
+
+def read_languages(reader):
+    place = reader.at
+    count = reader.shared('language count', 4)
+    if not 1 <= count <= 5:
+        refuse(19, 'language count', place)
+    return [reader.filled('language', reader.length('language length', 4), lambda: language_fields(reader))
+            for _ in range(count)]
+
+
+def language_fields(reader):
+    return {
+        'letters': read_letters(reader),
+        'character set': read_character_set(reader),
+        'text': reader.opaque('text length', 2),
+        'agency': reader.opaque('agency length', 1),
+        'files': read_files(reader)}
+
+
+def are_letters(data):
+    return all(0x61 <= letter <= 0x7A for letter in data)
+
+
+def read_letters(reader):
+    reader.need('letters', 3)
+    if not are_letters(reader.body[reader.at:reader.at + 3]):
+        refuse(19, 'letters', reader.at)
+    return reader.taken(3)
+
+
+def read_character_set(reader):
+    place = reader.at
+    value = reader.shared('character set', 5)
+    if value > 4:
+        refuse(19, 'character set', place)
+    return value
+
+
+def read_files(reader):
+    place = reader.at
+    count = reader.shared('auxiliary count', 4)
+    if count > 2:
+        refuse(19, 'auxiliary count', place)
+    return [{'type': reader.number('auxiliary type', 1), 'data': reader.opaque('auxiliary length', 3)}
+            for _ in range(count)]
+
+
+# ---- forms
+
+
+def form(pool, tape):
+    """The table that a form asks for; its byte fields have their places in the pool."""
+    taken = Tape(pool, tape)
+    return {'identifier': taken.digits('identifier', 18),
+            'languages': [form_language(taken) for _ in range(taken.number('language count', 5, least=1))],
+            'signature': taken.signature()}
+
+
+def form_language(taken):
+    return {
+        'letters': form_letters(taken),
+        'character set': taken.number('character set', 4),
+        'text': taken.span('text'),
+        'agency': taken.span('agency'),
+        'files': [form_file(taken) for _ in range(taken.number('auxiliary count', 2))]}
+
+
+def form_letters(taken):
+    span = taken.span('letters', 3)
+    if not are_letters(span[2]):
+        refuse(19, 'letters')
+    return span
+
+
+def form_file(taken):
+    return {'type': taken.number('auxiliary type', 0xFF), 'data': taken.span('auxiliary data')}
+
+
+# ---- writing
+
+
+def write(pool, tape, room):
+    """The body that a form asks for. Its extension is that of its first 18 bytes."""
+    return within(written(form(pool, tape)), room)
+
+
+def written(table):
+    languages = table['languages']
+    return b''.join((
+        digits(table['identifier']),
+        bytes([0xF0 | len(languages)]),
+        *(part('language length', language_bytes(language), 4) for language in languages),
+        opaque('signature length', table['signature'], 2)))
+
+
+def language_bytes(language):
+    return b''.join((
+        language['letters'][2],
+        bytes([0xF8 | language['character set']]),
+        opaque('text length', language['text'], 2),
+        opaque('agency length', language['agency'], 1),
+        bytes([0xF0 | len(language['files'])]),
+        *(counted('auxiliary type', file['type'], 1) + opaque('auxiliary length', file['data'], 3)
+          for file in language['files'])))
+
+
+# ---- laying
+
+
+def tape_of(table):
+    """The tape that asks for a table, with what it was read from as the pool."""
+    return places(table['identifier']) + entries(table['languages'], language_entries) + places(table['signature'])
+
+
+def language_entries(language):
+    return [
+        *places(language['letters']), language['character set'],
+        *places(language['text']), *places(language['agency']),
+        *entries(language['files'], lambda file: [file['type'], *places(file['data'])])]
