@@ -6,7 +6,7 @@ use Prim.Native.Nat.{ℕ, suc, _+_, _-_, _*_, _/_, _^_, _<_, _≤_}
 use native.Mathlib.Nat.{add-assoc}
 use native.Mathlib.Numerals.{add-one}
 use native.Mathlib.Omega.{arith}
-use lib.Bits.{bitXor}
+use lib.Bits.{bitXor, xor-comm}
 use lib.ListN.{length, getD, take, drop, replicate, take-append-drop, length-drop}
 use lib.Seq.{drop-cons, take-add, take-all}
 use Rattle.register.specs.Register.{bitsOf, bytesBits, crc}
@@ -42,14 +42,14 @@ walk-more {w} {p} {s} {xs} {i} k r′ v e =
     }
 
 -- the byte at i, before the k that follow it
-part-cons : (k i i′ : ℕ) (xs : List ℕ) → i < length xs → i′ ≡ i + 1 → take (suc k) (drop i xs) ≡ getD xs i 0 ∷ take k (drop i′ xs)
-part-cons k i i′ xs h e = ap (take (suc k)) (drop-cons xs i 0 h) ∙ ap (λ (n : ℕ). getD xs i 0 ∷ take k (drop n xs)) (sym (e ∙ add-one i))
+part-cons : (k i : ℕ) (xs : List ℕ) → i < length xs → take (suc k) (drop i xs) ≡ getD xs i 0 ∷ take k (drop (i + 1) xs)
+part-cons k i xs h = ap (take (suc k)) (drop-cons xs i 0 h) ∙ ap (λ (n : ℕ). getD xs i 0 ∷ take k (drop n xs)) (sym (add-one i))
 
 -- one byte
 pub walk-byte : {w p s : ℕ} {xs : List ℕ} {i r : ℕ} (r′ : ℕ) → Walk w p s xs i r → i < length xs → r′ ≡ crc w p r (bitsOf 8 (getD xs i 0)) → Walk w p s xs (i + 1) r′
 unfolding bytesBits
 walk-byte {w} {p} {s} {xs} {i} {r} r′ v h e =
-    walk-more 1 r′ v (e ∙ ap (crc w p r) (sym (ap bytesBits (part-cons 0 i (i + 1) xs h refl) ∙ append-nil (bitsOf 8 (getD xs i 0)))))
+    walk-more 1 r′ v (e ∙ ap (crc w p r) (sym (ap bytesBits (part-cons 0 i xs h) ∙ append-nil (bitsOf 8 (getD xs i 0)))))
 
 -- one byte as its two nibbles
 pub walk-nibbles : {w p s : ℕ} {xs : List ℕ} {i r q : ℕ} (r′ : ℕ) → Walk w p s xs i r → i < length xs
@@ -60,32 +60,34 @@ walk-nibbles {w} {p} {s} {xs} {i} {r} r′ v h e e′ =
     (e′ ∙ ap (λ (x : ℕ). crc w p x (bitsOf 4 b)) e ∙ sym (ap (crc w p r) (bits-append 4 4 b) ∙ crc-append w p r (bitsOf 4 (b / 16)) (bitsOf 4 b)))
 
 -- as many bytes as the register has, as the number d
-pub walk-word : (k : ℕ) {p s : ℕ} {xs : List ℕ} {i r : ℕ} (d r′ : ℕ) → Walk (8 * k) p s xs i r → bitsOf (8 * k) d ≡ bytesBits (take k (drop i xs))
+walk-word : (k : ℕ) {p s : ℕ} {xs : List ℕ} {i r : ℕ} (d r′ : ℕ) → Walk (8 * k) p s xs i r → bitsOf (8 * k) d ≡ bytesBits (take k (drop i xs))
     → r′ ≡ crc (8 * k) p 0 (bitsOf (8 * k) (bitXor r d)) → Walk (8 * k) p s xs (i + k) r′
 walk-word k {p} {s} {xs} {i} {r} d r′ v h e = walk-more k r′ v (e ∙ sym (crc-whole (8 * k) p r d) ∙ ap (crc (8 * k) p r) h)
 
--- twice as many, as the numbers d and e
+-- twice as many, as the numbers d and e of two parts
 pub walk-words : (k : ℕ) {p s : ℕ} {xs : List ℕ} {i r : ℕ} (d e a b : ℕ) → Walk (8 * k) p s xs i r
-    → bitsOf (8 * k) d ≡ bytesBits (take k (drop i xs)) → bitsOf (8 * k) e ≡ bytesBits (take k (drop (i + k) xs))
+    → bitsOf (8 * k) d ≡ bytesBits (take (i + k - i) (drop i xs)) → bitsOf (8 * k) e ≡ bytesBits (take (i + (k + k) - (i + k)) (drop (i + k) xs))
     → a ≡ crc (8 * k) p 0 (bitsOf (8 * k) (bitXor r d) ++ replicate (8 * k) false) → b ≡ crc (8 * k) p 0 (bitsOf (8 * k) e)
-    → Walk (8 * k) p s xs (i + (k + k)) (bitXor a b)
+    → Walk (8 * k) p s xs (i + (k + k)) (bitXor b a)
 walk-words k {p} {s} {xs} {i} {r} d e a b v hd he ea eb =
     let w : ℕ = 8 * k in
     let x : List Bool = bitsOf w (bitXor r d) in
-    subst (λ (n : ℕ). Walk w p s xs n (bitXor a b)) (add-assoc i k k)
-    (walk-more k (bitXor a b) (walk-word k d (crc w p 0 x) v hd refl)
-    (ap₂ bitXor (ea ∙ ap (λ (n : ℕ). crc w p 0 (x ++ replicate n false)) (sym (length-bits w e))) eb
-    ∙ sym (crc-apart w p 0 x (bitsOf w e)) ∙ crc-append w p 0 x (bitsOf w e) ∙ ap (crc w p (crc w p 0 x)) he))
+    let first : i + k - i ≡ k = omega arith in
+    let second : i + (k + k) - (i + k) ≡ k = omega arith in
+    subst (λ (n : ℕ). Walk w p s xs n (bitXor b a)) (add-assoc i k k)
+    (walk-more k (bitXor b a) (walk-word k d (crc w p 0 x) v (hd ∙ ap (λ (n : ℕ). bytesBits (take n (drop i xs))) first) refl)
+    (xor-comm b a ∙ ap₂ bitXor (ea ∙ ap (λ (n : ℕ). crc w p 0 (x ++ replicate n false)) (sym (length-bits w e))) eb
+    ∙ sym (crc-apart w p 0 x (bitsOf w e)) ∙ crc-append w p 0 x (bitsOf w e)
+    ∙ ap (crc w p (crc w p 0 x)) (he ∙ ap (λ (n : ℕ). bytesBits (take n (drop (i + k) xs))) second)))
 
 -- ---- four bytes as one number
 
-pub four-bytes-at : (i : ℕ) (xs : List ℕ) → i + 4 ≤ length xs
-    → take 4 (drop i xs) ≡ getD xs i 0 ∷ getD xs (i + 1) 0 ∷ getD xs (i + 2) 0 ∷ getD xs (i + 3) 0 ∷ []
-four-bytes-at i xs h =
-    part-cons 3 i (i + 1) xs (omega arith) refl
-    ∙ ap (λ (l : List ℕ). getD xs i 0 ∷ l) (part-cons 2 (i + 1) (i + 2) xs (omega arith) (omega arith)
-    ∙ ap (λ (l : List ℕ). getD xs (i + 1) 0 ∷ l) (part-cons 1 (i + 2) (i + 3) xs (omega arith) (omega arith)
-    ∙ ap (λ (l : List ℕ). getD xs (i + 2) 0 ∷ l) (part-cons 0 (i + 3) (i + 4) xs (omega arith) (omega arith))))
+pub four-bytes : (xs : List ℕ) → length xs ≡ 4 → xs ≡ getD xs 0 0 ∷ getD xs 1 0 ∷ getD xs 2 0 ∷ getD xs 3 0 ∷ []
+four-bytes xs h =
+    sym (take-all 4 xs (omega arith)) ∙ part-cons 3 0 xs (omega arith)
+    ∙ ap (λ (l : List ℕ). getD xs 0 0 ∷ l) (part-cons 2 1 xs (omega arith)
+    ∙ ap (λ (l : List ℕ). getD xs 1 0 ∷ l) (part-cons 1 2 xs (omega arith)
+    ∙ ap (λ (l : List ℕ). getD xs 2 0 ∷ l) (part-cons 0 3 xs (omega arith))))
 
 pub bits-joined : (a b c d : ℕ) → b < 256 → c < 256 → d < 256 → bitsOf 32 (a * 16777216 + (b * 65536 + (c * 256 + d))) ≡ bytesBits (a ∷ b ∷ c ∷ d ∷ [])
 unfolding bytesBits

@@ -3,13 +3,11 @@
 // A table is the arms of a `match`, which the compiler keeps as one constant array; a `const` array is laid out anew by every call
 // that names it. A large table is looked up at one place only, or the compiler makes each of its lookups a call.
 mod nibbles16;
-mod nibbles32;
 
 ghost use mathlib.Core.Bool.{false};
 ghost use mathlib.Core.List.{[], _∷_, _++_};
 ghost use mathlib.Core.Path.{_≡_};
-ghost use Prim.Native.Nat.{_+_, _≤_};
-ghost use lib.ListN.{length, take, drop, replicate};
+ghost use lib.ListN.{length, replicate};
 ghost use Rattle.register.specs.Register.{bitsOf, bytesBits, crc};
 ghost use Rattle.crc.specs.Crc.{crc16Of, crc32Of};
 
@@ -20,59 +18,32 @@ fn joined(a: u8, b: u8, c: u8, d: u8) -> u32
     (a as u32) * 16777216 + ((b as u32) * 65536 + ((c as u32) * 256 + (d as u32)))
 }
 
-// The four bytes of s from i on, as one number.
-fn word(s: &[u8], i: usize) -> u32
-    requires { ⌜ i + 4 ≤ length (now s) ⌝ }
-    ensures { λ r. ⌜ bitsOf 32 r ≡ bytesBits (take 4 (drop i (now (s .entry)))) ⌝ }
+// A string of four bytes as one number.
+fn word(s: &[u8]) -> u32
+    requires { ⌜ length (now s) ≡ 4 ⌝ }
+    ensures { λ r. ⌜ bitsOf 32 r ≡ bytesBits (now (s .entry)) ⌝ }
 {
-    joined(s[i], s[i + 1], s[i + 2], s[i + 3])
-}
-
-// The register, from zero, after the 32 bits of x.
-fn eight_nibbles(x: u32) -> u32
-    ensures { λ r. ⌜ r ≡ crc 32 0x04C11DB7 0 (bitsOf 32 x) ⌝ }
-{
-    nibbles32::table7(x / 268435456)
-        ^ (nibbles32::table6(x / 16777216)
-            ^ (nibbles32::table5(x / 1048576)
-                ^ (nibbles32::table4(x / 65536)
-                    ^ (nibbles32::table3(x / 4096)
-                        ^ (nibbles32::table2(x / 256)
-                            ^ (nibbles32::table1(x / 16) ^ nibbles32::table0(x)))))))
+    joined(s[0], s[1], s[2], s[3])
 }
 
 // The register after one byte.
-fn two_nibbles(reg: u32, b: u8) -> u32
+fn byte32(reg: u32, b: u8) -> u32
     ensures { λ r. ⌜ r ≡ crc 32 0x04C11DB7 reg (bitsOf 8 b) ⌝ }
 {
-    let x = (reg >> 24) ^ (b as u32);
-    (nibbles32::table1(x / 16) ^ nibbles32::table0(x)) ^ (reg << 8)
+    lastbytes::last_table((reg >> 24) ^ (b as u32)) ^ (reg << 8)
 }
 
 // The register after the bytes of s, one a turn.
-fn last_bytes(reg: u32, s: &[u8]) -> u32
+fn by_bytes(reg: u32, s: &[u8]) -> u32
     ensures { λ r. ⌜ r ≡ crc 32 0x04C11DB7 reg (bytesBits (now (s .entry))) ⌝ }
 {
     let mut r = reg;
     let mut i: usize = 0;
     while i < s.len() {
-        r = two_nibbles(r, s[i]);
+        r = byte32(r, s[i]);
         i += 1;
     }
     r
-}
-
-// The register after the bytes of s, four a turn.
-fn by_nibbles(reg: u32, s: &[u8]) -> u32
-    ensures { λ r. ⌜ r ≡ crc 32 0x04C11DB7 reg (bytesBits (now (s .entry))) ⌝ }
-{
-    let mut r = reg;
-    let mut i: usize = 0;
-    while 4 <= s.len() - i {
-        r = eight_nibbles(r ^ word(s, i));
-        i += 4;
-    }
-    last_bytes(r, &s[i..])
 }
 
 // The register, from zero, after the 32 bits of x and 32 zeros.
@@ -91,17 +62,23 @@ fn second_word(x: u32) -> u32
         ^ (bytes32::table2(x / 65536) ^ (bytes32::table1(x / 256) ^ bytes32::table0(x)))
 }
 
-// CRC_32 of s, eight bytes a turn; the last few by nibbles.
+// CRC_32 of s, eight bytes a turn and the last few one a turn. A short string turns off first, before anything is made ready for the eight.
+//
+// Only parts of s are lent: with s itself lent the compiler takes its address and length from memory, and every caller puts them there.
+// The second word comes first: its lookups need not wait for the turn before, and the compiler adds them up in the order of the code.
 pub fn crc32(s: &[u8]) -> u32
     ensures { λ r. ⌜ r ≡ crc32Of (now (s .entry)) ⌝ }
 {
     let mut r: u32 = 0xFFFFFFFF;
+    if s.len() < 8 {
+        return by_bytes(r, &s[0..]);
+    }
     let mut i: usize = 0;
     while 8 <= s.len() - i {
-        r = first_word(r ^ word(s, i)) ^ second_word(word(s, i + 4));
+        r = second_word(word(&s[i + 4..i + 8])) ^ first_word(r ^ word(&s[i..i + 4]));
         i += 8;
     }
-    by_nibbles(r, &s[i..])
+    by_bytes(r, &s[i..])
 }
 
 // The register after the four low bits of x.

@@ -1,5 +1,6 @@
 -- `table2` meets its contract: each arm has the entry that antt computes.
 use mathlib.Core.Bool.{xor}
+use mir.Syntax.{w32}
 use borrow.Fn.Plain.{t-fn-plain}
 use Rattle.register.specs.Register.{odd, bitsOf, digit, value, plus, fed, step, run, crc, entry}
 use Rattle.register.proofs.Arms.{table}
@@ -12,4 +13,4 @@ pub table2-spec : {M : Type 1} → statement M
 unfolding odd bitsOf digit value plus fed step run crc entry xor
 table2-spec =
     tie.close (λ 𝓤 H A W 𝓣. t-fn-plain 𝓤 H A W 𝓣 0 lts.ps lts.r lts.xs lts.m lts.hs lts.body (λ κs qs bs. lts.Φ reads.Pre reads.Post)
-    (λ κs qs bs bd. lts.typed reads.Pre reads.Post κs qs 𝓤 H A W 𝓣 bs bd) reads.Pre reads.Post (λ κs qs a good pre bs. table 8 32 0x04C11DB7 2 (a .0)))
+    (λ κs qs bs bd. lts.typed reads.Pre reads.Post κs qs 𝓤 H A W 𝓣 bs bd) reads.Pre reads.Post (λ κs qs a good pre bs. table w32 8 0x04C11DB7 2 (a .0) tt))

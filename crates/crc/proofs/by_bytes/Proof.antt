@@ -1,10 +1,10 @@
--- `last_bytes` meets its contract: the register is always that of the bytes passed.
+-- `by_bytes` meets its contract: the register is always that of the bytes passed.
 use Prim.Native.Nat.{_-_}
 use lib.ListN.{length}
 use borrow.Author.Needs.{needs}
 use Rattle.crc.proofs.Walk.{Walk, walk-start, walk-byte, walk-end}
-use Rattle.crc.proofs.last_bytes.Statement.{statement}
-use Rattle.crc.proofs.last_bytes.Tie as tie
+use Rattle.crc.proofs.by_bytes.Statement.{statement}
+use Rattle.crc.proofs.by_bytes.Tie as tie
 
 abbrev Inv-loop : tie.InvT-loop
 Inv-loop reg s r₀ i₀ r i = Walk 32 0x04C11DB7 reg s i r
@@ -15,11 +15,11 @@ abbrev μ-loop : tie.MeasureT-loop
 loop-holds : tie.Need-loop-holds Inv-loop μ-loop
 loop-holds c = walk-start (search needs)
 
-shared-slice-read-two-nibbles : tie.Need-shared-slice-read-two-nibbles Inv-loop μ-loop
-shared-slice-read-two-nibbles c = search needs
+shared-slice-read-byte32 : tie.Need-shared-slice-read-byte32 Inv-loop μ-loop
+shared-slice-read-byte32 c = search needs
 
-two-nibbles-requires : tie.Need-two-nibbles-requires Inv-loop μ-loop
-two-nibbles-requires c κs = search needs
+byte32-requires : tie.Need-byte32-requires Inv-loop μ-loop
+byte32-requires c κs = search needs
 
 add-i : tie.Need-add-i Inv-loop μ-loop
 add-i c = search needs
@@ -28,20 +28,20 @@ loop-less : tie.Need-loop-less Inv-loop μ-loop
 loop-less c = search needs
 
 loop-again : tie.Need-loop-again Inv-loop μ-loop
-loop-again c = walk-byte _ (search needs) (search needs) (c .two-nibbles .ensures)
+loop-again c = walk-byte _ (search needs) (search needs) (c .byte32 .ensures)
 
 returns : tie.Need-returns Inv-loop μ-loop
 returns c = walk-end (c .before .loop .inv) (search needs)
 
-pub last-bytes-spec : {M : Type 1} → statement M
-last-bytes-spec =
+pub by-bytes-spec : {M : Type 1} → statement M
+by-bytes-spec =
     tie.close
     (tie.spec
     Inv-loop
     μ-loop
     loop-holds
-    shared-slice-read-two-nibbles
-    two-nibbles-requires
+    shared-slice-read-byte32
+    byte32-requires
     add-i
     loop-less
     loop-again
