@@ -1,0 +1,232 @@
+-- Demand 1: a number and a place tell the refusal, and every verdict that refuses leaves what it was lent.
+use Prim.Native.Nat.{ℕ, _+_, _-_, _≤_}
+use mathlib.Core.Path.{_≡_, refl, sym, ap, ap₂, _∙_}
+use mathlib.Core.Bool.{Bool, true, false, not, _&&_}
+use mathlib.Core.List.{List, [], _∷_}
+use native.Mathlib.Omega.{arith}
+use lib.ListN.{length, getD}
+use lib.Dec.{eqb, leb, ltb}
+use borrow.Author.Tests.{eqb-false}
+use Rattle.choices.specs.Choice.{if_then_else_}
+use Rattle.refusal.specs.Numbers.{numberOf, placeOf}
+use Rattle.refusal.specs.declared.Refusal.{Refusal}
+use Rattle.refusal.specs.declared.Refusal.the-variants.{SectionTooShort, OtherKind, FixedBitZero, SectionLengthOutside, OtherLength, NumberAboveLast, CheckNotZero, NotCurrent, OtherHeading, StoreTooShort, Contradiction, ImpossibleState, Missing, PastBody, PastPart, LeftOver, ReservedBitZero, DigitAboveNine, OutsideSet, ImpossibleDay, OutputTooSmall, TooLarge, OtherChecksum, NotOfTheForm, BodyTooLong}
+use Rattle.crc.specs.Crc.{crc32Of}
+use Rattle.framing.specs.Section.{isKind, sectionLength, fixedBits, headingOf, payloadOf, readSection}
+use Rattle.framing.specs.Cutting as cutter
+use Rattle.framing.specs.declared.Cut.the-variants.{Refused as NotCut}
+use Rattle.framing.specs.declared.Heading.{Heading}
+use Rattle.framing.specs.declared.Sectioned.{Sectioned}
+use Rattle.framing.specs.declared.Sectioned.the-variants.{Good, Refused as NotGood}
+use Rattle.holding.specs.State.{possibleOf, nothingBegun, spoiledState}
+use Rattle.holding.specs.declared.Gathering.{Gathering}
+use Rattle.holding.proofs.State.{possible-fresh, possible-begun}
+use Rattle.feeding.specs.Feeding as feeding
+use Rattle.feeding.specs.declared.Verdict.{Verdict}
+use Rattle.feeding.specs.declared.Verdict.the-variants.{Refuse, Repeat, Contradict, Take}
+use Rattle.feeding.specs.declared.Answer.the-variants.{Refused as NotFed}
+use Rattle.feeding.proofs.Verdicts.{verdict-impossible, verdict-bad, verdict-good, Decided, old, other, short, spoiled, new, again, clash, decided}
+use Rattle.handing.specs.Handing.{bodyOf, handedOf, outBy, outAfter}
+use Rattle.handing.specs.declared.Handed.{Handed}
+use Rattle.handing.specs.declared.Handed.the-variants.{Body, Refused as NotHanded}
+use Rattle.fields.specs.Reading.{Reading, found, refused}
+use Rattle.fields.specs.Format.{Format}
+use Rattle.fields.specs.Answers.{stepOf}
+use Rattle.fields.specs.Body.{writing, writtenOver, bodyWritten, output, laying, laidOver, bodyLaid, laidTape}
+use Rattle.fields.specs.declared.Step.the-variants.{Refused as NoStep}
+use Rattle.index.specs.Index.{Index}
+use Rattle.content.specs.Content.{Content, content}
+use Rattle.contentwriter.specs.Written.{writtenOf, contentWritten}
+use Rattle.contentwriter.specs.declared.Written.the-variants.{Refused as NotWritten}
+use Rattle.records.specs.Records.{recording, bodyRecorded, recordedOver, recorded}
+use Rattle.records.specs.declared.Record.{Record}
+use Rattle.promises.specs.Demand1.{Numbered, WritesNothing, OnlySpoils, Demand1}
+
+-- ---- numbers
+
+-- the refusals in the order of the list, each at the place
+abbrev listAt : ℕ → List Refusal
+listAt at =
+    SectionTooShort ∷ OtherKind ∷ FixedBitZero ∷ SectionLengthOutside ∷ OtherLength ∷ NumberAboveLast ∷ CheckNotZero ∷ NotCurrent ∷ OtherHeading ∷ StoreTooShort
+    ∷ Contradiction ∷ ImpossibleState ∷ Missing at ∷ PastBody at ∷ PastPart at ∷ LeftOver at ∷ ReservedBitZero at ∷ DigitAboveNine at ∷ OutsideSet at
+    ∷ ImpossibleDay at ∷ OutputTooSmall ∷ TooLarge ∷ OtherChecksum ∷ NotOfTheForm ∷ BodyTooLong ∷ []
+
+-- the number counts from 1
+abbrev refusalOf : ℕ → ℕ → Refusal
+refusalOf number at = getD (BodyTooLong ∷ listAt at) number BodyTooLong
+
+pub record Listed (r : Refusal) : Type 0 where
+  pub from : 1 ≤ numberOf r
+  pub until : numberOf r ≤ 25
+  pub is : refusalOf (numberOf r) (placeOf r) ≡ r
+
+listed : (r : Refusal) → Listed r
+listed SectionTooShort = record { from = omega arith; until = omega arith; is = refl }
+listed OtherKind = record { from = omega arith; until = omega arith; is = refl }
+listed FixedBitZero = record { from = omega arith; until = omega arith; is = refl }
+listed SectionLengthOutside = record { from = omega arith; until = omega arith; is = refl }
+listed OtherLength = record { from = omega arith; until = omega arith; is = refl }
+listed NumberAboveLast = record { from = omega arith; until = omega arith; is = refl }
+listed CheckNotZero = record { from = omega arith; until = omega arith; is = refl }
+listed NotCurrent = record { from = omega arith; until = omega arith; is = refl }
+listed OtherHeading = record { from = omega arith; until = omega arith; is = refl }
+listed StoreTooShort = record { from = omega arith; until = omega arith; is = refl }
+listed Contradiction = record { from = omega arith; until = omega arith; is = refl }
+listed ImpossibleState = record { from = omega arith; until = omega arith; is = refl }
+listed (Missing at) = record { from = omega arith; until = omega arith; is = refl }
+listed (PastBody at) = record { from = omega arith; until = omega arith; is = refl }
+listed (PastPart at) = record { from = omega arith; until = omega arith; is = refl }
+listed (LeftOver at) = record { from = omega arith; until = omega arith; is = refl }
+listed (ReservedBitZero at) = record { from = omega arith; until = omega arith; is = refl }
+listed (DigitAboveNine at) = record { from = omega arith; until = omega arith; is = refl }
+listed (OutsideSet at) = record { from = omega arith; until = omega arith; is = refl }
+listed (ImpossibleDay at) = record { from = omega arith; until = omega arith; is = refl }
+listed OutputTooSmall = record { from = omega arith; until = omega arith; is = refl }
+listed TooLarge = record { from = omega arith; until = omega arith; is = refl }
+listed OtherChecksum = record { from = omega arith; until = omega arith; is = refl }
+listed NotOfTheForm = record { from = omega arith; until = omega arith; is = refl }
+listed BodyTooLong = record { from = omega arith; until = omega arith; is = refl }
+
+numbered : Numbered
+numbered =
+    record {
+      in-the-list = λ r. (listed r .from, listed r .until);
+      one-refusal = λ r r′ n p. sym (listed r .is) ∙ ap₂ refusalOf n p ∙ listed r′ .is;
+      told = λ r. let u = listed r .until in omega arith;
+      not-told = λ value. omega arith;
+    }
+
+-- ---- what refuses writes nothing
+
+absurd-answer : {A : Type 0} → _≡_ {A = ℕ} 0 1 → A
+absurd-answer z = absurd (omega arith)
+
+cut-keeps : (v : cutter.Verdict) (out : List ℕ) (r : Refusal) → cutter.answerBy v ≡ NotCut r → cutter.outputBy v out ≡ out
+unfolding cutter.answerBy cutter.outputBy
+cut-keeps (cutter.refuses r′) out r e = refl
+cut-keeps (cutter.writes bytes) out r e = absurd-answer (cc)
+
+handed-keeps : (body out : List ℕ) (h : Handed) (r : Refusal) → h ≡ NotHanded r → outBy body out h ≡ out
+unfolding outBy
+handed-keeps body out (NotHanded r′) r e = refl
+handed-keeps body out (Body n) r e = absurd-answer (cc)
+
+written-keeps : {A : Type 0} (F : Format A) (out : List ℕ) (x : Reading A) (r : Refusal) → stepOf x ≡ NoStep r → writtenOver F out x ≡ out
+written-keeps F out (refused r′) r e = refl
+written-keeps F out (found a n) r e = absurd-answer (cc)
+
+content-keeps : (out : List ℕ) (x : Reading Content) (r : Refusal) → writtenOf x ≡ NotWritten r → writtenOver (content 3) out x ≡ out
+content-keeps out (refused r′) r e = refl
+content-keeps out (found a n) r e = absurd-answer (cc)
+
+laid-keeps : {A : Type 0} (F : Format A) (tape : List ℕ) (x : Reading A) (r : Refusal) → stepOf x ≡ NoStep r → laidOver F tape x ≡ tape
+laid-keeps F tape (refused r′) r e = refl
+laid-keeps F tape (found a n) r e = absurd-answer (cc)
+
+recorded-keeps : (list : List Record) (x : Reading Index) (r : Refusal) → stepOf x ≡ NoStep r → recordedOver list x ≡ list
+recorded-keeps list (refused r′) r e = refl
+recorded-keeps list (found t n) r e = absurd-answer (cc)
+
+fed-keeps : (store payload : List ℕ) (v : Verdict) (r : Refusal) → feeding.answerBy v ≡ NotFed r → feeding.storeBy store payload v ≡ store
+unfolding feeding.answerBy feeding.storeBy
+fed-keeps store payload (Refuse r′) r e = refl
+fed-keeps store payload Repeat r e = refl
+fed-keeps store payload Contradict r e = refl
+fed-keeps store payload (Take h) r e = absurd-answer (cc)
+
+writes-nothing : WritesNothing
+unfolding feeding.fedOf feeding.storeAfter handedOf outAfter bodyWritten contentWritten output bodyLaid laidTape bodyRecorded recorded
+writes-nothing =
+    record {
+      cutter = λ body kind extension version number out. cut-keeps (cutter.cutting body kind extension version number (length out)) out;
+      feed = λ g store s. fed-keeps store (payloadOf s) (feeding.verdictOf g store s);
+      hand-out = λ g store out. handed-keeps (bodyOf g store) out (handedOf g store out);
+      writers = λ F pool tape out. written-keeps F out (writing F pool tape (length out));
+      content-writer = λ pool tape out. content-keeps out (writing (content 3) pool tape (length out));
+      layers = λ F own kind body tape. laid-keeps F tape (laying F own kind body (length tape));
+      records = λ kind body list. recorded-keeps list (recording kind body (length list));
+    }
+
+-- ---- the gathering that is spoiled
+
+state-keeps : (g : Gathering) (payload : List ℕ) (v : Verdict) (r : Refusal) → feeding.answerBy v ≡ NotFed r → (r ≡ Contradiction → ⊥) → feeding.stateBy g payload v ≡ g
+unfolding feeding.answerBy feeding.stateBy
+state-keeps g payload (Refuse r′) r e n = refl
+state-keeps g payload Repeat r e n = refl
+state-keeps g payload Contradict r e n = absurd (n (cc))
+state-keeps g payload (Take h) r e n = absurd-answer (cc)
+
+-- a state that is spoiled already stays as it is
+spoiled-stays : (g : Gathering) → possibleOf g ≡ true → (g .spoiled ≡ 0 → ⊥) → g ≡ spoiledState g
+unfolding spoiledState
+spoiled-stays g p n = go (nothingBegun g) refl
+  where
+    most : (b : Bool) → nothingBegun g ≡ b → g .spoiled ≤ 1
+    most true e = let f = possible-fresh g p e .spoiled in omega arith
+    most false e = possible-begun g p e .spoiled
+
+    same : g .spoiled ≡ 1 → g ≡ record { extension = g .extension; kind = g .kind; version = g .version; last = g .last; spoiled = 1; held = g .held }
+    same e = λ i. record { extension = g .extension; kind = g .kind; version = g .version; last = g .last; spoiled = e i; held = g .held }
+
+    go : (b : Bool) → nothingBegun g ≡ b → g ≡ record { extension = g .extension; kind = g .kind; version = g .version; last = g .last; spoiled = 1; held = g .held }
+    go b e = let m = most b e in same (omega (arith, n, m))
+
+-- the other refusals have other numbers
+differs : (r : Refusal) → eqb (numberOf r) 11 ≡ false → r ≡ Contradiction → ⊥
+differs r n e = eqb-false (numberOf r) 11 n (ap numberOf e)
+
+-- a section is never refused for a contradiction
+not-for : (b : Bool) (r : Refusal) (x : Sectioned) → eqb (numberOf r) 11 ≡ false → (x ≡ NotGood Contradiction → ⊥) → (if b then NotGood r else x) ≡ NotGood Contradiction → ⊥
+not-for true r x n f e = differs r n (cc)
+not-for false r x n f e = f e
+
+section-not : (s : List ℕ) → readSection s ≡ NotGood Contradiction → ⊥
+unfolding readSection
+section-not s =
+    not-for (ltb (length s) 12) SectionTooShort _ refl
+    (not-for (not (isKind (getD s 0 0))) OtherKind _ refl
+    (not-for (not (fixedBits s)) FixedBitZero _ refl
+    (not-for (not (leb 9 (sectionLength s) && leb (sectionLength s) 4093)) SectionLengthOutside _ refl
+    (not-for (not (eqb (length s) (sectionLength s + 3))) OtherLength _ refl
+    (not-for (ltb (getD s 7 0) (getD s 6 0)) NumberAboveLast _ refl
+    (not-for (not (eqb (crc32Of s) 0)) CheckNotZero _ refl (λ (e : Good (headingOf s) (length s - 12) ≡ NotGood Contradiction). absurd-answer (cc))))))))
+
+module _ (g : Gathering) (store s : List ℕ) where
+  -- a verdict that is answered with 11 leaves the spoiled state
+  abbrev Spoils : Verdict → Type 0
+  Spoils v = feeding.answerBy v ≡ NotFed Contradiction → feeding.stateBy g (payloadOf s) v ≡ spoiledState g
+
+  refuses-other : (r : Refusal) → (r ≡ Contradiction → ⊥) → Spoils (Refuse r)
+  unfolding feeding.answerBy
+  refuses-other r n e = absurd (n (cc))
+
+  good-spoils : possibleOf g ≡ true → (h : Heading) {v : Verdict} → Decided g store h (payloadOf s) v → Spoils v
+  unfolding feeding.answerBy feeding.stateBy
+  good-spoils p h (old c) e = refuses-other NotCurrent (differs NotCurrent refl) e
+  good-spoils p h (other c a) e = refuses-other OtherHeading (differs OtherHeading refl) e
+  good-spoils p h (short c a r) e = refuses-other StoreTooShort (differs StoreTooShort refl) e
+  good-spoils p h (spoiled c a r z) e = spoiled-stays g p z
+  good-spoils p h (new d z) e = absurd-answer (cc)
+  good-spoils p h (again d z q) e = absurd-answer (cc)
+  good-spoils p h (clash d z q) e = refl
+
+  verdict-spoils : Spoils (feeding.verdictOf g store s)
+  verdict-spoils = go (possibleOf g) refl (readSection s) refl
+    where
+      go : (b : Bool) → possibleOf g ≡ b → (x : Sectioned) → readSection s ≡ x → Spoils (feeding.verdictOf g store s)
+      go false p x e = rw (verdict-impossible g store s p) (refuses-other ImpossibleState (differs ImpossibleState refl))
+      go true p (NotGood r) e = rw (verdict-bad g store s p r e) (refuses-other r (λ z. section-not s (e ∙ ap NotGood z)))
+      go true p (Good h n) e = rw (verdict-good g store s p h n e) (good-spoils p h (decided g store h (payloadOf s)))
+
+only-spoils : OnlySpoils
+unfolding feeding.fedOf
+only-spoils =
+    record {
+      state-stays = λ g store s. state-keeps g (payloadOf s) (feeding.verdictOf g store s);
+      spoiled = verdict-spoils;
+    }
+
+-- ---- the demand
+
+pub demand1 : Demand1
+demand1 = record { numbered = numbered; writes-nothing = writes-nothing; only-spoils = only-spoils }

@@ -1,0 +1,248 @@
+-- Demand 2: for every table from its round trips, for sections, times and days from their crates' theorems.
+use Prim.Native.Nat.{ℕ, _+_, _≤_}
+use mathlib.Core.Path.{_≡_, refl, sym, ap, _∙_, subst}
+use mathlib.Core.Bool.{true}
+use mathlib.Core.List.{List}
+use native.Mathlib.Omega.{arith}
+use lib.ListN.{length, take}
+use lib.Dec.{leb, eqb}
+use borrow.Author.Tests.{eqb-true, le-leb, eq-eqb}
+use Rattle.refusal.specs.declared.Refusal.the-variants.{OtherKind, OutputTooSmall, OtherChecksum}
+use Rattle.placing.specs.Placed.{placed}
+use Rattle.placing.proofs.Placing.{placed-start}
+use Rattle.crc.specs.Crc.{AreBytes}
+use Rattle.days.specs.Calendar.{dateOf}
+use Rattle.days.proofs.Theorems.{date-of-day, day-of-date, next-day}
+use Rattle.days.proofs.Values as days
+use Rattle.times.proofs.Inverse.{writes-read, reads-written}
+use Rattle.framing.specs.Cutting.{partOf, cutHeading, sectionOf, answerBy, cutAnswer, Askable}
+use Rattle.framing.specs.declared.Cut.the-variants.{Written}
+use Rattle.framing.proofs.Counting.{counted-is}
+use Rattle.framing.proofs.Printing.{printed-length}
+use Rattle.framing.proofs.RoundTrip.{good-exactly}
+use Rattle.framing.proofs.Sections.{cut-writes, cut-reads, cut-joined}
+use Rattle.fields.specs.Reading.{Reading, found, refused}
+use Rattle.fields.specs.Format.{Format}
+use Rattle.fields.specs.Answers.{stepOf}
+use Rattle.fields.specs.Body.{longest, reading, bodyRead, writing, bodyWritten, output, laying, bodyLaid, laidTape}
+use Rattle.fields.specs.declared.Step.the-variants.{At}
+use Rattle.fields.proofs.Classes.{Ok}
+use Rattle.fields.proofs.Outcomes.{found-inj, andThen-found, need-found}
+use Rattle.fields.proofs.RoundTrips as trips
+use Rattle.fields.specs.declared.Number.the-variants.{Is}
+use Rattle.certificate.specs.Certificate.{certificateKind, certificate}
+use Rattle.certificate.proofs.RoundTrips.{certificate-trips}
+use Rattle.index.specs.Index.{Index, indexKind, index}
+use Rattle.index.proofs.RoundTrips.{index-trips}
+use Rattle.messages.specs.Asked.{messageCount}
+use Rattle.messages.proofs.Asked.{table-asked}
+use Rattle.content.specs.Content.{Content, contentKind, content, extensionOf, readingOf, contentRead}
+use Rattle.content.proofs.RoundTrips.{content-trips}
+use Rattle.contentwriter.specs.Written.{writtenOf, contentWritten}
+use Rattle.contentwriter.specs.declared.Written.the-variants.{Of}
+use Rattle.configuration.specs.Configuration.{configurationKind, configuration}
+use Rattle.configuration.proofs.RoundTrips.{configuration-trips}
+use Rattle.promises.specs.Demand2.{WellFormed, Holds, WrittenAndRead, HoldsContent, Extended, SectionsRead, Times, Days, Demand2}
+
+-- ---- tables
+
+-- an answer that accepts has a value found
+step-found : {A : Type 0} (x : Reading A) (n : ℕ) → stepOf x ≡ At n → (a : A) × (x ≡ found a n)
+step-found (found a q) n e = let z : q ≡ n = cc in (a, ap (found a) z)
+step-found (refused r) n e = absurd (let z : _≡_ {A = ℕ} 0 1 = cc in omega arith)
+
+module _ {A : Type 0} (F : Format A) (own : ℕ) (f : trips.RoundTrips F own) where
+  ok : (t : A) → WellFormed F t → Ok F t
+  ok t w = record { right = w .right; small = w .small }
+
+  own-kind : (kind : ℕ) (body : List ℕ) (t : A) (n : ℕ) → reading F own kind body ≡ found t n → kind ≡ own
+  unfolding reading
+  own-kind kind body t n e = eqb-true kind own (need-found (eqb kind own) OtherKind _ t n e .0)
+
+  -- what is read is held, and read to its end
+  read-holds : (kind : ℕ) (body : List ℕ) (t : A) (n : ℕ) → AreBytes body → reading F own kind body ≡ found t n → Holds F own kind body t × (n ≡ length body)
+  read-holds kind body t n b e =
+      let k = own-kind kind body t n e in
+      let a = f .accepted-exactly body (b .byte) t n (rw k at e) in (
+        record {
+          kind-is = k;
+          body-is = a .0;
+          formed = record { right = a .1 .right; small = a .1 .small; bytes = subst AreBytes (a .0) b; short = subst (λ (s : List ℕ). length s ≤ longest) (a .0) (a .2) };
+        },
+        a .3,
+      )
+
+  held-reads : (kind : ℕ) (body : List ℕ) (t : A) → Holds F own kind body t → reading F own kind body ≡ found t (length body)
+  held-reads kind body t h = rw (h .kind-is, h .body-is) (f .reads-back t (ok t (h .formed)) (h .formed .short))
+
+  accepts : (kind : ℕ) (body : List ℕ) (n : ℕ) → AreBytes body → bodyRead F own kind body ≡ At n → ((t : A) × Holds F own kind body t) × (n ≡ length body)
+  unfolding bodyRead
+  accepts kind body n b e =
+      let x = step-found (reading F own kind body) n e in
+      let h = read-holds kind body (x .0) n b (x .1) in
+      ((x .0, h .0), h .1)
+
+  held-accepts : (kind : ℕ) (body : List ℕ) (t : A) → Holds F own kind body t → bodyRead F own kind body ≡ At (length body)
+  unfolding bodyRead
+  held-accepts kind body t h = ap stepOf (held-reads kind body t h)
+
+  written : (pool tape out : List ℕ) (t : A) (n : ℕ) → writing F pool tape (length out) ≡ found t n → output F pool tape out ≡ placed out 0 (F .print t)
+  unfolding output
+  written pool tape out t n e = rw e
+
+  is-laid : (kind : ℕ) (body : List ℕ) (t : A) → reading F own kind body ≡ found t (length body) → (tape : List ℕ) → length (F .tape t 0) ≤ length tape
+      → bodyLaid F own kind body (length tape) ≡ At (length (F .tape t 0))
+  unfolding bodyLaid laying
+  is-laid kind body t e tape h = rw (e, le-leb (length (F .tape t 0)) (length tape) h)
+
+  -- what was laid is the table's tape
+  tape-is : (kind : ℕ) (body tape : List ℕ) (t : A) (n : ℕ) → reading F own kind body ≡ found t n → leb (length (F .tape t 0)) (length tape) ≡ true
+      → laidTape F own kind body tape ≡ placed tape 0 (F .tape t 0)
+  unfolding laidTape laying
+  tape-is kind body tape t n e l = rw (e, l)
+
+  laid-is : (kind : ℕ) (body tape : List ℕ) (m : ℕ) → bodyLaid F own kind body (length tape) ≡ At m
+      → (t : A) × (n : ℕ) × (reading F own kind body ≡ found t n) × (take m (laidTape F own kind body tape) ≡ F .tape t 0)
+  unfolding bodyLaid laying
+  laid-is kind body tape m e =
+      let x = step-found (laying F own kind body (length tape)) m e in
+      let i = andThen-found (reading F own kind body) _ (x .0) m (x .1) in
+      let t = i .0 in
+      let c = need-found (leb (length (F .tape t 0)) (length tape)) OutputTooSmall _ (x .0) m (i .3) in (
+        t,
+        i .1,
+        i .2,
+        ap (take m) (tape-is kind body tape t (i .1) (i .2) (c .0)) ∙ placed-start tape (F .tape t 0) m (sym (found-inj (c .1) .1)),
+      )
+
+  writes-back : (kind : ℕ) (body : List ℕ) → AreBytes body → (tape : List ℕ) (m : ℕ) → bodyLaid F own kind body (length tape) ≡ At m
+      → (out : List ℕ) → length body ≤ length out
+      → (bodyWritten F body (take m (laidTape F own kind body tape)) (length out) ≡ At (length body))
+      × (output F body (take m (laidTape F own kind body tape)) out ≡ placed out 0 body)
+  unfolding bodyWritten
+  writes-back kind body b tape m e out l =
+      let x = laid-is kind body tape m e in
+      let w = f .writes-back kind body (b .byte) (x .0) (x .1) (x .2) out l in
+      (ap (λ (t : List ℕ). bodyWritten F body t (length out)) (x .3) ∙ ap stepOf (w .0), ap (λ (t : List ℕ). output F body t out) (x .3) ∙ w .1)
+
+  round-trips : WrittenAndRead F own
+  round-trips =
+      record {
+        reads-exactly = λ kind body t b. (λ e. read-holds kind body t (length body) b e .0, held-reads kind body t);
+        accepts-exactly = λ kind body b. (λ e. accepts kind body (length body) b e .0, λ x. held-accepts kind body (x .0) (x .1));
+        ends = λ kind body n b e. accepts kind body n b e .1;
+        is-written = λ t w out l. f .writes-back own (F .print t) (w .bytes .byte) t (length (F .print t)) (f .reads-back t (ok t w) (w .short)) out l .0;
+        reads-back = λ pool tape out t n e. let r = f .written-reads-back pool tape (length out) t n e in (written pool tape out t n e, r .0, r .3);
+        is-laid = is-laid;
+        writes-back = writes-back;
+      }
+
+-- ---- the content table's extension
+
+module _ (kind extension : ℕ) (body : List ℕ) where
+  content-holds : (t : Content) → AreBytes body → readingOf 3 kind extension body ≡ found t (length body) → HoldsContent kind extension body t
+  unfolding readingOf
+  content-holds t b e =
+      let i = andThen-found (reading (content 3) contentKind kind body) _ t (length body) e in
+      let c = need-found (eqb extension (extensionOf (i .0 .identifier))) OtherChecksum _ t (length body) (i .3) in
+      let h : HoldsContent kind extension body (i .0) =
+      record {
+        holds = read-holds (content 3) contentKind (content-trips 3) kind body (i .0) (i .1) b (i .2) .0;
+        extension-is = eqb-true extension (extensionOf (i .0 .identifier)) (c .0);
+      } in
+      subst (HoldsContent kind extension body) (found-inj (c .1) .0) h
+
+  content-reads : (t : Content) → HoldsContent kind extension body t → readingOf 3 kind extension body ≡ found t (length body)
+  unfolding readingOf
+  content-reads t h =
+      rw (held-reads (content 3) contentKind (content-trips 3) kind body t (h .holds), eq-eqb extension (extensionOf (t .identifier)) (h .extension-is))
+
+  content-accepts : AreBytes body → contentRead 3 kind extension body ≡ At (length body) → (t : Content) × HoldsContent kind extension body t
+  unfolding contentRead
+  content-accepts b e =
+      let x = step-found (readingOf 3 kind extension body) (length body) e in
+      (x .0, content-holds (x .0) b (x .1))
+
+  content-accepted : (t : Content) → HoldsContent kind extension body t → contentRead 3 kind extension body ≡ At (length body)
+  unfolding contentRead
+  content-accepted t h = ap stepOf (content-reads t h)
+
+-- the writer's answer is a table's, with the extension of its identifier
+given : (x : Reading Content) (n extension : ℕ) → writtenOf x ≡ Of n extension → (t : Content) × (x ≡ found t n) × (extension ≡ extensionOf (t .identifier))
+given (found t m) n extension e =
+    let a : m ≡ n = cc in
+    let b : extension ≡ extensionOf (t .identifier) = cc in
+    (t, ap (found t) a, b)
+given (refused r) n extension e = absurd (let z : _≡_ {A = ℕ} 0 1 = cc in omega arith)
+
+written-with : (pool tape out : List ℕ) (n extension : ℕ) → contentWritten pool tape (length out) ≡ Of n extension
+    → (t : Content) × (output (content 3) pool tape out ≡ placed out 0 (content 3 .print t)) × (readingOf 3 contentKind extension (content 3 .print t) ≡ found t n)
+unfolding contentWritten readingOf
+written-with pool tape out n extension e =
+    let g = given (writing (content 3) pool tape (length out)) n extension e in
+    let r = round-trips (content 3) contentKind (content-trips 3) .reads-back pool tape out (g .0) n (g .1) in
+    (g .0, r .0, rw (r .2, eq-eqb extension (extensionOf (g .0 .identifier)) (g .2)))
+
+extended : Extended
+extended =
+    record {
+      reads-exactly = λ kind extension body t b. (content-holds kind extension body t b, content-reads kind extension body t);
+      accepts-exactly = λ kind extension body b. (content-accepts kind extension body b, λ x. content-accepted kind extension body (x .0) (x .1));
+      written-with = written-with;
+    }
+
+-- ---- sections
+
+is-cut : (body : List ℕ) (kind extension version number : ℕ) → Askable (length body) kind extension version number
+    → (out : List ℕ) → length (partOf body number) + 12 ≤ length out → cutAnswer body kind extension version number out ≡ Written (length (partOf body number) + 12)
+unfolding sectionOf answerBy
+is-cut body kind extension version number a out l =
+    ap answerBy (cut-writes body kind extension version number (length out) a l)
+    ∙ ap Written (printed-length (cutHeading (length body) kind extension version number) (partOf body number))
+
+sections : SectionsRead
+sections =
+    record {
+      good-exactly = good-exactly;
+      counted = counted-is;
+      cut-reads = λ body kind extension version number out n e. cut-reads body kind extension version number out _ n (sym e) refl;
+      is-cut = is-cut;
+      cut-joined = cut-joined;
+    }
+
+-- ---- times and days
+
+times : Times
+times = record { writes-read = λ field at m. writes-read field at; reads-written = λ m at field. reads-written m at }
+
+calendar : Days
+unfolding dateOf
+calendar =
+    record {
+      starts = days.values .6;
+      goes-on = next-day;
+      ends = days.values .18;
+      no-other = λ n e. rw e;
+      date-of-day = date-of-day;
+      day-of-date = day-of-date;
+    }
+
+-- ---- the demand
+
+message-count : (kind : ℕ) (body : List ℕ) (t : Index) → AreBytes body → Holds index indexKind kind body t → messageCount body ≡ Is (length (t .messages)) 1
+message-count kind body t b h =
+    table-asked kind body (b .byte) t (length body) (held-reads index indexKind index-trips kind body t h) .messages-counted
+
+pub demand2 : Demand2
+demand2 =
+    record {
+      certificates = round-trips certificate certificateKind certificate-trips;
+      indexes = round-trips index indexKind index-trips;
+      contents = round-trips (content 3) contentKind (content-trips 3);
+      configurations = round-trips configuration configurationKind configuration-trips;
+      extended = extended;
+      message-count = message-count;
+      sections = sections;
+      times = times;
+      days = calendar;
+    }

@@ -1,0 +1,8 @@
+-- The proofs of the promises, most by citing what the crates prove.
+pub mod Demand1
+pub mod Demand2
+pub mod Demand3
+pub mod Values
+pub mod Determined
+pub mod Marks
+pub mod Useless

@@ -1,0 +1,65 @@
+-- Demand 1, sentence by sentence: nothing faults, each refusal has one number, and a refused call writes nothing.
+use Prim.Native.Nat.{ℕ, _%_, _≤_}
+use mathlib.Core.Path.{_≡_}
+use mathlib.Core.List.{List}
+use lib.ListN.{length}
+use Rattle.refusal.specs.Numbers.{numberOf, placeOf}
+use Rattle.refusal.specs.Answers.{answerOf, refusedOf}
+use Rattle.refusal.specs.declared.Refusal.{Refusal}
+use Rattle.refusal.specs.declared.Refusal.the-variants.{Contradiction}
+use Rattle.framing.specs.Cutting.{cutAnswer, cutOutput}
+use Rattle.framing.specs.declared.Cut.the-variants.{Refused as NotCut}
+use Rattle.holding.specs.State.{spoiledState}
+use Rattle.holding.specs.declared.Gathering.{Gathering}
+use Rattle.feeding.specs.Feeding.{fedOf, storeAfter}
+use Rattle.feeding.specs.declared.Answer.the-variants.{Refused as NotFed}
+use Rattle.handing.specs.Handing.{handedOf, outAfter}
+use Rattle.handing.specs.declared.Handed.the-variants.{Refused as NotHanded}
+use Rattle.fields.specs.Format.{Format}
+use Rattle.fields.specs.Body.{bodyWritten, output, bodyLaid, laidTape}
+use Rattle.fields.specs.declared.Step.the-variants.{Refused as NoStep}
+use Rattle.content.specs.Content.{content}
+use Rattle.contentwriter.specs.Written.{contentWritten}
+use Rattle.contentwriter.specs.declared.Written.the-variants.{Refused as NotWritten}
+use Rattle.records.specs.Records.{bodyRecorded, recorded}
+use Rattle.records.specs.declared.Record.{Record}
+
+-- "Every input of every length is taken without a fault, and every call finishes." This is the language's to say, and no theorem: a function
+-- is built only once it is proved that it never indexes past an end, wraps a sum, loses bits or divides by 0, and that it ends. No offered
+-- function has a `requires` (tests/promises.py sees to it), so this holds of every input.
+
+-- "Each refusal has one number of document 01's list [..]"
+pub record Numbered : Type 0 where
+  pub in-the-list : (r : Refusal) → (1 ≤ numberOf r) × (numberOf r ≤ 25)
+  -- a number and a place say which refusal it is
+  pub one-refusal : (r r′ : Refusal) → numberOf r ≡ numberOf r′ → placeOf r ≡ placeOf r′ → r ≡ r′
+  -- C finds the number in the low byte of an answer, and 0 there if nothing was refused
+  pub told : (r : Refusal) → refusedOf r % 256 ≡ numberOf r
+  pub not-told : (value : ℕ) → answerOf 0 value % 256 ≡ 0
+
+-- "[..] given exactly when the list says": the list and its orders are definitions, and each function's answer is what they say (`Offered`).
+-- Sections: `readSection`. Feeding: `verdictOf`. Handing out: `completeOf`, `fitting`. Bodies: `reading` and the tables' formats, for content
+-- `readingOf`. Writers: `writing`. Cutter: `cutting`. Days and times: `dayOf`, `dateOf`, `packOf`, `unpackOf`, `readText`, `showing`.
+
+-- "[..] and a refused call writes nothing": whatever the refusal r, the output, the store, the tape and the list of records are left as they were
+pub record WritesNothing : Type 1 where
+  pub cutter : (body : List ℕ) (kind extension version number : ℕ) (out : List ℕ) (r : Refusal)
+      → cutAnswer body kind extension version number out ≡ NotCut r → cutOutput body kind extension version number out ≡ out
+  pub feed : (g : Gathering) (store s : List ℕ) (r : Refusal) → fedOf g store s .answer ≡ NotFed r → storeAfter g store s ≡ store
+  pub hand-out : (g : Gathering) (store out : List ℕ) (r : Refusal) → handedOf g store out ≡ NotHanded r → outAfter g store out ≡ out
+  -- once for every format, so for every table
+  pub writers : {A : Type 0} (F : Format A) (pool tape out : List ℕ) (r : Refusal) → bodyWritten F pool tape (length out) ≡ NoStep r → output F pool tape out ≡ out
+  pub content-writer : (pool tape out : List ℕ) (r : Refusal) → contentWritten pool tape (length out) ≡ NotWritten r → output (content 3) pool tape out ≡ out
+  pub layers : {A : Type 0} (F : Format A) (own kind : ℕ) (body tape : List ℕ) (r : Refusal)
+      → bodyLaid F own kind body (length tape) ≡ NoStep r → laidTape F own kind body tape ≡ tape
+  pub records : (kind : ℕ) (body : List ℕ) (list : List Record) (r : Refusal) → bodyRecorded kind body (length list) ≡ NoStep r → recorded kind body list ≡ list
+
+-- "one exception: a contradicting section spoils the gathering": no other refusal changes the state, and this one changes nothing else in it
+pub record OnlySpoils : Type 0 where
+  pub state-stays : (g : Gathering) (store s : List ℕ) (r : Refusal) → fedOf g store s .answer ≡ NotFed r → (r ≡ Contradiction → ⊥) → fedOf g store s .state ≡ g
+  pub spoiled : (g : Gathering) (store s : List ℕ) → fedOf g store s .answer ≡ NotFed Contradiction → fedOf g store s .state ≡ spoiledState g
+
+pub record Demand1 : Type 1 where
+  pub numbered : Numbered
+  pub writes-nothing : WritesNothing
+  pub only-spoils : OnlySpoils

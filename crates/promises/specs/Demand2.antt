@@ -1,0 +1,137 @@
+-- Demand 2, sentence by sentence: tables, sections, times and days are written and read as the standard has them.
+use Prim.Native.Nat.{ℕ, suc, _+_, _≤_, _<_}
+use mathlib.Core.Path.{_≡_}
+use mathlib.Core.Bool.{true, false}
+use mathlib.Core.List.{List}
+use mathlib.Core.Logic.{_↔_}
+use lib.ListN.{length, take}
+use Rattle.refusal.specs.declared.Refusal.the-variants.{ImpossibleDay}
+use Rattle.placing.specs.Placed.{placed}
+use Rattle.crc.specs.Crc.{AreBytes}
+use Rattle.days.specs.Calendar.{inRange, dayOf, dateOf, dayAfter}
+use Rattle.days.specs.declared.Date.{Date}
+use Rattle.days.specs.declared.DayAnswer.the-variants.{Day}
+use Rattle.days.specs.declared.DateAnswer.the-variants.{On, Refused as NoDate}
+use Rattle.times.specs.Field.{readTime, writeTime}
+use Rattle.times.specs.declared.Moment.{Moment}
+use Rattle.times.specs.declared.Timed.the-variants as timed
+use Rattle.times.specs.declared.Fielded.the-variants.{Field}
+use Rattle.framing.specs.Section.{IsGood, IsPrinted}
+use Rattle.framing.specs.Cutting.{joined, sectionCount, partOf, countedOf, cutHeading, sectionOf, Allowed, Askable, cutAnswer, cutOutput}
+use Rattle.framing.specs.declared.Heading.{Heading}
+use Rattle.framing.specs.declared.Counted.the-variants.{Sections}
+use Rattle.framing.specs.declared.Cut.the-variants.{Written}
+use Rattle.fields.specs.Reading.{found}
+use Rattle.fields.specs.Format.{Format}
+use Rattle.fields.specs.Body.{longest, reading, bodyRead, writing, bodyWritten, output, bodyLaid, laidTape}
+use Rattle.fields.specs.declared.Step.the-variants.{At}
+use Rattle.fields.specs.declared.Number.the-variants.{Is}
+use Rattle.certificate.specs.Certificate.{certificateKind, certificate}
+use Rattle.index.specs.Index.{Index, indexKind, index}
+use Rattle.messages.specs.Asked.{messageCount}
+use Rattle.content.specs.Content.{Content, contentKind, content, extensionOf, readingOf, contentRead}
+use Rattle.contentwriter.specs.Written.{contentWritten}
+use Rattle.contentwriter.specs.declared.Written.the-variants.{Of}
+use Rattle.configuration.specs.Configuration.{configurationKind, configuration}
+
+-- "Written and read as the standard has it, doubtful places settled in 01": a table's definition lists its fields in wire order beside 01's words
+-- (`certificate`, `index`, `content`, `configuration`), and so do `readSection` and `printed` for a section, `readTime` for a time field and
+-- `Calendar` for days. What follows says that the readers and writers agree with them.
+
+-- ---- tables
+
+-- a table that can be sent: no field of it is refused, no count or length is too large, and it is printed as bytes, at most 1,045,504
+pub record WellFormed {A : Type 0} (F : Format A) (t : A) : Type 0 where
+  pub right : F .right t ≡ true
+  pub small : F .over t ≡ false
+  pub bytes : AreBytes (F .print t)
+  pub short : length (F .print t) ≤ longest
+
+-- a body of this kind is the bytes of the table t
+pub record Holds {A : Type 0} (F : Format A) (own kind : ℕ) (body : List ℕ) (t : A) : Type 0 where
+  pub kind-is : kind ≡ own
+  pub body-is : body ≡ F .print t
+  pub formed : WellFormed F t
+
+-- of a table with the format F and the kind `own`
+pub record WrittenAndRead {A : Type 0} (F : Format A) (own : ℕ) : Type 0 where
+  -- a body is read as the table t exactly if it is the bytes of t,
+  pub reads-exactly : (kind : ℕ) (body : List ℕ) (t : A) → AreBytes body → (reading F own kind body ≡ found t (length body)) ↔ Holds F own kind body t
+  -- it is accepted exactly if it is the bytes of some table, and then read to its end
+  pub accepts-exactly : (kind : ℕ) (body : List ℕ) → AreBytes body → (bodyRead F own kind body ≡ At (length body)) ↔ ((t : A) × Holds F own kind body t)
+  pub ends : (kind : ℕ) (body : List ℕ) (n : ℕ) → AreBytes body → bodyRead F own kind body ≡ At n → n ≡ length body
+  -- "Each well-formed table reads back as itself": there is a form from which it is written, and what is written from any form reads back
+  pub is-written : (t : A) → WellFormed F t → (out : List ℕ) → length (F .print t) ≤ length out
+      → writing F (F .print t) (F .tape t 0) (length out) ≡ found t (length (F .print t))
+  pub reads-back : (pool tape out : List ℕ) (t : A) (n : ℕ) → writing F pool tape (length out) ≡ found t n
+      → (output F pool tape out ≡ placed out 0 (F .print t)) × (n ≡ length (F .print t)) × (reading F own own (F .print t) ≡ found t n)
+  -- "each accepted table writes back to its bytes": it is laid onto any tape with room for its entries, and from them it is written
+  pub is-laid : (kind : ℕ) (body : List ℕ) (t : A) → reading F own kind body ≡ found t (length body) → (tape : List ℕ) → length (F .tape t 0) ≤ length tape
+      → bodyLaid F own kind body (length tape) ≡ At (length (F .tape t 0))
+  pub writes-back : (kind : ℕ) (body : List ℕ) → AreBytes body → (tape : List ℕ) (m : ℕ) → bodyLaid F own kind body (length tape) ≡ At m
+      → (out : List ℕ) → length body ≤ length out
+      → (bodyWritten F body (take m (laidTape F own kind body tape)) (length out) ≡ At (length body))
+      × (output F body (take m (laidTape F own kind body tape)) out ≡ placed out 0 body)
+
+-- a content table also has the extension of its identifier
+pub record HoldsContent (kind extension : ℕ) (body : List ℕ) (t : Content) : Type 0 where
+  pub holds : Holds (content 3) contentKind kind body t
+  pub extension-is : extension ≡ extensionOf (t .identifier)
+
+pub record Extended : Type 0 where
+  pub reads-exactly : (kind extension : ℕ) (body : List ℕ) (t : Content) → AreBytes body
+      → (readingOf 3 kind extension body ≡ found t (length body)) ↔ HoldsContent kind extension body t
+  pub accepts-exactly : (kind extension : ℕ) (body : List ℕ) → AreBytes body
+      → (contentRead 3 kind extension body ≡ At (length body)) ↔ ((t : Content) × HoldsContent kind extension body t)
+  -- "the content writer also gives the extension": what it wrote reads back with the one that it gave
+  pub written-with : (pool tape out : List ℕ) (n extension : ℕ) → contentWritten pool tape (length out) ≡ Of n extension
+      → (t : Content) × (output (content 3) pool tape out ≡ placed out 0 (content 3 .print t)) × (readingOf 3 contentKind extension (content 3 .print t) ≡ found t n)
+
+-- ---- sections
+
+pub record SectionsRead : Type 0 where
+  -- a byte string is good exactly if it is the section printed of its heading and its payload
+  pub good-exactly : (s : List ℕ) (h : Heading) (payload : List ℕ) → AreBytes s → IsGood s h payload ↔ IsPrinted s h payload
+  -- "A body of L bytes (1 to 1,045,504) makes the ceiling of L ÷ 4,084 sections"
+  pub counted : (n : ℕ) → 0 < n → n ≤ longest → countedOf n ≡ Sections (sectionCount n)
+  -- what the cutter writes is good, with the heading asked for and its part of the body
+  pub cut-reads : (body : List ℕ) (kind extension version number : ℕ) (out : List ℕ) (n : ℕ) → cutAnswer body kind extension version number out ≡ Written n
+      → IsGood (take n (cutOutput body kind extension version number out)) (cutHeading (length body) kind extension version number) (partOf body number)
+  -- it writes each of them, where the output has room
+  pub is-cut : (body : List ℕ) (kind extension version number : ℕ) → Askable (length body) kind extension version number
+      → (out : List ℕ) → length (partOf body number) + 12 ≤ length out → cutAnswer body kind extension version number out ≡ Written (length (partOf body number) + 12)
+  -- and all of them joined are the body
+  pub cut-joined : (body : List ℕ) (kind extension version : ℕ) → Allowed kind extension version → 0 < length body → length body ≤ longest
+      → joined (sectionOf body kind extension version) (sectionCount (length body)) ≡ body
+
+-- ---- times and days
+
+-- a time field and the moment that it says, both ways
+pub record Times : Type 0 where
+  pub writes-read : (field at : ℕ) (m : Moment) → readTime field at ≡ timed.At m → writeTime m ≡ Field field
+  pub reads-written : (m : Moment) (at field : ℕ) → writeTime m ≡ Field field → readTime field at ≡ timed.At m
+
+-- "days agree with the Gregorian calendar from 1 March 1900 to 22 April 2038"
+pub record Days : Type 0 where
+  pub starts : dateOf 15079 ≡ On (record { year = 1900; month = 3; day = 1 })
+  -- each day has the date after the last one's, by leap years and the months' lengths
+  pub goes-on : (n : ℕ) (date : Date) → dateOf n ≡ On date → n < 65535 → dateOf (suc n) ≡ On (dayAfter date)
+  pub ends : dateOf 65535 ≡ On (record { year = 2038; month = 4; day = 22 })
+  pub no-other : (n : ℕ) → inRange n ≡ false → dateOf n ≡ NoDate (ImpossibleDay 0)
+  -- the day of a date and the date of a day are each other's inverse
+  pub date-of-day : (y m d n : ℕ) → dayOf y m d ≡ Day n → dateOf n ≡ On (record { year = y; month = m; day = d })
+  pub day-of-date : (n : ℕ) (date : Date) → dateOf n ≡ On date → dayOf (date .year) (date .month) (date .day) ≡ Day n
+
+-- ---- the demand
+
+pub record Demand2 : Type 0 where
+  pub certificates : WrittenAndRead certificate certificateKind
+  pub indexes : WrittenAndRead index indexKind
+  pub contents : WrittenAndRead (content 3) contentKind
+  pub configurations : WrittenAndRead configuration configurationKind
+  pub extended : Extended
+  -- no count is made up: it is that of the table's messages
+  pub message-count : (kind : ℕ) (body : List ℕ) (t : Index) → AreBytes body → Holds index indexKind kind body t → messageCount body ≡ Is (length (t .messages)) 1
+  pub sections : SectionsRead
+  pub times : Times
+  pub days : Days

@@ -1,0 +1,8 @@
+-- The promises: three demands, the values of document 01, each offered function's results, and the useless versions that they shut out.
+pub mod Demand1
+pub mod Demand2
+pub mod Demand3
+pub mod Values
+pub mod Determined
+pub mod Offered
+pub mod Useless

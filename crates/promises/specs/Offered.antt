@@ -1,0 +1,147 @@
+-- What each function offered to C promises: any two results that its contract allows are equal. A line is a contract in its own words, with x for
+-- `now (x .entry)` and x′ for `now (x .exit)`; tests/promises.py holds each line to the source.
+use Prim.Native.Nat.{ℕ}
+use mathlib.Core.Path.{_≡_}
+use mathlib.Core.List.{List}
+use lib.ListN.{length}
+use lib.IntN.{ℤ}
+use Rattle.crc.specs.Crc.{crc16Of, crc32Of}
+use Rattle.days.specs.Calendar.{dayOf, dateOf, weekdayOf}
+use Rattle.times.specs.Showing.{showing}
+use Rattle.local.specs.Clock.{packOf, unpackOf}
+use Rattle.local.specs.Text.{readText}
+use Rattle.framing.specs.Section.{readSection}
+use Rattle.framing.specs.Cutting.{countedOf, cutAnswer, cutOutput}
+use Rattle.holding.specs.declared.Gathering.{Gathering}
+use Rattle.feeding.specs.Feeding.{fedOf, storeAfter}
+use Rattle.handing.specs.Handing.{handedOf, outAfter}
+use Rattle.fields.specs.Body.{bodyRead, bodyLaid, laidTape, bodyWritten, output}
+use Rattle.certificate.specs.Certificate.{certificateKind, certificate}
+use Rattle.certificate.specs.Asked as certificate
+use Rattle.certificate.specs.Asked.{authorizationCount, authorizationPart, certificateCount, certificatePart}
+use Rattle.index.specs.Index.{indexKind, index}
+use Rattle.records.specs.Records.{bodyRecorded, recorded}
+use Rattle.records.specs.declared.Record.{Record}
+use Rattle.messages.specs.Asked.{messageCount, messagePart, signaturePart, identifierPart, identifierDigit, network, start, end, typePart, class, level, resourceCount, resourcePart, resourceDigit, flag, channelNetwork, channelStream, channelProgram, pcrPid, descriptorsPart, streamsPart, descriptorTag, descriptorPart, streamType, streamPid, streamDescriptors}
+use Rattle.content.specs.Content.{contentKind, content, contentRead}
+use Rattle.contentwriter.specs.Written.{contentWritten}
+use Rattle.languages.specs.Asked as languages
+use Rattle.languages.specs.Asked.{extension, languageCount, languagePart, lettersPart, characterSet, textPart, agencyPart, auxiliaryCount, auxiliaryType, auxiliaryPart}
+use Rattle.configuration.specs.Configuration.{configurationKind, configuration}
+use Rattle.commands.specs.Asked as commands
+use Rattle.commands.specs.Asked.{commandCount, commandTag, commandContent, clockYear, clockMonth, clockDay, clockHour, clockMinute, clockSecond, codeAddress, codeResource, codeDigit, frequency, symbolRate, mapping, returnKind, returnAddress, period, volume, parameterCount, parameter, terminalCount, terminal, terminalDigit}
+use Rattle.telling.specs.Answers.{dayAnswer, dateAnswer, weekdayAnswer, fieldAnswer, localAnswer, showingAnswer, sectionAnswer, countAnswer, lengthAnswer, feedAnswer, handAnswer, readAnswer, numberAnswer, partAnswer, writtenAnswer, contentAnswer, localFieldAnswer}
+use Rattle.promises.specs.Determined.{Determined, Determined₂, Determined₃}
+
+pub record Offered : Type 0 where
+  -- checksums
+  pub nw-crc32 : (s : List ℕ) → Determined (λ r. r ≡ crc32Of s)
+  pub nw-crc16 : (s : List ℕ) → Determined (λ r. r ≡ crc16Of s)
+  -- days
+  pub nw-day-of : (year month day : ℕ) → Determined (λ r. r ≡ dayAnswer (dayOf year month day))
+  pub nw-date-of : (day : ℕ) → Determined (λ r. r ≡ dateAnswer (dateOf day))
+  pub nw-weekday : (day : ℕ) → Determined (λ r. r ≡ weekdayAnswer (weekdayOf day))
+  -- times
+  pub nw-time-pack : (year month day hour minute second : ℕ) (offset : ℤ) → Determined (λ r. r ≡ fieldAnswer (packOf (record { year = year; month = month; day = day; hour = hour; minute = minute; second = second }) offset))
+  pub nw-time-read-text : (text : List ℕ) (offset : ℤ) → Determined (λ r. r ≡ fieldAnswer (readText text offset))
+  pub nw-time-unpack : (field : ℕ) (offset : ℤ) → Determined (λ r. r ≡ localAnswer (unpackOf field offset))
+  pub nw-time-showing : (start end day second : ℕ) → Determined (λ r. r ≡ showingAnswer (showing start end (record { day = day; second = second })))
+  -- sections
+  pub nw-section-read : (s : List ℕ) → Determined (λ r. r ≡ sectionAnswer (readSection s))
+  pub nw-section-count : (length : ℕ) → Determined (λ r. r ≡ countAnswer (countedOf length))
+  pub nw-section-cut : (body : List ℕ) (kind extension version number : ℕ) (out : List ℕ) → Determined₂ (λ r out′. (r ≡ lengthAnswer (cutAnswer body kind extension version number out)) × (out′ ≡ cutOutput body kind extension version number out))
+  -- the gathering
+  pub nw-gathering-feed : (g : Gathering) (store s : List ℕ) → Determined₃ (λ r g′ store′. (r ≡ feedAnswer (fedOf g store s .answer)) × (g′ ≡ fedOf g store s .state) × (store′ ≡ storeAfter g store s))
+  pub nw-gathering-hand-out : (g : Gathering) (store out : List ℕ) → Determined₂ (λ r out′. (r ≡ handAnswer (handedOf g store out)) × (out′ ≡ outAfter g store out))
+  -- the certificate table
+  pub nw-certificate-read : (kind : ℕ) (body : List ℕ) → Determined (λ r. r ≡ readAnswer (bodyRead certificate certificateKind kind body))
+  pub nw-certificate-authorization-count : (body : List ℕ) → Determined (λ r. r ≡ numberAnswer (authorizationCount body))
+  pub nw-certificate-authorization : (body : List ℕ) (i : ℕ) → Determined (λ r. r ≡ partAnswer (authorizationPart body i))
+  pub nw-certificate-count : (body : List ℕ) → Determined (λ r. r ≡ numberAnswer (certificateCount body))
+  pub nw-certificate-part : (body : List ℕ) (i : ℕ) → Determined (λ r. r ≡ partAnswer (certificatePart body i))
+  pub nw-certificate-signature : (body : List ℕ) → Determined (λ r. r ≡ partAnswer (certificate.signaturePart body))
+  pub nw-certificate-write : (pool tape out : List ℕ) → Determined₂ (λ r out′. (r ≡ writtenAnswer (bodyWritten certificate pool tape (length out))) × (out′ ≡ output certificate pool tape out))
+  pub nw-certificate-lay : (kind : ℕ) (body tape : List ℕ) → Determined₂ (λ r tape′. (r ≡ writtenAnswer (bodyLaid certificate certificateKind kind body (length tape))) × (tape′ ≡ laidTape certificate certificateKind kind body tape))
+  -- the index table
+  pub nw-index-read : (kind : ℕ) (body : List ℕ) → Determined (λ r. r ≡ readAnswer (bodyRead index indexKind kind body))
+  pub nw-index-lay : (kind : ℕ) (body tape : List ℕ) → Determined₂ (λ r tape′. (r ≡ writtenAnswer (bodyLaid index indexKind kind body (length tape))) × (tape′ ≡ laidTape index indexKind kind body tape))
+  pub nw-index-write : (pool tape out : List ℕ) → Determined₂ (λ r out′. (r ≡ writtenAnswer (bodyWritten index pool tape (length out))) × (out′ ≡ output index pool tape out))
+  -- its message records
+  pub nw-index-records : (kind : ℕ) (body : List ℕ) (list : List Record) → Determined₂ (λ r list′. (r ≡ writtenAnswer (bodyRecorded kind body (length list))) × (list′ ≡ recorded kind body list))
+  -- its fields
+  pub nw-index-message-count : (body : List ℕ) → Determined (λ r. r ≡ numberAnswer (messageCount body))
+  pub nw-index-message : (body : List ℕ) (i : ℕ) → Determined (λ r. r ≡ partAnswer (messagePart body i))
+  pub nw-index-signature : (body : List ℕ) → Determined (λ r. r ≡ partAnswer (signaturePart body))
+  pub nw-message-identifier : (body : List ℕ) (at length : ℕ) → Determined (λ r. r ≡ partAnswer (identifierPart body at length))
+  pub nw-message-identifier-digit : (body : List ℕ) (at length i : ℕ) → Determined (λ r. r ≡ numberAnswer (identifierDigit body at length i))
+  pub nw-message-network : (body : List ℕ) (at length : ℕ) → Determined (λ r. r ≡ numberAnswer (network body at length))
+  pub nw-message-start : (body : List ℕ) (at length : ℕ) → Determined (λ r. r ≡ numberAnswer (start body at length))
+  pub nw-message-end : (body : List ℕ) (at length : ℕ) → Determined (λ r. r ≡ numberAnswer (end body at length))
+  pub nw-message-type : (body : List ℕ) (at length : ℕ) → Determined (λ r. r ≡ partAnswer (typePart body at length))
+  pub nw-message-class : (body : List ℕ) (at length : ℕ) → Determined (λ r. r ≡ numberAnswer (class body at length))
+  pub nw-message-level : (body : List ℕ) (at length : ℕ) → Determined (λ r. r ≡ numberAnswer (level body at length))
+  pub nw-message-resource-count : (body : List ℕ) (at length : ℕ) → Determined (λ r. r ≡ numberAnswer (resourceCount body at length))
+  pub nw-message-resource : (body : List ℕ) (at length i : ℕ) → Determined (λ r. r ≡ partAnswer (resourcePart body at length i))
+  pub nw-message-resource-digit : (body : List ℕ) (at length i j : ℕ) → Determined (λ r. r ≡ numberAnswer (resourceDigit body at length i j))
+  pub nw-message-channel-flag : (body : List ℕ) (at length : ℕ) → Determined (λ r. r ≡ numberAnswer (flag body at length))
+  pub nw-message-channel-network : (body : List ℕ) (at length : ℕ) → Determined (λ r. r ≡ numberAnswer (channelNetwork body at length))
+  pub nw-message-channel-stream : (body : List ℕ) (at length : ℕ) → Determined (λ r. r ≡ numberAnswer (channelStream body at length))
+  pub nw-message-channel-program : (body : List ℕ) (at length : ℕ) → Determined (λ r. r ≡ numberAnswer (channelProgram body at length))
+  pub nw-message-pcr-pid : (body : List ℕ) (at length : ℕ) → Determined (λ r. r ≡ numberAnswer (pcrPid body at length))
+  pub nw-message-descriptors : (body : List ℕ) (at length : ℕ) → Determined (λ r. r ≡ partAnswer (descriptorsPart body at length))
+  pub nw-message-streams : (body : List ℕ) (at length : ℕ) → Determined (λ r. r ≡ partAnswer (streamsPart body at length))
+  pub nw-descriptor-tag : (body : List ℕ) (end p : ℕ) → Determined (λ r. r ≡ numberAnswer (descriptorTag body end p))
+  pub nw-descriptor-bytes : (body : List ℕ) (end p : ℕ) → Determined (λ r. r ≡ partAnswer (descriptorPart body end p))
+  pub nw-stream-type : (body : List ℕ) (end p : ℕ) → Determined (λ r. r ≡ numberAnswer (streamType body end p))
+  pub nw-stream-pid : (body : List ℕ) (end p : ℕ) → Determined (λ r. r ≡ numberAnswer (streamPid body end p))
+  pub nw-stream-descriptors : (body : List ℕ) (end p : ℕ) → Determined (λ r. r ≡ partAnswer (streamDescriptors body end p))
+  pub nw-message-local-start : (body : List ℕ) (at length : ℕ) (offset : ℤ) → Determined (λ r. r ≡ localFieldAnswer (λ f. unpackOf f offset) (start body at length))
+  pub nw-message-local-end : (body : List ℕ) (at length : ℕ) (offset : ℤ) → Determined (λ r. r ≡ localFieldAnswer (λ f. unpackOf f offset) (end body at length))
+  -- the content table
+  pub nw-content-read : (kind extension : ℕ) (body : List ℕ) → Determined (λ r. r ≡ readAnswer (contentRead 3 kind extension body))
+  pub nw-content-lay : (kind : ℕ) (body tape : List ℕ) → Determined₂ (λ r tape′. (r ≡ writtenAnswer (bodyLaid (content 3) contentKind kind body (length tape))) × (tape′ ≡ laidTape (content 3) contentKind kind body tape))
+  pub nw-content-write : (pool tape out : List ℕ) → Determined₂ (λ r out′. (r ≡ contentAnswer (contentWritten pool tape (length out))) × (out′ ≡ output (content 3) pool tape out))
+  -- its fields
+  pub nw-content-identifier : (body : List ℕ) → Determined (λ r. r ≡ partAnswer (languages.identifierPart body))
+  pub nw-content-identifier-digit : (body : List ℕ) (i : ℕ) → Determined (λ r. r ≡ numberAnswer (languages.identifierDigit body i))
+  pub nw-content-extension : (body : List ℕ) → Determined (λ r. r ≡ numberAnswer (extension body))
+  pub nw-content-language-count : (body : List ℕ) → Determined (λ r. r ≡ numberAnswer (languageCount body))
+  pub nw-content-language : (body : List ℕ) (i : ℕ) → Determined (λ r. r ≡ partAnswer (languagePart body i))
+  pub nw-content-signature : (body : List ℕ) → Determined (λ r. r ≡ partAnswer (languages.signaturePart body))
+  pub nw-language-letters : (body : List ℕ) (at length : ℕ) → Determined (λ r. r ≡ partAnswer (lettersPart body at length))
+  pub nw-language-character-set : (body : List ℕ) (at length : ℕ) → Determined (λ r. r ≡ numberAnswer (characterSet body at length))
+  pub nw-language-text : (body : List ℕ) (at length : ℕ) → Determined (λ r. r ≡ partAnswer (textPart body at length))
+  pub nw-language-agency : (body : List ℕ) (at length : ℕ) → Determined (λ r. r ≡ partAnswer (agencyPart body at length))
+  pub nw-language-auxiliary-count : (body : List ℕ) (at length : ℕ) → Determined (λ r. r ≡ numberAnswer (auxiliaryCount body at length))
+  pub nw-language-auxiliary-type : (body : List ℕ) (at length i : ℕ) → Determined (λ r. r ≡ numberAnswer (auxiliaryType 3 body at length i))
+  pub nw-language-auxiliary : (body : List ℕ) (at length i : ℕ) → Determined (λ r. r ≡ partAnswer (auxiliaryPart 3 body at length i))
+  -- the configuration table
+  pub nw-configuration-read : (kind : ℕ) (body : List ℕ) → Determined (λ r. r ≡ readAnswer (bodyRead configuration configurationKind kind body))
+  pub nw-configuration-lay : (kind : ℕ) (body tape : List ℕ) → Determined₂ (λ r tape′. (r ≡ writtenAnswer (bodyLaid configuration configurationKind kind body (length tape))) × (tape′ ≡ laidTape configuration configurationKind kind body tape))
+  pub nw-configuration-write : (pool tape out : List ℕ) → Determined₂ (λ r out′. (r ≡ writtenAnswer (bodyWritten configuration pool tape (length out))) × (out′ ≡ output configuration pool tape out))
+  -- its fields
+  pub nw-configuration-command-count : (body : List ℕ) → Determined (λ r. r ≡ numberAnswer (commandCount body))
+  pub nw-configuration-signature : (body : List ℕ) → Determined (λ r. r ≡ partAnswer (commands.signaturePart body))
+  pub nw-command-tag : (body : List ℕ) (p : ℕ) → Determined (λ r. r ≡ numberAnswer (commandTag body p))
+  pub nw-command-content : (body : List ℕ) (p : ℕ) → Determined (λ r. r ≡ partAnswer (commandContent body p))
+  pub nw-command-clock-year : (body : List ℕ) (p : ℕ) → Determined (λ r. r ≡ numberAnswer (clockYear body p))
+  pub nw-command-clock-month : (body : List ℕ) (p : ℕ) → Determined (λ r. r ≡ numberAnswer (clockMonth body p))
+  pub nw-command-clock-day : (body : List ℕ) (p : ℕ) → Determined (λ r. r ≡ numberAnswer (clockDay body p))
+  pub nw-command-clock-hour : (body : List ℕ) (p : ℕ) → Determined (λ r. r ≡ numberAnswer (clockHour body p))
+  pub nw-command-clock-minute : (body : List ℕ) (p : ℕ) → Determined (λ r. r ≡ numberAnswer (clockMinute body p))
+  pub nw-command-clock-second : (body : List ℕ) (p : ℕ) → Determined (λ r. r ≡ numberAnswer (clockSecond body p))
+  pub nw-command-code-address : (body : List ℕ) (p : ℕ) → Determined (λ r. r ≡ partAnswer (codeAddress body p))
+  pub nw-command-code-resource : (body : List ℕ) (p : ℕ) → Determined (λ r. r ≡ partAnswer (codeResource body p))
+  pub nw-command-code-digit : (body : List ℕ) (p j : ℕ) → Determined (λ r. r ≡ numberAnswer (codeDigit body p j))
+  pub nw-command-frequency : (body : List ℕ) (p : ℕ) → Determined (λ r. r ≡ numberAnswer (frequency body p))
+  pub nw-command-symbol-rate : (body : List ℕ) (p : ℕ) → Determined (λ r. r ≡ numberAnswer (symbolRate body p))
+  pub nw-command-mapping : (body : List ℕ) (p : ℕ) → Determined (λ r. r ≡ numberAnswer (mapping body p))
+  pub nw-command-return-kind : (body : List ℕ) (p : ℕ) → Determined (λ r. r ≡ numberAnswer (returnKind body p))
+  pub nw-command-return-address : (body : List ℕ) (p : ℕ) → Determined (λ r. r ≡ partAnswer (returnAddress body p))
+  pub nw-command-period : (body : List ℕ) (p : ℕ) → Determined (λ r. r ≡ numberAnswer (period body p))
+  pub nw-command-volume : (body : List ℕ) (p : ℕ) → Determined (λ r. r ≡ numberAnswer (volume body p))
+  pub nw-command-parameter-count : (body : List ℕ) (p : ℕ) → Determined (λ r. r ≡ numberAnswer (parameterCount body p))
+  pub nw-command-parameter : (body : List ℕ) (p i : ℕ) → Determined (λ r. r ≡ numberAnswer (parameter body p i))
+  pub nw-command-terminal-count : (body : List ℕ) (p : ℕ) → Determined (λ r. r ≡ numberAnswer (terminalCount body p))
+  pub nw-command-terminal : (body : List ℕ) (p i : ℕ) → Determined (λ r. r ≡ partAnswer (terminal body p i))
+  pub nw-command-terminal-digit : (body : List ℕ) (p i j : ℕ) → Determined (λ r. r ≡ numberAnswer (terminalDigit body p i j))
