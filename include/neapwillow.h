@@ -18,6 +18,8 @@
 extern "C" {
 #endif
 
+#define NW_VERSION "0.1.0"
+
 /* ---- Answers ----------------------------------------------------------------------------------
  *
  * One convention for every function that can refuse: the low byte is the refusal's number, 0 for
@@ -59,6 +61,41 @@ enum nw_refusal {
     NW_NOT_OF_THE_FORM = 24,        /* date text not of the exact form */
     NW_BODY_TOO_LONG = 25           /* the joined body is above 1,045,504 bytes */
 };
+
+/* What a refusal's number means, in words for a person; any other number is no such refusal. Plain C in
+ * this header, tested and not proved. */
+static inline const char *nw_refusal_text(unsigned number)
+{
+    static const char *const texts[] = {
+        "nothing is refused",
+        "the section is shorter than 12 bytes",
+        "the table is of another kind",
+        "a fixed bit of the heading is 0",
+        "section_length is below 9 or above 4,093",
+        "the section is not as long as its section_length says",
+        "the section number is above the last",
+        "the section's CRC_32 is wrong",
+        "the section is not current",
+        "the section belongs to another table",
+        "the store is too short for the table",
+        "two payloads contradict each other under one section number",
+        "the gathering's state is not a possible one",
+        "a section is missing",
+        "the body ends too early",
+        "a field does not fit its part",
+        "bytes are left after the signature",
+        "a reserved bit is wrong",
+        "a decimal digit is above 9",
+        "a value is outside its set",
+        "the day or the time is impossible or out of range",
+        "the output buffer or the record list is too small",
+        "a length, a count or a body is too large",
+        "the extension is not the CRC-16 of the identifier",
+        "the text is not dd/mm/yyyy hh:mm:ss",
+        "the joined body is above 1,045,504 bytes",
+    };
+    return number < sizeof texts / sizeof texts[0] ? texts[number] : "no such refusal";
+}
 
 /* ---- Checksums --------------------------------------------------------------------------------
  *

@@ -1,0 +1,84 @@
+// The content table's target.
+#include "table.h"
+
+static void put_letters(struct input *in, nw_form *f) {
+    uint8_t letters[3];
+    for (int i = 0; i < 3; i++) letters[i] = (uint8_t)(now_and_then(in, 64) ? take(in, 1) : 'a' + take(in, 1) % 26);
+    nw_form_bytes(f, letters, 3);
+}
+
+static void make(struct input *in, nw_form *f) {
+    put_digits(in, f, 18);
+    size_t languages = 1 + upto(in, 4);
+    nw_form_number(f, now_and_then(in, 64) ? take(in, 1) : languages);
+    for (; languages > 0; languages--) {
+        put_letters(in, f);
+        put_number(in, f, 0, 4);
+        put_some(in, f);
+        put_some(in, f);
+        for (size_t files = put_count(in, f, 2); files > 0; files--) {
+            put_number(in, f, 0, 255);
+            put_some(in, f);
+        }
+    }
+    put_some(in, f);
+}
+
+// Read with the extension that the identifier asks for, so as laying does, which does not look at it; another one is 23.
+static nw_answer read_content(uint32_t kind, const uint8_t *body, size_t n) {
+    nw_answer extension = nw_content_extension(body, n);
+    uint32_t right = taken(extension) ? (uint32_t)NW_VALUE(extension) : 0;
+    nw_answer a = nw_content_read(kind, right, body, n);
+    must(!taken(a) || taken(extension));
+    must(nw_content_read(kind, right ^ 1, body, n) == (taken(a) ? NW_OTHER_CHECKSUM : a));
+    return a;
+}
+
+static size_t content_length(nw_answer a) { return NW_CONTENT_LENGTH(a); }
+
+static void ask_language(struct input *in, const uint8_t *body, size_t n, size_t at, size_t length, bool accepted) {
+    nw_answer files = nw_language_auxiliary_count(body, n, at, length), text = nw_language_text(body, n, at, length);
+    hold_part(nw_language_letters(body, n, at, length), n);
+    hold_number(nw_language_character_set(body, n, at, length), 4);
+    hold_part(text, n);
+    hold_part(nw_language_agency(body, n, at, length), n);
+    hold_number(files, 2);
+    for (uint64_t i = 0; i < 3; i++) {
+        hold_number(nw_language_auxiliary_type(body, n, at, length, i), 255);
+        nw_answer file = nw_language_auxiliary(body, n, at, length, i);
+        hold_part(file, n);
+        must(!accepted || taken(file) == (i < NW_VALUE(files)));
+    }
+    must(!taken(nw_language_auxiliary(body, n, at, length, 3 + take(in, 7))));
+    must(!accepted || (taken(text) && taken(files)));
+}
+
+static void ask(struct input *in, const uint8_t *body, size_t n, bool accepted) {
+    nw_answer identifier = nw_content_identifier(body, n), count = nw_content_language_count(body, n);
+    nw_answer signature = nw_content_signature(body, n), extension = nw_content_extension(body, n);
+    hold_part(identifier, n);
+    hold_number(count, 5);
+    hold_part(signature, n);
+    must(taken(identifier) == taken(extension));
+    must(!taken(extension) || NW_VALUE(extension) == nw_crc16(body, 18));
+    for (uint64_t i = 0; i < 35; i++) hold_number(nw_content_identifier_digit(body, n, i), 9);
+    must(!taken(nw_content_identifier_digit(body, n, 35 + take(in, 7))));
+    for (uint64_t i = 0; taken(count) && i <= NW_VALUE(count); i++) {
+        nw_answer language = nw_content_language(body, n, i);
+        hold_part(language, n);
+        must(!accepted || taken(language) == (i < NW_VALUE(count)));
+        if (taken(language)) ask_language(in, body, n, NW_PART_START(language), NW_PART_LENGTH(language), accepted);
+    }
+    size_t at = upto(in, n + 1), length = upto(in, n + 1);
+    ask_language(in, body, n, at, length, false);
+    ask_language(in, body, n, (size_t)take(in, 8), (size_t)take(in, 8), false);
+    must(!accepted || (taken(identifier) && taken(count) && taken(signature)));
+    must(!accepted || NW_PART_START(signature) + NW_PART_LENGTH(signature) == n);
+}
+
+static const struct table content = {NW_CONTENT, read_content, nw_content_lay, nw_content_write, content_length, make, ask};
+
+int LLVMFuzzerTestOneInput(const uint8_t *data, size_t size) {
+    try_table(&content, (struct input){data, size});
+    return 0;
+}

@@ -1,0 +1,90 @@
+// The gathering's target: a run of feeds and handings out over one state and one store, beside the bodies that were cut.
+#include "trial.h"
+
+enum { BODY = 3 * NW_MOST_PAYLOAD + 100, STORE = 4 * NW_MOST_PAYLOAD };
+
+// The table that the sections are cut from.
+struct cuts {
+    uint8_t body[BODY];
+    size_t n;
+};
+
+// A section of the table, of another version of it, or one damaged or not current; answers its length.
+static size_t make_section(struct input *in, const struct cuts *c, uint8_t *out) {
+    uint32_t version = now_and_then(in, 8) ? 8 : 7;
+    uint32_t number = (uint32_t)upto(in, NW_VALUE(nw_section_count(c->n)) - 1);
+    nw_answer a = nw_section_cut(c->body, c->n, NW_CONTENT, 0x1234, version, number, out, NW_MOST_SECTION);
+    must(taken(a));
+    size_t n = (size_t)NW_VALUE(a);
+    if (now_and_then(in, 8)) out[upto(in, n - 1)] ^= (uint8_t)(1 + upto(in, 254));
+    if (now_and_then(in, 16)) { // another payload or current bit, and a right check
+        out[now_and_then(in, 2) && n > 12 ? 8 : 5] ^= 1;
+        uint32_t check = nw_crc32(out, n - 4);
+        for (size_t i = 0; i < 4; i++) out[n - 4 + i] = (uint8_t)(check >> (24 - 8 * i));
+    }
+    return now_and_then(in, 16) ? upto(in, n) : n;
+}
+
+// A refused feed changes nothing, but that a contradiction spoils; a taken one changes its own place only.
+static void try_feed(struct lent *state, struct lent *store, const uint8_t *section, size_t n) {
+    nw_gathering *g = (nw_gathering *)(void *)state->bytes, before = *g;
+    uint8_t *s = copy_of(section, n);
+    nw_answer fed = nw_gathering_feed(g, store->bytes, store->size, s, n);
+    must(taken(fed) ? NW_VALUE(fed) <= NW_FED_HELD_ALREADY : NW_PLACE(fed) == 0);
+    if (taken(fed) && NW_VALUE(fed) == NW_FED_TAKEN) {
+        size_t at = (size_t)s[6] * NW_MOST_PAYLOAD;
+        must(g->held[s[6]] == n - 11 && memcmp(store->bytes + at, s + 8, n - 12) == 0);
+        memcpy(store->before + at, s + 8, n - 12);
+    } else {
+        before.spoiled = NW_REFUSAL(fed) == NW_CONTRADICTION ? 1 : before.spoiled;
+        must(memcmp(g, &before, sizeof before) == 0);
+    }
+    must(kept(store, 0));
+    free(s);
+}
+
+// Handing out changes neither state nor store; a body handed out is the one that was cut, where all fed was of it.
+static void try_handing_out(struct input *in, struct lent *state, struct lent *store, const struct cuts *c, bool clean) {
+    remember(state);
+    struct lent out = lend(now_and_then(in, 4) ? upto(in, BODY) : STORE, 0x5a);
+    const nw_gathering *g = (const nw_gathering *)(const void *)state->bytes;
+    nw_answer a = nw_gathering_hand_out(g, store->bytes, store->size, out.bytes, out.size);
+    must(kept(state, 0) && kept(store, 0));
+    must(kept(&out, taken(a) ? (size_t)NW_VALUE(a) : 0));
+    must(taken(a) || NW_REFUSAL(a) == NW_MISSING || NW_PLACE(a) == 0);
+    if (clean && taken(a)) must(NW_VALUE(a) == c->n && memcmp(out.bytes, c->body, c->n) == 0);
+    give_back(&out);
+}
+
+// Every section of the table, in an order of the input's, is the body again.
+static void try_whole(struct input *in, struct lent *store, const struct cuts *c) {
+    struct lent state = lend(sizeof(nw_gathering), 0);
+    uint8_t section[NW_MOST_SECTION];
+    uint32_t count = (uint32_t)NW_VALUE(nw_section_count(c->n)), first = (uint32_t)upto(in, count - 1);
+    for (uint32_t i = 0; i < count; i++) {
+        nw_answer a = nw_section_cut(c->body, c->n, NW_CONTENT, 0x1234, 7, (first + i) % count, section, sizeof section);
+        try_feed(&state, store, section, (size_t)NW_VALUE(a));
+    }
+    must(store->size < NW_STORE_BYTES(count - 1) || ((nw_gathering *)(void *)state.bytes)->kind == NW_CONTENT);
+    try_handing_out(in, &state, store, c, true);
+    give_back(&state);
+}
+
+int LLVMFuzzerTestOneInput(const uint8_t *data, size_t size) {
+    struct input in = {data, size};
+    struct cuts c = {{0}, 1 + upto(&in, BODY - 1)};
+    for (size_t i = 0; i < c.n; i++) c.body[i] = (uint8_t)(i + i / 251);
+    struct lent state = lend(sizeof(nw_gathering), 0), store = lend(now_and_then(&in, 8) ? upto(&in, STORE) : STORE, 0x11);
+    uint8_t section[NW_MOST_SECTION];
+    if (now_and_then(&in, 8)) // a state that no feed made, mostly an impossible one
+        for (size_t i = 0; i < 16; i++) state.bytes[upto(&in, sizeof(nw_gathering) - 1)] = (uint8_t)take(&in, 1);
+    for (size_t feeds = upto(&in, 12); feeds > 0; feeds--) {
+        try_feed(&state, &store, section, make_section(&in, &c, section));
+        if (now_and_then(&in, 4)) try_handing_out(&in, &state, &store, &c, false);
+    }
+    try_feed(&state, &store, in.s, in.n);
+    try_whole(&in, &store, &c);
+    give_back(&state);
+    give_back(&store);
+    return 0;
+}

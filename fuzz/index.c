@@ -1,0 +1,163 @@
+// The index table's target.
+#include "table.h"
+
+static void put_time(struct input *in, nw_form *f, bool end) {
+    uint64_t day = 15079 + upto(in, 50456), clock = 0;
+    for (unsigned most = 23, i = 0; i < 3; i++, most = 59) {
+        unsigned x = (unsigned)upto(in, most);
+        clock = clock << 8 | (x / 10 << 4 | x % 10);
+    }
+    if (end && now_and_then(in, 4)) nw_form_number(f, NW_LIVE);
+    else nw_form_number(f, now_and_then(in, 64) ? take(in, 6) : day << 24 | clock);
+}
+
+static void put_descriptors(struct input *in, nw_form *f) {
+    for (size_t count = put_count(in, f, 3); count > 0; count--) {
+        put_number(in, f, 0, 255);
+        put_some(in, f);
+    }
+}
+
+static void put_channel(struct input *in, nw_form *f) {
+    for (int i = 0; i < 3; i++) put_number(in, f, 0, 0xFFFF);
+    put_number(in, f, 0, 0x1FFF);
+    put_descriptors(in, f);
+    for (size_t count = put_count(in, f, 3); count > 0; count--) {
+        put_number(in, f, 0, 255);
+        put_number(in, f, 0, 0x1FFF);
+        put_descriptors(in, f);
+    }
+}
+
+static void make(struct input *in, nw_form *f) {
+    for (size_t count = put_count(in, f, 3); count > 0; count--) {
+        put_digits(in, f, 18);
+        put_number(in, f, 0, 0xFFFF);
+        put_time(in, f, false);
+        put_time(in, f, true);
+        uint8_t type[5];
+        for (int i = 0; i < 5; i++) type[i] = (uint8_t)(take(in, 1) & (now_and_then(in, 64) ? 0xFF : 0x7F));
+        nw_form_bytes(f, type, 5);
+        put_number(in, f, 1, 4);
+        put_number(in, f, 1, 4);
+        for (size_t resources = put_count(in, f, 3); resources > 0; resources--) put_digits(in, f, 12);
+        bool channel = now_and_then(in, 2);
+        nw_form_number(f, channel);
+        if (channel) put_channel(in, f);
+    }
+    put_some(in, f);
+}
+
+// Each descriptor of a part, as far as they can be told.
+static void ask_descriptors(const uint8_t *body, size_t n, nw_answer part) {
+    if (!taken(part)) return;
+    size_t end = NW_PART_START(part) + NW_PART_LENGTH(part);
+    for (size_t p = NW_PART_START(part); p < end;) {
+        hold_number(nw_descriptor_tag(body, n, end, p), 255);
+        nw_answer bytes = nw_descriptor_bytes(body, n, end, p);
+        hold_part(bytes, n);
+        if (!taken(bytes)) return;
+        must(NW_PART_START(bytes) > p);
+        p = NW_PART_START(bytes) + NW_PART_LENGTH(bytes);
+    }
+}
+
+static void ask_streams(const uint8_t *body, size_t n, nw_answer part) {
+    if (!taken(part)) return;
+    size_t end = NW_PART_START(part) + NW_PART_LENGTH(part);
+    for (size_t p = NW_PART_START(part); p < end;) {
+        hold_number(nw_stream_type(body, n, end, p), 255);
+        hold_number(nw_stream_pid(body, n, end, p), 0x1FFF);
+        nw_answer inner = nw_stream_descriptors(body, n, end, p);
+        hold_part(inner, n);
+        ask_descriptors(body, n, inner);
+        if (!taken(inner)) return;
+        must(NW_PART_START(inner) > p);
+        p = NW_PART_START(inner) + NW_PART_LENGTH(inner);
+    }
+}
+
+static void ask_digits(struct input *in, const uint8_t *body, size_t n, size_t at, size_t length) {
+    for (uint64_t i = 0; i < 35; i++) hold_number(nw_message_identifier_digit(body, n, at, length, i), 9);
+    must(!taken(nw_message_identifier_digit(body, n, at, length, 35)));
+    nw_answer count = nw_message_resource_count(body, n, at, length);
+    hold_number(count, 255);
+    for (uint64_t i = 0; taken(count) && i <= NW_VALUE(count); i++) {
+        hold_part(nw_message_resource(body, n, at, length, i), n);
+        for (uint64_t j = 0; j < 24; j++) hold_number(nw_message_resource_digit(body, n, at, length, i, j), 9);
+    }
+    hold_number(nw_message_identifier_digit(body, n, at, length, take(in, 8)), 9);
+    hold_number(nw_message_resource_digit(body, n, at, length, take(in, 8), take(in, 8)), 9);
+}
+
+static void ask_message(struct input *in, const uint8_t *body, size_t n, size_t at, size_t length, bool accepted) {
+    hold_part(nw_message_identifier(body, n, at, length), n);
+    hold_number(nw_message_network(body, n, at, length), 0xFFFF);
+    nw_answer start = nw_message_start(body, n, at, length), end = nw_message_end(body, n, at, length);
+    hold_number(start, NW_LIVE - 1);
+    hold_number(end, NW_LIVE);
+    hold_part(nw_message_type(body, n, at, length), n);
+    hold_number(nw_message_class(body, n, at, length), 4);
+    hold_number(nw_message_level(body, n, at, length), 4);
+    ask_digits(in, body, n, at, length);
+    hold_number(nw_message_channel_flag(body, n, at, length), 1);
+    hold_number(nw_message_channel_network(body, n, at, length), 0xFFFF);
+    hold_number(nw_message_channel_stream(body, n, at, length), 0xFFFF);
+    hold_number(nw_message_channel_program(body, n, at, length), 0xFFFF);
+    hold_number(nw_message_pcr_pid(body, n, at, length), 0x1FFF);
+    nw_answer descriptors = nw_message_descriptors(body, n, at, length), streams = nw_message_streams(body, n, at, length);
+    hold_part(descriptors, n);
+    hold_part(streams, n);
+    ask_descriptors(body, n, descriptors);
+    ask_streams(body, n, streams);
+    int32_t offset = (int32_t)upto(in, 2000) - 800;
+    must(!taken(start) || nw_message_local_start(body, n, at, length, offset) == nw_time_unpack(NW_VALUE(start), offset));
+    must(!taken(end) || nw_message_local_end(body, n, at, length, offset) == nw_time_unpack(NW_VALUE(end), offset));
+    must(!accepted || (taken(start) && taken(end)));
+}
+
+// The records of an accepted body are its messages; a list without room for them stays as it is.
+static void ask_records(const uint8_t *body, size_t n, bool accepted, size_t room) {
+    struct lent list = lend(room * sizeof(nw_record), 0x33);
+    const nw_record *r = (const nw_record *)(const void *)list.bytes;
+    nw_answer count = nw_index_records(NW_INDEX, body, n, (nw_record *)(void *)list.bytes, room);
+    must(taken(count) ? accepted && NW_VALUE(count) <= room : !accepted || count == NW_OUTPUT_TOO_SMALL);
+    must(kept(&list, taken(count) ? (size_t)NW_VALUE(count) * sizeof *r : 0));
+    for (uint64_t i = 0; taken(count) && i < NW_VALUE(count); i++) {
+        nw_answer m = nw_index_message(body, n, i);
+        must(taken(m) && NW_PART_START(m) == r[i].at && NW_PART_LENGTH(m) == r[i].length);
+        must(NW_VALUE(nw_message_start(body, n, r[i].at, r[i].length)) == r[i].start);
+        must(NW_VALUE(nw_message_end(body, n, r[i].at, r[i].length)) == r[i].end);
+        must(NW_VALUE(nw_message_class(body, n, r[i].at, r[i].length)) == r[i].class_);
+        must(NW_VALUE(nw_message_level(body, n, r[i].at, r[i].length)) == r[i].level);
+    }
+    give_back(&list);
+}
+
+static void ask(struct input *in, const uint8_t *body, size_t n, bool accepted) {
+    nw_answer count = nw_index_message_count(body, n), signature = nw_index_signature(body, n);
+    hold_number(count, 255);
+    hold_part(signature, n);
+    must(!accepted || (taken(count) && taken(signature) && NW_PART_START(signature) + NW_PART_LENGTH(signature) == n));
+    for (uint64_t i = 0; taken(count) && i < NW_VALUE(count); i++) {
+        nw_answer m = nw_index_message(body, n, i);
+        hold_part(m, n);
+        must(!accepted || taken(m));
+        if (!taken(m)) break;
+        ask_message(in, body, n, NW_PART_START(m), NW_PART_LENGTH(m), accepted);
+    }
+    size_t at = upto(in, n + 1), length = upto(in, n + 1);
+    ask_message(in, body, n, at, length, false);
+    ask_message(in, body, n, (size_t)take(in, 8), (size_t)take(in, 8), false);
+    hold_part(nw_stream_descriptors(body, n, upto(in, n + 1), (size_t)take(in, 8)), n);
+    hold_part(nw_descriptor_bytes(body, n, (size_t)take(in, 8), upto(in, n + 1)), n);
+    ask_records(body, n, accepted, upto(in, 3));
+    ask_records(body, n, accepted, NW_MOST_MESSAGES);
+}
+
+static const struct table index_table = {NW_INDEX, nw_index_read, nw_index_lay, nw_index_write, whole_value, make, ask};
+
+int LLVMFuzzerTestOneInput(const uint8_t *data, size_t size) {
+    try_table(&index_table, (struct input){data, size});
+    return 0;
+}

@@ -1,0 +1,86 @@
+// The target of checksums, days, times and the words of refusals.
+#include "trial.h"
+
+// A checksum of so many bits by its definition, bit after bit.
+static uint32_t by_bits(const uint8_t *s, size_t n, unsigned bits, uint32_t polynomial) {
+    uint32_t top = UINT32_C(1) << (bits - 1), all = top | (top - 1), x = all;
+    for (size_t i = 0; i < 8 * n; i++) {
+        bool one = (x & top) != 0, next = s[i / 8] >> (7 - i % 8) & 1;
+        x = (x << 1 & all) ^ (one != next ? polynomial : 0);
+    }
+    return x;
+}
+
+static void try_checksums(const uint8_t *data, size_t n) {
+    uint8_t *s = copy_of(data, n);
+    must(nw_crc32(s, n) == by_bits(s, n, 32, 0x04C11DB7));
+    must(nw_crc16(s, n) == by_bits(s, n, 16, 0x1021));
+    free(s);
+}
+
+static void try_days(struct input *in) {
+    uint32_t year = (uint32_t)take(in, 2) % 200 + 1880, month = (uint32_t)take(in, 1) % 14, date = (uint32_t)take(in, 1) % 33;
+    nw_answer day = now_and_then(in, 4) ? nw_day_of((uint32_t)take(in, 4), (uint32_t)take(in, 4), (uint32_t)take(in, 4))
+                                        : nw_day_of(year, month, date);
+    must(taken(day) ? NW_VALUE(day) >= 15079 && NW_VALUE(day) <= 65535 : day == NW_IMPOSSIBLE_DAY);
+    uint32_t mjd = taken(day) ? (uint32_t)NW_VALUE(day) : (uint32_t)take(in, 3);
+    nw_answer back = nw_date_of(mjd), weekday = nw_weekday(mjd);
+    must(taken(back) == taken(weekday) && taken(back) == (mjd >= 15079 && mjd <= 65535));
+    if (!taken(back)) return;
+    must(NW_VALUE(nw_day_of(NW_DATE_YEAR(back), NW_DATE_MONTH(back), NW_DATE_DAY(back))) == mjd);
+    must(NW_VALUE(weekday) == (mjd + 2) % 7 + 1);
+}
+
+// A field that has a local time is packed and printed back to itself.
+static void try_times(struct input *in) {
+    uint64_t field = take(in, now_and_then(in, 8) ? 8 : 5);
+    int32_t offset = now_and_then(in, 8) ? (int32_t)(uint32_t)take(in, 4) : (int32_t)upto(in, 1600) - 740;
+    nw_answer t = nw_time_unpack(field, offset);
+    must(taken(t) || (NW_PLACE(t) == 0 && NW_REFUSAL(t) >= NW_DIGIT_ABOVE_NINE && NW_REFUSAL(t) <= NW_IMPOSSIBLE_DAY));
+    if (!taken(t)) return;
+    must(NW_VALUE(nw_time_pack(NW_TIME_YEAR(t), NW_TIME_MONTH(t), NW_TIME_DAY(t), NW_TIME_HOUR(t), NW_TIME_MINUTE(t),
+                               NW_TIME_SECOND(t), offset)) == field);
+    char text[64];
+    int n = snprintf(text, sizeof text, "%02u/%02u/%04u %02u:%02u:%02u", NW_TIME_DAY(t), NW_TIME_MONTH(t), NW_TIME_YEAR(t),
+                     NW_TIME_HOUR(t), NW_TIME_MINUTE(t), NW_TIME_SECOND(t));
+    must(n == 19);
+    nw_answer read = nw_time_read_text((const uint8_t *)text, 19, offset);
+    must(taken(read) && NW_VALUE(read) == field);
+    must(NW_REFUSAL(nw_time_read_text((const uint8_t *)text, 18, offset)) == NW_NOT_OF_THE_FORM);
+}
+
+static void try_text(struct input *in) {
+    size_t n = now_and_then(in, 4) ? upto(in, 40) : 19;
+    static const char form[] = "03/11/2024 07:45:00";
+    uint8_t *text = block_of(n);
+    for (size_t i = 0; i < n; i++) {
+        uint8_t x = (uint8_t)take(in, 1);
+        text[i] = x < 128 ? (uint8_t)form[i % 19] : x < 250 && form[i % 19] >= '0' && form[i % 19] <= '9' ? '0' + x % 10 : x;
+    }
+    int32_t offset = (int32_t)upto(in, 1600) - 740;
+    nw_answer a = nw_time_read_text(text, n, offset);
+    unsigned number = NW_REFUSAL(a);
+    must(number == NW_TAKEN || number == NW_OUTSIDE_SET || number == NW_NOT_OF_THE_FORM || number == NW_IMPOSSIBLE_DAY);
+    must(taken(a) ? n == 19 && taken(nw_time_unpack(NW_VALUE(a), offset)) : NW_PLACE(a) == 0);
+    free(text);
+}
+
+static void try_showing(struct input *in) {
+    uint64_t start = take(in, 5), end = now_and_then(in, 4) ? NW_LIVE : take(in, 5);
+    uint32_t day = (uint32_t)take(in, 2), second = (uint32_t)take(in, 3) % 90000;
+    nw_answer a = nw_time_showing(start, end, day, second);
+    must(taken(a) ? NW_VALUE(a) <= NW_ENDED : NW_PLACE(a) == 0);
+    must(!taken(a) || end != NW_LIVE || NW_VALUE(a) != NW_ENDED);
+}
+
+int LLVMFuzzerTestOneInput(const uint8_t *data, size_t size) {
+    struct input in = {data, size};
+    try_days(&in);
+    try_times(&in);
+    try_text(&in);
+    try_showing(&in);
+    unsigned number = (unsigned)take(&in, 4);
+    must(number <= NW_BODY_TOO_LONG || strcmp(nw_refusal_text(number), "no such refusal") == 0);
+    try_checksums(in.s, in.n);
+    return 0;
+}

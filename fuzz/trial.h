@@ -1,0 +1,155 @@
+// What the fuzz targets share: numbers taken from an input, buffers lent with guards around them, forms made up.
+//
+// A target is a function LLVMFuzzerTestOneInput: libFuzzer calls it on inputs that reach new code (tests/check-fuzz),
+// driver.c on inputs made by chance (tests/check-sanitizers). What must hold and does not ends the program.
+#ifndef TRIAL_H
+#define TRIAL_H
+
+#include <sanitizer/asan_interface.h>
+#include <stdbool.h>
+#include <stdint.h>
+#include <stdio.h>
+#include <stdlib.h>
+#include <string.h>
+
+#include "neapwillow.h"
+
+int LLVMFuzzerTestOneInput(const uint8_t *data, size_t size);
+
+#define must(holds) ((holds) ? (void)0 : must_not_be(#holds, __FILE__, __LINE__))
+
+static inline void must_not_be(const char *what, const char *file, int line) {
+    fprintf(stderr, "%s:%d: not so: %s\n", file, line, what);
+    abort();
+}
+
+static inline void *block_of(size_t bytes) {
+    void *block = malloc(bytes > 0 ? bytes : 1);
+    must(block != NULL);
+    return block;
+}
+
+// ---- what an input says
+
+struct input {
+    const uint8_t *s;
+    size_t n;
+};
+
+// The next number of so many bytes; after the input's end its bytes are zeros.
+static inline uint64_t take(struct input *in, unsigned bytes) {
+    uint64_t x = 0;
+    for (; bytes > 0; bytes--) {
+        x = x << 8 | (in->n > 0 ? *in->s : 0);
+        if (in->n > 0) in->s++, in->n--;
+    }
+    return x;
+}
+
+// A number up to `most`, itself included.
+static inline size_t upto(struct input *in, size_t most) { return (size_t)(take(in, most > 255 ? 3 : 1) % (most + 1)); }
+
+// True about once in `often` times.
+static inline bool now_and_then(struct input *in, unsigned often) { return take(in, 1) % often == often - 1; }
+
+// A copy of bytes in a block of exactly their number, so that a byte read past them is seen.
+static inline uint8_t *copy_of(const uint8_t *s, size_t n) {
+    uint8_t *copy = block_of(n);
+    if (n > 0) memcpy(copy, s, n);
+    return copy;
+}
+
+// ---- what is lent
+
+enum { GUARD = 64 };
+
+struct lent {
+    uint8_t *block, *bytes, *before;
+    size_t size;
+};
+
+static inline uint8_t guard_byte(size_t i) { return (uint8_t)(i ^ 0xa5); }
+
+// A lent buffer that holds `fill`, with guards that may be neither read nor written until it is given back.
+static inline struct lent lend(size_t size, uint8_t fill) {
+    struct lent l = {block_of(size + 2 * GUARD), NULL, block_of(size), size};
+    l.bytes = l.block + GUARD;
+    memset(l.bytes, fill, size);
+    memset(l.before, fill, size);
+    for (size_t i = 0; i < GUARD; i++) l.block[i] = l.bytes[size + i] = guard_byte(i);
+    ASAN_POISON_MEMORY_REGION(l.block, GUARD);
+    ASAN_POISON_MEMORY_REGION(l.bytes + size, GUARD);
+    return l;
+}
+
+// Whether the bytes from a place on are as they were lent, or as they were when `remember` was called.
+static inline bool kept(const struct lent *l, size_t from) {
+    return from <= l->size && memcmp(l->bytes + from, l->before + from, l->size - from) == 0;
+}
+
+static inline void remember(struct lent *l) { memcpy(l->before, l->bytes, l->size); }
+
+static inline void give_back(struct lent *l) {
+    ASAN_UNPOISON_MEMORY_REGION(l->block, l->size + 2 * GUARD);
+    for (size_t i = 0; i < GUARD; i++) must(l->block[i] == guard_byte(i) && l->bytes[l->size + i] == guard_byte(i));
+    free(l->block);
+    free(l->before);
+}
+
+// ---- what every answer holds to
+
+static inline bool taken(nw_answer a) { return NW_REFUSAL(a) == NW_TAKEN; }
+
+// A refusal has a number of the list; only 13 to 20 have a place, and it lies in a body of n bytes or at its end.
+static inline void hold_refusal(nw_answer a, size_t n) {
+    unsigned number = NW_REFUSAL(a);
+    must(number <= NW_BODY_TOO_LONG);
+    if (number == NW_TAKEN || number == NW_MISSING) return;
+    must(number >= NW_PAST_BODY && number <= NW_IMPOSSIBLE_DAY ? NW_PLACE(a) <= n : NW_PLACE(a) == 0);
+}
+
+// A part that was answered lies in the body.
+static inline void hold_part(nw_answer a, size_t n) {
+    if (taken(a)) must(NW_PART_START(a) <= n && NW_PART_LENGTH(a) <= n - NW_PART_START(a));
+    else must(NW_REFUSAL(a) <= NW_BODY_TOO_LONG);
+}
+
+static inline void hold_number(nw_answer a, uint64_t most) {
+    if (taken(a)) must(NW_VALUE(a) <= most);
+    else must(NW_REFUSAL(a) <= NW_BODY_TOO_LONG);
+}
+
+// ---- forms made up from an input: mostly good ones
+
+static inline void put_bytes(struct input *in, nw_form *f, size_t n) {
+    uint8_t bytes[256];
+    for (size_t i = 0; i < n; i++) bytes[i] = (uint8_t)take(in, 1);
+    nw_form_bytes(f, bytes, n);
+}
+
+static inline void put_some(struct input *in, nw_form *f) { put_bytes(in, f, upto(in, 255) % 20); }
+
+// Decimal digits, two to a byte; now and then others.
+static inline void put_digits(struct input *in, nw_form *f, size_t n) {
+    uint8_t bytes[32];
+    bool good = !now_and_then(in, 32);
+    for (size_t i = 0; i < n; i++) {
+        unsigned x = (unsigned)take(in, 1);
+        bytes[i] = (uint8_t)(good ? x % 100 / 10 << 4 | x % 10 : x);
+    }
+    nw_form_bytes(f, bytes, n);
+}
+
+// A number up to `most`; now and then any of 64 bits.
+static inline void put_number(struct input *in, nw_form *f, size_t least, size_t most) {
+    nw_form_number(f, now_and_then(in, 64) ? take(in, 8) : least + upto(in, most - least));
+}
+
+// Begins a list and answers how many things it has: up to `most`, now and then one that is counted wrongly.
+static inline size_t put_count(struct input *in, nw_form *f, size_t most) {
+    size_t count = upto(in, most);
+    nw_form_number(f, now_and_then(in, 128) ? take(in, 2) : count);
+    return count;
+}
+
+#endif

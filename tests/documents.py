@@ -1,0 +1,69 @@
+"""What the README and the man page say, and what is fuzzed, beside the installed library and the examples: documents.py FOLDER."""
+import glob
+import os
+import re
+import sys
+
+ROOT = os.path.join(os.path.dirname(os.path.abspath(__file__)), os.pardir)
+FOLDER = sys.argv[1]
+DRILL, DATES = './run drill', './run dates'
+faults = []
+
+
+def read(*path):
+    with open(os.path.join(*path), encoding='utf-8') as file:
+        return file.read()
+
+
+def expect(what, said, real):
+    """Notes a fault where two texts differ, with the first line that does."""
+    if said == real:
+        return
+    pairs = zip(said.splitlines() + ['(the end)'], real.splitlines() + ['(the end)'])
+    faults.append('%s: it says %r, and really %r' % (what, *next((p for p in pairs if p[0] != p[1]), (said, real))))
+
+
+def shown_after(readme, command):
+    """The README's block after the block that ends with a command."""
+    blocks = [re.sub('^    ', '', b, flags=re.M) for b in re.findall(r'(?:^    .*\n)+', readme, flags=re.M)]
+    at = [i for i, block in enumerate(blocks) if command in block]
+    return blocks[at[0] + 1] if at and at[0] + 1 < len(blocks) else ''
+
+
+def words_of_page(page):
+    """Each refusal of the man page: its number and its words."""
+    part = page[page.index('.SH REFUSALS'):page.index('.SH FORMS')]
+    return ''.join('%s %s\n' % pair for pair in re.findall(r'^\.TP 5\n\.B (\d+)\n(.*)$', part.replace('\\(aq', "'"), flags=re.M))
+
+
+def unnamed(page, header):
+    """The header's functions that the page names neither whole nor by their beginning."""
+    names = set(re.findall(r'\bnw_\w+', page.replace('\\fI*\\fP', '')))
+    functions = set(re.findall(r'^\w+ (nw_\w+)\(', header, flags=re.M))
+    return sorted(f for f in functions if not any(f == n or (n.endswith('_') and f.startswith(n)) for n in names)), functions
+
+
+def main():
+    readme, version = read(ROOT, 'README.md'), read(ROOT, 'VERSION')
+    page, header = read(FOLDER, 'neapwillow.3'), read(ROOT, 'include', 'neapwillow.h')
+    said = read(FOLDER, 'installed').splitlines(keepends=True)
+    refusals = said[2:28]
+    expect('NW_VERSION', said[0], version)
+    expect("pkg-config's version", read(FOLDER, 'modversion'), version)
+    expect('the CRC_32 of 123456789', said[1], '0376E6E7\n')
+    expect("the man page's refusals", words_of_page(page), ''.join(refusals))
+    expect('other refusals', ''.join(said[28:]), ''.join('%d no such refusal\n' % n for n in (26, 27, 255, 256, 2**32 - 1)))
+    expect("the README's drill", shown_after(readme, DRILL), read(FOLDER, 'shown'))
+    expect("the README's dates", shown_after(readme, DATES), read(FOLDER, 'dates'))
+    missing, functions = unnamed(page, header)
+    faults.extend('the man page does not name %s' % name for name in missing)
+    tried = ' '.join(read(path) for path in glob.glob(os.path.join(ROOT, 'fuzz', '*.[ch]')))
+    faults.extend('no fuzz target calls %s' % name for name in sorted(functions - set(re.findall(r'\bnw_\w+', tried))))
+    if len({line.split(' ', 1)[1] for line in refusals}) != 26 or len(functions) < 40:
+        faults.append('two refusals have the same words, or few functions are declared')
+    if faults:
+        sys.exit('\n'.join(faults))
+    print('%d functions and 26 refusals as the man page has them; the README shows what is shown' % len(functions))
+
+
+main()
