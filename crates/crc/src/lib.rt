@@ -50,16 +50,16 @@ fn by_bytes(reg: u32, s: &[u8]) -> u32
 fn first_word(x: u32) -> u32
     ensures { λ r. ⌜ r ≡ crc 32 0x04C11DB7 0 (bitsOf 32 x ++ replicate 32 false) ⌝ }
 {
-    bytes32::table7(x / 16777216)
-        ^ (bytes32::table6(x / 65536) ^ (bytes32::table5(x / 256) ^ bytes32::table4(x)))
+    firstword::table7(x / 16777216)
+        ^ (firstword::table6(x / 65536) ^ (firstword::table5(x / 256) ^ firstword::table4(x)))
 }
 
 // The register, from zero, after the 32 bits of x.
 fn second_word(x: u32) -> u32
     ensures { λ r. ⌜ r ≡ crc 32 0x04C11DB7 0 (bitsOf 32 x) ⌝ }
 {
-    bytes32::table3(x / 16777216)
-        ^ (bytes32::table2(x / 65536) ^ (bytes32::table1(x / 256) ^ bytes32::table0(x)))
+    secondword::table3(x / 16777216)
+        ^ (secondword::table2(x / 65536) ^ (secondword::table1(x / 256) ^ secondword::table0(x)))
 }
 
 // CRC_32 of s, eight bytes a turn and the last few one a turn. A short string turns off first, before anything is made ready for the eight.

@@ -1,4 +1,4 @@
-// The table of CRC-16 at a nibble, the low one of x. A key has a fifth bit, as those of `bytes32` have a ninth.
+// The table of CRC-16 at a nibble, the low one of x. A key has a fifth bit, as those of `firstword` have a ninth.
 ghost use mathlib.Core.Path.{_≡_};
 ghost use Rattle.register.specs.Register.{entry};
 

@@ -4,10 +4,10 @@ use mir.Syntax.{w32}
 use borrow.Fn.Plain.{t-fn-plain}
 use Rattle.register.specs.Register.{odd, bitsOf, digit, value, plus, fed, step, run, crc, entry}
 use Rattle.register.proofs.Arms.{table}
-use Rattle.bytes32.proofs.table4.Statement.{statement}
-use Rattle.bytes32.proofs.table4.Tie as tie
-use Rattle.bytes32.proofs.table4.Reads as reads
-use Rattle.bytes32.proofs.table4.Lts as lts
+use Rattle.firstword.proofs.table4.Statement.{statement}
+use Rattle.firstword.proofs.table4.Tie as tie
+use Rattle.firstword.proofs.table4.Reads as reads
+use Rattle.firstword.proofs.table4.Lts as lts
 
 pub table4-spec : {M : Type 1} → statement M
 unfolding odd bitsOf digit value plus fed step run crc entry xor
