@@ -10,9 +10,12 @@
 #include <time.h>
 
 #include "neapwillow.h"
+#include "plain_certificate.h"
 #include "plain_configuration.h"
 #include "plain_content.h"
 #include "plain_index.h"
+#include "plain_numbers.h"
+#include "plain_sections.h"
 
 enum { MOST_CONTENDERS = 4, MOST_SIZES = 8, ROUNDS = 75 };
 
@@ -37,90 +40,19 @@ struct operation {
     size_t sizes[MOST_SIZES];
 };
 
-// ---- CRC_32 in C: a byte by one table, and eight bytes by eight
-
-static uint32_t slices[8][256];
-
-static void fill_slices(void) {
-    for (uint32_t i = 0; i < 256; i++) {
-        uint32_t held = i << 24;
-        for (int bit = 0; bit < 8; bit++) held = held << 1 ^ (held >> 31 ? 0x04C11DB7u : 0);
-        slices[0][i] = held;
-    }
-    for (int k = 1; k < 8; k++)
-        for (uint32_t i = 0; i < 256; i++) slices[k][i] = slices[k - 1][i] << 8 ^ slices[0][slices[k - 1][i] >> 24];
-}
-
-static uint32_t by_bytes(uint32_t held, const uint8_t *s, size_t n) {
-    for (size_t i = 0; i < n; i++) held = held << 8 ^ slices[0][held >> 24 ^ s[i]];
-    return held;
-}
-
-static uint64_t crc32_byte_table(const uint8_t *s, size_t n) { return by_bytes(UINT32_MAX, s, n); }
-
-static uint64_t crc32_slicing(const uint8_t *s, size_t n) {
-    uint32_t held = UINT32_MAX;
-    for (; n >= 8; s += 8, n -= 8)
-        held = slices[7][held >> 24 ^ s[0]] ^ slices[6][(held >> 16 & 0xff) ^ s[1]] ^
-               slices[5][(held >> 8 & 0xff) ^ s[2]] ^ slices[4][(held & 0xff) ^ s[3]] ^
-               slices[3][s[4]] ^ slices[2][s[5]] ^ slices[1][s[6]] ^ slices[0][s[7]];
-    return by_bytes(held, s, n);
-}
+// ---- CRC_32, and a section read
 
 static uint64_t crc32_library(const uint8_t *s, size_t n) { return nw_crc32(s, n); }
-
-// ---- a section read
-
-// The answer of nw_section_read, by the same checks in the same order.
-static uint64_t read_slicing(const uint8_t *s, size_t n) {
-    if (n < 12) return 1;
-    if (s[0] < 0xFB || s[0] > 0xFE) return 2;
-    if (s[1] >> 4 != 15 || s[5] >> 6 != 3) return 3;
-    size_t length = (s[1] & 15u) << 8 | s[2];
-    if (length < 9 || length > 4093) return 4;
-    if (n != length + 3) return 5;
-    if (s[6] > s[7]) return 6;
-    if (crc32_slicing(s, n) != 0) return 7;
-    uint64_t extension = (uint64_t)s[3] << 8 | s[4], version = s[5] >> 1 & 31, current = s[5] & 1;
-    return ((uint64_t)s[0] << 48 | extension << 32 | version << 24 | current << 16 | (uint64_t)s[6] << 8 | s[7]) << 8;
-}
+static uint64_t crc32_byte_table(const uint8_t *s, size_t n) { return plain_crc32_byte_table(s, n); }
+static uint64_t crc32_slicing(const uint8_t *s, size_t n) { return plain_crc32(s, n); }
 
 static uint64_t read_library(const uint8_t *s, size_t n) { return nw_section_read(s, n); }
+static uint64_t read_slicing(const uint8_t *s, size_t n) { return plain_section_read(s, n); }
 
 // ---- a body cut into all its sections, one right after the other
 
 typedef nw_answer cutter(const uint8_t *body, size_t n, uint32_t kind, uint32_t extension, uint32_t version,
                          uint32_t number, uint8_t *out, size_t room);
-
-static void put_section(uint8_t *out, const uint8_t *payload, size_t n, uint32_t kind, uint32_t extension,
-                        uint32_t version, uint32_t number, size_t last) {
-    out[0] = (uint8_t)kind;
-    out[1] = (uint8_t)(0xF0 | (n + 9) >> 8);
-    out[2] = (uint8_t)(n + 9);
-    out[3] = (uint8_t)(extension >> 8);
-    out[4] = (uint8_t)extension;
-    out[5] = (uint8_t)(0xC0 | version << 1 | 1);
-    out[6] = (uint8_t)number;
-    out[7] = (uint8_t)last;
-    memcpy(out + 8, payload, n);
-    uint32_t check = (uint32_t)crc32_slicing(out, n + 8);
-    for (size_t i = 0; i < 4; i++) out[n + 8 + i] = (uint8_t)(check >> (24 - 8 * i));
-}
-
-// The answer and the output of nw_section_cut, by the same checks in the same order.
-static nw_answer cut_one(const uint8_t *body, size_t n, uint32_t kind, uint32_t extension, uint32_t version,
-                         uint32_t number, uint8_t *out, size_t room) {
-    if (kind < 0xFB || kind > 0xFE) return 2;
-    if (version > 31 || extension > 65535) return 19;
-    if (n == 0) return 14;
-    if (n > NW_MOST_BODY) return 22;
-    size_t last = (n - 1) / NW_MOST_PAYLOAD;
-    if (number > last) return 6;
-    size_t part = number < last ? NW_MOST_PAYLOAD : n - last * NW_MOST_PAYLOAD;
-    if (room < part + 12) return 21;
-    put_section(out, body + number * (size_t)NW_MOST_PAYLOAD, part, kind, extension, version, number, last);
-    return (nw_answer)(part + 12) << 8;
-}
 
 // The bytes written, and the refusal that ends them.
 static uint64_t cut_all(cutter *cut, const uint8_t *s, size_t n) {
@@ -133,70 +65,13 @@ static uint64_t cut_all(cutter *cut, const uint8_t *s, size_t n) {
 }
 
 static uint64_t cut_library(const uint8_t *s, size_t n) { return cut_all(nw_section_cut, s, n); }
-static uint64_t cut_slicing(const uint8_t *s, size_t n) { return cut_all(cut_one, s, n); }
+static uint64_t cut_slicing(const uint8_t *s, size_t n) { return cut_all(plain_section_cut, s, n); }
 
 // ---- a table of 256 full sections, which come one right after the other, gathered and handed out
 
 typedef nw_answer feeder(struct nw_gathering *g, uint8_t *store, size_t room, const uint8_t *s, size_t n);
 typedef nw_answer hander(const struct nw_gathering *g, const uint8_t *store, size_t room, uint8_t *out,
                          size_t out_room);
-
-static int is_possible(const struct nw_gathering *g) {
-    unsigned most = 0, above = 0;
-    for (size_t k = 0; k < 256; k++) most = g->held[k] > most ? g->held[k] : most;
-    if (g->kind == 0) return (most | g->extension | g->version | g->last | g->spoiled) == 0;
-    for (size_t k = g->last + (size_t)1; k < 256; k++) above |= g->held[k];
-    return g->kind >= 0xFB && g->kind <= 0xFE && g->version <= 31 && g->spoiled <= 1 && most > 0 &&
-           most <= NW_MOST_PAYLOAD + 1 && above == 0;
-}
-
-static int is_other_heading(const struct nw_gathering *g, nw_answer read) {
-    return g->kind != NW_SECTION_KIND(read) || g->extension != NW_SECTION_EXTENSION(read) ||
-           g->version != NW_SECTION_VERSION(read) || g->last != NW_SECTION_LAST(read);
-}
-
-// The answer, the state and the store of nw_gathering_feed, by the same checks in the same order.
-static nw_answer feed_slicing(struct nw_gathering *g, uint8_t *store, size_t room, const uint8_t *s, size_t n) {
-    if (!is_possible(g)) return 12;
-    nw_answer read = read_slicing(s, n);
-    if (NW_REFUSAL(read)) return read;
-    if (!NW_SECTION_CURRENT(read)) return 8;
-    if (g->kind != 0 && is_other_heading(g, read)) return 9;
-    if (room < (NW_SECTION_LAST(read) + (size_t)1) * NW_MOST_PAYLOAD) return 10;
-    if (g->spoiled) return 11;
-    size_t number = NW_SECTION_NUMBER(read), length = n - 12;
-    uint8_t *place = store + number * NW_MOST_PAYLOAD;
-    if (g->held[number] == length + 1 && memcmp(place, s + 8, length) == 0) return (nw_answer)NW_FED_HELD_ALREADY << 8;
-    if (g->held[number] != 0) {
-        g->spoiled = 1;
-        return 11;
-    }
-    memcpy(place, s + 8, length);
-    g->extension = (uint16_t)NW_SECTION_EXTENSION(read);
-    g->kind = (uint8_t)NW_SECTION_KIND(read);
-    g->version = (uint8_t)NW_SECTION_VERSION(read);
-    g->last = (uint8_t)NW_SECTION_LAST(read);
-    g->held[number] = (uint16_t)(length + 1);
-    return (nw_answer)NW_FED_TAKEN << 8;
-}
-
-// The answer and the output of nw_gathering_hand_out, by the same checks in the same order.
-static nw_answer hand_out_joined(const struct nw_gathering *g, const uint8_t *store, size_t room, uint8_t *out,
-                                 size_t out_room) {
-    if (!is_possible(g)) return 12;
-    if (g->kind == 0) return 13;
-    if (room < (g->last + (size_t)1) * NW_MOST_PAYLOAD) return 10;
-    if (g->spoiled) return 11;
-    size_t length = 0;
-    for (size_t k = 0; k <= g->last; k++) {
-        if (g->held[k] == 0) return (nw_answer)k << 8 | 13;
-        length += g->held[k] - (size_t)1;
-    }
-    if (length > NW_MOST_BODY) return 25;
-    if (length > out_room) return 21;
-    for (size_t k = 0; k <= g->last; out += g->held[k++] - 1) memcpy(out, store + k * NW_MOST_PAYLOAD, g->held[k] - 1u);
-    return (nw_answer)length << 8;
-}
 
 // A number that every answer has a part in.
 static uint64_t gather(feeder *feed, hander *hand_out, const uint8_t *s, size_t n) {
@@ -212,7 +87,9 @@ static uint64_t gather_library(const uint8_t *s, size_t n) {
     return gather(nw_gathering_feed, nw_gathering_hand_out, s, n);
 }
 
-static uint64_t gather_slicing(const uint8_t *s, size_t n) { return gather(feed_slicing, hand_out_joined, s, n); }
+static uint64_t gather_slicing(const uint8_t *s, size_t n) {
+    return gather(plain_gathering_feed, plain_gathering_hand_out, s, n);
+}
 
 // ---- a certificate body read, and written from a form: as many parts as there can be
 
@@ -222,71 +99,11 @@ enum { ENTRIES = 2 * (LISTS + CERTIFICATES) + 4 };
 // The form of the body that is read: its pool is this body.
 static uint64_t tape[ENTRIES];
 
-// Where the part ends that begins with a length in `width` bytes, or 0 where it passes the body's end.
-static size_t part_end(const uint8_t *s, size_t n, size_t at, size_t width) {
-    if (n - at < width) return 0;
-    size_t length = width == 2 ? (size_t)s[at] << 8 | s[at + 1] : s[at];
-    return n - at - width < length ? 0 : at + width + length;
-}
-
-// The answer of nw_certificate_read, by the same checks in the same order.
-static uint64_t certificate_plain(const uint8_t *s, size_t n) {
-    if (n > NW_MOST_BODY) return 22;
-    size_t at = 0, end;
-    for (size_t width = 2; width > 0; width--) {
-        if (at == n) return (nw_answer)at << 8 | 14;
-        for (size_t left = s[at++]; left > 0; left--, at = end)
-            if ((end = part_end(s, n, at, width)) == 0) return (nw_answer)at << 8 | 14;
-    }
-    if ((end = part_end(s, n, at, 2)) == 0) return (nw_answer)at << 8 | 14;
-    return end < n ? (nw_answer)end << 8 | 16 : 0;
-}
-
+static uint64_t certificate_plain(const uint8_t *s, size_t n) { return plain_certificate_read(NW_CERTIFICATE, s, n); }
 static uint64_t certificate_library(const uint8_t *s, size_t n) { return nw_certificate_read(NW_CERTIFICATE, s, n); }
 
-// What a form's lengths and counts come to: 19, 22, or the body's length.
-static nw_answer form_plain(size_t n, const uint64_t *t, size_t entries) {
-    uint64_t length = 0, most = 65535;
-    int large = 0;
-    size_t at = 0;
-    for (size_t width = 2; width > 0; width--, most = 255) {
-        if (at == entries || t[at] > (entries - at - 1) / 2) return 19;
-        uint64_t left = t[at++];
-        length += 1 + left * width;
-        for (large |= left > 255; left > 0; left--, at += 2) {
-            if (t[at] > n || t[at + 1] > n - t[at]) return 19;
-            large |= t[at + 1] > most;
-            length += t[at + 1];
-        }
-    }
-    if (entries - at != 2 || t[at] > n || t[at + 1] > n - t[at]) return 19;
-    length += 2 + t[at + 1];
-    return large || t[at + 1] > 65535 || length > NW_MOST_BODY ? 22 : length << 8;
-}
-
-static uint8_t *put_part(uint8_t *out, const uint8_t *pool, const uint64_t *span, size_t width) {
-    if (width == 2) *out++ = (uint8_t)(span[1] >> 8);
-    *out++ = (uint8_t)span[1];
-    memcpy(out, pool + span[0], span[1]);
-    return out + span[1];
-}
-
-// The answer and the output of nw_certificate_write, by the same checks in the same order.
-static nw_answer write_certificate(const uint8_t *pool, size_t n, const uint64_t *t, size_t entries, uint8_t *out,
-                                   size_t room) {
-    nw_answer got = form_plain(n, t, entries);
-    if (NW_REFUSAL(got)) return got;
-    if (NW_VALUE(got) > room) return 21;
-    for (size_t width = 2; width > 0; width--) {
-        uint64_t left = *t++;
-        for (*out++ = (uint8_t)left; left > 0; left--, t += 2) out = put_part(out, pool, t, width);
-    }
-    put_part(out, pool, t, 2);
-    return got;
-}
-
 static uint64_t writing_plain(const uint8_t *s, size_t n) {
-    return write_certificate(s, n, tape, ENTRIES, output, sizeof output);
+    return plain_certificate_write(s, n, tape, ENTRIES, output, sizeof output);
 }
 
 static uint64_t writing_library(const uint8_t *s, size_t n) {
@@ -556,7 +373,7 @@ static void fill_section(size_t n) {
     static uint8_t payload[NW_MOST_PAYLOAD];
     fill_bytes(n - 12);
     memcpy(payload, input, n - 12);
-    put_section(input, payload, n - 12, 0xFD, 0x0C29, 17, 0, 0);
+    plain_section_put(input, &(struct plain_heading){0xFD, 0x0C29, 17, 1, 0, 0}, payload, n - 12);
     if (NW_REFUSAL(read_slicing(input, n))) abort();
 }
 
@@ -564,7 +381,8 @@ static void fill_section(size_t n) {
 static void put_full_section(size_t i, uint32_t number) {
     static uint8_t payload[NW_MOST_PAYLOAD];
     for (size_t k = 0; k < sizeof payload; k++) payload[k] = (uint8_t)((k * k + number * 2654435761u) >> 8);
-    put_section(input + i * NW_MOST_SECTION, payload, sizeof payload, 0xFD, 0x0C29, 17, number, 255);
+    struct plain_heading h = {0xFD, 0x0C29, 17, 1, number, 255};
+    plain_section_put(input + i * NW_MOST_SECTION, &h, payload, sizeof payload);
 }
 
 static void fill_in_order(size_t n) {
@@ -892,7 +710,7 @@ static void measure(const struct operation *o, size_t n) {
 }
 
 int main(void) {
-    fill_slices();
+    plain_fill_tables();
     printf("%-21s %7s  %-16s %10s %9s %10s %6s\n", "", "bytes", "", "ns a call", "ns a byte", "MB/s", "ratio");
     for (size_t k = 0; k < sizeof operations / sizeof operations[0]; k++) {
         const struct operation *o = &operations[k];

@@ -1,0 +1,151 @@
+// plain_numbers: checksums, days and times in plain C, made from document 01 and the header alone.
+#include "plain_numbers.h"
+
+#include "plain_fields.h"
+
+// ---- checksums
+
+static uint32_t slices[8][256];
+
+void plain_fill_tables(void) {
+    for (uint32_t i = 0; i < 256; i++) {
+        uint32_t held = i << 24;
+        for (int bit = 0; bit < 8; bit++) held = held << 1 ^ (held >> 31 ? 0x04C11DB7u : 0);
+        slices[0][i] = held;
+    }
+    for (int k = 1; k < 8; k++)
+        for (uint32_t i = 0; i < 256; i++) slices[k][i] = slices[k - 1][i] << 8 ^ slices[0][slices[k - 1][i] >> 24];
+}
+
+static uint32_t by_bytes(uint32_t held, const uint8_t *s, size_t n) {
+    for (size_t i = 0; i < n; i++) held = held << 8 ^ slices[0][held >> 24 ^ s[i]];
+    return held;
+}
+
+uint32_t plain_crc32_byte_table(const uint8_t *s, size_t n) { return by_bytes(UINT32_MAX, s, n); }
+
+uint32_t plain_crc32(const uint8_t *s, size_t n) {
+    uint32_t held = UINT32_MAX;
+    for (; n >= 8; s += 8, n -= 8)
+        held = slices[7][held >> 24 ^ s[0]] ^ slices[6][(held >> 16 & 0xff) ^ s[1]] ^
+               slices[5][(held >> 8 & 0xff) ^ s[2]] ^ slices[4][(held & 0xff) ^ s[3]] ^
+               slices[3][s[4]] ^ slices[2][s[5]] ^ slices[1][s[6]] ^ slices[0][s[7]];
+    return by_bytes(held, s, n);
+}
+
+uint16_t plain_crc16(const uint8_t *s, size_t n) {
+    uint32_t held = 0xFFFF;
+    for (size_t i = 0; i < n; i++) {
+        held ^= (uint32_t)s[i] << 8;
+        for (int bit = 0; bit < 8; bit++) held = held << 1 ^ (held & 0x8000 ? 0x11021 : 0);
+    }
+    return (uint16_t)held;
+}
+
+// ---- days
+
+enum { FIRST_DAY = 15079, LAST_DAY = 65535, FIRST_YEAR = 1900, LAST_YEAR = 2038 };
+
+// Days from 1 January of the year 1 to day 0, 17 November 1858.
+enum { BEFORE_DAY_0 = 678575 };
+
+static int is_leap(uint32_t year) { return (year % 4 == 0 && year % 100 != 0) || year % 400 == 0; }
+
+static uint32_t days_of(uint32_t year, uint32_t month) {
+    static const uint8_t days[12] = {31, 28, 31, 30, 31, 30, 31, 31, 30, 31, 30, 31};
+    return days[month - 1] + (uint32_t)(month == 2 && is_leap(year));
+}
+
+static uint32_t new_year(uint32_t year) {
+    uint32_t before = year - 1;
+    return before * 365 + before / 4 - before / 100 + before / 400 - BEFORE_DAY_0;
+}
+
+static int is_in_range(uint64_t day) { return day >= FIRST_DAY && day <= LAST_DAY; }
+
+nw_answer plain_day_of(uint32_t year, uint32_t month, uint32_t day) {
+    if (year < FIRST_YEAR || year > LAST_YEAR || month < 1 || month > 12) return IMPOSSIBLE;
+    if (day < 1 || day > days_of(year, month)) return IMPOSSIBLE;
+    uint32_t number = new_year(year) + day - 1;
+    for (uint32_t m = 1; m < month; m++) number += days_of(year, m);
+    return is_in_range(number) ? value(number) : IMPOSSIBLE;
+}
+
+nw_answer plain_date_of(uint32_t day) {
+    if (!is_in_range(day)) return IMPOSSIBLE;
+    uint32_t year = FIRST_YEAR + (day - FIRST_DAY) / 366, month = 1;
+    while (new_year(year + 1) <= day) year++;
+    uint32_t left = day - new_year(year);
+    for (; left >= days_of(year, month); month++) left -= days_of(year, month);
+    return value((uint64_t)year << 16 | month << 8 | (left + 1));
+}
+
+nw_answer plain_weekday(uint32_t day) { return is_in_range(day) ? value((day + 2) % 7 + 1) : IMPOSSIBLE; }
+
+// ---- times
+
+enum { MINUTES = 1440, LEAST_OFFSET = -720, MOST_OFFSET = 840 };
+
+static int is_offset(int32_t offset) { return offset >= LEAST_OFFSET && offset <= MOST_OFFSET; }
+static uint64_t two_digits(uint64_t x) { return x / 10 << 4 | x % 10; }
+static uint64_t decimal(uint64_t digits) { return (digits >> 4 & 15) * 10 + (digits & 15); }
+
+nw_answer plain_time_pack(uint32_t year, uint32_t month, uint32_t day, uint32_t hour, uint32_t minute, uint32_t second,
+                          int32_t offset) {
+    if (!is_offset(offset)) return OUTSIDE;
+    nw_answer local = plain_day_of(year, month, day);
+    if (NW_REFUSAL(local) || hour > 23 || minute > 59 || second > 59) return IMPOSSIBLE;
+    uint64_t at = NW_VALUE(local) * MINUTES + hour * 60 + minute - (uint64_t)(int64_t)offset;
+    if (!is_in_range(at / MINUTES)) return IMPOSSIBLE;
+    return value(at / MINUTES << 24 | two_digits(at / 60 % 24) << 16 | two_digits(at % 60) << 8 | two_digits(second));
+}
+
+// 0, 19, 18 or 20 of a time field that is not live.
+static unsigned field_fault(uint64_t field) {
+    if (field >> 40) return OUTSIDE;
+    if (above_nine(field & 0xFFFFFF)) return DIGIT;
+    if (decimal(field >> 16) > 23 || decimal(field >> 8) > 59 || decimal(field) > 59) return IMPOSSIBLE;
+    return is_in_range(field >> 24) ? 0 : IMPOSSIBLE;
+}
+
+nw_answer plain_time_unpack(uint64_t field, int32_t offset) {
+    if (!is_offset(offset)) return OUTSIDE;
+    unsigned no = field_fault(field);
+    if (no) return no;
+    uint64_t at = (field >> 24) * MINUTES + decimal(field >> 16) * 60 + decimal(field >> 8) + (uint64_t)(int64_t)offset;
+    nw_answer date = plain_date_of((uint32_t)(at / MINUTES));
+    if (NW_REFUSAL(date)) return date;
+    return value(NW_VALUE(date) << 24 | at / 60 % 24 << 16 | at % 60 << 8 | decimal(field));
+}
+
+nw_answer plain_time_read_text(const uint8_t *text, size_t n, int32_t offset) {
+    static const char form[] = "dd/mm/yyyy hh:mm:ss";
+    uint32_t numbers[6] = {0};
+    size_t k = 0;
+    if (!is_offset(offset)) return OUTSIDE;
+    if (n != sizeof form - 1) return NW_NOT_OF_THE_FORM;
+    for (size_t i = 0; i < n; i++) {
+        if (form[i] < 'a') {
+            if (text[i] != form[i]) return NW_NOT_OF_THE_FORM;
+            k++;
+        } else {
+            if (text[i] < '0' || text[i] > '9') return NW_NOT_OF_THE_FORM;
+            numbers[k] = numbers[k] * 10 + text[i] - '0';
+        }
+    }
+    return plain_time_pack(numbers[2], numbers[1], numbers[0], numbers[3], numbers[4], numbers[5], offset);
+}
+
+// The seconds of a good field.
+static uint64_t instant(uint64_t field) {
+    return (field >> 24) * 86400 + decimal(field >> 16) * 3600 + decimal(field >> 8) * 60 + decimal(field);
+}
+
+nw_answer plain_time_showing(uint64_t start, uint64_t end, uint32_t day, uint32_t second) {
+    unsigned no;
+    if (!is_in_range(day) || second > 86399) return IMPOSSIBLE;
+    if ((no = field_fault(start)) || (end != NW_LIVE && (no = field_fault(end)))) return no;
+    uint64_t now = (uint64_t)day * 86400 + second;
+    if (now < instant(start)) return value(NW_BEFORE);
+    return value(end == NW_LIVE || now < instant(end) ? NW_ON : NW_ENDED);
+}

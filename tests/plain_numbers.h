@@ -1,0 +1,25 @@
+// plain_numbers.h: the header's checksums, days and times in plain C, each with the library's contract.
+#ifndef PLAIN_NUMBERS_H
+#define PLAIN_NUMBERS_H
+
+#include "neapwillow.h"
+
+// Fills the tables of CRC_32, once, before it is first asked for.
+void plain_fill_tables(void);
+
+// Eight bytes at a time by eight tables; and, to measure by, a byte at a time by one.
+uint32_t plain_crc32(const uint8_t *s, size_t n);
+uint32_t plain_crc32_byte_table(const uint8_t *s, size_t n);
+uint16_t plain_crc16(const uint8_t *s, size_t n);
+
+nw_answer plain_day_of(uint32_t year, uint32_t month, uint32_t day);
+nw_answer plain_date_of(uint32_t day);
+nw_answer plain_weekday(uint32_t day);
+
+nw_answer plain_time_pack(uint32_t year, uint32_t month, uint32_t day, uint32_t hour, uint32_t minute, uint32_t second,
+                          int32_t offset);
+nw_answer plain_time_unpack(uint64_t field, int32_t offset);
+nw_answer plain_time_read_text(const uint8_t *text, size_t n, int32_t offset);
+nw_answer plain_time_showing(uint64_t start, uint64_t end, uint32_t day, uint32_t second);
+
+#endif

@@ -1,0 +1,113 @@
+// plain_sections: sections read and cut, and the gathering, in plain C, made from document 01 and the header alone.
+#include "plain_sections.h"
+
+#include "plain_fields.h"
+#include "plain_numbers.h"
+
+enum { HEADING = 8, CHECK = 4, FRAME = HEADING + CHECK, MOST_VERSION = 31 };
+
+static int is_kind(uint32_t kind) { return kind >= NW_CONFIGURATION && kind <= NW_CONTENT; }
+
+nw_answer plain_section_read(const uint8_t *s, size_t n) {
+    if (n < FRAME) return NW_SECTION_TOO_SHORT;
+    if (!is_kind(s[0])) return NW_OTHER_KIND;
+    if (s[1] >> 4 != 15 || s[5] >> 6 != 3) return NW_FIXED_BIT_ZERO;
+    size_t length = (s[1] & 15u) << 8 | s[2];
+    if (length < 9 || length > 4093) return NW_SECTION_LENGTH_OUTSIDE;
+    if (n != length + 3) return NW_OTHER_LENGTH;
+    if (s[6] > s[7]) return NW_NUMBER_ABOVE_LAST;
+    if (plain_crc32(s, n) != 0) return NW_CHECK_NOT_ZERO;
+    uint64_t extension = (uint64_t)s[3] << 8 | s[4], version = s[5] >> 1 & 31, current = s[5] & 1;
+    return value((uint64_t)s[0] << 48 | extension << 32 | version << 24 | current << 16 | (uint64_t)s[6] << 8 | s[7]);
+}
+
+// ---- cutting
+
+nw_answer plain_section_count(size_t length) {
+    if (length == 0) return PAST_BODY;
+    return length > NW_MOST_BODY ? NW_TOO_LARGE : value((length + NW_MOST_PAYLOAD - 1) / NW_MOST_PAYLOAD);
+}
+
+void plain_section_put(uint8_t *out, const struct plain_heading *h, const uint8_t *payload, size_t n) {
+    out[0] = (uint8_t)h->kind;
+    put(out + 1, 0xF000 | (n + 9), 2);
+    put(out + 3, h->extension, 2);
+    out[5] = (uint8_t)(0xC0 | h->version << 1 | h->current);
+    out[6] = (uint8_t)h->number;
+    out[7] = (uint8_t)h->last;
+    if (n > 0) memcpy(out + HEADING, payload, n);
+    put(out + HEADING + n, plain_crc32(out, HEADING + n), CHECK);
+}
+
+nw_answer plain_section_cut(const uint8_t *body, size_t n, uint32_t kind, uint32_t extension, uint32_t version,
+                            uint32_t number, uint8_t *out, size_t room) {
+    if (!is_kind(kind)) return NW_OTHER_KIND;
+    if (version > MOST_VERSION || extension > 65535) return OUTSIDE;
+    if (n == 0) return PAST_BODY;
+    if (n > NW_MOST_BODY) return NW_TOO_LARGE;
+    size_t last = (n - 1) / NW_MOST_PAYLOAD;
+    if (number > last) return NW_NUMBER_ABOVE_LAST;
+    size_t part = number < last ? NW_MOST_PAYLOAD : n - last * NW_MOST_PAYLOAD;
+    if (room < part + FRAME) return NW_OUTPUT_TOO_SMALL;
+    struct plain_heading h = {kind, extension, version, 1, number, (uint32_t)last};
+    plain_section_put(out, &h, body + number * (size_t)NW_MOST_PAYLOAD, part);
+    return value(part + FRAME);
+}
+
+// ---- gathering
+
+static int is_possible(const nw_gathering *g) {
+    unsigned most = 0, above = 0;
+    for (size_t k = 0; k < 256; k++) most = g->held[k] > most ? g->held[k] : most;
+    if (g->kind == 0) return (most | g->extension | g->version | g->last | g->spoiled) == 0;
+    for (size_t k = g->last + (size_t)1; k < 256; k++) above |= g->held[k];
+    return is_kind(g->kind) && g->version <= MOST_VERSION && g->spoiled <= 1 && most > 0 &&
+           most <= NW_MOST_PAYLOAD + 1 && above == 0;
+}
+
+static int is_other_heading(const nw_gathering *g, nw_answer read) {
+    return g->kind != NW_SECTION_KIND(read) || g->extension != NW_SECTION_EXTENSION(read) ||
+           g->version != NW_SECTION_VERSION(read) || g->last != NW_SECTION_LAST(read);
+}
+
+nw_answer plain_gathering_feed(nw_gathering *g, uint8_t *store, size_t store_bytes, const uint8_t *s, size_t n) {
+    if (!is_possible(g)) return NW_IMPOSSIBLE_STATE;
+    nw_answer read = plain_section_read(s, n);
+    if (NW_REFUSAL(read)) return read;
+    if (!NW_SECTION_CURRENT(read)) return NW_NOT_CURRENT;
+    if (g->kind != 0 && is_other_heading(g, read)) return NW_OTHER_HEADING;
+    if (store_bytes < NW_STORE_BYTES(NW_SECTION_LAST(read))) return NW_STORE_TOO_SHORT;
+    if (g->spoiled) return NW_CONTRADICTION;
+    size_t number = NW_SECTION_NUMBER(read), length = n - FRAME;
+    uint8_t *place = store + number * NW_MOST_PAYLOAD;
+    if (g->held[number] == length + 1 && memcmp(place, s + HEADING, length) == 0) return value(NW_FED_HELD_ALREADY);
+    if (g->held[number] != 0) {
+        g->spoiled = 1;
+        return NW_CONTRADICTION;
+    }
+    memcpy(place, s + HEADING, length);
+    g->extension = (uint16_t)NW_SECTION_EXTENSION(read);
+    g->kind = (uint8_t)NW_SECTION_KIND(read);
+    g->version = (uint8_t)NW_SECTION_VERSION(read);
+    g->last = (uint8_t)NW_SECTION_LAST(read);
+    g->held[number] = (uint16_t)(length + 1);
+    return value(NW_FED_TAKEN);
+}
+
+// 25 does not come: 256 payloads of 4,084 bytes are no longer than the longest body.
+nw_answer plain_gathering_hand_out(const nw_gathering *g, const uint8_t *store, size_t store_bytes, uint8_t *out,
+                                   size_t out_bytes) {
+    if (!is_possible(g)) return NW_IMPOSSIBLE_STATE;
+    if (g->kind == 0) return NW_MISSING;
+    if (store_bytes < NW_STORE_BYTES(g->last)) return NW_STORE_TOO_SHORT;
+    if (g->spoiled) return NW_CONTRADICTION;
+    size_t length = 0;
+    for (size_t k = 0; k <= g->last; k++) {
+        if (g->held[k] == 0) return refused(NW_MISSING, k);
+        length += g->held[k] - (size_t)1;
+    }
+    if (length > NW_MOST_BODY) return NW_BODY_TOO_LONG;
+    if (length > out_bytes) return NW_OUTPUT_TOO_SMALL;
+    for (size_t k = 0; k <= g->last; out += g->held[k++] - 1) memcpy(out, store + k * NW_MOST_PAYLOAD, g->held[k] - 1u);
+    return value(length);
+}
