@@ -93,7 +93,7 @@ static uint64_t gather_slicing(const uint8_t *s, size_t n) {
 
 // ---- a certificate body read, and written from a form: as many parts as there can be
 
-enum { LISTS = 255, LIST_BYTES = 128, CERTIFICATES = 255, CERTIFICATE_BYTES = 120 };
+enum { LISTS = 255, CERTIFICATES = 255, MOST_CERTIFICATE = 255 };
 enum { ENTRIES = 2 * (LISTS + CERTIFICATES) + 4 };
 
 // The form of the body that is read: its pool is this body.
@@ -418,15 +418,17 @@ static size_t lay_part(uint64_t *span, size_t at, size_t width, size_t length) {
     return at + width + length;
 }
 
-// A certificate body of n bytes, the signature having what the other parts leave, and its form.
+// A certificate body of n bytes, the signature having the few that the other parts leave, and its form.
 static void fill_certificate(size_t n) {
+    size_t half = n / 2 / CERTIFICATES - 1, certificate = half < MOST_CERTIFICATE ? half : MOST_CERTIFICATE;
+    size_t list = (n - CERTIFICATES * (1 + certificate) - 4) / LISTS - 2;
     fill_bytes(n);
     uint64_t *t = tape;
     size_t at = 0;
     input[at++] = (uint8_t)(*t++ = LISTS);
-    for (size_t i = 0; i < LISTS; i++, t += 2) at = lay_part(t, at, 2, LIST_BYTES);
+    for (size_t i = 0; i < LISTS; i++, t += 2) at = lay_part(t, at, 2, list);
     input[at++] = (uint8_t)(*t++ = CERTIFICATES);
-    for (size_t i = 0; i < CERTIFICATES; i++, t += 2) at = lay_part(t, at, 1, CERTIFICATE_BYTES);
+    for (size_t i = 0; i < CERTIFICATES; i++, t += 2) at = lay_part(t, at, 1, certificate);
     lay_part(t, at, 2, n - at - 2);
     if (certificate_plain(input, n) != 0 || writing_plain(input, n) != n << 8 || memcmp(input, output, n) != 0) abort();
 }
@@ -608,11 +610,11 @@ static const struct operation operations[] = {
     {"certificate read",
      fill_certificate,
      {{"neapwillow", certificate_library}, {"C", certificate_plain}},
-     {64 * 1024}},
+     TABLE_SIZES},
     {"certificate written",
      fill_certificate,
      {{"neapwillow", writing_library}, {"C", writing_plain}},
-     {64 * 1024}},
+     TABLE_SIZES},
     {"index read",
      fill_index,
      {{"neapwillow", index_library}, {"C", index_plain}},
