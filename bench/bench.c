@@ -67,7 +67,7 @@ static uint64_t cut_all(cutter *cut, const uint8_t *s, size_t n) {
 static uint64_t cut_library(const uint8_t *s, size_t n) { return cut_all(nw_section_cut, s, n); }
 static uint64_t cut_slicing(const uint8_t *s, size_t n) { return cut_all(plain_section_cut, s, n); }
 
-// ---- a table of 256 full sections, which come one right after the other, gathered and handed out
+// ---- a table of full sections, which come one right after the other, gathered and handed out
 
 typedef nw_answer feeder(struct nw_gathering *g, uint8_t *store, size_t room, const uint8_t *s, size_t n);
 typedef nw_answer hander(const struct nw_gathering *g, const uint8_t *store, size_t room, uint8_t *out,
@@ -377,36 +377,40 @@ static void fill_section(size_t n) {
     if (NW_REFUSAL(read_slicing(input, n))) abort();
 }
 
-// The section of some number of a table, in place i.
-static void put_full_section(size_t i, uint32_t number) {
+// The section of some number of a table of so many sections, in place i.
+static void put_full_section(size_t i, size_t number, size_t sections) {
     static uint8_t payload[NW_MOST_PAYLOAD];
     for (size_t k = 0; k < sizeof payload; k++) payload[k] = (uint8_t)((k * k + number * 2654435761u) >> 8);
-    struct plain_heading h = {0xFD, 0x0C29, 17, 1, number, 255};
+    struct plain_heading h = {0xFD, 0x0C29, 17, 1, (uint32_t)number, (uint32_t)sections - 1};
     plain_section_put(input + i * NW_MOST_SECTION, &h, payload, sizeof payload);
 }
 
 static void fill_in_order(size_t n) {
-    for (size_t i = 0; i < n / NW_MOST_SECTION; i++) put_full_section(i, (uint32_t)i);
+    size_t sections = n / NW_MOST_SECTION;
+    for (size_t i = 0; i < sections; i++) put_full_section(i, i, sections);
 }
 
 static void fill_reversed(size_t n) {
-    for (size_t i = 0; i < n / NW_MOST_SECTION; i++) put_full_section(i, 255 - (uint32_t)i);
+    size_t sections = n / NW_MOST_SECTION;
+    for (size_t i = 0; i < sections; i++) put_full_section(i, sections - 1 - i, sections);
 }
 
 static void fill_shuffled(size_t n) {
     uint8_t numbers[256] = {0};
     uint32_t chance = 86;
-    for (size_t i = 0; i < n / NW_MOST_SECTION; i++) {
+    size_t sections = n / NW_MOST_SECTION;
+    for (size_t i = 0; i < sections; i++) {
         size_t other = ((chance = chance * 1664525 + 1013904223) >> 16) % (i + 1);
         numbers[i] = numbers[other];
         numbers[other] = (uint8_t)i;
     }
-    for (size_t i = 0; i < n / NW_MOST_SECTION; i++) put_full_section(i, numbers[i]);
+    for (size_t i = 0; i < sections; i++) put_full_section(i, numbers[i], sections);
 }
 
 // All sections, and then all of them again.
 static void fill_twice(size_t n) {
-    for (size_t i = 0; i < n / NW_MOST_SECTION; i++) put_full_section(i, (uint32_t)i % 256);
+    size_t sections = n / NW_MOST_SECTION / 2;
+    for (size_t i = 0; i < 2 * sections; i++) put_full_section(i, i % sections, sections);
 }
 
 // Lays a span of the body on the tape, and its length before it in the body. Gives back where it ends.
@@ -594,19 +598,19 @@ static const struct operation operations[] = {
     {"gathering, in order",
      fill_in_order,
      {{"neapwillow", gather_library}, {"C, slicing by 8", gather_slicing}},
-     {256 * 4096}},
+     {4096, 16 * 4096, 256 * 4096}},
     {"gathering, reversed",
      fill_reversed,
      {{"neapwillow", gather_library}, {"C, slicing by 8", gather_slicing}},
-     {256 * 4096}},
+     {4096, 16 * 4096, 256 * 4096}},
     {"gathering, shuffled",
      fill_shuffled,
      {{"neapwillow", gather_library}, {"C, slicing by 8", gather_slicing}},
-     {256 * 4096}},
+     {4096, 16 * 4096, 256 * 4096}},
     {"gathering, twice",
      fill_twice,
      {{"neapwillow", gather_library}, {"C, slicing by 8", gather_slicing}},
-     {512 * 4096}},
+     {2 * 4096, 32 * 4096, 512 * 4096}},
     {"certificate read",
      fill_certificate,
      {{"neapwillow", certificate_library}, {"C", certificate_plain}},
