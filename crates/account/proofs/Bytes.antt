@@ -8,7 +8,7 @@ use lib.Seq.{getD-drop}
 use Rattle.crc.specs.Crc.{AreBytes, bigEndian, digit}
 use Rattle.crc.proofs.Burst.{bigEndian-bytes}
 use Rattle.framing.specs.Section.{headingBytes, checked, printed, WellFormed}
-use Rattle.framing.specs.Cutting.{place, partOf}
+use Rattle.cutting.specs.Cutting.{place, partOf}
 use Rattle.framing.specs.declared.Heading.{Heading}
 use Rattle.framing.proofs.Printing.{heading-is}
 

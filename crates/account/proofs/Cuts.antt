@@ -6,11 +6,11 @@ use native.Mathlib.Omega.{arith}
 use lib.ListN.{length, getD, take}
 use lib.Seq.{take-suc, take-length}
 use Rattle.framing.specs.Section.{payloadOf, printed, WellFormed}
-use Rattle.framing.specs.Cutting.{joined, sectionCount, cutHeading, sectionOf, Allowed, Askable}
+use Rattle.cutting.specs.Cutting.{joined, sectionCount, cutHeading, sectionOf, Allowed, Askable}
 use Rattle.framing.specs.declared.Heading.{Heading}
-use Rattle.framing.proofs.Counting.{count-some}
+use Rattle.cutting.proofs.Counting.{count-some}
 use Rattle.framing.proofs.RoundTrip.{reads-back}
-use Rattle.framing.proofs.Sections.{cut-good, cut-joined}
+use Rattle.cutting.proofs.Sections.{cut-good, cut-joined}
 use Rattle.holding.specs.State.{hasRoom}
 use Rattle.account.specs.Gathers.{freshBox, ByteStrings, run, HandsOut}
 use Rattle.account.specs.Arrival.{headingAt, CutInto, sectionsOf, Arrives}

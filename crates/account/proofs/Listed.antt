@@ -10,9 +10,9 @@ use native.Mathlib.Omega.{arith}
 use lib.ListN.{length}
 use Rattle.crc.specs.Crc.{AreBytes}
 use Rattle.framing.specs.Section.{WellFormed}
-use Rattle.framing.specs.Cutting.{sectionCount, partOf, cutHeading, sectionOf, Allowed}
+use Rattle.cutting.specs.Cutting.{sectionCount, partOf, cutHeading, sectionOf, Allowed}
 use Rattle.framing.specs.declared.Heading.{Heading}
-use Rattle.framing.proofs.Counting.{count-most}
+use Rattle.cutting.proofs.Counting.{count-most}
 use Rattle.framing.proofs.Reading.{kind-within}
 use Rattle.holding.specs.State.{hasRoom}
 use Rattle.account.specs.Gathers.{freshBox, ByteStrings, run, HandsOut}

@@ -8,7 +8,7 @@ use mathlib.Core.Logic.{_⊎_, inl, inr}
 use native.Mathlib.Omega.{arith}
 use lib.ListN.{length}
 use Rattle.framing.specs.Section.{payloadOf}
-use Rattle.framing.specs.Cutting.{joined}
+use Rattle.cutting.specs.Cutting.{joined}
 use Rattle.framing.specs.declared.Heading.{Heading}
 use Rattle.holding.specs.State.{hasRoom}
 use Rattle.account.specs.Account.{heard, Section, idle, table, counted, account, Agree, Present, Covered, Complete, contentsOf, inOrder, bodyOf}

@@ -5,6 +5,3 @@ pub mod Accepting
 pub mod Printing
 pub mod RoundTrip
 pub mod Damage
-pub mod Counting
-pub mod Cuts
-pub mod Sections

@@ -1,7 +1,7 @@
 // Sections for C: one read, and a body cut.
 ghost use mathlib.Core.Path.{_≡_};
 ghost use Rattle.framing.specs.Section.{readSection};
-ghost use Rattle.framing.specs.Cutting.{countedOf, cutAnswer, cutOutput};
+ghost use Rattle.cutting.specs.Cutting.{countedOf, cutAnswer, cutOutput};
 ghost use Rattle.telling.specs.Answers.{sectionAnswer, countAnswer, lengthAnswer};
 
 #[no_mangle]
@@ -15,7 +15,7 @@ pub extern "C" fn nw_section_read(s: &[u8]) -> u64
 pub extern "C" fn nw_section_count(length: usize) -> u64
     ensures { λ r. ⌜ r ≡ countAnswer (countedOf length) ⌝ }
 {
-    telling::count_answer(framing::section_count(length))
+    telling::count_answer(cutting::section_count(length))
 }
 
 #[no_mangle]
@@ -30,5 +30,5 @@ pub extern "C" fn nw_section_cut(
     ensures { λ r. ⌜ r ≡ lengthAnswer (cutAnswer (now (body .entry)) kind extension version number (now (out .entry))) ⌝ }
     ensures { λ _. ⌜ now (out .exit) ≡ cutOutput (now (body .entry)) kind extension version number (now (out .entry)) ⌝ }
 {
-    telling::length_answer(framing::cut_section(body, kind, extension, version, number, out))
+    telling::length_answer(cutting::cut_section(body, kind, extension, version, number, out))
 }

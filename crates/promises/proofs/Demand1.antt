@@ -13,8 +13,8 @@ use Rattle.refusal.specs.declared.Refusal.{Refusal}
 use Rattle.refusal.specs.declared.Refusal.the-variants.{SectionTooShort, OtherKind, FixedBitZero, SectionLengthOutside, OtherLength, NumberAboveLast, CheckNotZero, NotCurrent, OtherHeading, StoreTooShort, Contradiction, ImpossibleState, Missing, PastBody, PastPart, LeftOver, ReservedBitZero, DigitAboveNine, OutsideSet, ImpossibleDay, OutputTooSmall, TooLarge, OtherChecksum, NotOfTheForm, BodyTooLong}
 use Rattle.crc.specs.Crc.{crc32Of}
 use Rattle.framing.specs.Section.{isKind, sectionLength, fixedBits, headingOf, payloadOf, readSection}
-use Rattle.framing.specs.Cutting as cutter
-use Rattle.framing.specs.declared.Cut.the-variants.{Refused as NotCut}
+use Rattle.cutting.specs.Cutting as cutter
+use Rattle.cutting.specs.declared.Cut.the-variants.{Refused as NotCut}
 use Rattle.framing.specs.declared.Heading.{Heading}
 use Rattle.framing.specs.declared.Sectioned.{Sectioned}
 use Rattle.framing.specs.declared.Sectioned.the-variants.{Good, Refused as NotGood}

@@ -15,12 +15,12 @@ use Rattle.days.specs.Calendar.{dateOf}
 use Rattle.days.proofs.Theorems.{date-of-day, day-of-date, next-day}
 use Rattle.days.proofs.Values as days
 use Rattle.times.proofs.Inverse.{writes-read, reads-written}
-use Rattle.framing.specs.Cutting.{partOf, cutHeading, sectionOf, answerBy, cutAnswer, Askable}
-use Rattle.framing.specs.declared.Cut.the-variants.{Written}
-use Rattle.framing.proofs.Counting.{counted-is}
+use Rattle.cutting.specs.Cutting.{partOf, cutHeading, sectionOf, answerBy, cutAnswer, Askable}
+use Rattle.cutting.specs.declared.Cut.the-variants.{Written}
+use Rattle.cutting.proofs.Counting.{counted-is}
 use Rattle.framing.proofs.Printing.{printed-length}
 use Rattle.framing.proofs.RoundTrip.{good-exactly}
-use Rattle.framing.proofs.Sections.{cut-writes, cut-reads, cut-joined}
+use Rattle.cutting.proofs.Sections.{cut-writes, cut-reads, cut-joined}
 use Rattle.fields.specs.Reading.{Reading, found, refused}
 use Rattle.fields.specs.Format.{Format}
 use Rattle.fields.specs.Answers.{stepOf}

@@ -9,7 +9,7 @@ use Rattle.refusal.specs.declared.Refusal.the-variants.{Missing}
 use Rattle.placing.specs.Placed.{placed}
 use Rattle.crc.specs.Crc.{AreBytes}
 use Rattle.framing.specs.Section.{isKind}
-use Rattle.framing.specs.Cutting.{sectionCount, cutHeading, sectionOf, Allowed}
+use Rattle.cutting.specs.Cutting.{sectionCount, cutHeading, sectionOf, Allowed}
 use Rattle.holding.specs.State.{freshState, possibleOf, nothingBegun, hasRoom}
 use Rattle.holding.specs.declared.Gathering.{Gathering}
 use Rattle.holding.proofs.State.{fresh-one}

@@ -2,7 +2,7 @@
 use mathlib.Core.Path.{refl}
 use Rattle.days.proofs.Values as days
 use Rattle.crc.proofs.Vectors.{vectors}
-use Rattle.framing.specs.Cutting.{sectionCount, countedOf}
+use Rattle.cutting.specs.Cutting.{sectionCount, countedOf}
 use Rattle.promises.specs.Values.{Values}
 
 pub values : Values

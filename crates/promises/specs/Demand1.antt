@@ -7,8 +7,8 @@ use Rattle.refusal.specs.Numbers.{numberOf, placeOf}
 use Rattle.refusal.specs.Answers.{answerOf, refusedOf}
 use Rattle.refusal.specs.declared.Refusal.{Refusal}
 use Rattle.refusal.specs.declared.Refusal.the-variants.{Contradiction}
-use Rattle.framing.specs.Cutting.{cutAnswer, cutOutput}
-use Rattle.framing.specs.declared.Cut.the-variants.{Refused as NotCut}
+use Rattle.cutting.specs.Cutting.{cutAnswer, cutOutput}
+use Rattle.cutting.specs.declared.Cut.the-variants.{Refused as NotCut}
 use Rattle.holding.specs.State.{spoiledState}
 use Rattle.holding.specs.declared.Gathering.{Gathering}
 use Rattle.feeding.specs.Feeding.{fedOf, storeAfter}

@@ -17,10 +17,10 @@ use Rattle.times.specs.declared.Moment.{Moment}
 use Rattle.times.specs.declared.Timed.the-variants as timed
 use Rattle.times.specs.declared.Fielded.the-variants.{Field}
 use Rattle.framing.specs.Section.{IsGood, IsPrinted}
-use Rattle.framing.specs.Cutting.{joined, sectionCount, partOf, countedOf, cutHeading, sectionOf, Allowed, Askable, cutAnswer, cutOutput}
+use Rattle.cutting.specs.Cutting.{joined, sectionCount, partOf, countedOf, cutHeading, sectionOf, Allowed, Askable, cutAnswer, cutOutput}
 use Rattle.framing.specs.declared.Heading.{Heading}
-use Rattle.framing.specs.declared.Counted.the-variants.{Sections}
-use Rattle.framing.specs.declared.Cut.the-variants.{Written}
+use Rattle.cutting.specs.declared.Counted.the-variants.{Sections}
+use Rattle.cutting.specs.declared.Cut.the-variants.{Written}
 use Rattle.fields.specs.Reading.{found}
 use Rattle.fields.specs.Format.{Format}
 use Rattle.fields.specs.Body.{longest, reading, bodyRead, writing, bodyWritten, output, bodyLaid, laidTape}

@@ -6,7 +6,7 @@ use mathlib.Core.Path.{_≡_}
 use mathlib.Core.Bool.{true}
 use mathlib.Core.List.{List}
 use lib.ListN.{length}
-use Rattle.framing.specs.Cutting.{joined, sectionCount, cutHeading, sectionOf, Allowed}
+use Rattle.cutting.specs.Cutting.{joined, sectionCount, cutHeading, sectionOf, Allowed}
 use Rattle.framing.specs.declared.Heading.{Heading}
 use Rattle.holding.specs.State.{hasRoom}
 use Rattle.handing.specs.declared.Handed.the-variants.{Body}

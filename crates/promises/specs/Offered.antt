@@ -11,7 +11,7 @@ use Rattle.times.specs.Showing.{showing}
 use Rattle.local.specs.Clock.{packOf, unpackOf}
 use Rattle.local.specs.Text.{readText}
 use Rattle.framing.specs.Section.{readSection}
-use Rattle.framing.specs.Cutting.{countedOf, cutAnswer, cutOutput}
+use Rattle.cutting.specs.Cutting.{countedOf, cutAnswer, cutOutput}
 use Rattle.holding.specs.declared.Gathering.{Gathering}
 use Rattle.feeding.specs.Feeding.{fedOf, storeAfter}
 use Rattle.handing.specs.Handing.{handedOf, outAfter}

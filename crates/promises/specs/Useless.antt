@@ -5,8 +5,8 @@ use mathlib.Core.Bool.{false}
 use mathlib.Core.List.{List}
 use Rattle.refusal.specs.declared.Refusal.{Refusal}
 use Rattle.placing.specs.Placed.{placed}
-use Rattle.framing.specs.Cutting.{countedOf}
-use Rattle.framing.specs.declared.Counted.the-variants.{Sections}
+use Rattle.cutting.specs.Cutting.{countedOf}
+use Rattle.cutting.specs.declared.Counted.the-variants.{Sections}
 use Rattle.holding.specs.State.{nothingBegun}
 use Rattle.holding.specs.declared.Gathering.{Gathering}
 use Rattle.feeding.specs.Feeding.{fedOf, storeAfter}

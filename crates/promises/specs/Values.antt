@@ -7,8 +7,8 @@ use Rattle.days.specs.declared.DayAnswer.the-variants.{Day}
 use Rattle.days.specs.declared.DateAnswer.the-variants.{On}
 use Rattle.days.specs.declared.WeekdayAnswer.the-variants.{Weekday}
 use Rattle.crc.specs.Crc.{crc16Of, crc32Of}
-use Rattle.framing.specs.Cutting.{countedOf}
-use Rattle.framing.specs.declared.Counted.the-variants.{Sections}
+use Rattle.cutting.specs.Cutting.{countedOf}
+use Rattle.cutting.specs.declared.Counted.the-variants.{Sections}
 
 -- a day number and a date are each other's
 abbrev pub IsDay : ℕ → ℕ → ℕ → ℕ → Type 0

@@ -19,10 +19,10 @@ use Rattle.local.specs.declared.Unpacked.the-variants as unpacked
 use Rattle.framing.specs.declared.Heading.{Heading}
 use Rattle.framing.specs.declared.Sectioned.{Sectioned}
 use Rattle.framing.specs.declared.Sectioned.the-variants as section
-use Rattle.framing.specs.declared.Counted.{Counted}
-use Rattle.framing.specs.declared.Counted.the-variants as counted
-use Rattle.framing.specs.declared.Cut.{Cut}
-use Rattle.framing.specs.declared.Cut.the-variants as cut
+use Rattle.cutting.specs.declared.Counted.{Counted}
+use Rattle.cutting.specs.declared.Counted.the-variants as counted
+use Rattle.cutting.specs.declared.Cut.{Cut}
+use Rattle.cutting.specs.declared.Cut.the-variants as cut
 use Rattle.fields.specs.declared.Step.{Step}
 use Rattle.fields.specs.declared.Step.the-variants as step
 use Rattle.fields.specs.declared.Number.{Number}

@@ -1,11 +1,11 @@
--- `framing::section_count` meets its contract: the two refusals, then the ceiling as it is defined.
+-- `cutting::section_count` meets its contract: the two refusals, then the ceiling as it is defined.
 use mathlib.Core.Path.{sym, ap, _∙_}
 use native.Mathlib.Omega.{arith}
 use borrow.Author.Needs.{needs}
-use Rattle.framing.specs.declared.Counted.the-variants.{Sections}
-use Rattle.framing.proofs.Counting.{count-none, count-large, counted-is, ceiling}
-use Rattle.framing.proofs.section_count.Statement.{statement}
-use Rattle.framing.proofs.section_count.Tie as tie
+use Rattle.cutting.specs.declared.Counted.the-variants.{Sections}
+use Rattle.cutting.proofs.Counting.{count-none, count-large, counted-is, ceiling}
+use Rattle.cutting.proofs.section_count.Statement.{statement}
+use Rattle.cutting.proofs.section_count.Tie as tie
 
 pub section-count-spec : {M : Type 1} → statement M
 section-count-spec =

@@ -1,4 +1,4 @@
--- `framing::cut_section` meets its contract: each refusal in its turn, and then the section that was asked for.
+-- `cutting::cut_section` meets its contract: each refusal in its turn, and then the section that was asked for.
 use Prim.Native.Nat.{_≤_}
 use mathlib.Core.Bool.{true}
 use mathlib.Core.Logic.{⊎-elim}
@@ -8,14 +8,14 @@ use borrow.Author.Needs.{needs}
 use borrow.Author.Tests.{not-true, not-false, ltb-true, ltb-false}
 use denote.Ref.{now}
 use lib.ListN.{length}
-use Rattle.framing.specs.Cutting.{countedOf, Allowed}
+use Rattle.cutting.specs.Cutting.{countedOf, Allowed}
 use Rattle.framing.specs.Section.{isKind}
-use Rattle.framing.specs.declared.Counted.the-variants.{Sections}
-use Rattle.framing.proofs.Counting.{begins-within, count-most, counted-some}
-use Rattle.framing.proofs.Cuts.{by-refusal, cut-other-kind, cut-other-version, cut-other-extension, cut-not-counted, cut-past-last, cut-asked}
+use Rattle.cutting.specs.declared.Counted.the-variants.{Sections}
+use Rattle.cutting.proofs.Counting.{begins-within, count-most, counted-some}
+use Rattle.cutting.proofs.Cuts.{by-refusal, cut-other-kind, cut-other-version, cut-other-extension, cut-not-counted, cut-past-last, cut-asked}
 use Rattle.framing.proofs.Reading.{kind-within}
-use Rattle.framing.proofs.cut_section.Statement.{statement}
-use Rattle.framing.proofs.cut_section.Tie as tie
+use Rattle.cutting.proofs.cut_section.Statement.{statement}
+use Rattle.cutting.proofs.cut_section.Tie as tie
 
 kind-known : (c : tie.Else1) → isKind (c .before .before .before .before .args .kind) ≡ true
 kind-known c = sym (c .before .is-kind .ensures) ∙ not-false _ (c .if1 .left)

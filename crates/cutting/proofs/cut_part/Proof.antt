@@ -1,11 +1,11 @@
--- `framing::cut_part` meets its contract: the part is the section's, and the output is too small or has room.
+-- `cutting::cut_part` meets its contract: the part is the section's, and the output is too small or has room.
 use native.Mathlib.Omega.{arith}
 use borrow.Author.Needs.{needs}
 use denote.Ref.{now}
-use Rattle.framing.proofs.Counting.{place-within, part-is, part-count}
-use Rattle.framing.proofs.Cuts.{too-small, fits}
-use Rattle.framing.proofs.cut_part.Statement.{statement}
-use Rattle.framing.proofs.cut_part.Tie as tie
+use Rattle.cutting.proofs.Counting.{place-within, part-is, part-count}
+use Rattle.cutting.proofs.Cuts.{too-small, fits}
+use Rattle.cutting.proofs.cut_part.Statement.{statement}
+use Rattle.cutting.proofs.cut_part.Tie as tie
 
 pub cut-part-spec : {M : Type 1} → statement M
 cut-part-spec =

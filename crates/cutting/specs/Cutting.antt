@@ -9,12 +9,12 @@ use Rattle.placing.specs.Placed.{placed}
 use Rattle.refusal.specs.declared.Refusal.{Refusal}
 use Rattle.refusal.specs.declared.Refusal.the-variants.{OtherKind, NumberAboveLast, PastBody, OutsideSet, OutputTooSmall, TooLarge}
 use Rattle.choices.specs.Choice.{if_then_else_}
 use Rattle.framing.specs.Section.{isKind, payloadOf, printed}
-use Rattle.framing.specs.declared.Counted.{Counted}
-use Rattle.framing.specs.declared.Counted.the-variants.{Sections, Refused as NotCounted}
-use Rattle.framing.specs.declared.Cut.{Cut}
-use Rattle.framing.specs.declared.Cut.the-variants.{Written, Refused as NotCut}
+use Rattle.cutting.specs.declared.Counted.{Counted}
+use Rattle.cutting.specs.declared.Counted.the-variants.{Sections, Refused as NotCounted}
+use Rattle.cutting.specs.declared.Cut.{Cut}
+use Rattle.cutting.specs.declared.Cut.the-variants.{Written, Refused as NotCut}
 use Rattle.framing.specs.declared.Heading.{Heading}
 
 -- ---- sections of a body
 

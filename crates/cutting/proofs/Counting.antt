@@ -10,9 +10,9 @@ use lib.Dec.{eqb, leb, ltb}
 use lib.ListN.{length, take, drop, length-take, length-drop}
 use lib.Seq.{take-all}
 use Rattle.refusal.specs.declared.Refusal.the-variants.{PastBody, TooLarge}
-use Rattle.framing.specs.Cutting.{place, sectionCount, partOf, countedOf}
+use Rattle.cutting.specs.Cutting.{place, sectionCount, partOf, countedOf}
 use Rattle.choices.specs.Choice.{if_then_else_}
-use Rattle.framing.specs.declared.Counted.the-variants.{Sections, Refused as NotCounted}
+use Rattle.cutting.specs.declared.Counted.the-variants.{Sections, Refused as NotCounted}
 
 -- ---- places, 4,084 bytes apart
 

@@ -9,15 +9,15 @@ use lib.Dec.{eqb, leb, ltb}
 use lib.ListN.{length, take}
 use lib.Seq.{take-add, take-all}
 use Rattle.refusal.specs.declared.Refusal.{Refusal}
-use Rattle.framing.specs.Cutting.{place, sectionCount, partOf, joined, cutHeading, sectionOf, Verdict, refuses, writes, fitting, cutting, cutAnswer, cutOutput, Allowed, Askable}
+use Rattle.cutting.specs.Cutting.{place, sectionCount, partOf, joined, cutHeading, sectionOf, Verdict, refuses, writes, fitting, cutting, cutAnswer, cutOutput, Allowed, Askable}
 use Rattle.choices.specs.Choice.{if_then_else_}
 use Rattle.framing.specs.Section.{isKind, payloadOf, printed, WellFormed, IsGood}
-use Rattle.framing.specs.declared.Cut.the-variants.{Written}
-use Rattle.framing.proofs.Counting.{place-zero, place-suc, ends-within, count-most, counted-is, part-length}
-use Rattle.framing.proofs.Cuts.{cut-fitting, written-is}
+use Rattle.cutting.specs.declared.Cut.the-variants.{Written}
+use Rattle.cutting.proofs.Counting.{place-zero, place-suc, ends-within, count-most, counted-is, part-length}
+use Rattle.cutting.proofs.Cuts.{cut-fitting, written-is}
 use Rattle.framing.proofs.Printing.{printed-length}
 use Rattle.framing.proofs.Reading.{both, kind-within}
 use Rattle.framing.proofs.RoundTrip.{reads-back}
 
 -- ---- one section
 

@@ -1,10 +1,10 @@
--- `framing::put_heading` meets its contract: its eight stores are the eight bytes, laid one after the other.
+-- `cutting::put_heading` meets its contract: its eight stores are the eight bytes, laid one after the other.
 use native.Mathlib.Omega.{arith}
 use borrow.Author.Needs.{needs}
 use lib.ListN.{length-set}
 use Rattle.framing.proofs.Printing.{stored-heading}
-use Rattle.framing.proofs.put_heading.Statement.{statement}
-use Rattle.framing.proofs.put_heading.Tie as tie
+use Rattle.cutting.proofs.put_heading.Statement.{statement}
+use Rattle.cutting.proofs.put_heading.Tie as tie
 
 pub put-heading-spec : {M : Type 1} → statement M
 put-heading-spec =

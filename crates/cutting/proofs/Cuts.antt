@@ -9,17 +9,17 @@ use lib.Dec.{eqb, ltb}
 use lib.ListN.{length, take}
 use Rattle.refusal.specs.declared.Refusal.{Refusal}
 use Rattle.refusal.specs.declared.Refusal.the-variants.{OtherKind, NumberAboveLast, PastBody, OutsideSet, OutputTooSmall, TooLarge}
-use Rattle.framing.specs.Cutting.{sectionCount, countedOf, partOf, cutHeading, sectionOf, Verdict, refuses, writes, fitting, cutting, answerBy, outputBy, Allowed}
+use Rattle.cutting.specs.Cutting.{sectionCount, countedOf, partOf, cutHeading, sectionOf, Verdict, refuses, writes, fitting, cutting, answerBy, outputBy, Allowed}
 use Rattle.choices.specs.Choice.{if_then_else_}
 use Rattle.framing.specs.Section.{isKind, printed}
-use Rattle.framing.specs.declared.Counted.the-variants.{Sections, Refused as NotCounted}
-use Rattle.framing.specs.declared.Cut.{Cut}
-use Rattle.framing.specs.declared.Cut.the-variants.{Written, Refused as NotCut}
+use Rattle.cutting.specs.declared.Counted.the-variants.{Sections, Refused as NotCounted}
+use Rattle.cutting.specs.declared.Cut.{Cut}
+use Rattle.cutting.specs.declared.Cut.the-variants.{Written, Refused as NotCut}
 use Rattle.framing.specs.declared.Heading.{Heading}
-use Rattle.framing.proofs.Counting.{counted-some}
+use Rattle.cutting.proofs.Counting.{counted-some}
 use Rattle.placing.specs.Placed.{placed}
 use Rattle.placing.proofs.Placing.{placed-start}
 use Rattle.framing.proofs.Printing.{printed-length}
 
 -- ---- the answer and the output of a verdict
 

@@ -1,9 +1,9 @@
--- `framing::bit` meets its contract: each value of the bool is its digit.
+-- `cutting::bit` meets its contract: each value of the bool is its digit.
 use mathlib.Core.Path.{sym, ap}
 use native.Mathlib.Omega.{arith}
 use Rattle.crc.specs.Crc.{digit}
-use Rattle.framing.proofs.bit.Statement.{statement}
-use Rattle.framing.proofs.bit.Tie as tie
+use Rattle.cutting.proofs.bit.Statement.{statement}
+use Rattle.cutting.proofs.bit.Tie as tie
 
 returns : tie.Need-returns
 unfolding digit

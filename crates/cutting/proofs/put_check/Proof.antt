@@ -1,10 +1,10 @@
--- `framing::put_check` meets its contract: its four stores are the number's four bytes, laid one after the other.
+-- `cutting::put_check` meets its contract: its four stores are the number's four bytes, laid one after the other.
 use native.Mathlib.Omega.{arith}
 use borrow.Author.Needs.{needs}
 use lib.ListN.{length-set}
 use Rattle.framing.proofs.Bytes.{stored-four}
-use Rattle.framing.proofs.put_check.Statement.{statement}
-use Rattle.framing.proofs.put_check.Tie as tie
+use Rattle.cutting.proofs.put_check.Statement.{statement}
+use Rattle.cutting.proofs.put_check.Tie as tie
 
 pub put-check-spec : {M : Type 1} → statement M
 put-check-spec =

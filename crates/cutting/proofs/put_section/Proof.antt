@@ -1,11 +1,11 @@
--- `framing::put_section` meets its contract: the heading, the payload and the check are laid one after the other, and the check is that of the two before it.
+-- `cutting::put_section` meets its contract: the heading, the payload and the check are laid one after the other, and the check is that of the two before it.
 use mathlib.Core.Path.{sym}
 use native.Mathlib.Omega.{arith}
 use borrow.Author.Needs.{needs}
 use lib.Seq.{length-take-le}
 use Rattle.framing.proofs.Printing.{laid-length, laid-checked}
-use Rattle.framing.proofs.put_section.Statement.{statement}
-use Rattle.framing.proofs.put_section.Tie as tie
+use Rattle.cutting.proofs.put_section.Statement.{statement}
+use Rattle.cutting.proofs.put_section.Tie as tie
 
 pub put-section-spec : {M : Type 1} → statement M
 put-section-spec =
