@@ -9,7 +9,7 @@ ghost use Rattle.telling.specs.Answers.{readAnswer, writtenAnswer};
 pub extern "C" fn nw_index_read(kind: u32, body: &[u8]) -> u64
     ensures { λ r. ⌜ r ≡ readAnswer (bodyRead index indexKind kind (now (body .entry))) ⌝ }
 {
-    telling::read_answer(index::read(kind, body))
+    telling::read_answer(indexreader::read(kind, body))
 }
 
 #[no_mangle]
@@ -17,7 +17,7 @@ pub extern "C" fn nw_index_lay(kind: u32, body: &[u8], tape: &mut [u64]) -> u64
     ensures { λ r. ⌜ r ≡ writtenAnswer (bodyLaid index indexKind kind (now (body .entry)) (length (now (tape .entry)))) ⌝ }
     ensures { λ _. ⌜ now (tape .exit) ≡ laidTape index indexKind kind (now (body .entry)) (now (tape .entry)) ⌝ }
 {
-    telling::written_answer(index::lay(kind, body, tape))
+    telling::written_answer(indexreader::lay(kind, body, tape))
 }
 
 #[no_mangle]

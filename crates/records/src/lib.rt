@@ -77,7 +77,7 @@ fn record_at(s: &[u8], p: usize) -> Placed
 fn planned(kind: u32, s: &[u8], room: usize) -> Plan
     ensures { λ r. ⌜ Planned kind (now (s .entry)) room r ⌝ }
 {
-    match index::read(kind, s) {
+    match indexreader::read(kind, s) {
         Step::Refused(r) => {
             let no = Step::Refused(r);
             Plan { n: 0, answer: no }

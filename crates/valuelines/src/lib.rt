@@ -84,7 +84,7 @@ fn time_answer(text: &[u8]) -> Answer
 fn index_answer(body: &[u8]) -> Answer
     ensures { λ r. ⌜ r ≡ ofIndex (now (body .entry)) ⌝ }
 {
-    match index::read(0xFD, body) {
+    match indexreader::read(0xFD, body) {
         Step::At(end) => Answer::Accepted,
         Step::Refused(r) => Answer::RefusedAt(r),
     }
