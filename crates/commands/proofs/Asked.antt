@@ -21,7 +21,8 @@ use Rattle.fields.proofs.Classes.{Bytes}
 use Rattle.fields.proofs.Parts.{rest-filling}
 use Rattle.fields.proofs.Elements.{exact-found, view-found, followed-found, list-found}
 use Rattle.fields.proofs.RoundTrips as trips
-use Rattle.configuration.specs.Configuration.{configurationKind, resource, terminals, date, clock, address, Order, setClock, setCode, tune, setReturn, setPeriod, setVolume, query, other, orderOf, Said, said, least, Command, command, Configuration, fields, configuration}
+use Rattle.fields.specs.Resource.{resource}
+use Rattle.configuration.specs.Configuration.{configurationKind, terminals, date, clock, address, Order, setClock, setCode, tune, setReturn, setPeriod, setVolume, query, other, orderOf, Said, said, least, Command, command, Configuration, fields, configuration}
 use Rattle.configuration.proofs.Lawful.{said-filling, configuration-filling}
 use Rattle.asking.specs.Asking.{entry}
 use Rattle.asking.proofs.Sizes.{Sized, count-sized, only-found, number-sized, number-inside, digits-sized, next, repeat-sized, nth-sized}

@@ -13,7 +13,8 @@ use Rattle.fields.specs.declared.Number.{Number}
 use Rattle.fields.specs.declared.Number.the-variants.{Is, Refused as NoNumber}
 use Rattle.fields.specs.declared.Part.{Part}
 use Rattle.fields.specs.declared.Part.the-variants.{Refused as NoPart}
-use Rattle.configuration.specs.Configuration.{resource, date, clock, address, least}
+use Rattle.fields.specs.Resource.{resource}
+use Rattle.configuration.specs.Configuration.{date, clock, address, least}
 use Rattle.asking.specs.Asking.{entry}
 use Rattle.commands.specs.declared.Place.{Place}
 use Rattle.commands.specs.declared.Place.the-variants.{In, Refused as NoPlace}

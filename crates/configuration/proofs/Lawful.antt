@@ -18,8 +18,9 @@ use Rattle.fields.proofs.Leaves.{count-lawful, count-small, small-count, digits
 use Rattle.fields.proofs.Bits.{among-lawful}
 use Rattle.fields.proofs.Parts.{only-ok, only-lawful, only-filling, unless-even, outside-even, number-lawful, followed-lawful, view-lawful, rest-filling, exact-filling, Counts, counted-lawful, least-counts, opaque-lawful}
 use Rattle.fields.proofs.Lists.{list-lawful}
+use Rattle.fields.specs.Resource.{resource}
 use Rattle.configuration.specs.Address.{lengthFits, isAddress}
-use Rattle.configuration.specs.Configuration.{resource, terminals, dayFault, date, clock, addressFault, fitting, address, Order, setClock, setCode, tune, setReturn, setPeriod, setVolume, query, other, orderOf, said, least, command, fields, configuration}
+use Rattle.configuration.specs.Configuration.{terminals, dayFault, date, clock, addressFault, fitting, address, Order, setClock, setCode, tune, setReturn, setPeriod, setVolume, query, other, orderOf, said, least, command, fields, configuration}
 use Rattle.configuration.proofs.Least.{enough}
 
 pub terminals-lawful : Lawful terminals

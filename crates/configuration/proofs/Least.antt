@@ -14,7 +14,8 @@ use Rattle.fields.proofs.Stand.{stands-whole}
 use Rattle.fields.proofs.Classes.{Ok}
 use Rattle.fields.proofs.Leaves.{length-bytes, digits-lawful}
 use Rattle.fields.proofs.Strings.{digits-part}
-use Rattle.configuration.specs.Configuration.{resource, terminals, date, clock, fitting, address, Said, said, orderOf, least}
+use Rattle.fields.specs.Resource.{resource}
+use Rattle.configuration.specs.Configuration.{terminals, date, clock, fitting, address, Said, said, orderOf, least}
 
 -- each value takes n bytes at least
 abbrev Takes : {A : Type 0} → ℕ → Format A → Type 0

@@ -10,20 +10,17 @@ use Rattle.days.specs.Calendar.{dayOf}
 use Rattle.days.specs.declared.DayAnswer.{DayAnswer}
 use Rattle.days.specs.declared.DayAnswer.the-variants.{Day, Refused}
 use Rattle.fields.specs.Reading.{Fault, fine, faulty, unless}
-use Rattle.fields.specs.Format.{Format, Length, _▷_, followed, only, outside, count, number, among, digits, listOf, opaque, rest, exact, view, counted, leastOf}
+use Rattle.fields.specs.Format.{Format, Length, _▷_, followed, only, outside, count, number, among, listOf, opaque, rest, exact, view, counted, leastOf}
+use Rattle.fields.specs.Resource.{resource, resources}
 use Rattle.configuration.specs.Address.{lengthFits, isAddress}
 
 -- "FB configuration"
 abbrev pub configurationKind : ℕ
 configurationKind = 0xFB
 
--- "12-byte resources": 4 reserved, 23 digits
-abbrev pub resource : Format (List ℕ)
-resource = digits 11
-
 -- "Terminal lists are an 8-bit count and 12-byte resources"
 unfoldable pub terminals : Format (List (List ℕ))
-terminals = listOf (count 1) resource
+terminals = resources
 
 -- ---- 1: the clock
 

@@ -8,28 +8,13 @@ ghost use lib.ListN.{length};
 ghost use Rattle.refusal.specs.declared.Refusal.the-variants.{PastPart};
 ghost use Rattle.fields.specs.Format.{number, times, exact};
 ghost use Rattle.walks.specs.Walked.{Walked};
-ghost use Rattle.configuration.specs.Configuration.{resource, terminals, date, clock, address, setClock, setCode, tune, setReturn, setPeriod, setVolume, query, orderOf, said, command, configuration};
-
-// n resources.
-fn walk_all_resources(s: &[u8], l: usize, x: Walk, n: u64, tape: &mut [u64], wet: bool) -> Walk
-    ensures { λ r. ⌜ Walked (times n resource) (now (s .entry)) l x wet (now (tape .entry)) r (now (tape .exit)) ⌝ }
-{
-    let mut at = x;
-    let mut left = n;
-    while 0 < left {
-        at = walks::walk_digits(s, l, at, 11, tape, wet);
-        left = left - 1;
-    }
-    at
-}
+ghost use Rattle.configuration.specs.Configuration.{terminals, date, clock, address, setClock, setCode, tune, setReturn, setPeriod, setVolume, query, orderOf, said, command, configuration};
 
 // "an 8-bit count and 12-byte resources", after which no byte of the content is left.
 fn walk_terminals(s: &[u8], l: usize, x: Walk, tape: &mut [u64], wet: bool) -> Walk
     ensures { λ r. ⌜ Walked (exact PastPart terminals) (now (s .entry)) l x wet (now (tape .entry)) r (now (tape .exit)) ⌝ }
 {
-    let resources = walks::walk_count(s, l, x, 1, tape, wet);
-    let at = resources.walk;
-    let a = walk_all_resources(s, l, at, resources.n, tape, wet);
+    let a = walks::walk_resources(s, l, x, tape, wet);
     walks::leave(a, l)
 }
 

@@ -17,21 +17,7 @@ ghost use Rattle.configuration.specs.Configuration.{terminals, date, clock, add
 fn put_terminals(pool: &[u8], tape: &[u64], x: Pen, out: &mut [u8], wet: bool) -> Pen
     ensures { λ r. ⌜ Penned terminals (now (pool .entry)) (now (tape .entry)) x wet (now (out .entry)) r (now (out .exit)) ⌝ }
 {
-    let things = pens::put_count(tape, x, 1, out, wet);
-    let mut pen = things.pen;
-    let mut left = things.n;
-    while 0 < left {
-        match pens::put_digits(pool, tape, pen, 11, out, wet) {
-            Pen::Refused(r) => {
-                return Pen::Refused(r);
-            }
-            Pen::At(size, k) => {
-                pen = Pen::At(size, k);
-            }
-        }
-        left = left - 1;
-    }
-    pen
+    pens::put_resources(pool, tape, x, out, wet)
 }
 
 // ---- 1: the clock

@@ -2,5 +2,6 @@
 pub mod Reading
 pub mod Format
 pub mod Time
+pub mod Resource
 pub mod Answers
 pub mod Body

@@ -4,6 +4,7 @@ use mathlib.Core.List.{List}
 use Rattle.refusal.specs.declared.Refusal.the-variants.{LeftOver, PastPart}
 use Rattle.fields.specs.Format.{Format, _▷_, followed, Under, under, count, number, nibblesAmong, bytesAmong, reserved, digits, listOf, many, opaque, exact, view, lengthOf, length12, counted}
 use Rattle.fields.specs.Time.{time, endTime}
+use Rattle.fields.specs.Resource.{resources}
 
 -- "FD index"
 abbrev pub indexKind : ℕ
@@ -76,10 +77,6 @@ flagged = followed (reserved 7 0) (λ flag. under channel flag)
 abbrev pub identifier : Format (List ℕ)
 identifier = digits 17
 
--- "resources of 4 reserved + 23 digits"
-abbrev pub resource : Format (List ℕ)
-resource = digits 11
-
 pub record Message : Type 0 where
   pub identifier : List ℕ
   pub network : ℕ
@@ -103,7 +100,7 @@ MessageFields = HeadFields × (List (List ℕ) × Flagged)
 
 -- "resource count 8, resources of 4 reserved + 23 digits, 7 reserved, channel flag"
 unfoldable pub messageFields : Format MessageFields
-messageFields = head ▷ (listOf (count 1) resource ▷ flagged)
+messageFields = head ▷ (resources ▷ flagged)
 
 abbrev pub named : MessageFields → Message
 named x =

@@ -1,9 +1,9 @@
 // Walks through the body of an index table, from a message's fields up to the whole: each is one field of the format of its name.
 use walks::Walk;
 ghost use lib.ListN.{length};
-ghost use Rattle.fields.specs.Format.{count, listOf, times};
+ghost use Rattle.fields.specs.Format.{times};
 ghost use Rattle.walks.specs.Walked.{Walked};
-ghost use Rattle.index.specs.Index.{head, resource, message, index};
+ghost use Rattle.index.specs.Index.{head, message, index};
 
 // From the identifier to the level.
 fn walk_head(s: &[u8], l: usize, x: Walk, tape: &mut [u64], wet: bool) -> Walk
@@ -17,28 +17,6 @@ fn walk_head(s: &[u8], l: usize, x: Walk, tape: &mut [u64], wet: bool) -> Walk
     walks::walk_nibbles(s, l, e, 1, 4, tape, wet)
 }
 
-// n resources.
-fn walk_all_resources(s: &[u8], l: usize, x: Walk, n: u64, tape: &mut [u64], wet: bool) -> Walk
-    ensures { λ r. ⌜ Walked (times n resource) (now (s .entry)) l x wet (now (tape .entry)) r (now (tape .exit)) ⌝ }
-{
-    let mut at = x;
-    let mut left = n;
-    while 0 < left {
-        at = walks::walk_digits(s, l, at, 11, tape, wet);
-        left = left - 1;
-    }
-    at
-}
-
-// "resource count 8, resources of 4 reserved + 23 digits".
-fn walk_resources(s: &[u8], l: usize, x: Walk, tape: &mut [u64], wet: bool) -> Walk
-    ensures { λ r. ⌜ Walked (listOf (count 1) resource) (now (s .entry)) l x wet (now (tape .entry)) r (now (tape .exit)) ⌝ }
-{
-    let resources = walks::walk_count(s, l, x, 1, tape, wet);
-    let at = resources.walk;
-    walk_all_resources(s, l, at, resources.n, tape, wet)
-}
-
 // "16-bit EBM_length, then" the message's fields, which fill it.
 fn walk_message(s: &[u8], l: usize, x: Walk, tape: &mut [u64], wet: bool) -> Walk
     ensures { λ r. ⌜ Walked message (now (s .entry)) l x wet (now (tape .entry)) r (now (tape .exit)) ⌝ }
@@ -46,7 +24,7 @@ fn walk_message(s: &[u8], l: usize, x: Walk, tape: &mut [u64], wet: bool) -> Wal
     let part = walks::enter(s, l, x, 2);
     let at = part.walk;
     let a = walk_head(s, part.end, at, tape, wet);
-    let b = walk_resources(s, part.end, a, tape, wet);
+    let b = walks::walk_resources(s, part.end, a, tape, wet);
     let c = channels::walk_flagged(s, part.end, b, tape, wet);
     walks::leave(c, part.end)
 }

@@ -2,7 +2,7 @@
 use pens::Pen;
 ghost use Rattle.fields.specs.Format.{count, listOf, many};
 ghost use Rattle.pens.specs.Penned.{Penned};
-ghost use Rattle.index.specs.Index.{descriptor, descriptors, stream, streams, channel, flagged, head, resource, message, index};
+ghost use Rattle.index.specs.Index.{descriptor, descriptors, stream, streams, channel, flagged, head, message, index};
 
 // "tag, 8-bit length, data".
 fn put_descriptor(pool: &[u8], tape: &[u64], x: Pen, out: &mut [u8], wet: bool) -> Pen
@@ -120,34 +120,13 @@ fn put_head(pool: &[u8], tape: &[u64], x: Pen, out: &mut [u8], wet: bool) -> Pen
     pens::put_nibbles(tape, e, 1, 4, out, wet)
 }
 
-// "resource count 8, resources of 4 reserved + 23 digits".
-fn put_resources(pool: &[u8], tape: &[u64], x: Pen, out: &mut [u8], wet: bool) -> Pen
-    ensures { λ r. ⌜ Penned (listOf (count 1) resource) (now (pool .entry)) (now (tape .entry)) x wet (now (out .entry)) r (now (out .exit)) ⌝ }
-{
-    let things = pens::put_count(tape, x, 1, out, wet);
-    let mut pen = things.pen;
-    let mut left = things.n;
-    while 0 < left {
-        match pens::put_digits(pool, tape, pen, 11, out, wet) {
-            Pen::Refused(r) => {
-                return Pen::Refused(r);
-            }
-            Pen::At(size, k) => {
-                pen = Pen::At(size, k);
-            }
-        }
-        left = left - 1;
-    }
-    pen
-}
-
 // "16-bit EBM_length, then" the message's fields, which fill it.
 fn put_message(pool: &[u8], tape: &[u64], x: Pen, out: &mut [u8], wet: bool) -> Pen
     ensures { λ r. ⌜ Penned message (now (pool .entry)) (now (tape .entry)) x wet (now (out .entry)) r (now (out .exit)) ⌝ }
 {
     let a = pens::gap(x, 2);
     let b = put_head(pool, tape, a, out, wet);
-    let c = put_resources(pool, tape, b, out, wet);
+    let c = pens::put_resources(pool, tape, b, out, wet);
     let d = put_flagged(pool, tape, c, out, wet);
     pens::close(x, d, 2, 0, 65536, out, wet)
 }

@@ -22,10 +22,10 @@ use Rattle.fields.proofs.Classes.{Bytes}
 use Rattle.fields.proofs.Leaves.{number-below}
 use Rattle.fields.proofs.Bits.{reserved-inside}
 use Rattle.fields.proofs.Readers.{number-found, number-refused, step-found, step-refused}
+use Rattle.fields.specs.Resource.{resource}
 use Rattle.asking.specs.Asking.{fieldIn}
 use Rattle.asking.proofs.Answers.{number-in, found-in, part-refused, part-found}
 use Rattle.asking.proofs.Parts.{counted-holds}
-use Rattle.index.specs.Index.{resource}
 use Rattle.messages.specs.Asked.{signaturePart, identifierDigit, network, class, level, resourceCount, resourceAt, resourcePart, resourceDigit, flagAt, flag, channelAt, inChannel, descriptorsPart, streamsPart}
 
 -- ---- tests

@@ -10,8 +10,9 @@ use Rattle.fields.specs.Time.{time, endTime}
 use Rattle.fields.specs.Answers.{numberOf, partOf, fieldOf, numberRead, partListed, digitRead}
 use Rattle.fields.specs.declared.Number.{Number}
 use Rattle.fields.specs.declared.Part.{Part}
+use Rattle.fields.specs.Resource.{resource}
 use Rattle.asking.specs.Asking.{inBody, fieldIn, askedAt, inPart}
-use Rattle.index.specs.Index.{identifier, resource}
+use Rattle.index.specs.Index.{identifier}
 
 -- ---- the table
 

@@ -15,6 +15,7 @@ ghost use Rattle.refusal.specs.declared.Refusal.the-variants.{OutsideSet};
 ghost use Rattle.fields.specs.Reading.{found, refused, andThen, need};
 ghost use Rattle.fields.specs.Format.{entry, span, bytesOf, count, among, number, nibblesAmong, reserved, bytesAmong, digits, rest, opaque};
 ghost use Rattle.fields.specs.Time.{time, endTime};
+ghost use Rattle.fields.specs.Resource.{resources};
 ghost use Rattle.fields.specs.Answers.{numberOf};
 ghost use Rattle.fields.specs.declared.Part.the-variants.{Of, Refused as NoPart};
 ghost use Rattle.pens.specs.Penned.{more, Penned, Counted, refusing, gapped, Closed, unprinted};
@@ -529,4 +530,25 @@ pub fn take_count(tape: &[u64], x: Pen) -> Count
             },
         },
     }
+}
+
+// "resource count 8, resources of 4 reserved + 23 digits".
+pub fn put_resources(pool: &[u8], tape: &[u64], x: Pen, out: &mut [u8], wet: bool) -> Pen
+    ensures { λ r. ⌜ Penned resources (now (pool .entry)) (now (tape .entry)) x wet (now (out .entry)) r (now (out .exit)) ⌝ }
+{
+    let things = put_count(tape, x, 1, out, wet);
+    let mut pen = things.pen;
+    let mut left = things.n;
+    while 0 < left {
+        match put_digits(pool, tape, pen, 11, out, wet) {
+            Pen::Refused(r) => {
+                return Pen::Refused(r);
+            }
+            Pen::At(size, k) => {
+                pen = Pen::At(size, k);
+            }
+        }
+        left = left - 1;
+    }
+    pen
 }

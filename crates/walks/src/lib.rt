@@ -7,8 +7,9 @@ ghost use mathlib.Core.List.{[], _∷_};
 ghost use mathlib.Core.Bool.{_&&_};
 ghost use lib.Dec.{leb};
 ghost use Prim.Native.Nat.{_-_, _≤_};
-ghost use Rattle.fields.specs.Format.{count, among, number, nibblesAmong, reserved, bytesAmong, digits, rest, lengthOf, leastOf, length12, opaque};
+ghost use Rattle.fields.specs.Format.{count, among, number, nibblesAmong, reserved, bytesAmong, digits, times, rest, lengthOf, leastOf, length12, opaque};
 ghost use Rattle.fields.specs.Time.{time, endTime};
+ghost use Rattle.fields.specs.Resource.{resource, resources};
 ghost use Rattle.refusal.specs.declared.Refusal.the-variants.{PastPart, LeftOver, ImpossibleDay};
 ghost use Rattle.walks.specs.Walked.{Walked, leaving, judgedFrom, Counted, openedBy, entered};
 ghost use Rattle.walks.specs.Entries.{Laid, Stepped, entryOf, pastNumber, Told, spanOf, pastPart, endOf};
@@ -457,4 +458,26 @@ pub fn possible(x: Walk, y: Walk, holds: bool) -> Walk
             }
         },
     }
+}
+
+// n resources.
+fn walk_all_resources(s: &[u8], l: usize, x: Walk, n: u64, tape: &mut [u64], wet: bool) -> Walk
+    ensures { λ r. ⌜ Walked (times n resource) (now (s .entry)) l x wet (now (tape .entry)) r (now (tape .exit)) ⌝ }
+{
+    let mut at = x;
+    let mut left = n;
+    while 0 < left {
+        at = walk_digits(s, l, at, 11, tape, wet);
+        left = left - 1;
+    }
+    at
+}
+
+// "resource count 8, resources of 4 reserved + 23 digits".
+pub fn walk_resources(s: &[u8], l: usize, x: Walk, tape: &mut [u64], wet: bool) -> Walk
+    ensures { λ r. ⌜ Walked resources (now (s .entry)) l x wet (now (tape .entry)) r (now (tape .exit)) ⌝ }
+{
+    let resources = walk_count(s, l, x, 1, tape, wet);
+    let at = resources.walk;
+    walk_all_resources(s, l, at, resources.n, tape, wet)
 }

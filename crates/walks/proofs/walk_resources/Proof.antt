@@ -1,9 +1,9 @@
--- `indexreader::walking::walk_resources` meets its contract: the count, and so many resources.
+-- `walks::walk_resources` meets its contract: the count, and so many resources.
 use borrow.Author.Needs.{needs}
 use Rattle.fields.proofs.Leaves.{count-lawful, digits-lawful}
 use Rattle.walks.proofs.Counts.{list-walk}
-use Rattle.indexreader.proofs.walking.walk_resources.Statement.{statement}
-use Rattle.indexreader.proofs.walking.walk_resources.Tie as tie
+use Rattle.walks.proofs.walk_resources.Statement.{statement}
+use Rattle.walks.proofs.walk_resources.Tie as tie
 
 pub walk-resources-spec : {M : Type 1} → statement M
 walk-resources-spec =

@@ -1,12 +1,12 @@
--- `indexreader::walking::walk_all_resources` meets its contract: each turn walks one resource, and those left make the whole.
+-- `walks::walk_all_resources` meets its contract: each turn walks one resource, and those left make the whole.
 use native.Mathlib.Omega.{arith}
 use borrow.Author.Needs.{needs}
 use Rattle.fields.specs.Format.{times}
 use Rattle.fields.proofs.Leaves.{digits-lawful}
 use Rattle.walks.proofs.Counts.{Ahead, ahead-start, times-turn, times-done}
-use Rattle.index.specs.Index.{resource}
-use Rattle.indexreader.proofs.walking.walk_all_resources.Statement.{statement}
-use Rattle.indexreader.proofs.walking.walk_all_resources.Tie as tie
+use Rattle.fields.specs.Resource.{resource}
+use Rattle.walks.proofs.walk_all_resources.Statement.{statement}
+use Rattle.walks.proofs.walk_all_resources.Tie as tie
 
 abbrev Inv-loop : tie.InvT-loop
 Inv-loop s l n tape₀ wet at₀ left₀ tape at left = Ahead (times n resource) s l at₀ wet tape₀ (times left resource) at tape

@@ -1,12 +1,12 @@
--- `indexwriter::writing::put_resources` meets its contract: each turn puts one more, the first refusal ends them, and the turns are as many as the count says.
+-- `pens::put_resources` meets its contract: each turn puts one more, the first refusal ends them, and the turns are as many as the count says.
 use mathlib.Core.Path.{_≡_, refl}
 use native.Mathlib.Omega.{arith}
 use lib.ListN.{length}
 use borrow.Author.Needs.{needs}
 use Rattle.pens.proofs.Lists.{Underway, list-start, list-pen, times-turn, times-stop, times-done}
-use Rattle.index.specs.Index.{resource}
-use Rattle.indexwriter.proofs.writing.put_resources.Statement.{statement}
-use Rattle.indexwriter.proofs.writing.put_resources.Tie as tie
+use Rattle.fields.specs.Resource.{resource}
+use Rattle.pens.proofs.put_resources.Statement.{statement}
+use Rattle.pens.proofs.put_resources.Tie as tie
 
 abbrev Inv-loop : tie.InvT-loop
 Inv-loop pool tape out₀ wet pen₀ left₀ out pen left = (length out ≡ length out₀) × Underway resource pool tape wet left₀ pen₀ out₀ left pen out
