@@ -1,13 +1,13 @@
 // The fields of a configuration table, asked for one by one: of the body, and of a command told by p, where its tag stands.
-use configuration::addresses::is_address;
-use configuration::addresses::length_fits;
-use configuration::clocks;
-use configuration::least_content;
 use days::DayAnswer;
 use fields::Number;
 use fields::Part;
 use fields::Step;
 use refusal::Refusal;
+use settings::addresses::is_address;
+use settings::addresses::length_fits;
+use settings::clocks;
+use settings::least_content;
 ghost use mathlib.Core.Path.{_≡_};
 ghost use Prim.Native.Nat.{_≤_};
 ghost use lib.ListN.{length};

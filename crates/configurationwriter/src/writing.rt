@@ -1,11 +1,11 @@
 // The pen through the form of a configuration table, from its terminal lists up to the whole: each is one field of the format of its
 // name. A day and a time are judged once their numbers are put: the wet pen, which comes second, meets none that is refused.
-use configuration::addresses;
-use configuration::clocks;
 use days::DayAnswer;
 use fields::Part;
 use pens::Pen;
 use refusal::Refusal;
+use settings::addresses;
+use settings::clocks;
 ghost use mathlib.Core.Path.{_≡_};
 ghost use mathlib.Core.List.{List};
 ghost use Prim.Native.Nat.{ℕ};

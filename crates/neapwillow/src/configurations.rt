@@ -9,7 +9,7 @@ ghost use Rattle.telling.specs.Answers.{readAnswer, writtenAnswer};
 pub extern "C" fn nw_configuration_read(kind: u32, body: &[u8]) -> u64
     ensures { λ r. ⌜ r ≡ readAnswer (bodyRead configuration configurationKind kind (now (body .entry))) ⌝ }
 {
-    telling::read_answer(configuration::read(kind, body))
+    telling::read_answer(configurationreader::read(kind, body))
 }
 
 #[no_mangle]
@@ -17,7 +17,7 @@ pub extern "C" fn nw_configuration_lay(kind: u32, body: &[u8], tape: &mut [u64])
     ensures { λ r. ⌜ r ≡ writtenAnswer (bodyLaid configuration configurationKind kind (now (body .entry)) (length (now (tape .entry)))) ⌝ }
     ensures { λ _. ⌜ now (tape .exit) ≡ laidTape configuration configurationKind kind (now (body .entry)) (now (tape .entry)) ⌝ }
 {
-    telling::written_answer(configuration::lay(kind, body, tape))
+    telling::written_answer(configurationreader::lay(kind, body, tape))
 }
 
 #[no_mangle]

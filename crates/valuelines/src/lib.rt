@@ -95,7 +95,7 @@ fn volume_answer(volume: u8) -> Answer
     ensures { λ r. ⌜ r ≡ ofVolume volume ⌝ }
 {
     let body: [u8; 8] = [1, 6, 0, 2, volume, 0, 0, 0];
-    match configuration::read(0xFB, &body) {
+    match configurationreader::read(0xFB, &body) {
         Step::At(end) => Answer::Accepted,
         Step::Refused(r) => Answer::Refused(r),
     }

@@ -2,7 +2,8 @@
 use mathlib.Core.Path.{ap}
 use borrow.Author.Needs.{needs}
 use Rattle.configuration.specs.Configuration.{setClock, setCode, tune, setReturn, setPeriod, setVolume, query, other, orderOf, said}
-use Rattle.configurationwriter.proofs.Orders.{ordered, other-tag}
+use Rattle.configuration.proofs.Orders.{other-tag}
+use Rattle.configurationwriter.proofs.Orders.{ordered}
 use Rattle.configurationwriter.proofs.writing.put_said.Statement.{statement}
 use Rattle.configurationwriter.proofs.writing.put_said.Tie as tie
 

@@ -1,0 +1,4 @@
+-- The laws that the functions' proofs cite.
+mod ClockWalks
+mod AddressWalks
+mod Commands

@@ -1,0 +1,19 @@
+-- `settings::clocks::is_day` meets its contract: a date has a day exactly where crate days answers one.
+use mathlib.Core.Path.{sym, _∙_}
+use borrow.Author.Needs.{needs}
+use Rattle.settings.proofs.Dated.{is-day, no-day}
+use Rattle.settings.proofs.clocks.is_day.Statement.{statement}
+use Rattle.settings.proofs.clocks.is_day.Tie as tie
+
+pub is-day-spec : {M : Type 1} → statement M
+is-day-spec =
+    tie.close
+    (tie.spec
+    (λ c. search needs)
+    (λ c. search needs)
+    (λ c. search needs)
+    (λ c κs. search needs)
+    (λ c. search needs)
+    (λ c. search needs)
+    (λ c. is-day _ _ _ (sym (c .before .n .given .1) ∙ c .before .before .before .day-of .ensures))
+    (λ c. no-day _ _ _ (sym (c .before .r .given .1) ∙ c .before .before .before .day-of .ensures)))
