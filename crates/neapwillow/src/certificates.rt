@@ -10,7 +10,7 @@ ghost use Rattle.telling.specs.Answers.{readAnswer, numberAnswer, partAnswer, w
 pub extern "C" fn nw_certificate_read(kind: u32, body: &[u8]) -> u64
     ensures { λ r. ⌜ r ≡ readAnswer (bodyRead certificate certificateKind kind (now (body .entry))) ⌝ }
 {
-    telling::read_answer(certificate::read(kind, body))
+    telling::read_answer(certificatereader::read(kind, body))
 }
 
 #[no_mangle]
@@ -53,7 +53,7 @@ pub extern "C" fn nw_certificate_write(pool: &[u8], tape: &[u64], out: &mut [u8]
     ensures { λ r. ⌜ r ≡ writtenAnswer (bodyWritten certificate (now (pool .entry)) (now (tape .entry)) (length (now (out .entry)))) ⌝ }
     ensures { λ _. ⌜ now (out .exit) ≡ output certificate (now (pool .entry)) (now (tape .entry)) (now (out .entry)) ⌝ }
 {
-    telling::written_answer(certificate::write(pool, tape, out))
+    telling::written_answer(certificatewriter::write(pool, tape, out))
 }
 
 #[no_mangle]
@@ -61,5 +61,5 @@ pub extern "C" fn nw_certificate_lay(kind: u32, body: &[u8], tape: &mut [u64]) -
     ensures { λ r. ⌜ r ≡ writtenAnswer (bodyLaid certificate certificateKind kind (now (body .entry)) (length (now (tape .entry)))) ⌝ }
     ensures { λ _. ⌜ now (tape .exit) ≡ laidTape certificate certificateKind kind (now (body .entry)) (now (tape .entry)) ⌝ }
 {
-    telling::written_answer(certificate::lay(kind, body, tape))
+    telling::written_answer(certificatereader::lay(kind, body, tape))
 }

@@ -10,7 +10,7 @@ ghost use Rattle.telling.specs.Answers.{readAnswer, writtenAnswer, contentAnswe
 pub extern "C" fn nw_content_read(kind: u32, extension: u32, body: &[u8]) -> u64
     ensures { λ r. ⌜ r ≡ readAnswer (contentRead 3 kind extension (now (body .entry))) ⌝ }
 {
-    telling::read_answer(content::read(kind, extension, body))
+    telling::read_answer(contentreader::read(kind, extension, body))
 }
 
 #[no_mangle]
@@ -18,7 +18,7 @@ pub extern "C" fn nw_content_lay(kind: u32, body: &[u8], tape: &mut [u64]) -> u6
     ensures { λ r. ⌜ r ≡ writtenAnswer (bodyLaid (content 3) contentKind kind (now (body .entry)) (length (now (tape .entry)))) ⌝ }
     ensures { λ _. ⌜ now (tape .exit) ≡ laidTape (content 3) contentKind kind (now (body .entry)) (now (tape .entry)) ⌝ }
 {
-    telling::written_answer(content::lay(kind, body, tape))
+    telling::written_answer(contentreader::lay(kind, body, tape))
 }
 
 #[no_mangle]

@@ -1,5 +1,7 @@
 // How each answer of the library becomes one number for C: the refusal's number in the low byte, and above it its place or the value.
 use contentwriter::Written;
+use cutting::Counted;
+use cutting::Cut;
 use days::DateAnswer;
 use days::DayAnswer;
 use days::WeekdayAnswer;
@@ -7,8 +9,6 @@ use feeding::Answer;
 use fields::Number;
 use fields::Part;
 use fields::Step;
-use cutting::Counted;
-use cutting::Cut;
 use framing::Heading;
 use framing::Sectioned;
 use handing::Handed;
