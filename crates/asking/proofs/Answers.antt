@@ -10,14 +10,14 @@ use borrow.Author.Tests.{ltb-true, leb-true, leb-false, le-leb, lt-leb}
 use Rattle.choices.proofs.Tests.{both}
 use Rattle.refusal.specs.declared.Refusal.{Refusal}
 use Rattle.refusal.specs.declared.Refusal.the-variants.{OutsideSet}
-use Rattle.fields.specs.Reading.{Reading, found, refused, need}
-use Rattle.fields.specs.Format.{Format, count, number}
-use Rattle.fields.specs.Answers.{stepOf, numberOf, partOf, numberRead}
-use Rattle.fields.specs.declared.Step.the-variants.{At, Refused as NoStep}
-use Rattle.fields.specs.declared.Part.the-variants.{Of, Refused as NoPart}
-use Rattle.fields.proofs.Outcomes.{need-found}
-use Rattle.fields.proofs.Classes.{Bytes}
-use Rattle.fields.proofs.Bits.{number-is-count}
+use Rattle.formats.specs.Reading.{Reading, found, refused, need}
+use Rattle.formats.specs.Format.{Format, count, number}
+use Rattle.formats.specs.Answers.{stepOf, numberOf, partOf, numberRead}
+use Rattle.formats.specs.declared.Step.the-variants.{At, Refused as NoStep}
+use Rattle.formats.specs.declared.Part.the-variants.{Of, Refused as NoPart}
+use Rattle.formats.proofs.Outcomes.{need-found}
+use Rattle.formats.proofs.Classes.{Bytes}
+use Rattle.formats.proofs.Bits.{number-is-count}
 use Rattle.asking.specs.Asking.{fieldIn}
 
 -- ---- tests

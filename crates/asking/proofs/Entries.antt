@@ -10,15 +10,15 @@ use lib.Dec.{ltb, leb}
 use borrow.Author.Tests.{leb-true, leb-false, le-leb, lt-leb, lt-ltb, le-ltb}
 use Rattle.refusal.specs.declared.Refusal.{Refusal}
 use Rattle.refusal.specs.declared.Refusal.the-variants.{OutsideSet}
-use Rattle.fields.specs.Reading.{Reading, found, refused, andThen, need}
-use Rattle.fields.specs.Format.{Format, count, number, bytes, followed, repeat, lengthOf, counted, opaque}
-use Rattle.fields.specs.Answers.{stepOf, numberOf, ended, endedAll, numberRead, partRead, after}
-use Rattle.fields.specs.declared.Step.the-variants.{At, Refused as NoStep}
-use Rattle.fields.specs.declared.Number.the-variants.{Is, Refused as NoNumber}
-use Rattle.fields.specs.declared.Part.the-variants.{Of, Refused as NoPart}
-use Rattle.fields.proofs.Outcomes.{found-inj, andThen-found, within-found}
-use Rattle.fields.proofs.Bits.{within-refused}
-use Rattle.fields.proofs.Readers.{number-found, number-refused, part-found, part-refused}
+use Rattle.formats.specs.Reading.{Reading, found, refused, andThen, need}
+use Rattle.formats.specs.Format.{Format, count, number, bytes, followed, repeat, lengthOf, counted, opaque}
+use Rattle.formats.specs.Answers.{stepOf, numberOf, ended, endedAll, numberRead, partRead, after}
+use Rattle.formats.specs.declared.Step.the-variants.{At, Refused as NoStep}
+use Rattle.formats.specs.declared.Number.the-variants.{Is, Refused as NoNumber}
+use Rattle.formats.specs.declared.Part.the-variants.{Of, Refused as NoPart}
+use Rattle.formats.proofs.Outcomes.{found-inj, andThen-found, within-found}
+use Rattle.formats.proofs.Bits.{within-refused}
+use Rattle.formats.proofs.Readers.{number-found, number-refused, part-found, part-refused}
 use Rattle.asking.specs.Asking.{entry, nthOf}
 use Rattle.asking.proofs.Sizes.{only-found}
 

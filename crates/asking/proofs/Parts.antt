@@ -8,16 +8,16 @@ use lib.ListN.{length, getD, take, drop, length-drop, length-append}
 use lib.Seq.{length-take-le}
 use borrow.Author.Tests.{le-leb, lt-ltb}
 use Rattle.choices.proofs.Tests.{both}
-use Rattle.fields.specs.Reading.{found, fine}
-use Rattle.fields.specs.Format.{Format, digits, followed, many, rest, Length, lengthOf, counted, printAll, every, some}
-use Rattle.fields.specs.Answers.{partOf, digitRead}
-use Rattle.fields.specs.declared.Number.the-variants.{Is}
-use Rattle.fields.specs.declared.Part.{Part}
-use Rattle.fields.specs.declared.Part.the-variants.{Of}
-use Rattle.fields.proofs.Outcomes.{found-inj, andThen-found, judged-found, within-found, neither}
-use Rattle.fields.proofs.Stand.{stands-left, stands-right}
-use Rattle.fields.proofs.Classes.{Bytes, Lawful, Filling}
-use Rattle.fields.proofs.Strings.{digits-part, digits-fill}
+use Rattle.formats.specs.Reading.{found, fine}
+use Rattle.formats.specs.Format.{Format, digits, followed, many, rest, Length, lengthOf, counted, printAll, every, some}
+use Rattle.formats.specs.Answers.{partOf, digitRead}
+use Rattle.formats.specs.declared.Number.the-variants.{Is}
+use Rattle.formats.specs.declared.Part.{Part}
+use Rattle.formats.specs.declared.Part.the-variants.{Of}
+use Rattle.formats.proofs.Outcomes.{found-inj, andThen-found, judged-found, within-found, neither}
+use Rattle.formats.proofs.Stand.{stands-left, stands-right}
+use Rattle.formats.proofs.Classes.{Bytes, Lawful, Filling}
+use Rattle.formats.proofs.Strings.{digits-part, digits-fill}
 use Rattle.asking.proofs.Sizes.{count-sized}
 
 -- ---- counted parts

@@ -6,12 +6,12 @@ use native.Mathlib.Omega.{arith}
 use native.Mathlib.Nat.{mul-zero, mul-suc}
 use lib.ListN.{getD, take, drop}
 use Rattle.refusal.specs.declared.Refusal.the-variants.{DigitAboveNine}
-use Rattle.fields.specs.Reading.{found, Fault}
-use Rattle.fields.specs.Format.{Format, count, only, among, number, nibbles, nibblesAmong, reserved, bytes, bytesAmong, halves, tail, decimal, digits, _▷_, repeat}
-use Rattle.fields.specs.Time.{time, endTime}
-use Rattle.fields.proofs.Outcomes.{found-inj, andThen-found, need-found, judged-found, within-found}
-use Rattle.fields.proofs.Leaves.{reserved-found}
-use Rattle.fields.proofs.Elements.{followed-found}
+use Rattle.formats.specs.Reading.{found, Fault}
+use Rattle.formats.specs.Format.{Format, count, only, among, number, nibbles, nibblesAmong, reserved, bytes, bytesAmong, halves, tail, decimal, digits, _▷_, repeat}
+use Rattle.formats.specs.Time.{time, endTime}
+use Rattle.formats.proofs.Outcomes.{found-inj, andThen-found, need-found, judged-found, within-found}
+use Rattle.formats.proofs.Leaves.{reserved-found}
+use Rattle.formats.proofs.Elements.{followed-found}
 
 -- whatever F reads has n bytes
 abbrev pub Sized : {A : Type 0} → Format A → ℕ → Type 0

@@ -5,10 +5,10 @@ use mathlib.Core.Bool.{_&&_}
 use lib.ListN.{length}
 use lib.Dec.{ltb, leb}
 use Rattle.refusal.specs.declared.Refusal.the-variants.{OutsideSet}
-use Rattle.fields.specs.Reading.{Reading, found, refused, need}
-use Rattle.fields.specs.Format.{Format, bytes, _▷_, repeat, opaque}
-use Rattle.fields.specs.declared.Number.{Number}
-use Rattle.fields.specs.declared.Number.the-variants.{Refused as NoNumber}
+use Rattle.formats.specs.Reading.{Reading, found, refused, need}
+use Rattle.formats.specs.Format.{Format, bytes, _▷_, repeat, opaque}
+use Rattle.formats.specs.declared.Number.{Number}
+use Rattle.formats.specs.declared.Number.the-variants.{Refused as NoNumber}
 
 -- ---- a part, told by where it begins and its length
 

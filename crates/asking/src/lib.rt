@@ -1,15 +1,15 @@
 // What is common to fields asked for one by one: whether the part told lies in the body, a number in it, and the way past entries of a list.
-use fields::Number;
-use fields::Part;
-use fields::Step;
+use formats::Number;
+use formats::Part;
+use formats::Step;
 use refusal::Refusal;
 ghost use mathlib.Core.Path.{_≡_};
 ghost use mathlib.Core.Bool.{_&&_};
 ghost use Prim.Native.Nat.{_+_, _≤_};
 ghost use lib.ListN.{length};
 ghost use lib.Dec.{ltb, leb};
-ghost use Rattle.fields.specs.Format.{count};
-ghost use Rattle.fields.specs.Answers.{stepOf, numberOf, ended, endedAll};
+ghost use Rattle.formats.specs.Format.{count};
+ghost use Rattle.formats.specs.Answers.{stepOf, numberOf, ended, endedAll};
 ghost use Rattle.asking.specs.Asking.{fieldIn, entry, nthOf};
 
 // Whether the n bytes from at on lie in the body.

@@ -4,11 +4,11 @@ use mathlib.Core.Path.{_≡_}
 use mathlib.Core.List.{List}
 use lib.ListN.{length}
 use Rattle.refusal.specs.declared.Refusal.{Refusal}
-use Rattle.fields.specs.Answers.{ended, numberRead, partRead, partListed}
-use Rattle.fields.specs.declared.Step.the-variants.{At, Refused as NoStep}
-use Rattle.fields.specs.declared.Number.the-variants.{Refused as NoNumber}
-use Rattle.fields.specs.declared.Part.the-variants.{Refused as NoPart}
-use Rattle.fields.proofs.Readers.{step-found, step-refused}
+use Rattle.formats.specs.Answers.{ended, numberRead, partRead, partListed}
+use Rattle.formats.specs.declared.Step.the-variants.{At, Refused as NoStep}
+use Rattle.formats.specs.declared.Number.the-variants.{Refused as NoNumber}
+use Rattle.formats.specs.declared.Part.the-variants.{Refused as NoPart}
+use Rattle.formats.proofs.Readers.{step-found, step-refused}
 use Rattle.certificate.specs.Asked.{parts, certificateCount, certificatePart, signaturePart}
 
 module _ (s : List ℕ) where

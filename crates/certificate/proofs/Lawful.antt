@@ -2,11 +2,11 @@
 use Prim.Native.Nat.{ℕ}
 use mathlib.Core.Path.{refl}
 use Rattle.refusal.specs.declared.Refusal.the-variants.{LeftOver}
-use Rattle.fields.proofs.Classes.{Lawful, Filling}
-use Rattle.fields.proofs.Leaves.{count-lawful}
-use Rattle.fields.proofs.Parts.{followed-lawful, view-lawful, exact-filling, opaque-lawful}
-use Rattle.fields.proofs.Lists.{list-lawful}
-use Rattle.fields.specs.Format.{count, opaque}
+use Rattle.formats.proofs.Classes.{Lawful, Filling}
+use Rattle.formats.proofs.Leaves.{count-lawful}
+use Rattle.formats.proofs.Parts.{followed-lawful, view-lawful, exact-filling, opaque-lawful}
+use Rattle.formats.proofs.Lists.{list-lawful}
+use Rattle.formats.specs.Format.{count, opaque}
 use Rattle.certificate.specs.Certificate.{named, unnamed, fields, certificate}
 use Rattle.certificate.specs.Asked.{parts}
 

@@ -4,16 +4,16 @@ use mathlib.Core.Path.{_≡_, ap, _∙_}
 use mathlib.Core.List.{List, []}
 use lib.ListN.{length, getD}
 use Rattle.refusal.specs.declared.Refusal.the-variants.{LeftOver, OutsideSet}
-use Rattle.fields.specs.Reading.{found}
-use Rattle.fields.specs.Format.{count, opaque}
-use Rattle.fields.specs.Body.{reading}
-use Rattle.fields.specs.Answers.{partOf, numberRead, partListed}
-use Rattle.fields.specs.declared.Number.the-variants.{Is}
-use Rattle.fields.specs.declared.Part.{Part}
-use Rattle.fields.specs.declared.Part.the-variants.{Refused as NoPart}
-use Rattle.fields.proofs.Classes.{Bytes}
-use Rattle.fields.proofs.Elements.{Fills, exact-found, view-found, followed-found, list-found, listed-is, listed-past, opaque-fills}
-use Rattle.fields.proofs.RoundTrips as trips
+use Rattle.formats.specs.Reading.{found}
+use Rattle.formats.specs.Format.{count, opaque}
+use Rattle.formats.specs.Body.{reading}
+use Rattle.formats.specs.Answers.{partOf, numberRead, partListed}
+use Rattle.formats.specs.declared.Number.the-variants.{Is}
+use Rattle.formats.specs.declared.Part.{Part}
+use Rattle.formats.specs.declared.Part.the-variants.{Refused as NoPart}
+use Rattle.formats.proofs.Classes.{Bytes}
+use Rattle.formats.proofs.Elements.{Fills, exact-found, view-found, followed-found, list-found, listed-is, listed-past, opaque-fills}
+use Rattle.formats.proofs.RoundTrips as trips
 use Rattle.certificate.specs.Certificate.{Certificates, certificateKind, named, unnamed, fields, certificate}
 use Rattle.certificate.specs.Asked.{parts, authorizationCount, authorizationPart, certificateCount, certificatePart, signaturePart}
 use Rattle.certificate.proofs.Lawful.{certificate-filling}

@@ -2,11 +2,11 @@
 use Prim.Native.Nat.{ℕ}
 use mathlib.Core.List.{List}
 use lib.ListN.{length}
-use Rattle.fields.specs.Reading.{Reading, andThen}
-use Rattle.fields.specs.Format.{Format, count, listOf, opaque}
-use Rattle.fields.specs.Answers.{numberOf, partOf, numberRead, partListed, listed}
-use Rattle.fields.specs.declared.Number.{Number}
-use Rattle.fields.specs.declared.Part.{Part}
+use Rattle.formats.specs.Reading.{Reading, andThen}
+use Rattle.formats.specs.Format.{Format, count, listOf, opaque}
+use Rattle.formats.specs.Answers.{numberOf, partOf, numberRead, partListed, listed}
+use Rattle.formats.specs.declared.Number.{Number}
+use Rattle.formats.specs.declared.Part.{Part}
 
 -- a list of parts: its 8-bit count, and each with a length of w bytes
 abbrev pub parts : ℕ → Format (List (List ℕ))

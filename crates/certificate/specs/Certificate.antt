@@ -2,7 +2,7 @@
 use Prim.Native.Nat.{ℕ}
 use mathlib.Core.List.{List}
 use Rattle.refusal.specs.declared.Refusal.the-variants.{LeftOver}
-use Rattle.fields.specs.Format.{Format, _▷_, count, listOf, opaque, exact, view}
+use Rattle.formats.specs.Format.{Format, _▷_, count, listOf, opaque, exact, view}
 
 -- "FC certificate"
 abbrev pub certificateKind : ℕ

@@ -1,7 +1,7 @@
 // The fields of a certificate table, asked for one by one. `certificatereader` reads the table, `certificatewriter` writes it.
-use fields::Number;
-use fields::Part;
-use fields::Step;
+use formats::Number;
+use formats::Part;
+use formats::Step;
 ghost use mathlib.Core.Path.{_≡_};
 ghost use Rattle.certificate.specs.Asked.{authorizationCount, authorizationPart, certificateCount, certificatePart, signaturePart};
 

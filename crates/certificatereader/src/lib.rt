@@ -1,12 +1,12 @@
 // The certificate table: its body read, and laid onto a form.
-use fields::Step;
+use formats::Step;
 use refusal::Refusal;
 use walks::Walk;
 ghost use mathlib.Core.Path.{_≡_};
 ghost use Prim.Native.Nat.{_≤_};
 ghost use lib.ListN.{length};
-ghost use Rattle.fields.specs.Format.{times, opaque};
-ghost use Rattle.fields.specs.Body.{bodyRead, bodyLaid, laidTape};
+ghost use Rattle.formats.specs.Format.{times, opaque};
+ghost use Rattle.formats.specs.Body.{bodyRead, bodyLaid, laidTape};
 ghost use Rattle.walks.specs.Walked.{Walked};
 ghost use Rattle.certificate.specs.Certificate.{certificateKind, certificate};
 ghost use Rattle.certificate.specs.Asked.{parts};

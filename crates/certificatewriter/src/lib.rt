@@ -1,11 +1,11 @@
 // The certificate table: written from a form.
-use fields::Step;
+use formats::Step;
 use pens::Pen;
 use refusal::Refusal;
 ghost use mathlib.Core.Path.{_≡_};
 ghost use Prim.Native.Nat.{_≤_};
 ghost use lib.ListN.{length};
-ghost use Rattle.fields.specs.Body.{bodyWritten, output};
+ghost use Rattle.formats.specs.Body.{bodyWritten, output};
 ghost use Rattle.pens.specs.Penned.{Penned};
 ghost use Rattle.certificate.specs.Certificate.{certificate};
 ghost use Rattle.certificate.specs.Asked.{parts};

@@ -2,7 +2,7 @@
 use walks::Walk;
 ghost use Prim.Native.Nat.{_≤_};
 ghost use lib.ListN.{length};
-ghost use Rattle.fields.specs.Format.{many};
+ghost use Rattle.formats.specs.Format.{many};
 ghost use Rattle.walks.specs.Walked.{Walked};
 ghost use Rattle.walks.specs.declared.Walk.the-variants.{At};
 ghost use Rattle.index.specs.Index.{descriptor, descriptors, stream, streams, channel, flagged};

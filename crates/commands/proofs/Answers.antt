@@ -13,18 +13,18 @@ use Rattle.refusal.specs.declared.Refusal.{Refusal}
 use Rattle.refusal.specs.declared.Refusal.the-variants.{PastBody, PastPart, OutsideSet, ImpossibleDay}
 use Rattle.days.specs.Calendar.{dayOf}
 use Rattle.days.specs.declared.DayAnswer.the-variants.{Day, Refused as NoDay}
-use Rattle.fields.specs.Reading.{Reading, found, refused, andThen, need, unless, judged, within}
-use Rattle.fields.specs.Format.{Format, count, number, among, only, followed, _▷_, listOf, opaque, rest, lengthOf, leastOf, counted}
-use Rattle.fields.specs.Answers.{numberOf, partOf, numberAmong, numberRead, partRead, endedAll}
-use Rattle.fields.specs.declared.Step.the-variants.{At, Refused as NoStep}
-use Rattle.fields.specs.declared.Number.the-variants.{Is, Refused as NoNumber}
-use Rattle.fields.specs.declared.Part.the-variants.{Of, Refused as NoPart}
-use Rattle.fields.proofs.Outcomes.{found-inj, andThen-found, need-found, within-found}
-use Rattle.fields.proofs.Classes.{Bytes}
-use Rattle.fields.proofs.Elements.{followed-found}
-use Rattle.fields.proofs.Bits.{number-is-count, number-among}
-use Rattle.fields.proofs.Readers.{number-found, number-refused, number-facts, list-no, list-all, step-found, step-refused}
-use Rattle.fields.proofs.Readers as readers
+use Rattle.formats.specs.Reading.{Reading, found, refused, andThen, need, unless, judged, within}
+use Rattle.formats.specs.Format.{Format, count, number, among, only, followed, _▷_, listOf, opaque, rest, lengthOf, leastOf, counted}
+use Rattle.formats.specs.Answers.{numberOf, partOf, numberAmong, numberRead, partRead, endedAll}
+use Rattle.formats.specs.declared.Step.the-variants.{At, Refused as NoStep}
+use Rattle.formats.specs.declared.Number.the-variants.{Is, Refused as NoNumber}
+use Rattle.formats.specs.declared.Part.the-variants.{Of, Refused as NoPart}
+use Rattle.formats.proofs.Outcomes.{found-inj, andThen-found, need-found, within-found}
+use Rattle.formats.proofs.Classes.{Bytes}
+use Rattle.formats.proofs.Elements.{followed-found}
+use Rattle.formats.proofs.Bits.{number-is-count, number-among}
+use Rattle.formats.proofs.Readers.{number-found, number-refused, number-facts, list-no, list-all, step-found, step-refused}
+use Rattle.formats.proofs.Readers as readers
 use Rattle.configuration.specs.Address.{lengthFits, isAddress}
 use Rattle.configuration.specs.Configuration.{date, clock, addressFault, fitting, address, least}
 use Rattle.asking.specs.Asking.{entry}

@@ -9,19 +9,19 @@ use lib.ListN.{length, getD, take, drop}
 use lib.Dec.{leb, eqb}
 use borrow.Author.Tests.{le-leb, lt-ltb, le-ltb, eq-eqb, ne-eqb}
 use Rattle.refusal.specs.declared.Refusal.the-variants.{LeftOver, PastPart, OutsideSet}
-use Rattle.fields.specs.Reading.{found, refused, unless}
-use Rattle.fields.specs.Format.{Format, count, number, among, bytes, followed, _▷_, listOf, opaque, rest, lengthOf, leastOf, counted, repeat}
-use Rattle.fields.specs.Body.{reading}
-use Rattle.fields.specs.Answers.{partOf, numberRead}
-use Rattle.fields.specs.declared.Number.the-variants.{Is, Refused as NoNumber}
-use Rattle.fields.specs.declared.Part.{Part}
-use Rattle.fields.specs.declared.Part.the-variants.{Of, Refused as NoPart}
-use Rattle.fields.proofs.Outcomes.{found-inj, andThen-found, within-found, judged-found}
-use Rattle.fields.proofs.Classes.{Bytes}
-use Rattle.fields.proofs.Parts.{rest-filling}
-use Rattle.fields.proofs.Elements.{exact-found, view-found, followed-found, list-found}
-use Rattle.fields.proofs.RoundTrips as trips
-use Rattle.fields.specs.Resource.{resource}
+use Rattle.formats.specs.Reading.{found, refused, unless}
+use Rattle.formats.specs.Format.{Format, count, number, among, bytes, followed, _▷_, listOf, opaque, rest, lengthOf, leastOf, counted, repeat}
+use Rattle.formats.specs.Body.{reading}
+use Rattle.formats.specs.Answers.{partOf, numberRead}
+use Rattle.formats.specs.declared.Number.the-variants.{Is, Refused as NoNumber}
+use Rattle.formats.specs.declared.Part.{Part}
+use Rattle.formats.specs.declared.Part.the-variants.{Of, Refused as NoPart}
+use Rattle.formats.proofs.Outcomes.{found-inj, andThen-found, within-found, judged-found}
+use Rattle.formats.proofs.Classes.{Bytes}
+use Rattle.formats.proofs.Parts.{rest-filling}
+use Rattle.formats.proofs.Elements.{exact-found, view-found, followed-found, list-found}
+use Rattle.formats.proofs.RoundTrips as trips
+use Rattle.formats.specs.Resource.{resource}
 use Rattle.configuration.specs.Configuration.{configurationKind, terminals, date, clock, address, Order, setClock, setCode, tune, setReturn, setPeriod, setVolume, query, other, orderOf, Said, said, least, Command, command, Configuration, fields, configuration}
 use Rattle.configuration.proofs.Lawful.{said-filling, configuration-filling}
 use Rattle.asking.specs.Asking.{entry}

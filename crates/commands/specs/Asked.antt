@@ -6,14 +6,14 @@ use lib.ListN.{length}
 use lib.Dec.{ltb, leb, eqb}
 use Rattle.choices.specs.Choice.{if_then_else_}
 use Rattle.refusal.specs.declared.Refusal.the-variants.{OutsideSet}
-use Rattle.fields.specs.Reading.{Reading, found, refused, andThen, need}
-use Rattle.fields.specs.Format.{Format, count, number, among, listOf, opaque, rest, counted, leastOf}
-use Rattle.fields.specs.Answers.{numberOf, partOf, fieldOf, numberRead, digitRead}
-use Rattle.fields.specs.declared.Number.{Number}
-use Rattle.fields.specs.declared.Number.the-variants.{Is, Refused as NoNumber}
-use Rattle.fields.specs.declared.Part.{Part}
-use Rattle.fields.specs.declared.Part.the-variants.{Refused as NoPart}
-use Rattle.fields.specs.Resource.{resource}
+use Rattle.formats.specs.Reading.{Reading, found, refused, andThen, need}
+use Rattle.formats.specs.Format.{Format, count, number, among, listOf, opaque, rest, counted, leastOf}
+use Rattle.formats.specs.Answers.{numberOf, partOf, fieldOf, numberRead, digitRead}
+use Rattle.formats.specs.declared.Number.{Number}
+use Rattle.formats.specs.declared.Number.the-variants.{Is, Refused as NoNumber}
+use Rattle.formats.specs.declared.Part.{Part}
+use Rattle.formats.specs.declared.Part.the-variants.{Refused as NoPart}
+use Rattle.formats.specs.Resource.{resource}
 use Rattle.configuration.specs.Configuration.{date, clock, address, least}
 use Rattle.asking.specs.Asking.{entry}
 use Rattle.commands.specs.declared.Place.{Place}

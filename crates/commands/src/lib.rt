@@ -1,8 +1,8 @@
 // The fields of a configuration table, asked for one by one: of the body, and of a command told by p, where its tag stands.
 use days::DayAnswer;
-use fields::Number;
-use fields::Part;
-use fields::Step;
+use formats::Number;
+use formats::Part;
+use formats::Step;
 use refusal::Refusal;
 use settings::addresses::is_address;
 use settings::addresses::length_fits;
@@ -11,8 +11,8 @@ use settings::least_content;
 ghost use mathlib.Core.Path.{_≡_};
 ghost use Prim.Native.Nat.{_≤_};
 ghost use lib.ListN.{length};
-ghost use Rattle.fields.specs.Format.{count, number, among, _▷_};
-ghost use Rattle.fields.specs.Answers.{numberOf, partOf};
+ghost use Rattle.formats.specs.Format.{count, number, among, _▷_};
+ghost use Rattle.formats.specs.Answers.{numberOf, partOf};
 ghost use Rattle.configuration.specs.Configuration.{address};
 ghost use Rattle.commands.specs.Asked.{commandCount, signaturePart, commandTag, commandContent, contentAt, inCommand, placeOf, threeOf, firstOf, secondOf, thirdOf, clockDate, clockTime, clockYear, clockMonth, clockDay, clockHour, clockMinute, clockSecond, resourceOf, digitOf, codeAddress, codeAt, codeResource, codeDigit, frequency, symbolRate, mapping, returnKind, addressIn, returnAddress, period, volume, parameterCount, listAt, parameterAt, parameter, terminalsIn, terminalsAt, terminalCount, terminalAt, terminal, terminalDigit};
 

@@ -11,14 +11,14 @@ use Rattle.refusal.specs.declared.Refusal.the-variants.{LeftOver, PastPart, Imp
 use Rattle.days.specs.Calendar.{dayOf}
 use Rattle.days.specs.declared.DayAnswer.{DayAnswer}
 use Rattle.days.specs.declared.DayAnswer.the-variants.{Day, Refused}
-use Rattle.fields.specs.Reading.{Fault, fine, faulty, isFine}
-use Rattle.fields.specs.Format.{_▷_, only, outside, count, number, rest, leastOf, counted}
-use Rattle.fields.proofs.Classes.{Lawful, Filling}
-use Rattle.fields.proofs.Leaves.{count-lawful, count-small, small-count, digits-lawful}
-use Rattle.fields.proofs.Bits.{among-lawful}
-use Rattle.fields.proofs.Parts.{only-ok, only-lawful, only-filling, unless-even, outside-even, number-lawful, followed-lawful, view-lawful, rest-filling, exact-filling, Counts, counted-lawful, least-counts, opaque-lawful}
-use Rattle.fields.proofs.Lists.{list-lawful}
-use Rattle.fields.specs.Resource.{resource}
+use Rattle.formats.specs.Reading.{Fault, fine, faulty, isFine}
+use Rattle.formats.specs.Format.{_▷_, only, outside, count, number, rest, leastOf, counted}
+use Rattle.formats.proofs.Classes.{Lawful, Filling}
+use Rattle.formats.proofs.Leaves.{count-lawful, count-small, small-count, digits-lawful}
+use Rattle.formats.proofs.Bits.{among-lawful}
+use Rattle.formats.proofs.Parts.{only-ok, only-lawful, only-filling, unless-even, outside-even, number-lawful, followed-lawful, view-lawful, rest-filling, exact-filling, Counts, counted-lawful, least-counts, opaque-lawful}
+use Rattle.formats.proofs.Lists.{list-lawful}
+use Rattle.formats.specs.Resource.{resource}
 use Rattle.configuration.specs.Address.{lengthFits, isAddress}
 use Rattle.configuration.specs.Configuration.{terminals, dayFault, date, clock, addressFault, fitting, address, Order, setClock, setCode, tune, setReturn, setPeriod, setVolume, query, other, orderOf, said, least, command, fields, configuration}
 use Rattle.configuration.proofs.Least.{enough}

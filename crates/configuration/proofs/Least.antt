@@ -7,14 +7,14 @@ use native.Mathlib.Omega.{arith}
 use native.Mathlib.Nat.{le-refl}
 use lib.ListN.{length, length-append}
 use Rattle.choices.proofs.Tests.{both}
-use Rattle.fields.specs.Format.{Format, Length, _▷_, followed, only, count, number, digits, listOf, opaque, lengthOf, rest, exact, counted}
-use Rattle.fields.specs.Answers.{fieldOf}
-use Rattle.fields.specs.declared.Part.the-variants.{Of}
-use Rattle.fields.proofs.Stand.{stands-whole}
-use Rattle.fields.proofs.Classes.{Ok}
-use Rattle.fields.proofs.Leaves.{length-bytes, digits-lawful}
-use Rattle.fields.proofs.Strings.{digits-part}
-use Rattle.fields.specs.Resource.{resource}
+use Rattle.formats.specs.Format.{Format, Length, _▷_, followed, only, count, number, digits, listOf, opaque, lengthOf, rest, exact, counted}
+use Rattle.formats.specs.Answers.{fieldOf}
+use Rattle.formats.specs.declared.Part.the-variants.{Of}
+use Rattle.formats.proofs.Stand.{stands-whole}
+use Rattle.formats.proofs.Classes.{Ok}
+use Rattle.formats.proofs.Leaves.{length-bytes, digits-lawful}
+use Rattle.formats.proofs.Strings.{digits-part}
+use Rattle.formats.specs.Resource.{resource}
 use Rattle.configuration.specs.Configuration.{terminals, date, clock, fitting, address, Said, said, orderOf, least}
 
 -- each value takes n bytes at least

@@ -6,11 +6,11 @@ use mathlib.Core.Bool.{Bool, true, false}
 use lib.ListN.{length}
 use Rattle.refusal.specs.declared.Refusal.the-variants.{PastPart, OutsideSet, ImpossibleDay}
 use Rattle.days.specs.Calendar.{leap, monthLength, isDate, monthsFrom, yearOf, monthOf, daysOf, monthStart, dayNumber, inRange, hasDay, dayOf}
-use Rattle.fields.specs.Reading.{found}
-use Rattle.fields.specs.Format.{numberAt, count, only, number, followed, every, repeat, listOf, rest, exact, view, lengthOf, leastOf, counted}
-use Rattle.fields.specs.Body.{reading, bodyRead}
-use Rattle.fields.specs.declared.Step.{Step}
-use Rattle.fields.specs.declared.Step.the-variants.{At, Refused}
+use Rattle.formats.specs.Reading.{found}
+use Rattle.formats.specs.Format.{numberAt, count, only, number, followed, every, repeat, listOf, rest, exact, view, lengthOf, leastOf, counted}
+use Rattle.formats.specs.Body.{reading, bodyRead}
+use Rattle.formats.specs.declared.Step.{Step}
+use Rattle.formats.specs.declared.Step.the-variants.{At, Refused}
 use Rattle.configuration.specs.Address.{colon, worth, isPort, named, hostAndPort, lengthFits, isAddress}
 use Rattle.configuration.specs.Configuration.{configurationKind, terminals, date, clock, fitting, address, orderOf, said, least, command, fields, configuration}
 

@@ -5,7 +5,7 @@ use mathlib.Core.Bool.{Bool, true, false, not, _&&_}
 use lib.ListN.{length}
 use lib.Dec.{leb, eqb}
 use Rattle.choices.specs.Choice.{if_then_else_}
-use Rattle.fields.specs.Format.{every}
+use Rattle.formats.specs.Format.{every}
 
 -- '0' to '9'
 abbrev pub isDigit : ℕ → Bool

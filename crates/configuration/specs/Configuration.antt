@@ -9,9 +9,9 @@ use Rattle.refusal.specs.declared.Refusal.the-variants.{LeftOver, PastPart, Imp
 use Rattle.days.specs.Calendar.{dayOf}
 use Rattle.days.specs.declared.DayAnswer.{DayAnswer}
 use Rattle.days.specs.declared.DayAnswer.the-variants.{Day, Refused}
-use Rattle.fields.specs.Reading.{Fault, fine, faulty, unless}
-use Rattle.fields.specs.Format.{Format, Length, _▷_, followed, only, outside, count, number, among, listOf, opaque, rest, exact, view, counted, leastOf}
-use Rattle.fields.specs.Resource.{resource, resources}
+use Rattle.formats.specs.Reading.{Fault, fine, faulty, unless}
+use Rattle.formats.specs.Format.{Format, Length, _▷_, followed, only, outside, count, number, among, listOf, opaque, rest, exact, view, counted, leastOf}
+use Rattle.formats.specs.Resource.{resource, resources}
 use Rattle.configuration.specs.Address.{lengthFits, isAddress}
 
 -- "FB configuration"

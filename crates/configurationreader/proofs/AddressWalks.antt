@@ -10,14 +10,14 @@ use lib.Seq.{length-take-le}
 use borrow.Author.Tests.{le-leb}
 use Rattle.refusal.specs.declared.Refusal.{Refusal}
 use Rattle.refusal.specs.declared.Refusal.the-variants.{PastPart, OutsideSet}
-use Rattle.fields.specs.Reading.{Reading, found, refused, andThen, unless, judged, within}
-use Rattle.fields.specs.Format.{count, only, rest, lengthOf, counted, opaque}
-use Rattle.fields.specs.Answers.{numberOf, numberRead, partRead}
-use Rattle.fields.specs.declared.Part.the-variants.{Of, Refused as NoPart}
-use Rattle.fields.proofs.Outcomes.{found-inj, andThen-found, within-found}
-use Rattle.fields.proofs.Classes.{Bytes}
-use Rattle.fields.proofs.Bits.{within-refused}
-use Rattle.fields.proofs.Readers.{number-facts, opaque-found, part-found, part-refused}
+use Rattle.formats.specs.Reading.{Reading, found, refused, andThen, unless, judged, within}
+use Rattle.formats.specs.Format.{count, only, rest, lengthOf, counted, opaque}
+use Rattle.formats.specs.Answers.{numberOf, numberRead, partRead}
+use Rattle.formats.specs.declared.Part.the-variants.{Of, Refused as NoPart}
+use Rattle.formats.proofs.Outcomes.{found-inj, andThen-found, within-found}
+use Rattle.formats.proofs.Classes.{Bytes}
+use Rattle.formats.proofs.Bits.{within-refused}
+use Rattle.formats.proofs.Readers.{number-facts, opaque-found, part-found, part-refused}
 use Rattle.walks.specs.Walked.{Walked}
 use Rattle.walks.specs.declared.Walk.{Walk}
 use Rattle.walks.specs.declared.Walk.the-variants.{At}

@@ -8,10 +8,10 @@ use Rattle.refusal.specs.declared.Refusal.{Refusal}
 use Rattle.refusal.specs.declared.Refusal.the-variants.{ImpossibleDay}
 use Rattle.days.specs.Calendar.{dayNumber, hasDay, dayOf}
 use Rattle.days.specs.declared.DayAnswer.the-variants.{Day, Refused as NoDay}
-use Rattle.fields.specs.Reading.{found, Fault, unless}
-use Rattle.fields.specs.Format.{Format, only, number, followed, _▷_}
-use Rattle.fields.proofs.Outcomes.{found-inj, andThen-found}
-use Rattle.fields.proofs.Parts.{number-lawful, followed-lawful}
+use Rattle.formats.specs.Reading.{found, Fault, unless}
+use Rattle.formats.specs.Format.{Format, only, number, followed, _▷_}
+use Rattle.formats.proofs.Outcomes.{found-inj, andThen-found}
+use Rattle.formats.proofs.Parts.{number-lawful, followed-lawful}
 use Rattle.walks.specs.Walked.{onward, walked, judgedFrom, Walked, Counted}
 use Rattle.walks.specs.declared.Walk.{Walk}
 use Rattle.walks.specs.declared.Walk.the-variants.{At}

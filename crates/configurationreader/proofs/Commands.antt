@@ -3,8 +3,8 @@ use Prim.Native.Nat.{ℕ}
 use mathlib.Core.Path.{_≡_, sym, ap, _∙_, subst}
 use mathlib.Core.List.{List}
 use mathlib.Core.Bool.{Bool}
-use Rattle.fields.specs.Format.{number, leastOf}
-use Rattle.fields.proofs.Parts.{number-lawful}
+use Rattle.formats.specs.Format.{number, leastOf}
+use Rattle.formats.proofs.Parts.{number-lawful}
 use Rattle.walks.specs.Walked.{Walked, Counted, entered}
 use Rattle.walks.specs.declared.Walk.{Walk}
 use Rattle.walks.specs.declared.Count.{Count}

@@ -1,12 +1,12 @@
 // The configuration table: its body read, and laid onto a form.
 mod walking; // walking.rt: the walk through a body
 
-use fields::Step;
+use formats::Step;
 use refusal::Refusal;
 use walks::Walk;
 ghost use mathlib.Core.Path.{_≡_};
 ghost use lib.ListN.{length};
-ghost use Rattle.fields.specs.Body.{bodyRead, bodyLaid, laidTape};
+ghost use Rattle.formats.specs.Body.{bodyRead, bodyLaid, laidTape};
 ghost use Rattle.configuration.specs.Configuration.{configurationKind, configuration};
 
 // Where the table ends, or why it is refused.

@@ -1,12 +1,12 @@
 // Walks through the body of a configuration table, from its terminals up to the whole: each is one field of the format of its name.
-use fields::Part;
+use formats::Part;
 use refusal::Refusal;
 use settings::addresses;
 use settings::clocks;
 use walks::Walk;
 ghost use lib.ListN.{length};
 ghost use Rattle.refusal.specs.declared.Refusal.the-variants.{PastPart};
-ghost use Rattle.fields.specs.Format.{number, times, exact};
+ghost use Rattle.formats.specs.Format.{number, times, exact};
 ghost use Rattle.walks.specs.Walked.{Walked};
 ghost use Rattle.configuration.specs.Configuration.{terminals, date, clock, address, setClock, setCode, tune, setReturn, setPeriod, setVolume, query, orderOf, said, command, configuration};
 

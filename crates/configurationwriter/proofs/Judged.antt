@@ -8,9 +8,9 @@ use lib.Dec.{leb}
 use Rattle.refusal.specs.declared.Refusal.{Refusal}
 use Rattle.refusal.specs.declared.Refusal.the-variants.{PastPart, OutsideSet, ImpossibleDay}
 use Rattle.days.specs.Calendar.{dayOf}
-use Rattle.fields.specs.Reading.{found, refused, Fault, fine, faulty, unless}
-use Rattle.fields.specs.Format.{Format, span, _▷_, only, rest}
-use Rattle.fields.proofs.Outcomes.{found-inj}
+use Rattle.formats.specs.Reading.{found, refused, Fault, fine, faulty, unless}
+use Rattle.formats.specs.Format.{Format, span, _▷_, only, rest}
+use Rattle.formats.proofs.Outcomes.{found-inj}
 use Rattle.pens.specs.Penned.{Penned, Counted, refusing}
 use Rattle.pens.specs.declared.Pen.{Pen}
 use Rattle.pens.specs.declared.Pen.the-variants.{At, Refused}

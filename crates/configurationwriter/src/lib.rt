@@ -1,12 +1,12 @@
 // The configuration table written from a form.
 mod writing;
 
-use fields::Step;
+use formats::Step;
 use pens::Pen;
 use refusal::Refusal;
 ghost use mathlib.Core.Path.{_≡_};
 ghost use lib.ListN.{length};
-ghost use Rattle.fields.specs.Body.{bodyWritten, output};
+ghost use Rattle.formats.specs.Body.{bodyWritten, output};
 ghost use Rattle.configuration.specs.Configuration.{configuration};
 
 // A body written from a form: a dry pen checks and measures it all before the wet one writes a byte.

@@ -1,7 +1,7 @@
 // The pen through the form of a configuration table, from its terminal lists up to the whole: each is one field of the format of its
 // name. A day and a time are judged once their numbers are put: the wet pen, which comes second, meets none that is refused.
 use days::DayAnswer;
-use fields::Part;
+use formats::Part;
 use pens::Pen;
 use refusal::Refusal;
 use settings::addresses;
@@ -9,7 +9,7 @@ use settings::clocks;
 ghost use mathlib.Core.Path.{_≡_};
 ghost use mathlib.Core.List.{List};
 ghost use Prim.Native.Nat.{ℕ};
-ghost use Rattle.fields.specs.Format.{only, count, number, listOf, rest};
+ghost use Rattle.formats.specs.Format.{only, count, number, listOf, rest};
 ghost use Rattle.pens.specs.Penned.{Penned};
 ghost use Rattle.configuration.specs.Configuration.{terminals, date, clock, addressFault, address, setClock, setCode, tune, setReturn, setPeriod, setVolume, query, orderOf, said, command, configuration};
 

@@ -12,19 +12,19 @@ use Rattle.choices.proofs.Tests.{both}
 use Rattle.refusal.specs.declared.Refusal.{Refusal}
 use Rattle.refusal.specs.declared.Refusal.the-variants.{OtherKind, LeftOver, OtherChecksum, TooLarge}
 use Rattle.crc.specs.Crc.{crc16Of}
-use Rattle.fields.specs.Reading.{Reading, found, refused, andThen, need}
-use Rattle.fields.specs.Format.{followed, digits, exact, view}
-use Rattle.fields.specs.Answers.{stepOf, fieldOf}
-use Rattle.fields.specs.Body.{longest, reading, bodyRead}
-use Rattle.fields.specs.declared.Step.the-variants.{At, Refused as NoStep}
-use Rattle.fields.specs.declared.Part.the-variants.{Of}
-use Rattle.fields.proofs.Outcomes.{found-inj, need-found}
-use Rattle.fields.proofs.Stand.{stands-whole}
-use Rattle.fields.proofs.Classes.{Bytes, Ok}
-use Rattle.fields.proofs.Leaves.{digits-lawful}
-use Rattle.fields.proofs.Elements.{exact-found, view-found, followed-found}
-use Rattle.fields.proofs.Laying.{table}
-use Rattle.fields.proofs.Strings.{digits-part, digits-fill}
+use Rattle.formats.specs.Reading.{Reading, found, refused, andThen, need}
+use Rattle.formats.specs.Format.{followed, digits, exact, view}
+use Rattle.formats.specs.Answers.{stepOf, fieldOf}
+use Rattle.formats.specs.Body.{longest, reading, bodyRead}
+use Rattle.formats.specs.declared.Step.the-variants.{At, Refused as NoStep}
+use Rattle.formats.specs.declared.Part.the-variants.{Of}
+use Rattle.formats.proofs.Outcomes.{found-inj, need-found}
+use Rattle.formats.proofs.Stand.{stands-whole}
+use Rattle.formats.proofs.Classes.{Bytes, Ok}
+use Rattle.formats.proofs.Leaves.{digits-lawful}
+use Rattle.formats.proofs.Elements.{exact-found, view-found, followed-found}
+use Rattle.formats.proofs.Laying.{table}
+use Rattle.formats.proofs.Strings.{digits-part, digits-fill}
 use Rattle.content.specs.Content.{contentKind, identifier, Content, fields, content, extensionOf, readingOf, contentRead}
 
 -- an accepted body begins with its identifier

@@ -3,12 +3,12 @@ use Prim.Native.Nat.{ℕ}
 use mathlib.Core.Path.{refl}
 use native.Mathlib.Omega.{arith}
 use Rattle.refusal.specs.declared.Refusal.the-variants.{LeftOver, PastPart}
-use Rattle.fields.specs.Format.{reserved, lengthOf}
-use Rattle.fields.proofs.Classes.{Lawful, Filling}
-use Rattle.fields.proofs.Leaves.{reserved-lawful, digits-lawful}
-use Rattle.fields.proofs.Bits.{among-lawful, bytes-among-lawful}
-use Rattle.fields.proofs.Parts.{number-lawful, followed-lawful, view-lawful, exact-filling, counted-lawful, length-counts, opaque-lawful}
-use Rattle.fields.proofs.Lists.{list-lawful}
+use Rattle.formats.specs.Format.{reserved, lengthOf}
+use Rattle.formats.proofs.Classes.{Lawful, Filling}
+use Rattle.formats.proofs.Leaves.{reserved-lawful, digits-lawful}
+use Rattle.formats.proofs.Bits.{among-lawful, bytes-among-lawful}
+use Rattle.formats.proofs.Parts.{number-lawful, followed-lawful, view-lawful, exact-filling, counted-lawful, length-counts, opaque-lawful}
+use Rattle.formats.proofs.Lists.{list-lawful}
 use Rattle.content.specs.Content.{auxiliary, auxiliaries, languageFields, language, fields, content}
 
 -- one law over the width of an auxiliary file's length

@@ -4,11 +4,11 @@ use mathlib.Core.List.{List}
 use lib.Dec.{eqb}
 use Rattle.refusal.specs.declared.Refusal.the-variants.{LeftOver, PastPart, OtherChecksum}
 use Rattle.crc.specs.Crc.{crc16Of}
-use Rattle.fields.specs.Reading.{Reading, found, andThen, need}
-use Rattle.fields.specs.Format.{Format, _▷_, number, among, bytesAmong, reserved, digits, listOf, opaque, exact, view, lengthOf, counted}
-use Rattle.fields.specs.Answers.{stepOf}
-use Rattle.fields.specs.Body.{reading}
-use Rattle.fields.specs.declared.Step.{Step}
+use Rattle.formats.specs.Reading.{Reading, found, andThen, need}
+use Rattle.formats.specs.Format.{Format, _▷_, number, among, bytesAmong, reserved, digits, listOf, opaque, exact, view, lengthOf, counted}
+use Rattle.formats.specs.Answers.{stepOf}
+use Rattle.formats.specs.Body.{reading}
+use Rattle.formats.specs.declared.Step.{Step}
 
 -- "FE content"
 abbrev pub contentKind : ℕ

@@ -1,12 +1,12 @@
 // The content table: its body read, and laid onto a form.
 mod walking;
 
-use fields::Step;
+use formats::Step;
 use refusal::Refusal;
 use walks::Walk;
 ghost use mathlib.Core.Path.{_≡_};
 ghost use lib.ListN.{length};
-ghost use Rattle.fields.specs.Body.{bodyLaid, laidTape};
+ghost use Rattle.formats.specs.Body.{bodyLaid, laidTape};
 ghost use Rattle.content.specs.Content.{contentKind, content, contentRead};
 
 // Where the table ends, or why it is refused; the extension is looked at last.

@@ -2,7 +2,7 @@
 use walks::Walk;
 ghost use Prim.Native.Nat.{_≤_};
 ghost use lib.ListN.{length};
-ghost use Rattle.fields.specs.Format.{times};
+ghost use Rattle.formats.specs.Format.{times};
 ghost use Rattle.walks.specs.Walked.{Walked};
 ghost use Rattle.content.specs.Content.{auxiliary, auxiliaries, languageFields, language, content};
 

@@ -8,10 +8,10 @@ use lib.Seq.{length-take-le, take-append-le}
 use Rattle.placing.proofs.Placing.{placed-whole}
 use Rattle.refusal.specs.declared.Refusal.{Refusal}
 use Rattle.crc.specs.Crc.{crc16Of}
-use Rattle.fields.specs.Reading.{Reading, found, refused}
-use Rattle.fields.specs.Answers.{stepOf}
-use Rattle.fields.specs.Body.{writing, bodyWritten, output}
-use Rattle.fields.specs.declared.Step.the-variants.{At, Refused as NoStep}
+use Rattle.formats.specs.Reading.{Reading, found, refused}
+use Rattle.formats.specs.Answers.{stepOf}
+use Rattle.formats.specs.Body.{writing, bodyWritten, output}
+use Rattle.formats.specs.declared.Step.the-variants.{At, Refused as NoStep}
 use Rattle.content.specs.Content.{identifier, Content, content, extensionOf}
 use Rattle.content.proofs.RoundTrips.{content-trips}
 use Rattle.content.proofs.Extension.{printed-identifier}

@@ -1,8 +1,8 @@
 -- What a reader has to believe of the content writer's answer: the length of the body, and its extension.
 use Prim.Native.Nat.{ℕ}
 use mathlib.Core.List.{List}
-use Rattle.fields.specs.Reading.{Reading, found, refused}
-use Rattle.fields.specs.Body.{writing}
+use Rattle.formats.specs.Reading.{Reading, found, refused}
+use Rattle.formats.specs.Body.{writing}
 use Rattle.content.specs.Content.{Content, content, extensionOf}
 use Rattle.contentwriter.specs.declared.Written.{Written}
 use Rattle.contentwriter.specs.declared.Written.the-variants.{Of, Refused}

@@ -5,7 +5,7 @@ use pens::Pen;
 use refusal::Refusal;
 ghost use mathlib.Core.Path.{_≡_};
 ghost use lib.ListN.{length};
-ghost use Rattle.fields.specs.Body.{output};
+ghost use Rattle.formats.specs.Body.{output};
 ghost use Rattle.content.specs.Content.{content};
 ghost use Rattle.contentwriter.specs.Written.{contentWritten};
 

@@ -2,7 +2,7 @@
 // and w is the width in bytes of an auxiliary file's length.
 use pens::Pen;
 ghost use Prim.Native.Nat.{_≤_};
-ghost use Rattle.fields.specs.Format.{among, reserved, listOf};
+ghost use Rattle.formats.specs.Format.{among, reserved, listOf};
 ghost use Rattle.pens.specs.Penned.{Penned};
 ghost use Rattle.content.specs.Content.{auxiliary, auxiliaries, language, content};
 

@@ -1,4 +1,7 @@
 // Fields of a body, read: s is a whole body, l the end of the innermost counted part, p the position.
+use formats::Number;
+use formats::Part;
+use formats::Step;
 use refusal::Refusal;
 use times::EndTimed;
 use times::Timed;
@@ -7,29 +10,11 @@ ghost use Prim.Native.Nat.{_+_, _^_, _≤_, _<_};
 ghost use lib.ListN.{length, take, drop};
 ghost use lib.Dec.{leb};
 ghost use mathlib.Core.Bool.{_&&_};
-ghost use Rattle.fields.specs.Format.{numberAt, count, reserved, bytesAmong, halves, decimal, digits, every, rest, leastOf, length12, counted, opaque, listOf};
-ghost use Rattle.fields.specs.Time.{time, endTime};
-ghost use Rattle.fields.specs.Reading.{unless, judged, within};
-ghost use Rattle.fields.specs.Body.{opened};
-ghost use Rattle.fields.specs.Answers.{numberOf, partOf, fieldOf, reached, ended, endedAll, numberRead, numberAmong, partRead, partAfter, partListed, digitRead};
-
-// The position after what was read, or a refusal.
-pub enum Step {
-    At(usize),
-    Refused(Refusal),
-}
-
-// A number and the position after it, or a refusal.
-pub enum Number {
-    Is(u64, usize),
-    Refused(Refusal),
-}
-
-// Opaque bytes, where they begin and how many they are, or a refusal.
-pub enum Part {
-    Of(usize, usize),
-    Refused(Refusal),
-}
+ghost use Rattle.formats.specs.Format.{numberAt, count, reserved, bytesAmong, halves, decimal, digits, every, rest, leastOf, length12, counted, opaque, listOf};
+ghost use Rattle.formats.specs.Time.{time, endTime};
+ghost use Rattle.formats.specs.Reading.{unless, judged, within};
+ghost use Rattle.formats.specs.Body.{opened};
+ghost use Rattle.formats.specs.Answers.{numberOf, partOf, fieldOf, reached, ended, endedAll, numberRead, numberAmong, partRead, partAfter, partListed, digitRead};
 
 // "2 for a wrong kind, then 22, come first": asked of every table's body before its fields.
 pub fn open_body(own: u32, kind: u32, s: &[u8]) -> Step

@@ -5,14 +5,14 @@ use mathlib.Core.List.{List}
 use native.Mathlib.Omega.{arith}
 use lib.ListN.{length, length-append}
 use Rattle.refusal.specs.declared.Refusal.the-variants.{LeftOver, PastPart}
-use Rattle.fields.specs.Format.{Format, _▷_, followed, under, count, number, only, reserved, digits, listOf, many, opaque, counted, lengthOf, length12, rest, exact, view, bytesOf}
-use Rattle.fields.proofs.Classes.{Lawful, Filling}
-use Rattle.fields.proofs.Leaves.{count-lawful, reserved-lawful, digits-lawful, length-bytes}
-use Rattle.fields.proofs.Bits.{nibbles-among-lawful, bytes-among-lawful}
-use Rattle.fields.proofs.Parts.{number-lawful, followed-lawful, under-lawful, view-lawful, exact-filling, counted-lawful, length-counts, length12-counts, opaque-lawful}
-use Rattle.fields.proofs.Lists.{list-lawful, many-filling}
-use Rattle.fields.proofs.Times.{time-lawful, end-lawful}
-use Rattle.fields.specs.Resource.{resource, resources}
+use Rattle.formats.specs.Format.{Format, _▷_, followed, under, count, number, only, reserved, digits, listOf, many, opaque, counted, lengthOf, length12, rest, exact, view, bytesOf}
+use Rattle.formats.proofs.Classes.{Lawful, Filling}
+use Rattle.formats.proofs.Leaves.{count-lawful, reserved-lawful, digits-lawful, length-bytes}
+use Rattle.formats.proofs.Bits.{nibbles-among-lawful, bytes-among-lawful}
+use Rattle.formats.proofs.Parts.{number-lawful, followed-lawful, under-lawful, view-lawful, exact-filling, counted-lawful, length-counts, length12-counts, opaque-lawful}
+use Rattle.formats.proofs.Lists.{list-lawful, many-filling}
+use Rattle.formats.proofs.Times.{time-lawful, end-lawful}
+use Rattle.formats.specs.Resource.{resource, resources}
 use Rattle.index.specs.Index.{Descriptor, descriptor, descriptors, Stream, streamFields, stream, streams, channelFields, channel, flagged, head, named, unnamed, messageFields, message, fields, index}
 
 -- each takes a byte at least

@@ -2,9 +2,9 @@
 use Prim.Native.Nat.{ℕ}
 use mathlib.Core.List.{List}
 use Rattle.refusal.specs.declared.Refusal.the-variants.{LeftOver, PastPart}
-use Rattle.fields.specs.Format.{Format, _▷_, followed, Under, under, count, number, nibblesAmong, bytesAmong, reserved, digits, listOf, many, opaque, exact, view, lengthOf, length12, counted}
-use Rattle.fields.specs.Time.{time, endTime}
-use Rattle.fields.specs.Resource.{resources}
+use Rattle.formats.specs.Format.{Format, _▷_, followed, Under, under, count, number, nibblesAmong, bytesAmong, reserved, digits, listOf, many, opaque, exact, view, lengthOf, length12, counted}
+use Rattle.formats.specs.Time.{time, endTime}
+use Rattle.formats.specs.Resource.{resources}
 
 -- "FD index"
 abbrev pub indexKind : ℕ

@@ -1,12 +1,12 @@
 // The index table: its body read, and laid onto a form.
 mod walking;
 
-use fields::Step;
+use formats::Step;
 use refusal::Refusal;
 use walks::Walk;
 ghost use mathlib.Core.Path.{_≡_};
 ghost use lib.ListN.{length};
-ghost use Rattle.fields.specs.Body.{bodyRead, bodyLaid, laidTape};
+ghost use Rattle.formats.specs.Body.{bodyRead, bodyLaid, laidTape};
 ghost use Rattle.index.specs.Index.{indexKind, index};
 
 // Where the table ends, or why it is refused.

@@ -1,7 +1,7 @@
 // Walks through the body of an index table, from a message's fields up to the whole: each is one field of the format of its name.
 use walks::Walk;
 ghost use lib.ListN.{length};
-ghost use Rattle.fields.specs.Format.{times};
+ghost use Rattle.formats.specs.Format.{times};
 ghost use Rattle.walks.specs.Walked.{Walked};
 ghost use Rattle.index.specs.Index.{head, message, index};
 

@@ -1,6 +1,6 @@
 // The pen through the form of an index table, from its descriptors up to the whole: each is one field of the format of its name.
 use pens::Pen;
-ghost use Rattle.fields.specs.Format.{count, listOf, many};
+ghost use Rattle.formats.specs.Format.{count, listOf, many};
 ghost use Rattle.pens.specs.Penned.{Penned};
 ghost use Rattle.index.specs.Index.{descriptor, descriptors, stream, streams, channel, flagged, head, message, index};
 

@@ -6,16 +6,16 @@ use lib.ListN.{length, take}
 use lib.Seq.{length-take-le}
 use Rattle.refusal.specs.declared.Refusal.{Refusal}
 use Rattle.crc.specs.Crc.{crc16Of}
-use Rattle.fields.specs.Reading.{found}
-use Rattle.fields.specs.Format.{among, reserved, repeat, listOf, opaque}
-use Rattle.fields.specs.Answers.{stepOf, numberOf, endedAll, numberRead, partRead}
-use Rattle.fields.specs.declared.Step.the-variants.{At, Refused as NoStep}
-use Rattle.fields.specs.declared.Number.the-variants.{Is, Refused as NoNumber}
-use Rattle.fields.specs.declared.Part.the-variants.{Of, Refused as NoPart}
-use Rattle.fields.proofs.Outcomes.{andThen-found}
-use Rattle.fields.proofs.Classes.{Bytes}
-use Rattle.fields.proofs.Readers.{number-found, number-refused, field-refused, opaque-found}
-use Rattle.fields.proofs.Strings.{digits-fill}
+use Rattle.formats.specs.Reading.{found}
+use Rattle.formats.specs.Format.{among, reserved, repeat, listOf, opaque}
+use Rattle.formats.specs.Answers.{stepOf, numberOf, endedAll, numberRead, partRead}
+use Rattle.formats.specs.declared.Step.the-variants.{At, Refused as NoStep}
+use Rattle.formats.specs.declared.Number.the-variants.{Is, Refused as NoNumber}
+use Rattle.formats.specs.declared.Part.the-variants.{Of, Refused as NoPart}
+use Rattle.formats.proofs.Outcomes.{andThen-found}
+use Rattle.formats.proofs.Classes.{Bytes}
+use Rattle.formats.proofs.Readers.{number-found, number-refused, field-refused, opaque-found}
+use Rattle.formats.proofs.Strings.{digits-fill}
 use Rattle.asking.specs.Asking.{entry, nthOf}
 use Rattle.asking.proofs.Answers.{count-number, found-in, part-refused, part-found, step-refused, step-found}
 use Rattle.asking.proofs.Entries.{all-headless, nth-headless}

@@ -7,17 +7,17 @@ use native.Mathlib.Nat.{zero-add, add-sub-cancel-left}
 use lib.ListN.{length, getD, take, drop}
 use borrow.Author.Tests.{le-leb}
 use Rattle.refusal.specs.declared.Refusal.the-variants.{LeftOver, PastPart, OutsideSet}
-use Rattle.fields.specs.Reading.{found}
-use Rattle.fields.specs.Format.{number, among, bytesAmong, reserved, _▷_, repeat, listOf, rest, exact, view, lengthOf, opaque}
-use Rattle.fields.specs.Body.{reading}
-use Rattle.fields.specs.Answers.{partOf}
-use Rattle.fields.specs.declared.Number.the-variants.{Is, Refused as NoNumber}
-use Rattle.fields.specs.declared.Part.{Part}
-use Rattle.fields.specs.declared.Part.the-variants.{Of, Refused as NoPart}
-use Rattle.fields.proofs.Classes.{Bytes, Filling}
-use Rattle.fields.proofs.Parts.{rest-filling, view-lawful, exact-filling}
-use Rattle.fields.proofs.Elements.{exact-found, view-found, followed-found, list-found}
-use Rattle.fields.proofs.RoundTrips as trips
+use Rattle.formats.specs.Reading.{found}
+use Rattle.formats.specs.Format.{number, among, bytesAmong, reserved, _▷_, repeat, listOf, rest, exact, view, lengthOf, opaque}
+use Rattle.formats.specs.Body.{reading}
+use Rattle.formats.specs.Answers.{partOf}
+use Rattle.formats.specs.declared.Number.the-variants.{Is, Refused as NoNumber}
+use Rattle.formats.specs.declared.Part.{Part}
+use Rattle.formats.specs.declared.Part.the-variants.{Of, Refused as NoPart}
+use Rattle.formats.proofs.Classes.{Bytes, Filling}
+use Rattle.formats.proofs.Parts.{rest-filling, view-lawful, exact-filling}
+use Rattle.formats.proofs.Elements.{exact-found, view-found, followed-found, list-found}
+use Rattle.formats.proofs.RoundTrips as trips
 use Rattle.asking.specs.Asking.{entry, nthOf}
 use Rattle.asking.proofs.Sizes.{among-sized, number-sized, bytes-are, bytes-sized, reserved-sized, digits-sized, next}
 use Rattle.asking.proofs.Answers.{asked}

@@ -2,11 +2,11 @@
 use Prim.Native.Nat.{ℕ, _+_}
 use mathlib.Core.List.{List}
 use lib.ListN.{length}
-use Rattle.fields.specs.Reading.{Reading, found, andThen}
-use Rattle.fields.specs.Format.{Format, number, among, bytesAmong, reserved, listOf, opaque}
-use Rattle.fields.specs.Answers.{numberOf, partOf, fieldOf, digitRead}
-use Rattle.fields.specs.declared.Number.{Number}
-use Rattle.fields.specs.declared.Part.{Part}
+use Rattle.formats.specs.Reading.{Reading, found, andThen}
+use Rattle.formats.specs.Format.{Format, number, among, bytesAmong, reserved, listOf, opaque}
+use Rattle.formats.specs.Answers.{numberOf, partOf, fieldOf, digitRead}
+use Rattle.formats.specs.declared.Number.{Number}
+use Rattle.formats.specs.declared.Part.{Part}
 use Rattle.asking.specs.Asking.{inBody, fieldIn, entry, nthOf}
 use Rattle.content.specs.Content.{identifier, extensionOf}
 

@@ -1,12 +1,12 @@
 // The fields of a content table, asked for one by one: of the body, of a language told by where it begins and its length, of its i-th auxiliary file.
-use fields::Number;
-use fields::Part;
-use fields::Step;
+use formats::Number;
+use formats::Part;
+use formats::Step;
 use refusal::Refusal;
 ghost use mathlib.Core.Path.{_≡_};
 ghost use Prim.Native.Nat.{_≤_};
-ghost use Rattle.fields.specs.Format.{among, reserved};
-ghost use Rattle.fields.specs.Answers.{numberOf};
+ghost use Rattle.formats.specs.Format.{among, reserved};
+ghost use Rattle.formats.specs.Answers.{numberOf};
 ghost use Rattle.languages.specs.Asked.{identifierPart, identifierDigit, extension, languageCount, languagePart, signaturePart, lettersPart, characterSet, textPart, agencyPart, auxiliaryCount, auxiliaryType, auxiliaryPart};
 
 // The part of the body that the identifier fills.

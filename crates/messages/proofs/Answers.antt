@@ -11,18 +11,18 @@ use lib.Dec.{ltb, leb}
 use borrow.Author.Tests.{lt-ltb, le-ltb}
 use Rattle.refusal.specs.declared.Refusal.{Refusal}
 use Rattle.refusal.specs.declared.Refusal.the-variants.{OutsideSet, PastBody, PastPart}
-use Rattle.fields.specs.Reading.{Reading, found, refused, andThen, need, unless, judged}
-use Rattle.fields.specs.Format.{Format, numberAt, count, only, nibbles, nibblesAmong, reserved, listOf, opaque, rest, length12, counted}
-use Rattle.fields.specs.Answers.{numberOf, fieldOf, ended, partRead, digitRead}
-use Rattle.fields.specs.declared.Step.the-variants.{At, Refused as NoStep}
-use Rattle.fields.specs.declared.Number.the-variants.{Is, Refused as NoNumber}
-use Rattle.fields.specs.declared.Part.the-variants.{Of, Refused as NoPart}
-use Rattle.fields.proofs.Outcomes.{found-inj, andThen-found, need-found, judged-found, within-found}
-use Rattle.fields.proofs.Classes.{Bytes}
-use Rattle.fields.proofs.Leaves.{number-below}
-use Rattle.fields.proofs.Bits.{reserved-inside}
-use Rattle.fields.proofs.Readers.{number-found, number-refused, step-found, step-refused}
-use Rattle.fields.specs.Resource.{resource}
+use Rattle.formats.specs.Reading.{Reading, found, refused, andThen, need, unless, judged}
+use Rattle.formats.specs.Format.{Format, numberAt, count, only, nibbles, nibblesAmong, reserved, listOf, opaque, rest, length12, counted}
+use Rattle.formats.specs.Answers.{numberOf, fieldOf, ended, partRead, digitRead}
+use Rattle.formats.specs.declared.Step.the-variants.{At, Refused as NoStep}
+use Rattle.formats.specs.declared.Number.the-variants.{Is, Refused as NoNumber}
+use Rattle.formats.specs.declared.Part.the-variants.{Of, Refused as NoPart}
+use Rattle.formats.proofs.Outcomes.{found-inj, andThen-found, need-found, judged-found, within-found}
+use Rattle.formats.proofs.Classes.{Bytes}
+use Rattle.formats.proofs.Leaves.{number-below}
+use Rattle.formats.proofs.Bits.{reserved-inside}
+use Rattle.formats.proofs.Readers.{number-found, number-refused, step-found, step-refused}
+use Rattle.formats.specs.Resource.{resource}
 use Rattle.asking.specs.Asking.{fieldIn}
 use Rattle.asking.proofs.Answers.{number-in, found-in, part-refused, part-found}
 use Rattle.asking.proofs.Parts.{counted-holds}

@@ -10,19 +10,19 @@ use lib.Dec.{ltb, leb}
 use borrow.Author.Tests.{le-leb, lt-ltb, le-ltb}
 use Rattle.choices.proofs.Tests.{and-of}
 use Rattle.refusal.specs.declared.Refusal.the-variants.{LeftOver, PastPart, OutsideSet}
-use Rattle.fields.specs.Reading.{found, refused}
-use Rattle.fields.specs.Format.{count, number, nibblesAmong, bytesAmong, reserved, under, _▷_, listOf, many, opaque, rest, lengthOf, length12, counted, exact, view, repeat}
-use Rattle.fields.specs.Time.{time, endTime}
-use Rattle.fields.specs.Body.{reading}
-use Rattle.fields.specs.Answers.{numberOf, partOf, numberRead, partListed, listed}
-use Rattle.fields.specs.declared.Number.the-variants.{Is}
-use Rattle.fields.specs.declared.Part.{Part}
-use Rattle.fields.specs.declared.Part.the-variants.{Of, Refused as NoPart}
-use Rattle.fields.proofs.Classes.{Bytes}
-use Rattle.fields.proofs.Parts.{rest-filling}
-use Rattle.fields.proofs.Elements.{exact-found, view-found, followed-found, list-found}
-use Rattle.fields.proofs.RoundTrips as trips
-use Rattle.fields.specs.Resource.{resource}
+use Rattle.formats.specs.Reading.{found, refused}
+use Rattle.formats.specs.Format.{count, number, nibblesAmong, bytesAmong, reserved, under, _▷_, listOf, many, opaque, rest, lengthOf, length12, counted, exact, view, repeat}
+use Rattle.formats.specs.Time.{time, endTime}
+use Rattle.formats.specs.Body.{reading}
+use Rattle.formats.specs.Answers.{numberOf, partOf, numberRead, partListed, listed}
+use Rattle.formats.specs.declared.Number.the-variants.{Is}
+use Rattle.formats.specs.declared.Part.{Part}
+use Rattle.formats.specs.declared.Part.the-variants.{Of, Refused as NoPart}
+use Rattle.formats.proofs.Classes.{Bytes}
+use Rattle.formats.proofs.Parts.{rest-filling}
+use Rattle.formats.proofs.Elements.{exact-found, view-found, followed-found, list-found}
+use Rattle.formats.proofs.RoundTrips as trips
+use Rattle.formats.specs.Resource.{resource}
 use Rattle.asking.specs.Asking.{fieldIn}
 use Rattle.asking.proofs.Sizes.{count-sized, number-sized, number-inside, time-sized, end-sized, nibbles-among-sized, bytes-are, bytes-sized, reserved-sized, digits-sized, next, repeat-sized, nth-sized}
 use Rattle.asking.proofs.Answers.{asked}

@@ -4,13 +4,13 @@ use mathlib.Core.List.{List}
 use lib.ListN.{length}
 use lib.Dec.{ltb}
 use Rattle.refusal.specs.declared.Refusal.the-variants.{OutsideSet}
-use Rattle.fields.specs.Reading.{Reading, found, andThen, need}
-use Rattle.fields.specs.Format.{Format, count, number, reserved, nibblesAmong, bytesAmong, listOf, opaque, rest, counted, lengthOf, length12}
-use Rattle.fields.specs.Time.{time, endTime}
-use Rattle.fields.specs.Answers.{numberOf, partOf, fieldOf, numberRead, partListed, digitRead}
-use Rattle.fields.specs.declared.Number.{Number}
-use Rattle.fields.specs.declared.Part.{Part}
-use Rattle.fields.specs.Resource.{resource}
+use Rattle.formats.specs.Reading.{Reading, found, andThen, need}
+use Rattle.formats.specs.Format.{Format, count, number, reserved, nibblesAmong, bytesAmong, listOf, opaque, rest, counted, lengthOf, length12}
+use Rattle.formats.specs.Time.{time, endTime}
+use Rattle.formats.specs.Answers.{numberOf, partOf, fieldOf, numberRead, partListed, digitRead}
+use Rattle.formats.specs.declared.Number.{Number}
+use Rattle.formats.specs.declared.Part.{Part}
+use Rattle.formats.specs.Resource.{resource}
 use Rattle.asking.specs.Asking.{inBody, fieldIn, askedAt, inPart}
 use Rattle.index.specs.Index.{identifier}
 

@@ -1,15 +1,15 @@
 // The fields of an index table, asked for one by one: of the body, of a message told by where it begins and its length, of a descriptor or a stream at p in a part that ends at l.
-use fields::Number;
-use fields::Part;
-use fields::Step;
+use formats::Number;
+use formats::Part;
+use formats::Step;
 use refusal::Refusal;
 ghost use mathlib.Core.Path.{_≡_};
 ghost use mathlib.Core.Bool.{_&&_};
 ghost use Prim.Native.Nat.{_+_, _*_, _/_, _%_, _≤_};
 ghost use lib.Dec.{leb};
-ghost use Rattle.fields.specs.Reading.{found, andThen};
-ghost use Rattle.fields.specs.Format.{number, nibblesAmong};
-ghost use Rattle.fields.specs.Answers.{numberOf};
+ghost use Rattle.formats.specs.Reading.{found, andThen};
+ghost use Rattle.formats.specs.Format.{number, nibblesAmong};
+ghost use Rattle.formats.specs.Answers.{numberOf};
 ghost use Rattle.asking.specs.Asking.{fieldIn};
 ghost use Rattle.messages.specs.Asked.{messageCount, messagePart, signaturePart, identifierPart, identifierDigit, network, start, end, typePart, class, level, resourceCount, resourceAt, resourcePart, resourceDigit, flag, channelAt, inChannel, channelNetwork, channelStream, channelProgram, pcrPid, descriptorsPart, streamsPart, firstByte, descriptorTag, descriptorPart, streamType, streamPid, streamDescriptors};
 

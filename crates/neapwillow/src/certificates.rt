@@ -1,7 +1,7 @@
 // The certificate table for C.
 ghost use mathlib.Core.Path.{_≡_};
 ghost use lib.ListN.{length};
-ghost use Rattle.fields.specs.Body.{bodyRead, bodyLaid, laidTape, bodyWritten, output};
+ghost use Rattle.formats.specs.Body.{bodyRead, bodyLaid, laidTape, bodyWritten, output};
 ghost use Rattle.certificate.specs.Certificate.{certificateKind, certificate};
 ghost use Rattle.certificate.specs.Asked.{authorizationCount, authorizationPart, certificateCount, certificatePart, signaturePart};
 ghost use Rattle.telling.specs.Answers.{readAnswer, numberAnswer, partAnswer, writtenAnswer};

@@ -1,7 +1,7 @@
 // The content table for C: read with its extension, laid onto a form, written from one with its extension.
 ghost use mathlib.Core.Path.{_≡_};
 ghost use lib.ListN.{length};
-ghost use Rattle.fields.specs.Body.{bodyLaid, laidTape, output};
+ghost use Rattle.formats.specs.Body.{bodyLaid, laidTape, output};
 ghost use Rattle.content.specs.Content.{contentKind, content, contentRead};
 ghost use Rattle.contentwriter.specs.Written.{contentWritten};
 ghost use Rattle.telling.specs.Answers.{readAnswer, writtenAnswer, contentAnswer};

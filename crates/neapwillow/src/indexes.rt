@@ -1,7 +1,7 @@
 // The index table for C: read, laid onto a form, written from one.
 ghost use mathlib.Core.Path.{_≡_};
 ghost use lib.ListN.{length};
-ghost use Rattle.fields.specs.Body.{bodyRead, bodyLaid, laidTape, bodyWritten, output};
+ghost use Rattle.formats.specs.Body.{bodyRead, bodyLaid, laidTape, bodyWritten, output};
 ghost use Rattle.index.specs.Index.{indexKind, index};
 ghost use Rattle.telling.specs.Answers.{readAnswer, writtenAnswer};
 

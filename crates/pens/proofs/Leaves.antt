@@ -14,15 +14,15 @@ use Rattle.placing.specs.Placed.{placed}
 use Rattle.placing.proofs.Placing.{placed-next, placed-length, placed-none, placed-last}
 use Rattle.refusal.specs.declared.Refusal.{Refusal}
 use Rattle.refusal.specs.declared.Refusal.the-variants.{OutsideSet}
-use Rattle.fields.specs.Reading.{Reading, found, refused, andThen, need}
-use Rattle.fields.specs.Format.{Format, entry, span, bytesOf}
-use Rattle.fields.specs.Answers.{numberOf}
-use Rattle.fields.specs.declared.Number.the-variants.{Is, Refused as NoNumber}
-use Rattle.fields.specs.declared.Part.{Part}
-use Rattle.fields.specs.declared.Part.the-variants.{Of, Refused as NoPart}
-use Rattle.fields.proofs.Outcomes.{found-inj, not-found, andThen-found, need-found}
-use Rattle.fields.proofs.Leaves.{length-bytes}
-use Rattle.fields.proofs.Readers.{number-found, number-refused}
+use Rattle.formats.specs.Reading.{Reading, found, refused, andThen, need}
+use Rattle.formats.specs.Format.{Format, entry, span, bytesOf}
+use Rattle.formats.specs.Answers.{numberOf}
+use Rattle.formats.specs.declared.Number.the-variants.{Is, Refused as NoNumber}
+use Rattle.formats.specs.declared.Part.{Part}
+use Rattle.formats.specs.declared.Part.the-variants.{Of, Refused as NoPart}
+use Rattle.formats.proofs.Outcomes.{found-inj, not-found, andThen-found, need-found}
+use Rattle.formats.proofs.Leaves.{length-bytes}
+use Rattle.formats.proofs.Readers.{number-found, number-refused}
 use Rattle.pens.specs.Penned.{more, penned, Penned, valueAt, Counted}
 use Rattle.pens.specs.declared.Pen.{Pen}
 use Rattle.pens.specs.declared.Pen.the-variants.{At, Refused}

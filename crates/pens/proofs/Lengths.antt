@@ -12,10 +12,10 @@ use Rattle.choices.specs.Choice.{if_then_else_}
 use Rattle.placing.specs.Placed.{placed}
 use Rattle.placing.proofs.Placing.{placed-length, placed-before}
 use Rattle.refusal.specs.declared.Refusal.{Refusal}
-use Rattle.fields.specs.Reading.{Reading, found, refused}
-use Rattle.fields.specs.Format.{Format, bytesOf, count, reserved, Length, lengthOf, length12, counted}
-use Rattle.fields.proofs.Outcomes.{neither}
-use Rattle.fields.proofs.Leaves.{length-bytes}
+use Rattle.formats.specs.Reading.{Reading, found, refused}
+use Rattle.formats.specs.Format.{Format, bytesOf, count, reserved, Length, lengthOf, length12, counted}
+use Rattle.formats.proofs.Outcomes.{neither}
+use Rattle.formats.proofs.Leaves.{length-bytes}
 use Rattle.pens.specs.Penned.{more, onward, Penned, gapped, closed, Closed}
 use Rattle.pens.specs.declared.Pen.{Pen}
 use Rattle.pens.specs.declared.Pen.the-variants.{At, Refused}

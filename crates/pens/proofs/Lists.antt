@@ -6,12 +6,12 @@ use mathlib.Core.Bool.{Bool, false, _||_}
 use native.Mathlib.Omega.{arith}
 use Rattle.placing.proofs.Placing.{placed-none}
 use Rattle.refusal.specs.declared.Refusal.{Refusal}
-use Rattle.fields.specs.Reading.{Reading, found, refused, andThen}
-use Rattle.fields.specs.Format.{Format, entry, bytesOf, repeat, printAll, some, followed, _▷_, nothing, times, listOf, many}
-use Rattle.fields.specs.Answers.{numberOf}
-use Rattle.fields.specs.declared.Number.the-variants.{Is, Refused as NoNumber}
-use Rattle.fields.proofs.Elements.{repeat-length}
-use Rattle.fields.proofs.Readers.{number-found, number-refused}
+use Rattle.formats.specs.Reading.{Reading, found, refused, andThen}
+use Rattle.formats.specs.Format.{Format, entry, bytesOf, repeat, printAll, some, followed, _▷_, nothing, times, listOf, many}
+use Rattle.formats.specs.Answers.{numberOf}
+use Rattle.formats.specs.declared.Number.the-variants.{Is, Refused as NoNumber}
+use Rattle.formats.proofs.Elements.{repeat-length}
+use Rattle.formats.proofs.Readers.{number-found, number-refused}
 use Rattle.pens.specs.Penned.{more, Penned, Counted, unprinted}
 use Rattle.pens.specs.declared.Pen.{Pen}
 use Rattle.pens.specs.declared.Pen.the-variants.{At, Refused}

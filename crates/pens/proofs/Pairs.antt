@@ -8,9 +8,9 @@ use lib.ListN.{length, length-append}
 use Rattle.placing.specs.Placed.{placed}
 use Rattle.placing.proofs.Placing.{placed-next, placed-length, placed-none}
 use Rattle.refusal.specs.declared.Refusal.{Refusal}
-use Rattle.fields.specs.Reading.{Reading, found, refused, andThen, Fault, fine, faulty, judged}
-use Rattle.fields.specs.Format.{Format, followed, _▷_, nothing, under, view, exact, only}
-use Rattle.fields.proofs.Outcomes.{found-inj, not-found, andThen-found, judged-found, neither}
+use Rattle.formats.specs.Reading.{Reading, found, refused, andThen, Fault, fine, faulty, judged}
+use Rattle.formats.specs.Format.{Format, followed, _▷_, nothing, under, view, exact, only}
+use Rattle.formats.proofs.Outcomes.{found-inj, not-found, andThen-found, judged-found, neither}
 use Rattle.pens.specs.Penned.{more, onward, penned, Penned, valueAt, Counted, refusing}
 use Rattle.pens.specs.declared.Pen.{Pen}
 use Rattle.pens.specs.declared.Pen.the-variants.{At, Refused}

@@ -11,10 +11,10 @@ use lib.Dec.{leb, ltb}
 use borrow.Author.Tests.{lt-ltb, le-ltb, eq-eqb, ne-eqb}
 use Rattle.refusal.specs.declared.Refusal.{Refusal}
 use Rattle.refusal.specs.declared.Refusal.the-variants.{DigitAboveNine, OutsideSet}
-use Rattle.fields.specs.Reading.{found, refused, need}
-use Rattle.fields.specs.Format.{span, bytesOf, count, only, bytes, halves, paired, tail, decimal, digits, every, bytesAmong, rest, lengthOf, counted, opaque}
-use Rattle.fields.proofs.Leaves.{length-bytes, paired-halves}
-use Rattle.fields.proofs.Strings.{first-digit}
+use Rattle.formats.specs.Reading.{found, refused, need}
+use Rattle.formats.specs.Format.{span, bytesOf, count, only, bytes, halves, paired, tail, decimal, digits, every, bytesAmong, rest, lengthOf, counted, opaque}
+use Rattle.formats.proofs.Leaves.{length-bytes, paired-halves}
+use Rattle.formats.proofs.Strings.{first-digit}
 use Rattle.pens.specs.Penned.{more, Penned}
 use Rattle.pens.specs.declared.Pen.{Pen}
 use Rattle.pens.specs.declared.Pen.the-variants.{At, Refused}

@@ -10,13 +10,13 @@ use Rattle.refusal.specs.declared.Refusal.{Refusal}
 use Rattle.refusal.specs.declared.Refusal.the-variants.{OutsideSet}
 use Rattle.times.specs.Field.{readTime, readEnd, liveMark}
 use Rattle.times.specs.declared.Timed.the-variants.{Refused as NoTime}
-use Rattle.fields.specs.Reading.{Reading, found, refused, andThen, Fault, fine, faulty, unless, judged}
-use Rattle.fields.specs.Format.{entry, bytesOf, count, only, number}
-use Rattle.fields.specs.Time.{timeFault, endFault}
-use Rattle.fields.specs.Answers.{numberOf}
-use Rattle.fields.specs.declared.Number.the-variants.{Is, Refused as NoNumber}
-use Rattle.fields.proofs.Leaves.{length-bytes}
-use Rattle.fields.proofs.Readers.{number-found, number-refused}
+use Rattle.formats.specs.Reading.{Reading, found, refused, andThen, Fault, fine, faulty, unless, judged}
+use Rattle.formats.specs.Format.{entry, bytesOf, count, only, number}
+use Rattle.formats.specs.Time.{timeFault, endFault}
+use Rattle.formats.specs.Answers.{numberOf}
+use Rattle.formats.specs.declared.Number.the-variants.{Is, Refused as NoNumber}
+use Rattle.formats.proofs.Leaves.{length-bytes}
+use Rattle.formats.proofs.Readers.{number-found, number-refused}
 use Rattle.pens.specs.Penned.{more, Penned}
 use Rattle.pens.specs.declared.Pen.{Pen}
 use Rattle.pens.specs.declared.Pen.the-variants.{At, Refused}

@@ -11,11 +11,11 @@ use borrow.Author.Tests.{le-leb, lt-leb}
 use Rattle.placing.specs.Placed.{placed}
 use Rattle.refusal.specs.declared.Refusal.{Refusal}
 use Rattle.refusal.specs.declared.Refusal.the-variants.{OutsideSet, OutputTooSmall, TooLarge}
-use Rattle.fields.specs.Reading.{Reading, found, refused, need}
-use Rattle.fields.specs.Format.{Format}
-use Rattle.fields.specs.Body.{longest, writing, bodyWritten, output}
-use Rattle.fields.specs.declared.Step.{Step}
-use Rattle.fields.specs.declared.Step.the-variants.{At as StepAt, Refused as NoStep}
+use Rattle.formats.specs.Reading.{Reading, found, refused, need}
+use Rattle.formats.specs.Format.{Format}
+use Rattle.formats.specs.Body.{longest, writing, bodyWritten, output}
+use Rattle.formats.specs.declared.Step.{Step}
+use Rattle.formats.specs.declared.Step.the-variants.{At as StepAt, Refused as NoStep}
 use Rattle.pens.specs.Penned.{more, onward, Penned}
 use Rattle.pens.specs.declared.Pen.{Pen}
 use Rattle.pens.specs.declared.Pen.the-variants.{At, Refused}

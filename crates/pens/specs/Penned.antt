@@ -8,8 +8,8 @@ use lib.Dec.{ltb}
 use Rattle.choices.specs.Choice.{if_then_else_}
 use Rattle.placing.specs.Placed.{placed}
 use Rattle.refusal.specs.declared.Refusal.{Refusal}
-use Rattle.fields.specs.Reading.{Reading, found, refused}
-use Rattle.fields.specs.Format.{Format, entry, bytesOf}
+use Rattle.formats.specs.Reading.{Reading, found, refused}
+use Rattle.formats.specs.Format.{Format, entry, bytesOf}
 use Rattle.pens.specs.declared.Pen.{Pen}
 use Rattle.pens.specs.declared.Pen.the-variants.{At, Refused}
 use Rattle.pens.specs.declared.Count.{Count}

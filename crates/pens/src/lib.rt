@@ -1,6 +1,6 @@
 // A pen through a form, field by field: dry it measures the bytes of a body, wet it also writes them.
-use fields::Number;
-use fields::Part;
+use formats::Number;
+use formats::Part;
 use refusal::Refusal;
 use times::EndTimed;
 use times::Timed;
@@ -12,12 +12,12 @@ ghost use lib.ListN.{length, take, drop};
 ghost use lib.Dec.{leb, ltb};
 ghost use Rattle.placing.specs.Placed.{placed};
 ghost use Rattle.refusal.specs.declared.Refusal.the-variants.{OutsideSet};
-ghost use Rattle.fields.specs.Reading.{found, refused, andThen, need};
-ghost use Rattle.fields.specs.Format.{entry, span, bytesOf, count, among, number, nibblesAmong, reserved, bytesAmong, digits, rest, opaque};
-ghost use Rattle.fields.specs.Time.{time, endTime};
-ghost use Rattle.fields.specs.Resource.{resources};
-ghost use Rattle.fields.specs.Answers.{numberOf};
-ghost use Rattle.fields.specs.declared.Part.the-variants.{Of, Refused as NoPart};
+ghost use Rattle.formats.specs.Reading.{found, refused, andThen, need};
+ghost use Rattle.formats.specs.Format.{entry, span, bytesOf, count, among, number, nibblesAmong, reserved, bytesAmong, digits, rest, opaque};
+ghost use Rattle.formats.specs.Time.{time, endTime};
+ghost use Rattle.formats.specs.Resource.{resources};
+ghost use Rattle.formats.specs.Answers.{numberOf};
+ghost use Rattle.formats.specs.declared.Part.the-variants.{Of, Refused as NoPart};
 ghost use Rattle.pens.specs.Penned.{more, Penned, Counted, refusing, gapped, Closed, unprinted};
 
 // Where a pen stands: the bytes so far, up to one more than a body may have, and the next entry of the tape; or why it stopped.

@@ -29,11 +29,11 @@ use Rattle.feeding.proofs.Verdicts.{verdict-impossible, verdict-bad, verdict-go
 use Rattle.handing.specs.Handing.{bodyOf, handedOf, outBy, outAfter}
 use Rattle.handing.specs.declared.Handed.{Handed}
 use Rattle.handing.specs.declared.Handed.the-variants.{Body, Refused as NotHanded}
-use Rattle.fields.specs.Reading.{Reading, found, refused}
-use Rattle.fields.specs.Format.{Format}
-use Rattle.fields.specs.Answers.{stepOf}
-use Rattle.fields.specs.Body.{writing, writtenOver, bodyWritten, output, laying, laidOver, bodyLaid, laidTape}
-use Rattle.fields.specs.declared.Step.the-variants.{Refused as NoStep}
+use Rattle.formats.specs.Reading.{Reading, found, refused}
+use Rattle.formats.specs.Format.{Format}
+use Rattle.formats.specs.Answers.{stepOf}
+use Rattle.formats.specs.Body.{writing, writtenOver, bodyWritten, output, laying, laidOver, bodyLaid, laidTape}
+use Rattle.formats.specs.declared.Step.the-variants.{Refused as NoStep}
 use Rattle.index.specs.Index.{Index}
 use Rattle.content.specs.Content.{Content, content}
 use Rattle.contentwriter.specs.Written.{writtenOf, contentWritten}

@@ -21,15 +21,15 @@ use Rattle.cutting.proofs.Counting.{counted-is}
 use Rattle.framing.proofs.Printing.{printed-length}
 use Rattle.framing.proofs.RoundTrip.{good-exactly}
 use Rattle.cutting.proofs.Sections.{cut-writes, cut-reads, cut-joined}
-use Rattle.fields.specs.Reading.{Reading, found, refused}
-use Rattle.fields.specs.Format.{Format}
-use Rattle.fields.specs.Answers.{stepOf}
-use Rattle.fields.specs.Body.{longest, reading, bodyRead, writing, bodyWritten, output, laying, bodyLaid, laidTape}
-use Rattle.fields.specs.declared.Step.the-variants.{At}
-use Rattle.fields.proofs.Classes.{Ok}
-use Rattle.fields.proofs.Outcomes.{found-inj, andThen-found, need-found}
-use Rattle.fields.proofs.RoundTrips as trips
-use Rattle.fields.specs.declared.Number.the-variants.{Is}
+use Rattle.formats.specs.Reading.{Reading, found, refused}
+use Rattle.formats.specs.Format.{Format}
+use Rattle.formats.specs.Answers.{stepOf}
+use Rattle.formats.specs.Body.{longest, reading, bodyRead, writing, bodyWritten, output, laying, bodyLaid, laidTape}
+use Rattle.formats.specs.declared.Step.the-variants.{At}
+use Rattle.formats.proofs.Classes.{Ok}
+use Rattle.formats.proofs.Outcomes.{found-inj, andThen-found, need-found}
+use Rattle.formats.proofs.RoundTrips as trips
+use Rattle.formats.specs.declared.Number.the-variants.{Is}
 use Rattle.certificate.specs.Certificate.{certificateKind, certificate}
 use Rattle.certificate.proofs.RoundTrips.{certificate-trips}
 use Rattle.index.specs.Index.{Index, indexKind, index}

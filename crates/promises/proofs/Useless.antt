@@ -16,11 +16,11 @@ use Rattle.holding.proofs.State.{fresh-one}
 use Rattle.feeding.specs.Feeding.{fedOf}
 use Rattle.handing.specs.Handing.{completeOf, handedBy, handedOf}
 use Rattle.handing.specs.declared.Handed.the-variants.{Body, Refused as NotHanded}
-use Rattle.fields.specs.Format.{numberAt, count, followed, repeat, listOf, rest, exact, view, lengthOf, counted}
-use Rattle.fields.specs.Body.{reading, bodyRead}
-use Rattle.fields.specs.Answers.{numberRead}
-use Rattle.fields.specs.declared.Step.the-variants.{At, Refused}
-use Rattle.fields.specs.declared.Number.the-variants.{Is}
+use Rattle.formats.specs.Format.{numberAt, count, followed, repeat, listOf, rest, exact, view, lengthOf, counted}
+use Rattle.formats.specs.Body.{reading, bodyRead}
+use Rattle.formats.specs.Answers.{numberRead}
+use Rattle.formats.specs.declared.Step.the-variants.{At, Refused}
+use Rattle.formats.specs.declared.Number.the-variants.{Is}
 use Rattle.index.specs.Index.{indexKind, index, fields}
 use Rattle.messages.specs.Asked.{messageCount}
 use Rattle.account.specs.Gathers.{Box, freshBox, feed, run, HandsOut}

@@ -15,9 +15,9 @@ use Rattle.feeding.specs.Feeding.{fedOf, storeAfter}
 use Rattle.feeding.specs.declared.Answer.the-variants.{Refused as NotFed}
 use Rattle.handing.specs.Handing.{handedOf, outAfter}
 use Rattle.handing.specs.declared.Handed.the-variants.{Refused as NotHanded}
-use Rattle.fields.specs.Format.{Format}
-use Rattle.fields.specs.Body.{bodyWritten, output, bodyLaid, laidTape}
-use Rattle.fields.specs.declared.Step.the-variants.{Refused as NoStep}
+use Rattle.formats.specs.Format.{Format}
+use Rattle.formats.specs.Body.{bodyWritten, output, bodyLaid, laidTape}
+use Rattle.formats.specs.declared.Step.the-variants.{Refused as NoStep}
 use Rattle.content.specs.Content.{content}
 use Rattle.contentwriter.specs.Written.{contentWritten}
 use Rattle.contentwriter.specs.declared.Written.the-variants.{Refused as NotWritten}

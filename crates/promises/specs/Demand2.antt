@@ -21,11 +21,11 @@ use Rattle.cutting.specs.Cutting.{joined, sectionCount, partOf, countedOf, cutH
 use Rattle.framing.specs.declared.Heading.{Heading}
 use Rattle.cutting.specs.declared.Counted.the-variants.{Sections}
 use Rattle.cutting.specs.declared.Cut.the-variants.{Written}
-use Rattle.fields.specs.Reading.{found}
-use Rattle.fields.specs.Format.{Format}
-use Rattle.fields.specs.Body.{longest, reading, bodyRead, writing, bodyWritten, output, bodyLaid, laidTape}
-use Rattle.fields.specs.declared.Step.the-variants.{At}
-use Rattle.fields.specs.declared.Number.the-variants.{Is}
+use Rattle.formats.specs.Reading.{found}
+use Rattle.formats.specs.Format.{Format}
+use Rattle.formats.specs.Body.{longest, reading, bodyRead, writing, bodyWritten, output, bodyLaid, laidTape}
+use Rattle.formats.specs.declared.Step.the-variants.{At}
+use Rattle.formats.specs.declared.Number.the-variants.{Is}
 use Rattle.certificate.specs.Certificate.{certificateKind, certificate}
 use Rattle.index.specs.Index.{Index, indexKind, index}
 use Rattle.messages.specs.Asked.{messageCount}

@@ -15,7 +15,7 @@ use Rattle.cutting.specs.Cutting.{countedOf, cutAnswer, cutOutput}
 use Rattle.holding.specs.declared.Gathering.{Gathering}
 use Rattle.feeding.specs.Feeding.{fedOf, storeAfter}
 use Rattle.handing.specs.Handing.{handedOf, outAfter}
-use Rattle.fields.specs.Body.{bodyRead, bodyLaid, laidTape, bodyWritten, output}
+use Rattle.formats.specs.Body.{bodyRead, bodyLaid, laidTape, bodyWritten, output}
 use Rattle.certificate.specs.Certificate.{certificateKind, certificate}
 use Rattle.certificate.specs.Asked as certificate
 use Rattle.certificate.specs.Asked.{authorizationCount, authorizationPart, certificateCount, certificatePart}

@@ -12,9 +12,9 @@ use Rattle.holding.specs.declared.Gathering.{Gathering}
 use Rattle.feeding.specs.Feeding.{fedOf, storeAfter}
 use Rattle.handing.specs.Handing.{handedOf, outAfter}
 use Rattle.handing.specs.declared.Handed.the-variants.{Body}
-use Rattle.fields.specs.Body.{bodyRead}
-use Rattle.fields.specs.declared.Step.the-variants.{Refused}
-use Rattle.fields.specs.declared.Number.the-variants.{Is}
+use Rattle.formats.specs.Body.{bodyRead}
+use Rattle.formats.specs.declared.Step.the-variants.{Refused}
+use Rattle.formats.specs.declared.Number.the-variants.{Is}
 use Rattle.index.specs.Index.{indexKind, index}
 use Rattle.messages.specs.Asked.{messageCount}
 

@@ -8,16 +8,16 @@ use lib.ListN.{length, getD}
 use borrow.Author.Tests.{le-leb}
 use Rattle.refusal.specs.declared.Refusal.{Refusal}
 use Rattle.refusal.specs.declared.Refusal.the-variants.{PastPart}
-use Rattle.fields.specs.Reading.{found}
-use Rattle.fields.specs.Format.{numberAt, count, number, nibbles, nibblesAmong, repeat, counted, lengthOf}
-use Rattle.fields.specs.Time.{time, endTime}
-use Rattle.fields.specs.Answers.{numberOf, numberRead}
-use Rattle.fields.specs.Body.{longest}
-use Rattle.fields.specs.declared.Number.the-variants.{Is, Refused as NoNumber}
-use Rattle.fields.proofs.Classes.{Bytes}
-use Rattle.fields.proofs.Outcomes.{found-inj, andThen-found, within-found}
-use Rattle.fields.proofs.Elements.{exact-found, view-found, followed-found}
-use Rattle.fields.proofs.Readers.{number-facts}
+use Rattle.formats.specs.Reading.{found}
+use Rattle.formats.specs.Format.{numberAt, count, number, nibbles, nibblesAmong, repeat, counted, lengthOf}
+use Rattle.formats.specs.Time.{time, endTime}
+use Rattle.formats.specs.Answers.{numberOf, numberRead}
+use Rattle.formats.specs.Body.{longest}
+use Rattle.formats.specs.declared.Number.the-variants.{Is, Refused as NoNumber}
+use Rattle.formats.proofs.Classes.{Bytes}
+use Rattle.formats.proofs.Outcomes.{found-inj, andThen-found, within-found}
+use Rattle.formats.proofs.Elements.{exact-found, view-found, followed-found}
+use Rattle.formats.proofs.Readers.{number-facts}
 use Rattle.asking.proofs.Sizes.{only-found, bytes-sized, digits-sized}
 use Rattle.walks.specs.Entries.{worth}
 use Rattle.index.specs.Index.{HeadFields, head, messageFields, named, unnamed, Message, message}

@@ -10,15 +10,15 @@ use native.Mathlib.Nat.{zero-add}
 use borrow.Author.Tests.{le-leb, lt-leb, leb-true}
 use Rattle.refusal.specs.declared.Refusal.{Refusal}
 use Rattle.refusal.specs.declared.Refusal.the-variants.{OtherKind, TooLarge, OutputTooSmall, LeftOver}
-use Rattle.fields.specs.Reading.{Reading, found, refused}
-use Rattle.fields.specs.Format.{count}
-use Rattle.fields.specs.Answers.{stepOf}
-use Rattle.fields.specs.Body.{longest, reading, bodyRead}
-use Rattle.fields.specs.declared.Step.the-variants.{At, Refused as NoStep}
-use Rattle.fields.proofs.Classes.{Bytes}
-use Rattle.fields.proofs.Outcomes.{need-found}
-use Rattle.fields.proofs.Elements.{exact-found, view-found, followed-found, list-found}
-use Rattle.fields.proofs.Laying.{table}
+use Rattle.formats.specs.Reading.{Reading, found, refused}
+use Rattle.formats.specs.Format.{count}
+use Rattle.formats.specs.Answers.{stepOf}
+use Rattle.formats.specs.Body.{longest, reading, bodyRead}
+use Rattle.formats.specs.declared.Step.the-variants.{At, Refused as NoStep}
+use Rattle.formats.proofs.Classes.{Bytes}
+use Rattle.formats.proofs.Outcomes.{need-found}
+use Rattle.formats.proofs.Elements.{exact-found, view-found, followed-found, list-found}
+use Rattle.formats.proofs.Laying.{table}
 use Rattle.index.specs.Index.{message, Index, fields, index, indexKind}
 use Rattle.records.specs.Records.{recordsOf, recordedOver, recording, bodyRecorded, recorded}
 use Rattle.records.specs.Steps.{standing, placedAt, recordsFrom, recordsIn, countIn, Planned}

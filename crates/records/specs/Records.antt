@@ -4,10 +4,10 @@ use mathlib.Core.List.{List, [], _∷_, _++_}
 use lib.ListN.{length, drop}
 use lib.Dec.{leb}
 use Rattle.refusal.specs.declared.Refusal.the-variants.{OutputTooSmall}
-use Rattle.fields.specs.Reading.{Reading, found, refused, andThen, need}
-use Rattle.fields.specs.Body.{reading}
-use Rattle.fields.specs.Answers.{stepOf}
-use Rattle.fields.specs.declared.Step.{Step}
+use Rattle.formats.specs.Reading.{Reading, found, refused, andThen, need}
+use Rattle.formats.specs.Body.{reading}
+use Rattle.formats.specs.Answers.{stepOf}
+use Rattle.formats.specs.declared.Step.{Step}
 use Rattle.index.specs.Index.{Message, message, Index, index, indexKind}
 use Rattle.records.specs.declared.Record.{Record}
 

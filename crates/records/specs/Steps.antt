@@ -3,9 +3,9 @@ use Prim.Native.Nat.{ℕ, zero, suc, _+_, _/_, _%_, _≤_, min}
 use mathlib.Core.Path.{_≡_}
 use mathlib.Core.List.{List, [], _∷_}
 use lib.ListN.{length}
-use Rattle.fields.specs.Reading.{Reading, found, refused}
-use Rattle.fields.specs.Body.{longest}
-use Rattle.fields.specs.Answers.{stepOf, numberRead}
+use Rattle.formats.specs.Reading.{Reading, found, refused}
+use Rattle.formats.specs.Body.{longest}
+use Rattle.formats.specs.Answers.{stepOf, numberRead}
 use Rattle.walks.specs.Entries.{worth}
 use Rattle.index.specs.Index.{Index}
 use Rattle.records.specs.Records.{recordsOf, recording}

@@ -1,11 +1,11 @@
 // The index reader in the form that document 01 names: "messages are laid in a lent list of message records".
-use fields::Number;
-use fields::Step;
+use formats::Number;
+use formats::Step;
 use refusal::Refusal;
 ghost use mathlib.Core.Path.{_≡_};
 ghost use Prim.Native.Nat.{_<_, _≤_, _^_, min};
 ghost use lib.ListN.{length, set};
-ghost use Rattle.fields.specs.Body.{longest};
+ghost use Rattle.formats.specs.Body.{longest};
 ghost use Rattle.records.specs.Records.{bodyRecorded, recorded};
 ghost use Rattle.records.specs.Steps.{standing, placedAt, Planned};
 

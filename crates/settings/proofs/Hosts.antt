@@ -9,7 +9,7 @@ use lib.ListN.{length, getD, take, drop, length-drop}
 use lib.Seq.{drop-cons, length-take-le}
 use lib.Dec.{leb}
 use borrow.Author.Tests.{le-leb, lt-leb, eq-eqb, ne-eqb}
-use Rattle.fields.specs.Format.{every}
+use Rattle.formats.specs.Format.{every}
 use Rattle.configuration.specs.Address.{isDigit, colon, worth, isPort, inName, named, hostAndPort}
 
 -- the bytes from p up to end

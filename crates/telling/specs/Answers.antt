@@ -23,12 +23,12 @@ use Rattle.cutting.specs.declared.Counted.{Counted}
 use Rattle.cutting.specs.declared.Counted.the-variants as counted
 use Rattle.cutting.specs.declared.Cut.{Cut}
 use Rattle.cutting.specs.declared.Cut.the-variants as cut
-use Rattle.fields.specs.declared.Step.{Step}
-use Rattle.fields.specs.declared.Step.the-variants as step
-use Rattle.fields.specs.declared.Number.{Number}
-use Rattle.fields.specs.declared.Number.the-variants as number
-use Rattle.fields.specs.declared.Part.{Part}
-use Rattle.fields.specs.declared.Part.the-variants as part
+use Rattle.formats.specs.declared.Step.{Step}
+use Rattle.formats.specs.declared.Step.the-variants as step
+use Rattle.formats.specs.declared.Number.{Number}
+use Rattle.formats.specs.declared.Number.the-variants as number
+use Rattle.formats.specs.declared.Part.{Part}
+use Rattle.formats.specs.declared.Part.the-variants as part
 use Rattle.contentwriter.specs.declared.Written.{Written}
 use Rattle.contentwriter.specs.declared.Written.the-variants as written
 use Rattle.feeding.specs.declared.Answer.{Answer}

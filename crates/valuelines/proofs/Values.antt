@@ -9,8 +9,8 @@ use Rattle.offset.specs.Offset.{floorDiv, floorMod, isOffset, timedAt, minuteMo
 use Rattle.local.specs.Clock.{isClock, secondOf, onDay, localMoment, written, packedAt, packOf}
 use Rattle.local.specs.Text.{form, isDigit, fits, formed, two, typed, readText}
 use Rattle.local.proofs.Values as local
-use Rattle.fields.specs.Format.{numberAt, count, followed, repeat, listOf, rest, exact, view, lengthOf, counted}
-use Rattle.fields.specs.Body.{reading, bodyRead}
+use Rattle.formats.specs.Format.{numberAt, count, followed, repeat, listOf, rest, exact, view, lengthOf, counted}
+use Rattle.formats.specs.Body.{reading, bodyRead}
 use Rattle.index.specs.Index.{fields, index}
 use Rattle.configuration.proofs.Values as configuration
 use Rattle.printing.specs.Characters.{ascii, digitOf, digitsOf, placesWithin, placesOf, refusedText}

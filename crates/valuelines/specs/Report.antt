@@ -9,9 +9,9 @@ use Rattle.days.specs.declared.DateAnswer.the-variants.{On, Refused as NoDate}
 use Rattle.times.specs.declared.Fielded.{Fielded}
 use Rattle.times.specs.declared.Fielded.the-variants.{Field as IsField, Refused as NoField}
 use Rattle.local.specs.Text.{readText}
-use Rattle.fields.specs.Body.{bodyRead}
-use Rattle.fields.specs.declared.Step.{Step}
-use Rattle.fields.specs.declared.Step.the-variants.{At, Refused as NoStep}
+use Rattle.formats.specs.Body.{bodyRead}
+use Rattle.formats.specs.declared.Step.{Step}
+use Rattle.formats.specs.declared.Step.the-variants.{At, Refused as NoStep}
 use Rattle.index.specs.Index.{index, indexKind}
 use Rattle.configuration.specs.Configuration.{configuration, configurationKind}
 use Rattle.printing.specs.Characters.{ascii, hexOf, decimalOf, refusedText}

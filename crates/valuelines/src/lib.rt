@@ -6,7 +6,7 @@ ghost use lib.ListN.{length, drop};
 ghost use Rattle.printing.specs.Put.{Put};
 ghost use Rattle.valuelines.specs.Report.{answerText, saidText, lineOf, ofDay, ofTime, ofIndex, ofVolume, timeLines, indexLines, volumeLines, reportOf};
 use days::DateAnswer;
-use fields::Step;
+use formats::Step;
 use refusal::Refusal;
 use times::Fielded;
 

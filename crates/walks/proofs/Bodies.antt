@@ -9,15 +9,15 @@ use lib.Dec.{leb, eqb}
 use Rattle.placing.specs.Placed.{placed}
 use Rattle.refusal.specs.declared.Refusal.{Refusal}
 use Rattle.refusal.specs.declared.Refusal.the-variants.{OtherKind, OutputTooSmall, TooLarge}
-use Rattle.fields.specs.Reading.{need}
-use Rattle.fields.specs.Format.{Format, nothing}
-use Rattle.fields.specs.Answers.{stepOf}
-use Rattle.fields.specs.Body.{longest, reading, bodyRead, opened}
-use Rattle.fields.specs.declared.Step.{Step}
-use Rattle.fields.specs.declared.Step.the-variants.{At as Ends, Refused as NoStep}
-use Rattle.fields.proofs.Outcomes.{found-inj}
-use Rattle.fields.proofs.Classes.{Bytes}
-use Rattle.fields.proofs.Laying.{table, LaidOut, laid-no, laid-small, laid-done}
+use Rattle.formats.specs.Reading.{need}
+use Rattle.formats.specs.Format.{Format, nothing}
+use Rattle.formats.specs.Answers.{stepOf}
+use Rattle.formats.specs.Body.{longest, reading, bodyRead, opened}
+use Rattle.formats.specs.declared.Step.{Step}
+use Rattle.formats.specs.declared.Step.the-variants.{At as Ends, Refused as NoStep}
+use Rattle.formats.proofs.Outcomes.{found-inj}
+use Rattle.formats.proofs.Classes.{Bytes}
+use Rattle.formats.proofs.Laying.{table, LaidOut, laid-no, laid-small, laid-done}
 use Rattle.walks.specs.Walked.{Walked}
 use Rattle.walks.specs.declared.Walk.{Walk}
 use Rattle.walks.specs.declared.Walk.the-variants.{At, Refused}

@@ -13,18 +13,18 @@ use Rattle.placing.specs.Placed.{placed}
 use Rattle.placing.proofs.Placing.{stored, placed-none, placed-next}
 use Rattle.refusal.specs.declared.Refusal.{Refusal}
 use Rattle.refusal.specs.declared.Refusal.the-variants.{PastBody, PastPart, DigitAboveNine, OutsideSet}
-use Rattle.fields.specs.Reading.{Reading, found, refused, andThen, need, Fault, unless, judged}
-use Rattle.fields.specs.Format.{Format, numberAt, count, only, outside, number, nibbles, nibblesAmong, reserved, bytes, bytesAmong, every, halves, tail, decimal, digits, rest, Length, lengthOf, counted, opaque}
-use Rattle.fields.specs.Time.{time, endTime}
-use Rattle.fields.specs.Answers.{numberOf, partOf, fieldOf, numberRead, partRead}
-use Rattle.fields.specs.declared.Number.{Number}
-use Rattle.fields.specs.declared.Number.the-variants.{Is, Refused as NoNumber}
-use Rattle.fields.specs.declared.Part.{Part}
-use Rattle.fields.specs.declared.Part.the-variants.{Of, Refused as NoPart}
-use Rattle.fields.proofs.Outcomes.{found-inj, andThen-found, need-found, judged-found, within-found}
-use Rattle.fields.proofs.Leaves.{length-bytes, reserved-found}
-use Rattle.fields.proofs.Parts.{opaque-next}
-use Rattle.fields.proofs.Readers.{number-found, number-refused, part-found, part-refused}
+use Rattle.formats.specs.Reading.{Reading, found, refused, andThen, need, Fault, unless, judged}
+use Rattle.formats.specs.Format.{Format, numberAt, count, only, outside, number, nibbles, nibblesAmong, reserved, bytes, bytesAmong, every, halves, tail, decimal, digits, rest, Length, lengthOf, counted, opaque}
+use Rattle.formats.specs.Time.{time, endTime}
+use Rattle.formats.specs.Answers.{numberOf, partOf, fieldOf, numberRead, partRead}
+use Rattle.formats.specs.declared.Number.{Number}
+use Rattle.formats.specs.declared.Number.the-variants.{Is, Refused as NoNumber}
+use Rattle.formats.specs.declared.Part.{Part}
+use Rattle.formats.specs.declared.Part.the-variants.{Of, Refused as NoPart}
+use Rattle.formats.proofs.Outcomes.{found-inj, andThen-found, need-found, judged-found, within-found}
+use Rattle.formats.proofs.Leaves.{length-bytes, reserved-found}
+use Rattle.formats.proofs.Parts.{opaque-next}
+use Rattle.formats.proofs.Readers.{number-found, number-refused, part-found, part-refused}
 use Rattle.walks.specs.declared.Walk.{Walk}
 use Rattle.walks.specs.declared.Walk.the-variants.{At, Refused}
 use Rattle.walks.specs.declared.Count.{Count}

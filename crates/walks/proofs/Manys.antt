@@ -10,15 +10,15 @@ use Rattle.choices.proofs.Tests.{and-of}
 use Rattle.placing.specs.Placed.{placed}
 use Rattle.placing.proofs.Placing.{placed-before}
 use Rattle.refusal.specs.declared.Refusal.{Refusal}
-use Rattle.fields.specs.Reading.{Reading, found, refused, andThen}
-use Rattle.fields.specs.Format.{Format, followed, _▷_, printAll, every, some, tapeAll, parseMany, many}
-use Rattle.fields.specs.Answers.{stepOf, ended}
-use Rattle.fields.proofs.Outcomes.{found-inj, not-found, andThen-found}
-use Rattle.fields.proofs.Classes.{Bytes, Lawful}
-use Rattle.fields.proofs.Stand.{stands-join}
-use Rattle.fields.proofs.Lists.{all-steady, many-filling}
-use Rattle.fields.proofs.Readers.{step-refused}
-use Rattle.fields.proofs.Inner.{forward, many-stop as stops-at, many-go}
+use Rattle.formats.specs.Reading.{Reading, found, refused, andThen}
+use Rattle.formats.specs.Format.{Format, followed, _▷_, printAll, every, some, tapeAll, parseMany, many}
+use Rattle.formats.specs.Answers.{stepOf, ended}
+use Rattle.formats.proofs.Outcomes.{found-inj, not-found, andThen-found}
+use Rattle.formats.proofs.Classes.{Bytes, Lawful}
+use Rattle.formats.proofs.Stand.{stands-join}
+use Rattle.formats.proofs.Lists.{all-steady, many-filling}
+use Rattle.formats.proofs.Readers.{step-refused}
+use Rattle.formats.proofs.Inner.{forward, many-stop as stops-at, many-go}
 use Rattle.walks.specs.Walked.{onward, Inside, Walked}
 use Rattle.walks.specs.declared.Walk.{Walk}
 use Rattle.walks.specs.declared.Walk.the-variants.{At, Refused}

@@ -11,12 +11,12 @@ use Rattle.choices.specs.Choice.{if_then_else_}
 use Rattle.placing.specs.Placed.{placed}
 use Rattle.placing.proofs.Placing.{placed-next, placed-length, placed-none}
 use Rattle.refusal.specs.declared.Refusal.{Refusal}
-use Rattle.fields.specs.Reading.{Reading, found, refused, andThen, need, Fault, unless, judged}
-use Rattle.fields.specs.Format.{Format, only, followed, _▷_, view, exact}
-use Rattle.fields.proofs.Outcomes.{found-inj, andThen-found, judged-found}
-use Rattle.fields.proofs.Classes.{Formal, Lawful}
-use Rattle.fields.proofs.Parts.{exact-filling}
-use Rattle.fields.proofs.Elements.{exact-found}
+use Rattle.formats.specs.Reading.{Reading, found, refused, andThen, need, Fault, unless, judged}
+use Rattle.formats.specs.Format.{Format, only, followed, _▷_, view, exact}
+use Rattle.formats.proofs.Outcomes.{found-inj, andThen-found, judged-found}
+use Rattle.formats.proofs.Classes.{Formal, Lawful}
+use Rattle.formats.proofs.Parts.{exact-filling}
+use Rattle.formats.proofs.Elements.{exact-found}
 use Rattle.walks.specs.Walked.{onward, walked, leaving, judgedFrom, Walked}
 use Rattle.walks.specs.declared.Walk.{Walk}
 use Rattle.walks.specs.declared.Walk.the-variants.{At, Refused}

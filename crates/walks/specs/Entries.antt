@@ -5,10 +5,10 @@ use mathlib.Core.List.{List, [], _∷_}
 use mathlib.Core.Bool.{Bool, true, false}
 use lib.ListN.{length}
 use Rattle.placing.specs.Placed.{placed}
-use Rattle.fields.specs.declared.Number.{Number}
-use Rattle.fields.specs.declared.Number.the-variants.{Is, Refused as NoNumber}
-use Rattle.fields.specs.declared.Part.{Part}
-use Rattle.fields.specs.declared.Part.the-variants.{Of, Refused as NoPart}
+use Rattle.formats.specs.declared.Number.{Number}
+use Rattle.formats.specs.declared.Number.the-variants.{Is, Refused as NoNumber}
+use Rattle.formats.specs.declared.Part.{Part}
+use Rattle.formats.specs.declared.Part.the-variants.{Of, Refused as NoPart}
 use Rattle.walks.specs.declared.Walk.{Walk}
 use Rattle.walks.specs.declared.Walk.the-variants.{At, Refused}
 use Rattle.walks.specs.declared.Count.{Count}

@@ -8,11 +8,11 @@ use lib.Dec.{leb}
 use Rattle.choices.specs.Choice.{if_then_else_}
 use Rattle.refusal.specs.declared.Refusal.{Refusal}
 use Rattle.placing.specs.Placed.{placed}
-use Rattle.fields.specs.Reading.{Reading, found, refused}
-use Rattle.fields.specs.Format.{Format, Length, counted, rest}
-use Rattle.fields.specs.Answers.{partOf}
-use Rattle.fields.specs.declared.Part.{Part}
-use Rattle.fields.specs.declared.Part.the-variants.{Of, Refused as NoPart}
+use Rattle.formats.specs.Reading.{Reading, found, refused}
+use Rattle.formats.specs.Format.{Format, Length, counted, rest}
+use Rattle.formats.specs.Answers.{partOf}
+use Rattle.formats.specs.declared.Part.{Part}
+use Rattle.formats.specs.declared.Part.the-variants.{Of, Refused as NoPart}
 use Rattle.walks.specs.declared.Walk.{Walk}
 use Rattle.walks.specs.declared.Walk.the-variants.{At, Refused}
 use Rattle.walks.specs.declared.Count.{Count}

@@ -1,15 +1,15 @@
 // A walk through a body, field by field: dry it checks them, wet it also lays their entries on a tape.
-use fields::Number;
-use fields::Part;
+use formats::Number;
+use formats::Part;
 use refusal::Refusal;
 ghost use mathlib.Core.Path.{_≡_};
 ghost use mathlib.Core.List.{[], _∷_};
 ghost use mathlib.Core.Bool.{_&&_};
 ghost use lib.Dec.{leb};
 ghost use Prim.Native.Nat.{_-_, _≤_};
-ghost use Rattle.fields.specs.Format.{count, among, number, nibblesAmong, reserved, bytesAmong, digits, times, rest, lengthOf, leastOf, length12, opaque};
-ghost use Rattle.fields.specs.Time.{time, endTime};
-ghost use Rattle.fields.specs.Resource.{resource, resources};
+ghost use Rattle.formats.specs.Format.{count, among, number, nibblesAmong, reserved, bytesAmong, digits, times, rest, lengthOf, leastOf, length12, opaque};
+ghost use Rattle.formats.specs.Time.{time, endTime};
+ghost use Rattle.formats.specs.Resource.{resource, resources};
 ghost use Rattle.refusal.specs.declared.Refusal.the-variants.{PastPart, LeftOver, ImpossibleDay};
 ghost use Rattle.walks.specs.Walked.{Walked, leaving, judgedFrom, Counted, openedBy, entered};
 ghost use Rattle.walks.specs.Entries.{Laid, Stepped, entryOf, pastNumber, Told, spanOf, pastPart, endOf};

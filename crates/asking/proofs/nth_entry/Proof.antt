@@ -1,6 +1,6 @@
 -- `asking::nth_entry` meets its contract: it begins where the i entries before it end.
 use mathlib.Core.Path.{sym, ap, _∙_}
-use Rattle.fields.specs.Answers.{stepOf}
+use Rattle.formats.specs.Answers.{stepOf}
 use Rattle.asking.proofs.Entries.{nth-past, nth-there}
 use borrow.Author.Needs.{needs}
 use Rattle.asking.proofs.nth_entry.Statement.{statement}

@@ -1,7 +1,7 @@
 -- `asking::number_in` meets its contract: it is asked for where the part lies in the body.
 use Prim.Native.Nat.{_+_}
 use mathlib.Core.Path.{sym, ap, _∙_}
-use Rattle.fields.specs.Answers.{numberOf, numberRead}
+use Rattle.formats.specs.Answers.{numberOf, numberRead}
 use Rattle.asking.proofs.Answers.{needed, not-needed}
 use native.Mathlib.Omega.{arith}
 use lib.ListN.{length}

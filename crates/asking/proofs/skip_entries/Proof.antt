@@ -1,7 +1,7 @@
 -- `asking::skip_entries` meets its contract: what is left of n entries from here ends where all n do.
 use mathlib.Core.Path.{_≡_, sym, _∙_}
-use Rattle.fields.specs.Answers.{endedAll}
-use Rattle.fields.proofs.Readers.{all-done, all-stop, all-go}
+use Rattle.formats.specs.Answers.{endedAll}
+use Rattle.formats.proofs.Readers.{all-done, all-stop, all-go}
 use Rattle.asking.specs.Asking.{entry}
 use native.Mathlib.Omega.{arith}
 use borrow.Author.Needs.{needs}

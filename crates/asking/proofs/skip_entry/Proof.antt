@@ -1,6 +1,6 @@
 -- `asking::skip_entry` meets its contract: its bytes end where a number of as many does, and its part begins there.
 use mathlib.Core.Path.{sym, _∙_}
-use Rattle.fields.proofs.Readers.{part-facts}
+use Rattle.formats.proofs.Readers.{part-facts}
 use Rattle.asking.proofs.Entries.{head-no, entry-no, entry-at}
 use native.Mathlib.Omega.{arith}
 use borrow.Author.Needs.{needs}

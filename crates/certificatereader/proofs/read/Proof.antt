@@ -1,7 +1,7 @@
 -- `certificatereader::read` meets its contract: what comes before the fields, and then a dry walk through them.
 use mathlib.Core.Path.{sym, _∙_}
 use borrow.Author.Needs.{needs}
-use Rattle.fields.proofs.Readers.{body-no}
+use Rattle.formats.proofs.Readers.{body-no}
 use Rattle.walks.proofs.Bodies.{read-stop, read-end}
 use Rattle.certificatereader.proofs.read.Statement.{statement}
 use Rattle.certificatereader.proofs.read.Tie as tie

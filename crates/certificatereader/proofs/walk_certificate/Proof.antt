@@ -2,7 +2,7 @@
 use mathlib.Core.Path.{refl}
 use borrow.Author.Needs.{needs}
 use Rattle.refusal.specs.declared.Refusal.the-variants.{LeftOver}
-use Rattle.fields.proofs.Parts.{followed-lawful, opaque-lawful}
+use Rattle.formats.proofs.Parts.{followed-lawful, opaque-lawful}
 use Rattle.walks.proofs.Pairs.{pair, view-walk, exact-walk}
 use Rattle.certificate.specs.Certificate.{named, unnamed, fields, certificate}
 use Rattle.certificate.proofs.Lawful.{parts-lawful}

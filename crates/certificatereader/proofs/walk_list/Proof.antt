@@ -1,7 +1,7 @@
 -- `certificatereader::walk_list` meets its contract: a count, and so many parts.
 use borrow.Author.Needs.{needs}
-use Rattle.fields.proofs.Leaves.{count-lawful}
-use Rattle.fields.proofs.Parts.{opaque-lawful}
+use Rattle.formats.proofs.Leaves.{count-lawful}
+use Rattle.formats.proofs.Parts.{opaque-lawful}
 use Rattle.walks.proofs.Counts.{list-walk}
 use Rattle.certificatereader.proofs.walk_list.Statement.{statement}
 use Rattle.certificatereader.proofs.walk_list.Tie as tie

@@ -1,8 +1,8 @@
 -- `certificatereader::walk_parts` meets its contract: what is still ahead, walked, makes the whole.
 use native.Mathlib.Omega.{arith}
 use borrow.Author.Needs.{needs}
-use Rattle.fields.specs.Format.{times, opaque}
-use Rattle.fields.proofs.Parts.{opaque-lawful}
+use Rattle.formats.specs.Format.{times, opaque}
+use Rattle.formats.proofs.Parts.{opaque-lawful}
 use Rattle.walks.proofs.Counts.{Ahead, ahead-start, times-turn, times-done}
 use Rattle.certificatereader.proofs.walk_parts.Statement.{statement}
 use Rattle.certificatereader.proofs.walk_parts.Tie as tie

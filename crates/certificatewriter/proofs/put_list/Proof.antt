@@ -3,7 +3,7 @@ use mathlib.Core.Path.{_≡_, refl}
 use lib.ListN.{length}
 use native.Mathlib.Omega.{arith}
 use borrow.Author.Needs.{needs}
-use Rattle.fields.specs.Format.{opaque}
+use Rattle.formats.specs.Format.{opaque}
 use Rattle.pens.proofs.Lists.{Underway, list-start, list-pen, times-turn, times-stop, times-done}
 use Rattle.certificatewriter.proofs.put_list.Statement.{statement}
 use Rattle.certificatewriter.proofs.put_list.Tie as tie

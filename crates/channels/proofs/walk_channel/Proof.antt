@@ -2,10 +2,10 @@
 use mathlib.Core.Path.{refl}
 use native.Mathlib.Omega.{arith}
 use borrow.Author.Needs.{needs}
-use Rattle.fields.specs.Format.{_▷_, number, reserved}
-use Rattle.fields.proofs.Classes.{Lawful}
-use Rattle.fields.proofs.Leaves.{reserved-lawful}
-use Rattle.fields.proofs.Parts.{number-lawful, followed-lawful}
+use Rattle.formats.specs.Format.{_▷_, number, reserved}
+use Rattle.formats.proofs.Classes.{Lawful}
+use Rattle.formats.proofs.Leaves.{reserved-lawful}
+use Rattle.formats.proofs.Parts.{number-lawful, followed-lawful}
 use Rattle.walks.proofs.Pairs.{pair, view-walk}
 use Rattle.index.specs.Index.{descriptors, streams, channel, channelFields}
 use Rattle.index.proofs.Lawful.{descriptors-lawful, streams-lawful}

@@ -1,7 +1,7 @@
 -- `channels::walk_descriptor` meets its contract: a tag and then a part, under their names.
 use borrow.Author.Needs.{needs}
 use mathlib.Core.Path.{refl}
-use Rattle.fields.proofs.Parts.{number-lawful, opaque-lawful}
+use Rattle.formats.proofs.Parts.{number-lawful, opaque-lawful}
 use Rattle.walks.proofs.Pairs.{pair, view-walk}
 use Rattle.index.specs.Index.{descriptor}
 use Rattle.channels.proofs.walk_descriptor.Statement.{statement}

@@ -1,7 +1,7 @@
 -- `channels::walk_descriptors` meets its contract: into the part that the length counts, which they fill.
 use borrow.Author.Needs.{needs}
-use Rattle.fields.specs.Format.{length12}
-use Rattle.fields.proofs.Parts.{length12-counts}
+use Rattle.formats.specs.Format.{length12}
+use Rattle.formats.proofs.Parts.{length12-counts}
 use Rattle.walks.proofs.Counts.{entered-inside, counted-walk}
 use Rattle.index.specs.Index.{descriptors}
 use Rattle.index.proofs.Lawful.{all-descriptors-filling}

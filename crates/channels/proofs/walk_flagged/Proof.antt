@@ -1,7 +1,7 @@
 -- `channels::walk_flagged` meets its contract: the flag, and the channel where it is not 0.
 use native.Mathlib.Omega.{arith}
 use borrow.Author.Needs.{needs}
-use Rattle.fields.proofs.Leaves.{reserved-lawful}
+use Rattle.formats.proofs.Leaves.{reserved-lawful}
 use Rattle.walks.proofs.Counts.{flag-off, flag-on}
 use Rattle.index.specs.Index.{flagged}
 use Rattle.index.proofs.Lawful.{channel-lawful}

@@ -1,7 +1,7 @@
 -- `channels::walk_streams` meets its contract: into the part that the length counts, which they fill.
 use borrow.Author.Needs.{needs}
-use Rattle.fields.specs.Format.{lengthOf}
-use Rattle.fields.proofs.Parts.{length-counts}
+use Rattle.formats.specs.Format.{lengthOf}
+use Rattle.formats.proofs.Parts.{length-counts}
 use Rattle.walks.proofs.Counts.{entered-inside, counted-walk}
 use Rattle.index.specs.Index.{streams}
 use Rattle.index.proofs.Lawful.{all-streams-filling}

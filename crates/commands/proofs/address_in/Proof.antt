@@ -1,6 +1,6 @@
 -- `commands::address_in` meets its contract: the kind stands before it and judges it.
 use mathlib.Core.Path.{sym, ap, _∙_}
-use Rattle.fields.specs.Answers.{numberAmong}
+use Rattle.formats.specs.Answers.{numberAmong}
 use Rattle.commands.proofs.Answers.{among-read, kind-no, kind-is}
 use borrow.Author.Needs.{needs}
 use Rattle.commands.proofs.address_in.Statement.{statement}

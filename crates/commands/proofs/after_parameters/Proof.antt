@@ -1,6 +1,6 @@
 -- `commands::after_parameters` meets its contract: they begin so many bytes after the count.
 use mathlib.Core.Path.{sym, _∙_}
-use Rattle.fields.proofs.Readers.{number-facts}
+use Rattle.formats.proofs.Readers.{number-facts}
 use Rattle.commands.proofs.Answers.{after-parameters-no, after-parameters}
 use native.Mathlib.Omega.{arith}
 use borrow.Author.Needs.{needs}

@@ -1,7 +1,7 @@
 -- `commands::among_in` meets its contract: it stands so many bytes into the content, and is judged there.
 use mathlib.Core.Path.{sym, ap, _∙_}
-use Rattle.fields.specs.Format.{number, among}
-use Rattle.fields.specs.Answers.{numberOf, numberAmong}
+use Rattle.formats.specs.Format.{number, among}
+use Rattle.formats.specs.Answers.{numberOf, numberAmong}
 use Rattle.commands.proofs.Answers.{in-command-no, in-command, among-read, inside}
 use native.Mathlib.Omega.{arith}
 use borrow.Author.Needs.{needs}

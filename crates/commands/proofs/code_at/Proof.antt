@@ -1,6 +1,6 @@
 -- `commands::code_at` meets its contract: it follows the address.
 use mathlib.Core.Path.{sym, _∙_}
-use Rattle.fields.proofs.Readers.{part-facts}
+use Rattle.formats.proofs.Readers.{part-facts}
 use Rattle.commands.proofs.Answers.{code-no, code-bad, code-is}
 use native.Mathlib.Omega.{arith}
 use borrow.Author.Needs.{needs}

@@ -1,6 +1,6 @@
 -- `commands::judged_address` meets its contract: its length is judged before its bytes.
 use mathlib.Core.Path.{sym, _∙_}
-use Rattle.fields.proofs.Readers.{part-facts}
+use Rattle.formats.proofs.Readers.{part-facts}
 use Rattle.commands.proofs.Answers.{address-no, address-length, address-bad, address-is}
 use native.Mathlib.Omega.{arith}
 use borrow.Author.Tests.{not-true, not-false}

@@ -1,7 +1,7 @@
 -- `commands::number_in` meets its contract: it stands so many bytes into the content.
 use mathlib.Core.Path.{sym, ap, _∙_}
-use Rattle.fields.specs.Format.{count}
-use Rattle.fields.specs.Answers.{numberOf, numberRead}
+use Rattle.formats.specs.Format.{count}
+use Rattle.formats.specs.Answers.{numberOf, numberRead}
 use Rattle.commands.proofs.Answers.{in-command-no, in-command, inside}
 use native.Mathlib.Omega.{arith}
 use borrow.Author.Needs.{needs}

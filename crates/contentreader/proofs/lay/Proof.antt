@@ -2,8 +2,8 @@
 use mathlib.Core.Path.{refl, sym, _∙_}
 use native.Mathlib.Omega.{arith}
 use borrow.Author.Needs.{needs}
-use Rattle.fields.proofs.Readers.{body-no}
-use Rattle.fields.proofs.Laying.{laid-no}
+use Rattle.formats.proofs.Readers.{body-no}
+use Rattle.formats.proofs.Laying.{laid-no}
 use Rattle.walks.proofs.Pairs.{went-on}
 use Rattle.walks.proofs.Bodies.{lay-stop, lay-small, lay-done}
 use Rattle.contentreader.proofs.lay.Statement.{statement}

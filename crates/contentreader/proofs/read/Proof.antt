@@ -2,7 +2,7 @@
 use mathlib.Core.Path.{sym, _∙_}
 use native.Mathlib.Omega.{arith}
 use borrow.Author.Needs.{needs}
-use Rattle.fields.proofs.Readers.{body-no}
+use Rattle.formats.proofs.Readers.{body-no}
 use Rattle.walks.proofs.Bodies.{read-stop, read-end}
 use Rattle.content.proofs.Extension.{refused-before, identifier-there, other-extension, same-extension}
 use Rattle.contentreader.proofs.read.Statement.{statement}

@@ -4,8 +4,8 @@ use mathlib.Core.Path.{_≡_, refl}
 use mathlib.Core.Bool.{_&&_}
 use lib.ListN.{take, drop}
 use lib.Dec.{leb}
-use Rattle.fields.specs.Format.{every}
-use Rattle.fields.proofs.Strings.{every-start, every-done, bytes-below, bytes-above, bytes-next}
+use Rattle.formats.specs.Format.{every}
+use Rattle.formats.proofs.Strings.{every-start, every-done, bytes-below, bytes-above, bytes-next}
 use native.Mathlib.Omega.{arith}
 use borrow.Author.Needs.{needs}
 use Rattle.fields.proofs.all_among.Statement.{statement}

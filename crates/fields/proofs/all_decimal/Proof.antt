@@ -2,8 +2,8 @@
 use Prim.Native.Nat.{_-_}
 use mathlib.Core.Path.{_≡_, refl}
 use lib.ListN.{take, drop}
-use Rattle.fields.specs.Format.{halves, decimal, every}
-use Rattle.fields.proofs.Strings.{every-done, pair, decimal-start, pairs-high, pairs-low, pairs-next}
+use Rattle.formats.specs.Format.{halves, decimal, every}
+use Rattle.formats.proofs.Strings.{every-done, pair, decimal-start, pairs-high, pairs-low, pairs-next}
 use native.Mathlib.Omega.{arith}
 use borrow.Author.Needs.{needs}
 use Rattle.fields.proofs.all_decimal.Statement.{statement}

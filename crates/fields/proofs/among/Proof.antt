@@ -1,7 +1,7 @@
 -- `fields::among` meets its contract: its tests are those of a number below lo, above hi, or of the set.
 use mathlib.Core.Path.{sym, ap, _∙_}
-use Rattle.fields.specs.Answers.{numberAmong}
-use Rattle.fields.proofs.Bits.{among-less, among-more, among-is}
+use Rattle.formats.specs.Answers.{numberAmong}
+use Rattle.formats.proofs.Bits.{among-less, among-more, among-is}
 use borrow.Author.Needs.{needs}
 use Rattle.fields.proofs.among.Statement.{statement}
 use Rattle.fields.proofs.among.Tie as tie

@@ -1,7 +1,7 @@
 -- `fields::digit_at` meets its contract: two digits stand in each byte after the first, which has one.
 use Prim.Native.Nat.{_/_, _%_}
 use mathlib.Core.Path.{refl, sym, ap, _∙_}
-use Rattle.fields.proofs.Strings.{digits-fill, digit-no, digit-none, digit-low, digit-high}
+use Rattle.formats.proofs.Strings.{digits-fill, digit-no, digit-none, digit-low, digit-high}
 use native.Mathlib.Omega.{arith}
 use borrow.Author.Needs.{needs}
 use Rattle.fields.proofs.digit_at.Statement.{statement}

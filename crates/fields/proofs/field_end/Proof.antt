@@ -1,5 +1,5 @@
 -- `fields::field_end` meets its contract: its tests are those of bytes that pass the body, pass their part, or stand in both.
-use Rattle.fields.proofs.Strings.{end-14, end-15, end-at}
+use Rattle.formats.proofs.Strings.{end-14, end-15, end-at}
 use native.Mathlib.Omega.{arith}
 use borrow.Author.Needs.{needs}
 use Rattle.fields.proofs.field_end.Statement.{statement}

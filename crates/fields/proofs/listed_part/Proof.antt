@@ -1,6 +1,6 @@
 -- `fields::listed_part` meets its contract: the part is there if the count is above i.
 use mathlib.Core.Path.{sym, _∙_}
-use Rattle.fields.proofs.Readers.{listed-no, listed-none, listed-part}
+use Rattle.formats.proofs.Readers.{listed-no, listed-none, listed-part}
 use native.Mathlib.Omega.{arith}
 use borrow.Author.Needs.{needs}
 use Rattle.fields.proofs.listed_part.Statement.{statement}

@@ -2,8 +2,8 @@
 use Prim.Native.Nat.{_-_, _^_, _≤_, _<_}
 use mathlib.Core.Path.{_≡_, ap, _∙_}
 use native.Mathlib.Nat.{pow-zero}
-use Rattle.fields.specs.Format.{numberAt}
-use Rattle.fields.proofs.Readers.{number-start, number-more, more-fits, six-bytes}
+use Rattle.formats.specs.Format.{numberAt}
+use Rattle.formats.proofs.Readers.{number-start, number-more, more-fits, six-bytes}
 use native.Mathlib.Omega.{arith}
 use borrow.Author.Needs.{needs}
 use Rattle.fields.proofs.number_at.Statement.{statement}

@@ -1,5 +1,5 @@
 -- `fields::open_body` meets its contract: its two tests are those that come first.
-use Rattle.fields.proofs.Readers.{other-kind, too-large, is-open}
+use Rattle.formats.proofs.Readers.{other-kind, too-large, is-open}
 use native.Mathlib.Omega.{arith}
 use Rattle.fields.proofs.open_body.Statement.{statement}
 use Rattle.fields.proofs.open_body.Tie as tie

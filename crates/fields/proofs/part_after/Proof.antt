@@ -1,7 +1,7 @@
 -- `fields::part_after` meets its contract: the part after i others is the part after those that are left, from here.
 use mathlib.Core.Path.{_≡_, sym, _∙_}
-use Rattle.fields.specs.Answers.{partAfter}
-use Rattle.fields.proofs.Readers.{part-facts, after-done, after-stop, after-go}
+use Rattle.formats.specs.Answers.{partAfter}
+use Rattle.formats.proofs.Readers.{part-facts, after-done, after-stop, after-go}
 use native.Mathlib.Omega.{arith}
 use borrow.Author.Needs.{needs}
 use Rattle.fields.proofs.part_after.Statement.{statement}

@@ -1,5 +1,5 @@
 -- `fields::part_from` meets its contract: its tests are those of a part that passes the body, passes the part around it, or lies in both.
-use Rattle.fields.proofs.Readers.{part-14, part-15, part-of, part-faulty}
+use Rattle.formats.proofs.Readers.{part-14, part-15, part-of, part-faulty}
 use native.Mathlib.Omega.{arith}
 use borrow.Author.Needs.{needs}
 use Rattle.fields.proofs.part_from.Statement.{statement}

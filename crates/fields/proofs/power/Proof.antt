@@ -1,5 +1,5 @@
 -- `fields::power` meets its contract: a shift of 1 by at most 63 loses no bit.
-use Rattle.fields.proofs.Bits.{one-shifted}
+use Rattle.formats.proofs.Bits.{one-shifted}
 use native.Mathlib.Omega.{arith}
 use borrow.Author.Needs.{needs}
 use Rattle.fields.proofs.power.Statement.{statement}

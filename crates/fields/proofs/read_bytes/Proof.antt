@@ -1,6 +1,6 @@
 -- `fields::read_bytes` meets its contract: once the whole field is there, the test of its bytes decides.
 use mathlib.Core.Path.{sym, _∙_}
-use Rattle.fields.proofs.Strings.{end-in, bytes-no, bytes-19, bytes-of}
+use Rattle.formats.proofs.Strings.{end-in, bytes-no, bytes-19, bytes-of}
 use borrow.Author.Needs.{needs}
 use Rattle.fields.proofs.read_bytes.Statement.{statement}
 use Rattle.fields.proofs.read_bytes.Tie as tie

@@ -1,6 +1,6 @@
 -- `fields::read_digits` meets its contract: the first byte, then the whole field, then its digits are tested as the definition does.
 use mathlib.Core.Path.{sym, _∙_}
-use Rattle.fields.proofs.Strings.{end-in, digits-no, digits-17, digits-past, digits-18-first, digits-18-later, digits-of}
+use Rattle.formats.proofs.Strings.{end-in, digits-no, digits-17, digits-past, digits-18-first, digits-18-later, digits-of}
 use native.Mathlib.Omega.{arith}
 use borrow.Author.Needs.{needs}
 use Rattle.fields.proofs.read_digits.Statement.{statement}

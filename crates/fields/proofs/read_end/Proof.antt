@@ -1,6 +1,6 @@
 -- `fields::read_end` meets its contract: of a number of five bytes crate times says what is wrong, or that it is live.
 use mathlib.Core.Path.{sym, _∙_}
-use Rattle.fields.proofs.Strings.{time-no, end-said}
+use Rattle.formats.proofs.Strings.{time-no, end-said}
 use borrow.Author.Needs.{needs}
 use Rattle.fields.proofs.read_end.Statement.{statement}
 use Rattle.fields.proofs.read_end.Tie as tie

@@ -1,6 +1,6 @@
 -- `fields::read_number` meets its contract: its tests are those of a number that passes the body, passes its part, or stands in both.
 use mathlib.Core.Path.{refl}
-use Rattle.fields.proofs.Readers.{number-14, number-15, number-is}
+use Rattle.formats.proofs.Readers.{number-14, number-15, number-is}
 use native.Mathlib.Omega.{arith}
 use borrow.Author.Needs.{needs}
 use Rattle.fields.proofs.read_number.Statement.{statement}

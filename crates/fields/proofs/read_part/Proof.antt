@@ -1,6 +1,6 @@
 -- `fields::read_part` meets its contract: no length is less than 0.
 use mathlib.Core.Path.{_∙_}
-use Rattle.fields.proofs.Readers.{least-none}
+use Rattle.formats.proofs.Readers.{least-none}
 use borrow.Author.Needs.{needs}
 use Rattle.fields.proofs.read_part.Statement.{statement}
 use Rattle.fields.proofs.read_part.Tie as tie

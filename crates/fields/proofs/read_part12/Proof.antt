@@ -1,6 +1,6 @@
 -- `fields::read_part12` meets its contract: it reads the length after its reserved bits, and then the part that its low ten bits count.
 use mathlib.Core.Path.{sym, _∙_}
-use Rattle.fields.proofs.Bits.{reserved-inside, part12-no, part12-is}
+use Rattle.formats.proofs.Bits.{reserved-inside, part12-no, part12-is}
 use borrow.Author.Needs.{needs}
 use Rattle.fields.proofs.read_part12.Statement.{statement}
 use Rattle.fields.proofs.read_part12.Tie as tie

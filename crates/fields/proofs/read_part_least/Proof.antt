@@ -1,6 +1,6 @@
 -- `fields::read_part_least` meets its contract: it reads the length, and then the part that this counts.
 use mathlib.Core.Path.{sym, _∙_}
-use Rattle.fields.proofs.Readers.{number-facts, least-no, least-is}
+use Rattle.formats.proofs.Readers.{number-facts, least-no, least-is}
 use borrow.Author.Needs.{needs}
 use Rattle.fields.proofs.read_part_least.Statement.{statement}
 use Rattle.fields.proofs.read_part_least.Tie as tie

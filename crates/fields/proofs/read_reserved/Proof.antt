@@ -1,7 +1,7 @@
 -- `fields::read_reserved` meets its contract: the first byte, its high bits and the whole field are read in the order of the format.
 use mathlib.Core.Path.{sym, _∙_}
 use lib.Pow.{pow-pos}
-use Rattle.fields.proofs.Bits.{reserved-no, reserved-zero, reserved-past, reserved-is}
+use Rattle.formats.proofs.Bits.{reserved-no, reserved-zero, reserved-past, reserved-is}
 use native.Mathlib.Omega.{arith}
 use borrow.Author.Needs.{needs}
 use Rattle.fields.proofs.read_reserved.Statement.{statement}

@@ -1,6 +1,6 @@
 -- `fields::read_time` meets its contract: of a number of five bytes crate times says what is wrong.
 use mathlib.Core.Path.{sym, _∙_}
-use Rattle.fields.proofs.Strings.{time-no, time-said}
+use Rattle.formats.proofs.Strings.{time-no, time-said}
 use borrow.Author.Needs.{needs}
 use Rattle.fields.proofs.read_time.Statement.{statement}
 use Rattle.fields.proofs.read_time.Tie as tie

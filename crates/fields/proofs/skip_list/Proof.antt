@@ -1,6 +1,6 @@
 -- `fields::skip_list` meets its contract: the list ends where its things do, as many as its count.
 use mathlib.Core.Path.{sym, _∙_}
-use Rattle.fields.proofs.Readers.{list-no, list-all}
+use Rattle.formats.proofs.Readers.{list-no, list-all}
 use borrow.Author.Needs.{needs}
 use Rattle.fields.proofs.skip_list.Statement.{statement}
 use Rattle.fields.proofs.skip_list.Tie as tie

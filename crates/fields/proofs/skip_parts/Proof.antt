@@ -1,8 +1,8 @@
 -- `fields::skip_parts` meets its contract: what is left of n parts from here ends where all n do.
 use mathlib.Core.Path.{_≡_, sym, _∙_}
-use Rattle.fields.specs.Format.{opaque}
-use Rattle.fields.specs.Answers.{endedAll}
-use Rattle.fields.proofs.Readers.{part-facts, opaque-at, opaque-no, all-done, all-stop, all-go}
+use Rattle.formats.specs.Format.{opaque}
+use Rattle.formats.specs.Answers.{endedAll}
+use Rattle.formats.proofs.Readers.{part-facts, opaque-at, opaque-no, all-done, all-stop, all-go}
 use native.Mathlib.Omega.{arith}
 use borrow.Author.Needs.{needs}
 use Rattle.fields.proofs.skip_parts.Statement.{statement}

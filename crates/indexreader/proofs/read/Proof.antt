@@ -1,7 +1,7 @@
 -- `indexreader::read` meets its contract: a body that is not opened is refused, and a dry walk says where the table ends.
 use mathlib.Core.Path.{sym, _∙_}
 use borrow.Author.Needs.{needs}
-use Rattle.fields.proofs.Readers.{body-no}
+use Rattle.formats.proofs.Readers.{body-no}
 use Rattle.walks.proofs.Bodies.{read-stop, read-end}
 use Rattle.indexreader.proofs.read.Statement.{statement}
 use Rattle.indexreader.proofs.read.Tie as tie

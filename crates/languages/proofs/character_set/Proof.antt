@@ -1,7 +1,7 @@
 -- `languages::character_set` meets its contract: it is asked for where the language lies in the body.
 use Prim.Native.Nat.{_+_}
 use mathlib.Core.Path.{sym, ap, _∙_}
-use Rattle.fields.specs.Answers.{numberOf}
+use Rattle.formats.specs.Answers.{numberOf}
 use Rattle.asking.proofs.Answers.{needed, not-needed}
 use Rattle.languages.specs.Asked.{characterSet}
 use native.Mathlib.Omega.{arith}

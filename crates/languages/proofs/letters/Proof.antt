@@ -1,7 +1,7 @@
 -- `languages::letters` meets its contract: they begin the language, and are asked for where it lies in the body.
 use Prim.Native.Nat.{_+_}
 use mathlib.Core.Path.{sym, ap, _∙_}
-use Rattle.fields.specs.Answers.{fieldOf}
+use Rattle.formats.specs.Answers.{fieldOf}
 use Rattle.asking.proofs.Answers.{needed, not-needed}
 use Rattle.languages.specs.Asked.{lettersPart}
 use native.Mathlib.Omega.{arith}

@@ -1,7 +1,7 @@
 -- `languages::number_among` meets its contract: the number read is judged as the format does.
 use mathlib.Core.Path.{ap, _∙_}
-use Rattle.fields.specs.Answers.{numberAmong}
-use Rattle.fields.proofs.Bits.{number-among}
+use Rattle.formats.specs.Answers.{numberAmong}
+use Rattle.formats.proofs.Bits.{number-among}
 use borrow.Author.Needs.{needs}
 use Rattle.languages.proofs.number_among.Statement.{statement}
 use Rattle.languages.proofs.number_among.Tie as tie

@@ -1,7 +1,7 @@
 -- `languages::text` meets its contract: it is asked for where the language lies in the body.
 use Prim.Native.Nat.{_+_}
 use mathlib.Core.Path.{sym, ap, _∙_}
-use Rattle.fields.specs.Answers.{partOf, partRead}
+use Rattle.formats.specs.Answers.{partOf, partRead}
 use Rattle.asking.proofs.Answers.{needed, not-needed}
 use Rattle.languages.specs.Asked.{textIn, textPart}
 use native.Mathlib.Omega.{arith}

@@ -1,7 +1,7 @@
 -- `messages::channel_number` meets its contract: it stands so many bytes after the flag, and is not refused for its value.
 use mathlib.Core.Path.{sym, ap, _∙_}
-use Rattle.fields.specs.Format.{number}
-use Rattle.fields.specs.Answers.{numberOf, numberRead}
+use Rattle.formats.specs.Format.{number}
+use Rattle.formats.specs.Answers.{numberOf, numberRead}
 use Rattle.asking.proofs.Answers.{count-number}
 use Rattle.messages.proofs.Answers.{in-channel-no, in-channel, channel-in}
 use native.Mathlib.Omega.{arith}

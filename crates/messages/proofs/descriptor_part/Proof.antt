@@ -1,6 +1,6 @@
 -- `messages::descriptor_part` meets its contract: it is asked for where a byte stands in a part of the body.
 use mathlib.Core.Path.{sym, ap, _∙_}
-use Rattle.fields.specs.Answers.{partOf, partRead}
+use Rattle.formats.specs.Answers.{partOf, partRead}
 use Rattle.asking.proofs.Answers.{needed, not-needed, in-part}
 use Rattle.messages.specs.Asked.{descriptorPart}
 use native.Mathlib.Omega.{arith}

@@ -1,7 +1,7 @@
 -- `messages::descriptors` meets its contract: it stands so many bytes after the flag.
 use mathlib.Core.Path.{sym, ap, _∙_}
-use Rattle.fields.specs.Format.{rest, length12, counted}
-use Rattle.fields.specs.Answers.{partOf}
+use Rattle.formats.specs.Format.{rest, length12, counted}
+use Rattle.formats.specs.Answers.{partOf}
 use Rattle.messages.specs.Asked.{descriptorsPart}
 use Rattle.messages.proofs.Answers.{in-channel-no, in-channel, channel-in}
 use native.Mathlib.Omega.{arith}

@@ -1,6 +1,6 @@
 -- `messages::first_byte` meets its contract: it is asked for where a byte stands in a part of the body, and is not refused for its value.
 use mathlib.Core.Path.{sym, ap, _∙_}
-use Rattle.fields.specs.Answers.{numberOf, numberRead}
+use Rattle.formats.specs.Answers.{numberOf, numberRead}
 use borrow.Author.Needs.{needs}
 use Rattle.asking.proofs.Answers.{count-number, needed, not-needed}
 use Rattle.messages.specs.Asked.{firstByte}

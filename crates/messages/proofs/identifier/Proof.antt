@@ -1,7 +1,7 @@
 -- `messages::identifier` meets its contract: it begins the message, and is asked for where the message lies in the body.
 use Prim.Native.Nat.{_+_}
 use mathlib.Core.Path.{sym, ap, _∙_}
-use Rattle.fields.specs.Answers.{fieldOf}
+use Rattle.formats.specs.Answers.{fieldOf}
 use Rattle.asking.proofs.Answers.{needed, not-needed}
 use Rattle.messages.specs.Asked.{identifierPart}
 use native.Mathlib.Omega.{arith}

@@ -1,7 +1,7 @@
 -- `messages::pcr_pid` meets its contract: it stands so many bytes after the flag.
 use mathlib.Core.Path.{sym, ap, _∙_}
-use Rattle.fields.specs.Format.{reserved}
-use Rattle.fields.specs.Answers.{numberOf}
+use Rattle.formats.specs.Format.{reserved}
+use Rattle.formats.specs.Answers.{numberOf}
 use Rattle.messages.specs.Asked.{pcrPid}
 use Rattle.messages.proofs.Answers.{in-channel-no, in-channel, channel-in}
 use native.Mathlib.Omega.{arith}

@@ -1,7 +1,7 @@
 -- `messages::start` meets its contract: it is asked for where the message lies in the body.
 use Prim.Native.Nat.{_+_}
 use mathlib.Core.Path.{sym, ap, _∙_}
-use Rattle.fields.specs.Answers.{numberOf}
+use Rattle.formats.specs.Answers.{numberOf}
 use Rattle.asking.proofs.Answers.{needed, not-needed}
 use Rattle.messages.specs.Asked.{start}
 use native.Mathlib.Omega.{arith}

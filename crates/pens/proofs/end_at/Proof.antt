@@ -1,6 +1,6 @@
 -- `pens::end_at` meets its contract: an entry that is not an end is refused as its judge says.
 use mathlib.Core.Path.{sym, ap, _∙_}
-use Rattle.fields.specs.Time.{endFault, endTime}
+use Rattle.formats.specs.Time.{endFault, endTime}
 use Rattle.pens.proofs.Times.{stopFault, stop-large, timed-none, timed-no, timed-is}
 use borrow.Author.Needs.{needs}
 use Rattle.pens.proofs.end_at.Statement.{statement}

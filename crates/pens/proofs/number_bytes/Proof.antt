@@ -3,7 +3,7 @@ use Prim.Native.Nat.{_≤_}
 use mathlib.Core.Path.{_≡_, _∙_}
 use lib.ListN.{length}
 use Rattle.placing.specs.Placed.{placed}
-use Rattle.fields.specs.Format.{bytesOf}
+use Rattle.formats.specs.Format.{bytesOf}
 use Rattle.pens.proofs.Leaves.{number-turn, number-done}
 use native.Mathlib.Omega.{arith}
 use borrow.Author.Needs.{needs}

@@ -1,6 +1,6 @@
 -- `pens::put_end` meets its contract: the number of an end is written.
 use mathlib.Core.Path.{sym, _∙_}
-use Rattle.fields.specs.Time.{endTime}
+use Rattle.formats.specs.Time.{endTime}
 use Rattle.pens.proofs.Leaves.{stopped}
 use Rattle.pens.proofs.Times.{stopFault, stop-large, timed-refused, timed-written}
 use borrow.Author.Needs.{needs}

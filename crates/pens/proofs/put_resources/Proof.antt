@@ -4,7 +4,7 @@ use native.Mathlib.Omega.{arith}
 use lib.ListN.{length}
 use borrow.Author.Needs.{needs}
 use Rattle.pens.proofs.Lists.{Underway, list-start, list-pen, times-turn, times-stop, times-done}
-use Rattle.fields.specs.Resource.{resource}
+use Rattle.formats.specs.Resource.{resource}
 use Rattle.pens.proofs.put_resources.Statement.{statement}
 use Rattle.pens.proofs.put_resources.Tie as tie
 

@@ -1,6 +1,6 @@
 -- `pens::put_time` meets its contract: the number of a time is written.
 use mathlib.Core.Path.{sym, _∙_}
-use Rattle.fields.specs.Time.{time}
+use Rattle.formats.specs.Time.{time}
 use Rattle.pens.proofs.Leaves.{stopped}
 use Rattle.pens.proofs.Times.{startFault, start-large, timed-refused, timed-written}
 use borrow.Author.Needs.{needs}

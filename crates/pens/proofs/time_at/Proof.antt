@@ -1,6 +1,6 @@
 -- `pens::time_at` meets its contract: an entry that is not a time is refused as its judge says.
 use mathlib.Core.Path.{sym, ap, _∙_}
-use Rattle.fields.specs.Time.{timeFault, time}
+use Rattle.formats.specs.Time.{timeFault, time}
 use Rattle.pens.proofs.Times.{startFault, start-large, timed-none, timed-no, timed-is}
 use borrow.Author.Needs.{needs}
 use Rattle.pens.proofs.time_at.Statement.{statement}

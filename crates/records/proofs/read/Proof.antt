@@ -51,8 +51,8 @@ use denote.Triple.Table.{entered, cited}
 use denote.Triple.Walked.{says, Stays, stay-none, stay-slice, stay-none-slice, walkOf, goes-none, goes-slice, goes-none-slice, Walks, ends-at, walked, walk-meets}
 use denote.Exit.{yes}
 use denote.Signature.{plain}
-use Rattle.fields.proofs.Step as N
-use Rattle.fields.proofs.Step.Laws as N′
+use Rattle.formats.proofs.Step as N
+use Rattle.formats.proofs.Step.Laws as N′
 use Rattle.records.specs.Records.{recorded}
 use Rattle.records.specs.Steps.{placedAt, recordsFrom, Planned}
 use Rattle.records.specs.declared.Record.{Record}

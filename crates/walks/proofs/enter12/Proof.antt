@@ -3,7 +3,7 @@ use mathlib.Core.Path.{_∙_}
 use native.Mathlib.Omega.{arith}
 use denote.Ref.{now}
 use borrow.Author.Needs.{needs}
-use Rattle.fields.specs.Format.{length12}
+use Rattle.formats.specs.Format.{length12}
 use Rattle.walks.proofs.Leaves.{counted-end, enter-refused, enter-at}
 use Rattle.walks.proofs.enter12.Statement.{statement}
 use Rattle.walks.proofs.enter12.Tie as tie

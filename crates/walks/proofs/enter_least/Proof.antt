@@ -3,7 +3,7 @@ use mathlib.Core.Path.{_∙_}
 use native.Mathlib.Omega.{arith}
 use denote.Ref.{now}
 use borrow.Author.Needs.{needs}
-use Rattle.fields.specs.Format.{leastOf}
+use Rattle.formats.specs.Format.{leastOf}
 use Rattle.walks.proofs.Leaves.{counted-end, enter-refused, enter-at}
 use Rattle.walks.proofs.enter_least.Statement.{statement}
 use Rattle.walks.proofs.enter_least.Tie as tie

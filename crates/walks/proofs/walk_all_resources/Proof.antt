@@ -1,10 +1,10 @@
 -- `walks::walk_all_resources` meets its contract: each turn walks one resource, and those left make the whole.
 use native.Mathlib.Omega.{arith}
 use borrow.Author.Needs.{needs}
-use Rattle.fields.specs.Format.{times}
-use Rattle.fields.proofs.Leaves.{digits-lawful}
+use Rattle.formats.specs.Format.{times}
+use Rattle.formats.proofs.Leaves.{digits-lawful}
 use Rattle.walks.proofs.Counts.{Ahead, ahead-start, times-turn, times-done}
-use Rattle.fields.specs.Resource.{resource}
+use Rattle.formats.specs.Resource.{resource}
 use Rattle.walks.proofs.walk_all_resources.Statement.{statement}
 use Rattle.walks.proofs.walk_all_resources.Tie as tie
 

@@ -1,8 +1,8 @@
 -- `walks::walk_among` meets its contract: the number read is judged as the format does.
 use mathlib.Core.Path.{ap, _∙_}
 use borrow.Author.Needs.{needs}
-use Rattle.fields.specs.Answers.{numberAmong}
-use Rattle.fields.proofs.Bits.{number-is-count, number-among}
+use Rattle.formats.specs.Answers.{numberAmong}
+use Rattle.formats.proofs.Bits.{number-is-count, number-among}
 use Rattle.walks.proofs.Pairs.{stays}
 use Rattle.walks.proofs.Leaves.{number-leaf, only-one, number-one}
 use Rattle.walks.proofs.walk_among.Statement.{statement}

@@ -2,7 +2,7 @@
 use native.Mathlib.Omega.{arith}
 use denote.Ref.{now}
 use borrow.Author.Needs.{needs}
-use Rattle.fields.specs.Format.{bytesAmong}
+use Rattle.formats.specs.Format.{bytesAmong}
 use Rattle.walks.proofs.Pairs.{stays}
 use Rattle.walks.proofs.Leaves.{field-end, field-leaf, bytes-two, bytes-fit}
 use Rattle.walks.proofs.walk_bytes.Statement.{statement}

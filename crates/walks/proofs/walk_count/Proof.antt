@@ -1,6 +1,6 @@
 -- `walks::walk_count` meets its contract: the number read is walked past, and told.
 use borrow.Author.Needs.{needs}
-use Rattle.fields.specs.Answers.{numberRead}
+use Rattle.formats.specs.Answers.{numberRead}
 use Rattle.walks.proofs.Leaves.{count-refused, number-counted, count-one}
 use Rattle.walks.proofs.walk_count.Statement.{statement}
 use Rattle.walks.proofs.walk_count.Tie as tie

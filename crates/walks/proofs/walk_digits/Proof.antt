@@ -2,7 +2,7 @@
 use native.Mathlib.Omega.{arith}
 use denote.Ref.{now}
 use borrow.Author.Needs.{needs}
-use Rattle.fields.specs.Format.{digits}
+use Rattle.formats.specs.Format.{digits}
 use Rattle.walks.proofs.Pairs.{stays}
 use Rattle.walks.proofs.Leaves.{field-end, field-leaf, digits-two, digits-fit}
 use Rattle.walks.proofs.walk_digits.Statement.{statement}

@@ -1,7 +1,7 @@
 -- `walks::walk_number` meets its contract: w bytes hold any number of the format.
 use mathlib.Core.Path.{_∙_}
 use borrow.Author.Needs.{needs}
-use Rattle.fields.proofs.Bits.{number-is-count}
+use Rattle.formats.proofs.Bits.{number-is-count}
 use Rattle.walks.proofs.Pairs.{stays}
 use Rattle.walks.proofs.Leaves.{number-leaf, number-one}
 use Rattle.walks.proofs.walk_number.Statement.{statement}

@@ -1,6 +1,6 @@
 -- `walks::walk_resources` meets its contract: the count, and so many resources.
 use borrow.Author.Needs.{needs}
-use Rattle.fields.proofs.Leaves.{count-lawful, digits-lawful}
+use Rattle.formats.proofs.Leaves.{count-lawful, digits-lawful}
 use Rattle.walks.proofs.Counts.{list-walk}
 use Rattle.walks.proofs.walk_resources.Statement.{statement}
 use Rattle.walks.proofs.walk_resources.Tie as tie

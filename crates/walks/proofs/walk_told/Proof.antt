@@ -1,7 +1,7 @@
 -- `walks::walk_told` meets its contract: w bytes hold any number of the format, and it is told.
 use mathlib.Core.Path.{_∙_}
 use borrow.Author.Needs.{needs}
-use Rattle.fields.proofs.Bits.{number-is-count}
+use Rattle.formats.proofs.Bits.{number-is-count}
 use Rattle.walks.proofs.Leaves.{count-refused, number-counted, number-one}
 use Rattle.walks.proofs.walk_told.Statement.{statement}
 use Rattle.walks.proofs.walk_told.Tie as tie

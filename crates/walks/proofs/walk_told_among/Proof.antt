@@ -1,8 +1,8 @@
 -- `walks::walk_told_among` meets its contract: the number read is judged as the format does, walked past, and told.
 use mathlib.Core.Path.{ap, _∙_}
 use borrow.Author.Needs.{needs}
-use Rattle.fields.specs.Answers.{numberAmong}
-use Rattle.fields.proofs.Bits.{number-is-count, number-among}
+use Rattle.formats.specs.Answers.{numberAmong}
+use Rattle.formats.proofs.Bits.{number-is-count, number-among}
 use Rattle.walks.proofs.Leaves.{count-refused, number-counted, only-one, number-one}
 use Rattle.walks.proofs.walk_told_among.Statement.{statement}
 use Rattle.walks.proofs.walk_told_among.Tie as tie

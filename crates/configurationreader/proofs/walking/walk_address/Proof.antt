@@ -2,7 +2,7 @@
 use mathlib.Core.Path.{sym, _∙_}
 use borrow.Author.Needs.{needs}
 use Rattle.choices.proofs.Tests.{unmet, met}
-use Rattle.fields.proofs.Readers.{part-facts}
+use Rattle.formats.proofs.Readers.{part-facts}
 use Rattle.walks.proofs.Pairs.{from, stays}
 use Rattle.walks.proofs.Leaves.{leaf-refused}
 use Rattle.configurationreader.proofs.AddressWalks.{address-no, length-wrong, address-wrong, address-walk}

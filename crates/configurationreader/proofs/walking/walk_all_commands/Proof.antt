@@ -1,7 +1,7 @@
 -- `configurationreader::walking::walk_all_commands` meets its contract: each turn walks one command, and those left make the whole.
 use native.Mathlib.Omega.{arith}
 use borrow.Author.Needs.{needs}
-use Rattle.fields.specs.Format.{times}
+use Rattle.formats.specs.Format.{times}
 use Rattle.walks.proofs.Counts.{Ahead, ahead-start, times-turn, times-done}
 use Rattle.configuration.specs.Configuration.{command}
 use Rattle.configuration.proofs.Lawful.{command-lawful}

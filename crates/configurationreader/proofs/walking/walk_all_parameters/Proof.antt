@@ -1,8 +1,8 @@
 -- `configurationreader::walking::walk_all_parameters` meets its contract: each turn walks one parameter, and those left make the whole.
 use native.Mathlib.Omega.{arith}
 use borrow.Author.Needs.{needs}
-use Rattle.fields.specs.Format.{number, times}
-use Rattle.fields.proofs.Parts.{number-lawful}
+use Rattle.formats.specs.Format.{number, times}
+use Rattle.formats.proofs.Parts.{number-lawful}
 use Rattle.walks.proofs.Counts.{Ahead, ahead-start, times-turn, times-done}
 use Rattle.configurationreader.proofs.walking.walk_all_parameters.Statement.{statement}
 use Rattle.configurationreader.proofs.walking.walk_all_parameters.Tie as tie

@@ -1,10 +1,10 @@
 -- `configurationreader::walking::walk_query` meets its contract: the parameters after their count, and the terminals after them fill the content.
 use borrow.Author.Needs.{needs}
 use Rattle.refusal.specs.declared.Refusal.the-variants.{PastPart}
-use Rattle.fields.specs.Format.{count, number}
-use Rattle.fields.proofs.Leaves.{count-lawful}
-use Rattle.fields.proofs.Parts.{number-lawful}
-use Rattle.fields.proofs.Lists.{list-lawful}
+use Rattle.formats.specs.Format.{count, number}
+use Rattle.formats.proofs.Leaves.{count-lawful}
+use Rattle.formats.proofs.Parts.{number-lawful}
+use Rattle.formats.proofs.Lists.{list-lawful}
 use Rattle.walks.proofs.Pairs.{exact-pair}
 use Rattle.walks.proofs.Counts.{list-walk}
 use Rattle.configuration.specs.Configuration.{said}

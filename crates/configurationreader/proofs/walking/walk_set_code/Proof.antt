@@ -1,8 +1,8 @@
 -- `configurationreader::walking::walk_set_code` meets its contract: a part, a resource, and no byte left.
 use borrow.Author.Needs.{needs}
 use Rattle.refusal.specs.declared.Refusal.the-variants.{PastPart}
-use Rattle.fields.proofs.Leaves.{digits-lawful}
-use Rattle.fields.proofs.Parts.{opaque-lawful}
+use Rattle.formats.proofs.Leaves.{digits-lawful}
+use Rattle.formats.proofs.Parts.{opaque-lawful}
 use Rattle.walks.proofs.Pairs.{pair, exact-walk}
 use Rattle.configuration.specs.Configuration.{said}
 use Rattle.configurationreader.proofs.walking.walk_set_code.Statement.{statement}

@@ -1,7 +1,7 @@
 -- `configurationreader::walking::walk_set_period` meets its contract: a number, and the terminals after it fill the content.
 use borrow.Author.Needs.{needs}
 use Rattle.refusal.specs.declared.Refusal.the-variants.{PastPart}
-use Rattle.fields.proofs.Parts.{number-lawful}
+use Rattle.formats.proofs.Parts.{number-lawful}
 use Rattle.walks.proofs.Pairs.{exact-pair}
 use Rattle.configuration.specs.Configuration.{said}
 use Rattle.configuration.proofs.Lawful.{terminals-lawful}

@@ -2,10 +2,10 @@
 use Prim.Native.Nat.{ℕ}
 use borrow.Author.Needs.{needs}
 use Rattle.refusal.specs.declared.Refusal.the-variants.{PastPart}
-use Rattle.fields.specs.Format.{_▷_, number, among}
-use Rattle.fields.proofs.Classes.{Lawful}
-use Rattle.fields.proofs.Bits.{among-lawful}
-use Rattle.fields.proofs.Parts.{number-lawful, followed-lawful, exact-filling}
+use Rattle.formats.specs.Format.{_▷_, number, among}
+use Rattle.formats.proofs.Classes.{Lawful}
+use Rattle.formats.proofs.Bits.{among-lawful}
+use Rattle.formats.proofs.Parts.{number-lawful, followed-lawful, exact-filling}
 use Rattle.walks.proofs.Pairs.{exact-last, exact-pair}
 use Rattle.walks.proofs.Counts.{told-walk}
 use Rattle.configuration.specs.Configuration.{terminals, address, said}

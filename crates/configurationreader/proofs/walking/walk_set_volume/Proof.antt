@@ -1,9 +1,9 @@
 -- `configurationreader::walking::walk_set_volume` meets its contract: a number of a stated set, and the terminals after it fill the content.
 use borrow.Author.Needs.{needs}
 use Rattle.refusal.specs.declared.Refusal.the-variants.{PastPart}
-use Rattle.fields.specs.Format.{number}
-use Rattle.fields.proofs.Bits.{among-lawful}
-use Rattle.fields.proofs.Parts.{number-lawful}
+use Rattle.formats.specs.Format.{number}
+use Rattle.formats.proofs.Bits.{among-lawful}
+use Rattle.formats.proofs.Parts.{number-lawful}
 use Rattle.walks.proofs.Pairs.{exact-pair}
 use Rattle.configuration.specs.Configuration.{said}
 use Rattle.configuration.proofs.Lawful.{terminals-lawful}

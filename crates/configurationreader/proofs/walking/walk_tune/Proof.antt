@@ -1,10 +1,10 @@
 -- `configurationreader::walking::walk_tune` meets its contract: its fields one after the other, the last of which fills the content.
 use borrow.Author.Needs.{needs}
 use Rattle.refusal.specs.declared.Refusal.the-variants.{PastPart}
-use Rattle.fields.specs.Format.{_▷_, number, among}
-use Rattle.fields.proofs.Classes.{Lawful}
-use Rattle.fields.proofs.Bits.{among-lawful}
-use Rattle.fields.proofs.Parts.{number-lawful, followed-lawful}
+use Rattle.formats.specs.Format.{_▷_, number, among}
+use Rattle.formats.proofs.Classes.{Lawful}
+use Rattle.formats.proofs.Bits.{among-lawful}
+use Rattle.formats.proofs.Parts.{number-lawful, followed-lawful}
 use Rattle.walks.proofs.Pairs.{exact-pair}
 use Rattle.configuration.specs.Configuration.{terminals, said}
 use Rattle.configuration.proofs.Lawful.{terminals-lawful}

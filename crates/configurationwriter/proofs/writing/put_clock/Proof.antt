@@ -2,7 +2,7 @@
 use mathlib.Core.Path.{sym, ap, _∙_}
 use borrow.Author.Needs.{needs}
 use Rattle.refusal.specs.declared.Refusal.the-variants.{ImpossibleDay}
-use Rattle.fields.specs.Reading.{unless}
+use Rattle.formats.specs.Reading.{unless}
 use Rattle.configuration.specs.Configuration.{clock}
 use Rattle.configurationwriter.proofs.Judged.{clockFault, three-fine, three-faulty}
 use Rattle.configurationwriter.proofs.writing.put_clock.Statement.{statement}

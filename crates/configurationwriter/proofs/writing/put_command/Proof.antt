@@ -1,7 +1,7 @@
 -- `configurationwriter::writing::put_command` meets its contract: its tag is put, then room for its length, what it says by the tag, and the length.
 use mathlib.Core.Path.{refl}
 use borrow.Author.Needs.{needs}
-use Rattle.fields.specs.Format.{leastOf, counted}
+use Rattle.formats.specs.Format.{leastOf, counted}
 use Rattle.pens.proofs.Lengths.{number-pen}
 use Rattle.pens.proofs.Pairs.{after-number}
 use Rattle.configuration.specs.Configuration.{orderOf, said, least, command}

@@ -6,7 +6,7 @@ use native.Mathlib.Omega.{arith}
 use lib.ListN.{length}
 use borrow.Author.Needs.{needs}
 use Rattle.pens.proofs.Lists.{Underway, list-start, list-pen, times-turn, times-stop, times-done}
-use Rattle.fields.specs.Format.{number}
+use Rattle.formats.specs.Format.{number}
 use Rattle.configurationwriter.proofs.writing.put_parameters.Statement.{statement}
 use Rattle.configurationwriter.proofs.writing.put_parameters.Tie as tie
 

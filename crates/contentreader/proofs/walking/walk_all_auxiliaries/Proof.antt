@@ -1,7 +1,7 @@
 -- `contentreader::walking::walk_all_auxiliaries` meets its contract: each turn walks one auxiliary file, and those left make the whole.
 use native.Mathlib.Omega.{arith}
 use borrow.Author.Needs.{needs}
-use Rattle.fields.specs.Format.{times}
+use Rattle.formats.specs.Format.{times}
 use Rattle.walks.proofs.Counts.{Ahead, ahead-start, times-turn, times-done}
 use Rattle.content.specs.Content.{auxiliary}
 use Rattle.content.proofs.Lawful.{auxiliary-lawful}

@@ -1,9 +1,9 @@
 -- `contentreader::walking::walk_auxiliaries` meets its contract: the count, and so many auxiliary files.
 use native.Mathlib.Omega.{arith}
 use borrow.Author.Needs.{needs}
-use Rattle.fields.specs.Format.{reserved}
-use Rattle.fields.proofs.Leaves.{reserved-lawful}
-use Rattle.fields.proofs.Bits.{among-lawful}
+use Rattle.formats.specs.Format.{reserved}
+use Rattle.formats.proofs.Leaves.{reserved-lawful}
+use Rattle.formats.proofs.Bits.{among-lawful}
 use Rattle.walks.proofs.Counts.{list-walk}
 use Rattle.content.specs.Content.{auxiliaries}
 use Rattle.content.proofs.Lawful.{auxiliary-lawful}

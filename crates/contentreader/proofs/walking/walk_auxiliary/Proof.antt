@@ -1,7 +1,7 @@
 -- `contentreader::walking::walk_auxiliary` meets its contract: a type and then a part, under their names.
 use mathlib.Core.Path.{refl}
 use borrow.Author.Needs.{needs}
-use Rattle.fields.proofs.Parts.{number-lawful, opaque-lawful}
+use Rattle.formats.proofs.Parts.{number-lawful, opaque-lawful}
 use Rattle.walks.proofs.Pairs.{pair, view-walk}
 use Rattle.content.specs.Content.{auxiliary}
 use Rattle.contentreader.proofs.walking.walk_auxiliary.Statement.{statement}

@@ -4,12 +4,12 @@ use mathlib.Core.Path.{refl}
 use native.Mathlib.Omega.{arith}
 use borrow.Author.Needs.{needs}
 use Rattle.refusal.specs.declared.Refusal.the-variants.{LeftOver}
-use Rattle.fields.specs.Format.{_▷_, among, reserved, listOf, opaque}
-use Rattle.fields.proofs.Classes.{Lawful}
-use Rattle.fields.proofs.Leaves.{reserved-lawful, digits-lawful}
-use Rattle.fields.proofs.Bits.{among-lawful}
-use Rattle.fields.proofs.Parts.{followed-lawful, opaque-lawful}
-use Rattle.fields.proofs.Lists.{list-lawful}
+use Rattle.formats.specs.Format.{_▷_, among, reserved, listOf, opaque}
+use Rattle.formats.proofs.Classes.{Lawful}
+use Rattle.formats.proofs.Leaves.{reserved-lawful, digits-lawful}
+use Rattle.formats.proofs.Bits.{among-lawful}
+use Rattle.formats.proofs.Parts.{followed-lawful, opaque-lawful}
+use Rattle.formats.proofs.Lists.{list-lawful}
 use Rattle.walks.proofs.Pairs.{pair, view-walk, exact-walk}
 use Rattle.walks.proofs.Counts.{list-walk}
 use Rattle.content.specs.Content.{language, fields, content}

@@ -2,7 +2,7 @@
 use mathlib.Core.Path.{refl}
 use borrow.Author.Needs.{needs}
 use Rattle.refusal.specs.declared.Refusal.the-variants.{PastPart}
-use Rattle.fields.proofs.Parts.{view-lawful, exact-filling, length-counts}
+use Rattle.formats.proofs.Parts.{view-lawful, exact-filling, length-counts}
 use Rattle.walks.proofs.Pairs.{view-walk, exact-walk}
 use Rattle.walks.proofs.Counts.{counted-walk}
 use Rattle.content.specs.Content.{language}

@@ -2,11 +2,11 @@
 use Prim.Native.Nat.{ℕ}
 use native.Mathlib.Omega.{arith}
 use borrow.Author.Needs.{needs}
-use Rattle.fields.specs.Format.{_▷_, among, reserved, opaque}
-use Rattle.fields.proofs.Classes.{Lawful}
-use Rattle.fields.proofs.Leaves.{reserved-lawful}
-use Rattle.fields.proofs.Bits.{among-lawful, bytes-among-lawful}
-use Rattle.fields.proofs.Parts.{followed-lawful, opaque-lawful}
+use Rattle.formats.specs.Format.{_▷_, among, reserved, opaque}
+use Rattle.formats.proofs.Classes.{Lawful}
+use Rattle.formats.proofs.Leaves.{reserved-lawful}
+use Rattle.formats.proofs.Bits.{among-lawful, bytes-among-lawful}
+use Rattle.formats.proofs.Parts.{followed-lawful, opaque-lawful}
 use Rattle.walks.proofs.Pairs.{pair}
 use Rattle.content.specs.Content.{auxiliaries, languageFields}
 use Rattle.content.proofs.Lawful.{auxiliaries-lawful}

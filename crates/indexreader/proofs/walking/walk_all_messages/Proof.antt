@@ -1,7 +1,7 @@
 -- `indexreader::walking::walk_all_messages` meets its contract: each turn walks one message, and those left make the whole.
 use native.Mathlib.Omega.{arith}
 use borrow.Author.Needs.{needs}
-use Rattle.fields.specs.Format.{times}
+use Rattle.formats.specs.Format.{times}
 use Rattle.index.proofs.Lawful.{message-lawful}
 use Rattle.walks.proofs.Counts.{Ahead, ahead-start, times-turn, times-done}
 use Rattle.index.specs.Index.{message}

@@ -1,12 +1,12 @@
 -- `indexreader::walking::walk_head` meets its contract: its fields one after the other.
 use borrow.Author.Needs.{needs}
-use Rattle.fields.specs.Format.{_▷_, number, bytesAmong, nibblesAmong}
-use Rattle.fields.specs.Time.{time, endTime}
-use Rattle.fields.proofs.Classes.{Lawful}
-use Rattle.fields.proofs.Leaves.{digits-lawful}
-use Rattle.fields.proofs.Bits.{nibbles-among-lawful, bytes-among-lawful}
-use Rattle.fields.proofs.Parts.{number-lawful, followed-lawful}
-use Rattle.fields.proofs.Times.{time-lawful, end-lawful}
+use Rattle.formats.specs.Format.{_▷_, number, bytesAmong, nibblesAmong}
+use Rattle.formats.specs.Time.{time, endTime}
+use Rattle.formats.proofs.Classes.{Lawful}
+use Rattle.formats.proofs.Leaves.{digits-lawful}
+use Rattle.formats.proofs.Bits.{nibbles-among-lawful, bytes-among-lawful}
+use Rattle.formats.proofs.Parts.{number-lawful, followed-lawful}
+use Rattle.formats.proofs.Times.{time-lawful, end-lawful}
 use Rattle.walks.proofs.Pairs.{pair}
 use Rattle.index.specs.Index.{head}
 use Rattle.indexreader.proofs.walking.walk_head.Statement.{statement}

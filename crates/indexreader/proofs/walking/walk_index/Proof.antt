@@ -2,10 +2,10 @@
 use mathlib.Core.Path.{refl}
 use borrow.Author.Needs.{needs}
 use Rattle.refusal.specs.declared.Refusal.the-variants.{LeftOver}
-use Rattle.fields.specs.Format.{count}
-use Rattle.fields.proofs.Leaves.{count-lawful}
-use Rattle.fields.proofs.Parts.{opaque-lawful}
-use Rattle.fields.proofs.Lists.{list-lawful}
+use Rattle.formats.specs.Format.{count}
+use Rattle.formats.proofs.Leaves.{count-lawful}
+use Rattle.formats.proofs.Parts.{opaque-lawful}
+use Rattle.formats.proofs.Lists.{list-lawful}
 use Rattle.walks.proofs.Pairs.{pair, view-walk, exact-walk}
 use Rattle.walks.proofs.Counts.{list-walk}
 use Rattle.index.specs.Index.{message, fields, index}

@@ -37,9 +37,9 @@ use denote.Triple.Table.{entered, cited}
 use denote.Triple.Walked.{says, Stays, stay-none, stay-none-slice, gave-slice, goes-none, goes-none-slice, goes-gave-slice, walkOf, Walks, ends-at, walked, walk-meets}
 use denote.Exit.{yes}
 use denote.Signature.{plain}
-use Rattle.fields.specs.declared.Step.{Step}
-use Rattle.fields.proofs.Step as N
-use Rattle.fields.proofs.Step.Laws as N′
+use Rattle.formats.specs.declared.Step.{Step}
+use Rattle.formats.proofs.Step as N
+use Rattle.formats.proofs.Step.Laws as N′
 use Rattle.records.specs.Records.{bodyRecorded, recorded}
 use Rattle.records.specs.declared.Record.{Record}
 use Rattle.records.proofs.Record as T

@@ -16,19 +16,19 @@ use Rattle.refusal.specs.declared.Refusal.the-variants.{PastBody, PastPart, Res
 use Rattle.times.specs.Field.{readTime, readEnd}
 use Rattle.times.specs.declared.Timed.{Timed}
 use Rattle.times.specs.declared.EndTimed.{EndTimed}
-use Rattle.fields.specs.Reading.{Reading, found, refused, andThen, need, Fault, judged, within}
-use Rattle.fields.specs.Format.{Format, only, outside, number, bytes, every, bytesAmong, halves, tail, decimal, digits}
-use Rattle.fields.specs.Time.{timeFault, endFault, time, endTime}
-use Rattle.fields.specs.Answers.{stepOf, numberOf, fieldOf, reached, numberRead, digitRead}
-use Rattle.fields.specs.declared.Step.the-variants.{At, Refused as NoStep}
-use Rattle.fields.specs.declared.Number.the-variants.{Is, Refused as NoNumber}
-use Rattle.fields.specs.declared.Part.the-variants.{Of, Refused as NoPart}
-use Rattle.fields.proofs.Stand.{taken}
-use Rattle.fields.proofs.Outcomes.{found-inj, andThen-found, need-found, judged-found, within-found}
-use Rattle.fields.proofs.Classes.{Bytes, Found}
-use Rattle.fields.proofs.Leaves.{reserved-found, digits-lawful}
-use Rattle.fields.proofs.Readers.{field-found, field-refused}
-use Rattle.fields.proofs.Bits.{number-is-count}
+use Rattle.formats.specs.Reading.{Reading, found, refused, andThen, need, Fault, judged, within}
+use Rattle.formats.specs.Format.{Format, only, outside, number, bytes, every, bytesAmong, halves, tail, decimal, digits}
+use Rattle.formats.specs.Time.{timeFault, endFault, time, endTime}
+use Rattle.formats.specs.Answers.{stepOf, numberOf, fieldOf, reached, numberRead, digitRead}
+use Rattle.formats.specs.declared.Step.the-variants.{At, Refused as NoStep}
+use Rattle.formats.specs.declared.Number.the-variants.{Is, Refused as NoNumber}
+use Rattle.formats.specs.declared.Part.the-variants.{Of, Refused as NoPart}
+use Rattle.formats.proofs.Stand.{taken}
+use Rattle.formats.proofs.Outcomes.{found-inj, andThen-found, need-found, judged-found, within-found}
+use Rattle.formats.proofs.Classes.{Bytes, Found}
+use Rattle.formats.proofs.Leaves.{reserved-found, digits-lawful}
+use Rattle.formats.proofs.Readers.{field-found, field-refused}
+use Rattle.formats.proofs.Bits.{number-is-count}
 
 -- ---- where a field ends
 

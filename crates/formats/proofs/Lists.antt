@@ -10,12 +10,12 @@ use lib.Dec.{leb}
 use borrow.Author.Tests.{leb-true, le-leb, lt-leb}
 use Rattle.choices.proofs.Tests.{both, and-of}
 use Rattle.refusal.specs.declared.Refusal.the-variants.{PastPart}
-use Rattle.fields.specs.Reading.{found}
-use Rattle.fields.specs.Format.{Format, entry, repeat, printAll, every, some, tapeAll, listOf, parseMany, many}
-use Rattle.fields.proofs.Stand.{Stands, stands-nil, stands-left, stands-right, stands-join, stands-next}
-use Rattle.fields.proofs.Outcomes.{found-inj, andThen-found, need-found, neither, chosen}
-use Rattle.fields.proofs.Classes.{Bytes, Ok, Found, Forth, Formal, Lawful, Filling}
-use Rattle.fields.proofs.Leaves.{entry-laid}
+use Rattle.formats.specs.Reading.{found}
+use Rattle.formats.specs.Format.{Format, entry, repeat, printAll, every, some, tapeAll, listOf, parseMany, many}
+use Rattle.formats.proofs.Stand.{Stands, stands-nil, stands-left, stands-right, stands-join, stands-next}
+use Rattle.formats.proofs.Outcomes.{found-inj, andThen-found, need-found, neither, chosen}
+use Rattle.formats.proofs.Classes.{Bytes, Ok, Found, Forth, Formal, Lawful, Filling}
+use Rattle.formats.proofs.Leaves.{entry-laid}
 
 -- n well-formed things stand one after the other at p, up to q, in the part that ends at l
 pub record FoundAll {A : Type 0} (F : Format A) (s : List ℕ) (l p n : ℕ) (xs : List A) (q : ℕ) : Type 0 where

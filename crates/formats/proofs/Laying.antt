@@ -8,12 +8,12 @@ use borrow.Author.Tests.{le-leb, lt-leb}
 use Rattle.placing.specs.Placed.{placed}
 use Rattle.refusal.specs.declared.Refusal.{Refusal}
 use Rattle.refusal.specs.declared.Refusal.the-variants.{OutputTooSmall}
-use Rattle.fields.specs.Reading.{Reading, found, refused}
-use Rattle.fields.specs.Format.{Format}
-use Rattle.fields.specs.Body.{reading, bodyRead, laying, bodyLaid, laidTape}
-use Rattle.fields.specs.Answers.{stepOf}
-use Rattle.fields.specs.declared.Step.{Step}
-use Rattle.fields.specs.declared.Step.the-variants.{At, Refused as NoStep}
+use Rattle.formats.specs.Reading.{Reading, found, refused}
+use Rattle.formats.specs.Format.{Format}
+use Rattle.formats.specs.Body.{reading, bodyRead, laying, bodyLaid, laidTape}
+use Rattle.formats.specs.Answers.{stepOf}
+use Rattle.formats.specs.declared.Step.{Step}
+use Rattle.formats.specs.declared.Step.the-variants.{At, Refused as NoStep}
 
 -- the table of an accepted body
 module _ {A : Type 0} (F : Format A) (own kind : ℕ) (s : List ℕ) (q : ℕ) (e : At q ≡ bodyRead F own kind s) where

@@ -12,12 +12,12 @@ use borrow.Author.Tests.{ltb-true, leb-true, le-leb, lt-ltb, not-false}
 use Rattle.choices.proofs.Tests.{both, and-of}
 use Rattle.refusal.specs.declared.Refusal.{Refusal}
 use Rattle.refusal.specs.declared.Refusal.the-variants.{OutsideSet, ReservedBitZero}
-use Rattle.fields.specs.Reading.{found, Fault, fine, unless, isFine}
-use Rattle.fields.specs.Format.{Format, bytesOf, count, only, outside, number, below, reserved, followed, nothing, under, view, rest, exact, Length, lengthOf, leastOf, length12, counted, opaque}
-use Rattle.fields.proofs.Stand.{Stands, stands-nil, stands-left, stands-right, stands-join, stands-take, taken}
-use Rattle.fields.proofs.Outcomes.{found-inj, andThen-found, need-found, judged-found, within-found, within-there, fine-of, neither}
-use Rattle.fields.proofs.Classes.{Bytes, Ok, Found, Forth, Formal, Lawful, Filling, moved}
-use Rattle.fields.proofs.Leaves.{length-bytes, span-laid, count-lawful, count-small, small-count, reserved-lawful}
+use Rattle.formats.specs.Reading.{found, Fault, fine, unless, isFine}
+use Rattle.formats.specs.Format.{Format, bytesOf, count, only, outside, number, below, reserved, followed, nothing, under, view, rest, exact, Length, lengthOf, leastOf, length12, counted, opaque}
+use Rattle.formats.proofs.Stand.{Stands, stands-nil, stands-left, stands-right, stands-join, stands-take, taken}
+use Rattle.formats.proofs.Outcomes.{found-inj, andThen-found, need-found, judged-found, within-found, within-there, fine-of, neither}
+use Rattle.formats.proofs.Classes.{Bytes, Ok, Found, Forth, Formal, Lawful, Filling, moved}
+use Rattle.formats.proofs.Leaves.{length-bytes, span-laid, count-lawful, count-small, small-count, reserved-lawful}
 
 -- ---- value sets: whether a value is in the set does not depend on its place
 

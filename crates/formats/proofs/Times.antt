@@ -9,11 +9,11 @@ use Rattle.times.specs.declared.Moment.{Moment}
 use Rattle.times.specs.declared.Timed.{Timed}
 use Rattle.times.specs.declared.Timed.the-variants.{At, Refused}
 use Rattle.times.specs.declared.EndTimed.the-variants.{Live}
-use Rattle.fields.specs.Reading.{isFine}
-use Rattle.fields.specs.Format.{number}
-use Rattle.fields.specs.Time.{timeFault, endFault, time, endTime}
-use Rattle.fields.proofs.Classes.{Lawful}
-use Rattle.fields.proofs.Parts.{only-lawful, number-lawful}
+use Rattle.formats.specs.Reading.{isFine}
+use Rattle.formats.specs.Format.{number}
+use Rattle.formats.specs.Time.{timeFault, endFault, time, endTime}
+use Rattle.formats.proofs.Classes.{Lawful}
+use Rattle.formats.proofs.Parts.{only-lawful, number-lawful}
 
 -- the answer at a place, by the three tests
 answer : Bool → Bool → Bool → Moment → ℕ → Timed

@@ -10,12 +10,12 @@ use lib.Dec.{leb}
 use borrow.Author.Tests.{le-leb, lt-leb}
 use Rattle.choices.specs.Choice.{if_then_else_}
 use Rattle.refusal.specs.declared.Refusal.{Refusal}
-use Rattle.fields.specs.Reading.{Reading, found, refused, andThen}
-use Rattle.fields.specs.Format.{Format, parseMany, many}
-use Rattle.fields.specs.Answers.{stepOf, ended}
-use Rattle.fields.specs.declared.Step.the-variants.{At, Refused as NoStep}
-use Rattle.fields.proofs.Classes.{Bytes, Lawful}
-use Rattle.fields.proofs.Readers.{step-found, step-refused}
+use Rattle.formats.specs.Reading.{Reading, found, refused, andThen}
+use Rattle.formats.specs.Format.{Format, parseMany, many}
+use Rattle.formats.specs.Answers.{stepOf, ended}
+use Rattle.formats.specs.declared.Step.the-variants.{At, Refused as NoStep}
+use Rattle.formats.proofs.Classes.{Bytes, Lawful}
+use Rattle.formats.proofs.Readers.{step-found, step-refused}
 
 module _ {A : Type 0} (F : Format A) (f : Lawful F) (takes : (a : A) → 0 < length (F .print a)) (s : List ℕ) (b : Bytes s) (l : ℕ) (inb : l ≤ length s) where
   -- a reading goes forward

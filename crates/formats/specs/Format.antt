@@ -8,7 +8,7 @@ use lib.Dec.{ltb, leb, eqb}
 use Rattle.choices.specs.Choice.{if_then_else_}
 use Rattle.refusal.specs.declared.Refusal.{Refusal}
 use Rattle.refusal.specs.declared.Refusal.the-variants.{PastPart, ReservedBitZero, DigitAboveNine, OutsideSet}
-use Rattle.fields.specs.Reading.{Reading, found, andThen, need, Fault, fine, unless, isFine, judged, within}
+use Rattle.formats.specs.Reading.{Reading, found, andThen, need, Fault, fine, unless, isFine, judged, within}
 
 -- A format of values A.
 -- `parse s l p`: what is read of the body s at p, where the innermost counted part ends at l.

@@ -6,14 +6,14 @@ use lib.ListN.{length, getD}
 use lib.Dec.{ltb, leb}
 use Rattle.choices.specs.Choice.{if_then_else_}
 use Rattle.refusal.specs.declared.Refusal.the-variants.{OutsideSet}
-use Rattle.fields.specs.Reading.{Reading, found, refused, andThen, need, within}
-use Rattle.fields.specs.Format.{Format, count, digits, repeat, opaque}
-use Rattle.fields.specs.declared.Step.{Step}
-use Rattle.fields.specs.declared.Step.the-variants.{At, Refused as NoStep}
-use Rattle.fields.specs.declared.Number.{Number}
-use Rattle.fields.specs.declared.Number.the-variants.{Is, Refused as NoNumber}
-use Rattle.fields.specs.declared.Part.{Part}
-use Rattle.fields.specs.declared.Part.the-variants.{Of, Refused as NoPart}
+use Rattle.formats.specs.Reading.{Reading, found, refused, andThen, need, within}
+use Rattle.formats.specs.Format.{Format, count, digits, repeat, opaque}
+use Rattle.formats.specs.declared.Step.{Step}
+use Rattle.formats.specs.declared.Step.the-variants.{At, Refused as NoStep}
+use Rattle.formats.specs.declared.Number.{Number}
+use Rattle.formats.specs.declared.Number.the-variants.{Is, Refused as NoNumber}
+use Rattle.formats.specs.declared.Part.{Part}
+use Rattle.formats.specs.declared.Part.the-variants.{Of, Refused as NoPart}
 
 -- the position after what was found
 abbrev pub stepOf : {A : Type 0} → Reading A → Step

@@ -4,9 +4,9 @@ use mathlib.Core.Path.{_≡_, subst₂}
 use mathlib.Core.List.{List}
 use mathlib.Core.Bool.{true, false}
 use lib.ListN.{length, getD}
-use Rattle.fields.specs.Reading.{found}
-use Rattle.fields.specs.Format.{Format}
-use Rattle.fields.proofs.Stand.{Stands}
+use Rattle.formats.specs.Reading.{found}
+use Rattle.formats.specs.Format.{Format}
+use Rattle.formats.proofs.Stand.{Stands}
 
 -- every element is a byte
 abbrev pub Bytes : List ℕ → Type 0

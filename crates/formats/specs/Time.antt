@@ -5,8 +5,8 @@ use Rattle.times.specs.declared.Timed.{Timed}
 use Rattle.times.specs.declared.Timed.the-variants.{At, Refused}
 use Rattle.times.specs.declared.EndTimed.{EndTimed}
 use Rattle.times.specs.declared.EndTimed.the-variants.{At as EndAt, Live, Refused as EndRefused}
-use Rattle.fields.specs.Reading.{Fault, fine, faulty}
-use Rattle.fields.specs.Format.{Format, only, number}
+use Rattle.formats.specs.Reading.{Fault, fine, faulty}
+use Rattle.formats.specs.Format.{Format, only, number}
 
 abbrev pub timeFault : Timed → Fault
 timeFault (At m) = fine

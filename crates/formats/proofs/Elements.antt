@@ -8,13 +8,13 @@ use lib.Dec.{leb}
 use borrow.Author.Tests.{lt-ltb, le-ltb, leb-true}
 use Rattle.refusal.specs.declared.Refusal.{Refusal}
 use Rattle.refusal.specs.declared.Refusal.the-variants.{OutsideSet}
-use Rattle.fields.specs.Reading.{Reading, found, refused, andThen}
-use Rattle.fields.specs.Format.{Format, repeat, listOf, followed, _▷_, view, exact, opaque}
-use Rattle.fields.specs.Answers.{partOf, after, listed}
-use Rattle.fields.specs.declared.Part.{Part}
-use Rattle.fields.specs.declared.Part.the-variants.{Of}
-use Rattle.fields.proofs.Outcomes.{found-inj, andThen-found, need-found}
-use Rattle.fields.proofs.Readers.{opaque-found}
+use Rattle.formats.specs.Reading.{Reading, found, refused, andThen}
+use Rattle.formats.specs.Format.{Format, repeat, listOf, followed, _▷_, view, exact, opaque}
+use Rattle.formats.specs.Answers.{partOf, after, listed}
+use Rattle.formats.specs.declared.Part.{Part}
+use Rattle.formats.specs.declared.Part.the-variants.{Of}
+use Rattle.formats.proofs.Outcomes.{found-inj, andThen-found, need-found}
+use Rattle.formats.proofs.Readers.{opaque-found}
 
 -- ---- a reading taken apart
 

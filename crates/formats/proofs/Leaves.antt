@@ -13,11 +13,11 @@ use lib.Dec.{ltb, eqb}
 use borrow.Author.Tests.{ltb-true, eqb-true, le-leb, lt-ltb, eq-eqb, not-false}
 use Rattle.choices.proofs.Tests.{both, and-of}
 use Rattle.refusal.specs.declared.Refusal.the-variants.{OutsideSet, ReservedBitZero, DigitAboveNine}
-use Rattle.fields.specs.Reading.{Reading, found}
-use Rattle.fields.specs.Format.{entry, span, numberAt, bytesOf, count, reservedFirst, below, reserved, bytes, halves, paired, tail, decimal, digits}
-use Rattle.fields.proofs.Stand.{Stands, stands-nil, stands-left, stands-right, stands-join, stands-take, taken, stands-get, stands-next, stands-byte}
-use Rattle.fields.proofs.Outcomes.{found-inj, andThen-found, need-found, within-found, within-there}
-use Rattle.fields.proofs.Classes.{Bytes, Ok, Forth, Lawful, moved}
+use Rattle.formats.specs.Reading.{Reading, found}
+use Rattle.formats.specs.Format.{entry, span, numberAt, bytesOf, count, reservedFirst, below, reserved, bytes, halves, paired, tail, decimal, digits}
+use Rattle.formats.proofs.Stand.{Stands, stands-nil, stands-left, stands-right, stands-join, stands-take, taken, stands-get, stands-next, stands-byte}
+use Rattle.formats.proofs.Outcomes.{found-inj, andThen-found, need-found, within-found, within-there}
+use Rattle.formats.proofs.Classes.{Bytes, Ok, Forth, Lawful, moved}
 
 -- ---- entries of a tape
 

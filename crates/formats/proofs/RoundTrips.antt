@@ -11,12 +11,12 @@ use borrow.Author.Tests.{leb-true, eqb-true, le-leb, eq-eqb, not-true}
 use Rattle.placing.specs.Placed.{placed}
 use Rattle.placing.proofs.Placing.{placed-start}
 use Rattle.refusal.specs.declared.Refusal.the-variants.{OtherKind, OutsideSet, OutputTooSmall, TooLarge}
-use Rattle.fields.specs.Reading.{found}
-use Rattle.fields.specs.Format.{Format}
-use Rattle.fields.specs.Body.{longest, reading, writing, output, laying, laidTape}
-use Rattle.fields.proofs.Stand.{stands-all, stands-whole}
-use Rattle.fields.proofs.Outcomes.{found-inj, andThen-found, need-found}
-use Rattle.fields.proofs.Classes.{Bytes, Ok, Filling}
+use Rattle.formats.specs.Reading.{found}
+use Rattle.formats.specs.Format.{Format}
+use Rattle.formats.specs.Body.{longest, reading, writing, output, laying, laidTape}
+use Rattle.formats.proofs.Stand.{stands-all, stands-whole}
+use Rattle.formats.proofs.Outcomes.{found-inj, andThen-found, need-found}
+use Rattle.formats.proofs.Classes.{Bytes, Ok, Filling}
 
 module _ {A : Type 0} (F : Format A) (f : Filling F) (own : ℕ) where
   -- each well-formed table, printed, reads back as itself

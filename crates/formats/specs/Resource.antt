@@ -1,7 +1,7 @@
 -- What a reader has to believe of resources, which messages and commands list.
 use Prim.Native.Nat.{ℕ}
 use mathlib.Core.List.{List}
-use Rattle.fields.specs.Format.{Format, count, digits, listOf}
+use Rattle.formats.specs.Format.{Format, count, digits, listOf}
 
 -- "4 reserved + 23 digits", in 12 bytes
 abbrev pub resource : Format (List ℕ)

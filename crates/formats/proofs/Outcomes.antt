@@ -10,7 +10,7 @@ use borrow.Author.Tests.{leb-true, le-leb}
 use Rattle.refusal.specs.declared.Refusal.{Refusal}
 use Rattle.refusal.specs.declared.Refusal.the-variants.{PastBody, PastPart}
 use Rattle.choices.specs.Choice.{if_then_else_}
-use Rattle.fields.specs.Reading.{Reading, found, refused, andThen, need, Fault, fine, faulty, isFine, judged, within}
+use Rattle.formats.specs.Reading.{Reading, found, refused, andThen, need, Fault, fine, faulty, isFine, judged, within}
 
 pub found-inj : {A : Type 0} {a b : A} {p q : ℕ} → found a p ≡ found b q → (a ≡ b) × (p ≡ q)
 found-inj h = (cc, cc)

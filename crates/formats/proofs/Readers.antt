@@ -13,16 +13,16 @@ use lib.Dec.{leb, eqb}
 use borrow.Author.Tests.{le-leb, lt-leb, lt-ltb, le-ltb, eq-eqb, ne-eqb}
 use Rattle.refusal.specs.declared.Refusal.{Refusal}
 use Rattle.refusal.specs.declared.Refusal.the-variants.{OtherKind, PastBody, PastPart, OutsideSet, TooLarge}
-use Rattle.fields.specs.Reading.{Reading, found, refused, andThen, need, unless, judged, within}
-use Rattle.fields.specs.Format.{Format, nothing, numberAt, count, repeat, listOf, rest, Length, lengthOf, leastOf, counted, opaque}
-use Rattle.fields.specs.Answers.{stepOf, numberOf, partOf, fieldOf, ended, endedAll, numberRead, partRead, after, partAfter, listed, partListed}
-use Rattle.fields.specs.Body.{longest, reading, bodyRead, opened}
-use Rattle.fields.specs.declared.Step.the-variants.{At, Refused as NoStep}
-use Rattle.fields.specs.declared.Number.the-variants.{Is, Refused as NoNumber}
-use Rattle.fields.specs.declared.Part.the-variants.{Of, Refused as NoPart}
-use Rattle.fields.proofs.Outcomes.{found-inj, andThen-found, within-found}
-use Rattle.fields.proofs.Classes.{Bytes}
-use Rattle.fields.proofs.Leaves.{number-below}
+use Rattle.formats.specs.Reading.{Reading, found, refused, andThen, need, unless, judged, within}
+use Rattle.formats.specs.Format.{Format, nothing, numberAt, count, repeat, listOf, rest, Length, lengthOf, leastOf, counted, opaque}
+use Rattle.formats.specs.Answers.{stepOf, numberOf, partOf, fieldOf, ended, endedAll, numberRead, partRead, after, partAfter, listed, partListed}
+use Rattle.formats.specs.Body.{longest, reading, bodyRead, opened}
+use Rattle.formats.specs.declared.Step.the-variants.{At, Refused as NoStep}
+use Rattle.formats.specs.declared.Number.the-variants.{Is, Refused as NoNumber}
+use Rattle.formats.specs.declared.Part.the-variants.{Of, Refused as NoPart}
+use Rattle.formats.proofs.Outcomes.{found-inj, andThen-found, within-found}
+use Rattle.formats.proofs.Classes.{Bytes}
+use Rattle.formats.proofs.Leaves.{number-below}
 
 -- ---- a number under way: its first k bytes
 

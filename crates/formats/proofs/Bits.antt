@@ -15,17 +15,17 @@ use Rattle.choices.proofs.Tests.{both, and-of}
 use Rattle.choices.specs.Choice.{if_then_else_}
 use Rattle.refusal.specs.declared.Refusal.{Refusal}
 use Rattle.refusal.specs.declared.Refusal.the-variants.{PastBody, PastPart, OutsideSet, ReservedBitZero}
-use Rattle.fields.specs.Reading.{Reading, found, refused, andThen, need, unless, judged, within}
-use Rattle.fields.specs.Format.{Format, entry, numberAt, count, only, among, number, nibbles, nibblesAmong, below, reserved, bytes, every, bytesAmong, rest, length12, counted}
-use Rattle.fields.specs.Answers.{numberOf, partOf, numberAmong, numberRead}
-use Rattle.fields.specs.declared.Number.the-variants.{Is, Refused as NoNumber}
-use Rattle.fields.specs.declared.Part.the-variants.{Refused as NoPart}
-use Rattle.fields.proofs.Stand.{stands-get, stands-next, stands-byte}
-use Rattle.fields.proofs.Outcomes.{found-inj, not-found, andThen-found, need-found, within-found, within-there}
-use Rattle.fields.proofs.Classes.{Bytes, Lawful, moved}
-use Rattle.fields.proofs.Leaves.{entry-laid, number-below, reserved-found, bytes-lawful}
-use Rattle.fields.proofs.Parts.{outside-lawful}
-use Rattle.fields.proofs.Readers.{number-found, number-refused, length-no, length-is}
+use Rattle.formats.specs.Reading.{Reading, found, refused, andThen, need, unless, judged, within}
+use Rattle.formats.specs.Format.{Format, entry, numberAt, count, only, among, number, nibbles, nibblesAmong, below, reserved, bytes, every, bytesAmong, rest, length12, counted}
+use Rattle.formats.specs.Answers.{numberOf, partOf, numberAmong, numberRead}
+use Rattle.formats.specs.declared.Number.the-variants.{Is, Refused as NoNumber}
+use Rattle.formats.specs.declared.Part.the-variants.{Refused as NoPart}
+use Rattle.formats.proofs.Stand.{stands-get, stands-next, stands-byte}
+use Rattle.formats.proofs.Outcomes.{found-inj, not-found, andThen-found, need-found, within-found, within-there}
+use Rattle.formats.proofs.Classes.{Bytes, Lawful, moved}
+use Rattle.formats.proofs.Leaves.{entry-laid, number-below, reserved-found, bytes-lawful}
+use Rattle.formats.proofs.Parts.{outside-lawful}
+use Rattle.formats.proofs.Readers.{number-found, number-refused, length-no, length-is}
 
 -- ---- powers of two
 

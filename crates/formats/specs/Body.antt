@@ -6,10 +6,10 @@ use lib.ListN.{length}
 use lib.Dec.{leb, eqb}
 use Rattle.placing.specs.Placed.{placed}
 use Rattle.refusal.specs.declared.Refusal.the-variants.{OtherKind, OutsideSet, OutputTooSmall, TooLarge}
-use Rattle.fields.specs.Reading.{Reading, found, refused, andThen, need}
-use Rattle.fields.specs.Format.{Format, nothing}
-use Rattle.fields.specs.Answers.{stepOf}
-use Rattle.fields.specs.declared.Step.{Step}
+use Rattle.formats.specs.Reading.{Reading, found, refused, andThen, need}
+use Rattle.formats.specs.Format.{Format, nothing}
+use Rattle.formats.specs.Answers.{stepOf}
+use Rattle.formats.specs.declared.Step.{Step}
 
 -- "a body above 1,045,504 bytes"
 abbrev pub longest : ℕ
