@@ -11,6 +11,7 @@ use Rattle.days.specs.declared.WeekdayAnswer.the-variants.{Weekday, Refused as 
 use Rattle.times.specs.declared.Fielded.{Fielded}
 use Rattle.times.specs.declared.Fielded.the-variants.{Field, Refused as NoField}
 use Rattle.local.specs.Text.{readText}
+use Rattle.printing.specs.Input.{mostInput}
 use Rattle.printing.specs.Characters.{ascii, hexOf, decimalOf, refusedText}
 
 -- ---- lines
@@ -56,4 +57,4 @@ header = ascii "line field weekday\n"
 
 -- "at most 64 KiB; longer input gives the header and `0 refused 22`"
 unfoldable pub reportOf : List ℕ → List ℕ
-reportOf input = header ++ cond (leb (length input) 65536) (numbered 1 (linesOf input)) (ascii "0 refused 22\n")
+reportOf input = header ++ cond (leb (length input) mostInput) (numbered 1 (linesOf input)) (ascii "0 refused 22\n")

@@ -7,10 +7,8 @@ ghost use Rattle.printing.specs.Put.{Put};
 ghost use Rattle.datelines.specs.Report.{linesOf, fieldText, answerOf, lineOf, numbered, reportOf};
 ghost use Rattle.datelines.specs.Lines.{lineLength};
 use days::WeekdayAnswer;
+use printing::MOST_INPUT;
 use times::Fielded;
-
-// The longest input whose lines are read: 64 KiB.
-pub const MOST_INPUT: usize = 65_536;
 
 // No report is longer: the header's 19 bytes and 17 for each byte of the input. An empty line, one byte, gives a line number of
 // five digits, ` refused 24` and LF; a line that is accepted has 19 bytes and gives 19.

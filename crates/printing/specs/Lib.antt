@@ -1,3 +1,4 @@
 -- The definitions that the contracts cite.
 pub mod Characters
 pub mod Put
+pub mod Input

@@ -1,10 +1,14 @@
-// Text laid into a lent buffer: numbers in digits, fixed strings and refusals. For the programs' libraries, not offered by itself.
+// Text laid into a lent buffer: numbers in digits, fixed strings and refusals; how much a program reads. For the programs' libraries, not
+// offered by itself.
 ghost use mathlib.Core.Path.{_≡_};
 ghost use Prim.Native.Nat.{_+_, _≤_, _<_};
 ghost use lib.ListN.{length};
 ghost use Rattle.printing.specs.Characters.{digitOf, digitsOf, placesOf, decimalOf, refusedText};
 ghost use Rattle.printing.specs.Put.{Put};
 use refusal::Refusal;
+
+// The longest input that a program takes: 64 KiB.
+pub const MOST_INPUT: usize = 65_536;
 
 // The character of a digit.
 fn digit(value: u64) -> u8

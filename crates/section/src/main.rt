@@ -3,7 +3,7 @@ use libc::STDIN_FILENO;
 use libc::STDOUT_FILENO;
 
 // One byte more than the longest input that is read, to tell a longer one.
-const ENOUGH: usize = sectionline::MOST_INPUT + 1;
+const ENOUGH: usize = printing::MOST_INPUT + 1;
 
 fn main() {
     let mut input = [0u8; ENOUGH];

@@ -8,11 +8,12 @@ use Rattle.refusal.specs.declared.Refusal.the-variants.{TooLarge}
 use Rattle.framing.specs.Section.{readSection}
 use Rattle.framing.specs.declared.Sectioned.{Sectioned}
 use Rattle.framing.specs.declared.Sectioned.the-variants.{Good, Refused}
+use Rattle.printing.specs.Input.{mostInput}
 use Rattle.printing.specs.Characters.{ascii, decimalOf, refusedText}
 
 -- 22 is "a program's input above 64 KiB"
 unfoldable pub judgedOf : List ℕ → Sectioned
-judgedOf input = cond (leb (length input) 65536) (readSection input) (Refused TooLarge)
+judgedOf input = cond (leb (length input) mostInput) (readSection input) (Refused TooLarge)
 
 -- "its number, a space and the payload length, or `refused` and the refusal"
 abbrev pub answerText : Sectioned → List ℕ

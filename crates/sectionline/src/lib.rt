@@ -6,10 +6,8 @@ ghost use lib.ListN.{length, drop};
 ghost use Rattle.printing.specs.Put.{Put};
 ghost use Rattle.sectionline.specs.Line.{judgedOf, answerOf, lineOf};
 use framing::Sectioned;
+use printing::MOST_INPUT;
 use refusal::Refusal;
-
-// The longest input that is read: 64 KiB.
-pub const MOST_INPUT: usize = 65_536;
 
 // No line is longer: `refused 25` and LF have 11 bytes.
 pub const MOST_OUTPUT: usize = 16;
