@@ -5,7 +5,7 @@ use mathlib.Core.List.{List, [], _∷_, _++_}
 use native.Mathlib.Omega.{arith}
 use lib.ListN.{length, getD, take, drop}
 use lib.Seq.{getD-drop}
-use Rattle.crc.specs.Crc.{AreBytes, bigEndian, digit}
+use Rattle.crc.specs.Crc.{AreBytes, digit}
 use Rattle.crc.proofs.Burst.{bigEndian-bytes}
 use Rattle.framing.specs.Section.{headingBytes, checked, printed, WellFormed}
 use Rattle.cutting.specs.Cutting.{place, partOf}

@@ -1,21 +1,19 @@
 -- What a counted part holds, and the fields of an accepted body as they are asked for: the part answered is the one that holds them.
 use Prim.Native.Nat.{ℕ, _+_, _/_, _%_, _≤_, _<_}
 use mathlib.Core.Path.{_≡_, sym, ap, subst, _∙_}
-use mathlib.Core.List.{List, [], _∷_}
+use mathlib.Core.List.{List, []}
 use native.Mathlib.Omega.{arith}
 use native.Mathlib.Nat.{add-sub-cancel, add-sub-cancel-left, le-add-right}
-use lib.ListN.{length, getD, take, drop, length-drop, length-append}
+use lib.ListN.{length, getD, take, drop, length-drop}
 use lib.Seq.{length-take-le}
 use borrow.Author.Tests.{le-leb, lt-ltb}
-use Rattle.choices.proofs.Tests.{both}
 use Rattle.formats.specs.Reading.{found, fine}
-use Rattle.formats.specs.Format.{Format, digits, followed, many, rest, Length, lengthOf, counted, printAll, every, some}
+use Rattle.formats.specs.Format.{Format, digits, followed, many, rest, Length, lengthOf, counted, printAll}
 use Rattle.formats.specs.Answers.{partOf, digitRead}
 use Rattle.formats.specs.declared.Number.the-variants.{Is}
 use Rattle.formats.specs.declared.Part.{Part}
 use Rattle.formats.specs.declared.Part.the-variants.{Of}
-use Rattle.formats.proofs.Outcomes.{found-inj, andThen-found, judged-found, within-found, neither}
-use Rattle.formats.proofs.Stand.{stands-left, stands-right}
+use Rattle.formats.proofs.Outcomes.{found-inj, andThen-found, judged-found, within-found}
 use Rattle.formats.proofs.Classes.{Bytes, Lawful, Filling}
 use Rattle.formats.proofs.Strings.{digits-part, digits-fill}
 use Rattle.asking.proofs.Sizes.{count-sized}
@@ -109,19 +107,6 @@ module _ {A : Type 0} (F : Format A) (f : Lawful F) (g : Filling (many F)) (s : 
   pub many-none : (q : ℕ) → many F .parse s l p ≡ found [] q → p ≡ l
   unfolding many printAll
   many-none q e = omega (arith, g .forth s l p [] q b inside left e .next, g .ends s l p [] q b inside left e)
-
-  pub many-first : (x : A) (xs : List A) (q : ℕ) → many F .parse s l p ≡ found (x ∷ xs) q → (r : ℕ) × (F .parse s l p ≡ found x r) × (many F .parse s l r ≡ found xs q)
-  unfolding many printAll every some
-  many-first x xs q e =
-      let u = g .forth s l p (x ∷ xs) q b inside left e in
-      let z = g .ends s l p (x ∷ xs) q b inside left e in
-      let r = both (F .right x) (every (F .right) xs) (u .ok .right) in
-      let m = neither (F .over x) (some (F .over) xs) (u .ok .small) in
-      let ps = printAll (F .print) xs in
-      let n = length-append (F .print x) ps in
-      let one = f .back s l p x (record { right = r .0; small = m .0 }) (stands-left s p (F .print x) ps (u .stands)) (omega (arith, u .next, z, n)) inside in
-      let more = g .back s l (p + length (F .print x)) xs (record { right = r .1; small = m .1 }) (stands-right s p (F .print x) ps (u .stands)) (omega (arith, u .next, z, n)) inside in
-      (p + length (F .print x), one, more ∙ ap (found xs) (sym z))
 
 -- ---- digits
 

@@ -3,8 +3,6 @@ use Prim.Native.Nat.{ℕ}
 use mathlib.Core.Path.{_≡_, refl, sym, ap, _∙_}
 use mathlib.Core.List.{List}
 use mathlib.Core.Bool.{Bool, true, false, cond}
-use native.Mathlib.Omega.{arith}
-use Rattle.refusal.specs.declared.Refusal.{Refusal}
 use Rattle.refusal.specs.declared.Refusal.the-variants.{ImpossibleDay}
 use Rattle.days.specs.Calendar.{dayNumber, hasDay, dayOf}
 use Rattle.days.specs.declared.DayAnswer.the-variants.{Day, Refused as NoDay}

@@ -6,7 +6,6 @@ use pens::Pen;
 use refusal::Refusal;
 use settings::addresses;
 use settings::clocks;
-ghost use mathlib.Core.Path.{_≡_};
 ghost use mathlib.Core.List.{List};
 ghost use Prim.Native.Nat.{ℕ};
 ghost use Rattle.formats.specs.Format.{only, count, number, listOf, rest};

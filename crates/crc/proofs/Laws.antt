@@ -1,12 +1,12 @@
 -- A check's own bytes after its string, over the width and the polynomial; then what callers cite of CRC_32 and CRC-16.
 use mathlib.Core.Path.{_≡_, refl, sym, ap, ap₂, _∙_}
 use mathlib.Core.List.{List, _++_}
-use Prim.Native.Nat.{ℕ, zero, suc, _+_, _*_, _/_, _^_, _<_}
+use Prim.Native.Nat.{ℕ, zero, suc, _+_, _*_, _/_, _^_}
 use native.Mathlib.Omega.{arith}
 use Rattle.register.specs.Register.{bitsOf, bytesBits, crc}
 use Rattle.register.proofs.Bits.{bits-append, bits-mod}
-use Rattle.register.proofs.Laws.{crc-bytes-append, crc-lt, crc-own}
-use Rattle.crc.specs.Crc.{bigEndian, crc32Of, crc16Of}
+use Rattle.register.proofs.Laws.{crc-bytes-append, crc-own}
+use Rattle.crc.specs.Crc.{bigEndian, crc32Of}
 
 pub bits-of-bytes : (k n : ℕ) → bytesBits (bigEndian k n) ≡ bitsOf (8 * k) n
 unfolding bytesBits bigEndian bitsOf
@@ -25,11 +25,3 @@ unfolding crc32Of
 crc32-closed s = crc-closed 4 _ _ s
 
 -- ---- the checks fit
-
-pub crc32-lt : (s : List ℕ) → crc32Of s < 2 ^ 32
-unfolding crc32Of
-crc32-lt s = crc-lt _ _ _ (bytesBits s)
-
-pub crc16-lt : (s : List ℕ) → crc16Of s < 2 ^ 16
-unfolding crc16Of
-crc16-lt s = crc-lt _ _ _ (bytesBits s)

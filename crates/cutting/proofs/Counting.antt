@@ -29,10 +29,6 @@ pub place-apart : (j k : ℕ) → j < k → place j + 4084 ≤ place k
 unfolding place
 place-apart j k h = omega arith
 
-pub place-most : (k : ℕ) → k ≤ 256 → place k ≤ 1045504
-unfolding place
-place-most k h = omega arith
-
 pub place-within : (k n : ℕ) → place k ≤ n → k * 4084 ≤ n
 unfolding place
 place-within k n h = h

@@ -163,9 +163,6 @@ pub date-refused : (n : ℕ) → (15079 ≤ n → n ≤ 65535 → ⊥) → dateO
 unfolding dateOf
 date-refused n h = fails (inRange n) _ _ (λ t. let r = range n t in h (r .0) (r .1))
 
-pub date-exists : (n : ℕ) → 15079 ≤ n → n ≤ 65535 → (a : Date) × (dateOf n ≡ date-answer.On a)
-date-exists n h g = (dateFrom 1657 0 (n - 15079), date-on n h g)
-
 -- the date of a day of the range, by its month
 pub date-given : (n k : ℕ) → 15079 ≤ n → n ≤ 65535 → InMonth n k → dateOf n ≡ date-answer.On (dateIn k n)
 date-given n k h g p =

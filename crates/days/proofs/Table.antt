@@ -3,13 +3,12 @@ use mathlib.Core.Path.{_≡_, sym, ap, _∙_}
 use mathlib.Core.Bool.{Bool, true, _&&_}
 use mathlib.Core.List.{List, [], _∷_}
 use Prim.Native.Nat.{ℕ, zero, suc, _+_, _<_}
-use native.Mathlib.Omega.{arith}
 use native.Mathlib.Nat.{not-suc-le-zero, le-of-suc-le-suc, add-zero, add-suc, suc-add, zero-add}
 use lib.Dec.{T, eqb, eqb→eq}
 use lib.ListN.{length, getD}
 use Rattle.days.specs.Calendar.{daysOf, monthStart, IsMonths}
 use Rattle.choices.proofs.Tests.{both-hold}
-use Rattle.days.proofs.Months.{start-first, start-next, start-lt}
+use Rattle.days.proofs.Months.{start-first, start-next}
 
 -- the entries from month i on, of which the first is to be x
 abbrev pub chain : ℕ → ℕ → List ℕ → Bool
@@ -28,6 +27,3 @@ from (y ∷ ys) i x e t (suc k) h =
 
 pub equals : (ts : List ℕ) → T (chain 0 15079 ts) → length ts ≡ 1658 → IsMonths ts
 equals ts t e = record { entry = λ k h. from ts 0 15079 (sym start-first) t k (rw e h) ∙ ap monthStart (zero-add k) }
-
-pub increasing : (ts : List ℕ) → IsMonths ts → (i j : ℕ) → i < j → j < 1658 → getD ts i 0 < getD ts j 0
-increasing ts r i j h g = rw (r .entry i (omega arith), r .entry j g) (start-lt i j h)

@@ -178,24 +178,6 @@ module _ {A : Type 0} {B : A → Type 0} (F : Format A) (G : (a : A) → Format 
         formal = followed-formal (λ a. g a .formal);
       }
 
-  pub followed-filling : ((a : A) → Filling (G a)) → Filling (followed F G)
-  unfolding followed
-  followed-filling g =
-      record {
-        back = λ s l p x o t h k.
-            let c = followed-ok x o in
-            let m = simp (length-append, ← add-assoc) at h in
-            followed-back s l p (x .0) (x .1) _ (c .0) (stands-left s p (F .print (x .0)) (G (x .0) .print (x .1)) t) (omega (arith, m)) k
-            (g (x .0) .back s l _ (x .1) (c .1) (stands-right s p (F .print (x .0)) (G (x .0) .print (x .1)) t) m k);
-        forth = followed-forth (λ a. g a .forth);
-        ends = λ s l p x q b k h e.
-            let i = andThen-found (F .parse s l p) _ x q e in
-            let j = andThen-found (G (i .0) .parse s l (i .1)) _ x q (i .3) in
-            let u = f .forth s l p (i .0) (i .1) b k h (i .2) in
-            sym (found-inj (j .3) .1) ∙ g (i .0) .ends s l (i .1) (j .0) (j .1) b k (u .inside) (j .2);
-        formal = followed-formal (λ a. g a .formal);
-      }
-
 -- ---- a flag, and what follows it
 
 pub nothing-lawful : Lawful nothing

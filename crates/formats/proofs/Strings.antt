@@ -17,14 +17,14 @@ use Rattle.times.specs.Field.{readTime, readEnd}
 use Rattle.times.specs.declared.Timed.{Timed}
 use Rattle.times.specs.declared.EndTimed.{EndTimed}
 use Rattle.formats.specs.Reading.{Reading, found, refused, andThen, need, Fault, judged, within}
-use Rattle.formats.specs.Format.{Format, only, outside, number, bytes, every, bytesAmong, halves, tail, decimal, digits}
+use Rattle.formats.specs.Format.{Format, only, number, bytes, every, bytesAmong, halves, tail, decimal, digits}
 use Rattle.formats.specs.Time.{timeFault, endFault, time, endTime}
 use Rattle.formats.specs.Answers.{stepOf, numberOf, fieldOf, reached, numberRead, digitRead}
 use Rattle.formats.specs.declared.Step.the-variants.{At, Refused as NoStep}
 use Rattle.formats.specs.declared.Number.the-variants.{Is, Refused as NoNumber}
 use Rattle.formats.specs.declared.Part.the-variants.{Of, Refused as NoPart}
 use Rattle.formats.proofs.Stand.{taken}
-use Rattle.formats.proofs.Outcomes.{found-inj, andThen-found, need-found, judged-found, within-found}
+use Rattle.formats.proofs.Outcomes.{found-inj, need-found, within-found}
 use Rattle.formats.proofs.Classes.{Bytes, Found}
 use Rattle.formats.proofs.Leaves.{reserved-found, digits-lawful}
 use Rattle.formats.proofs.Readers.{field-found, field-refused}
@@ -253,34 +253,6 @@ pub record Fills {A : Type 0} (F : Format A) (s : List ℕ) (l p n : ℕ) : Type
   pub in-part : p + n ≤ l
   pub printed : take n (drop p s) ≡ F .print value
   pub taped : (at : ℕ) → F .tape value at ≡ at ∷ n ∷ []
-
-pub bytes-fill : (s : List ℕ) (l p n lo hi a m : ℕ) → Of a m ≡ fieldOf p (bytesAmong lo hi n .parse s l p)
-    → (a ≡ p) × (m ≡ n) × Fills (bytesAmong lo hi n) s l p n
-unfolding only bytes
-bytes-fill s l p n lo hi a m e =
-    let f = field-found p (bytesAmong lo hi n .parse s l p) a m e in
-    let i = andThen-found (bytes n .parse s l p) _ (f .0) (f .1) (f .2) in
-    let w = within-found s l p (p + n) _ (i .0) (i .1) (i .2) in
-    let j = judged-found (outside (every (λ x. leb lo x && leb x hi)) (i .0) p) _ (f .0) (f .1) (i .3) in
-    let x = found-inj (w .2) in
-    let y = found-inj (j .1) in
-    let z : p + n ≡ f .1 = x .1 ∙ y .1 in (
-      f .3,
-      f .4 ∙ omega (arith, z),
-      record {
-        value = f .0;
-        parsed = f .2 ∙ ap (found (f .0)) (sym z);
-        in-body = w .0;
-        in-part = w .1;
-        printed = x .0 ∙ y .0;
-        taped = λ at. refl;
-      },
-    )
-
-pub bytes-part : (s : List ℕ) (l p n lo hi : ℕ) (xs : List ℕ) (q : ℕ) → bytesAmong lo hi n .parse s l p ≡ found xs q → Of p n ≡ fieldOf p (bytesAmong lo hi n .parse s l p)
-bytes-part s l p n lo hi xs q e =
-    let same = ap (fieldOf p) e in
-    ap (Of p) (sym (bytes-fill s l p n lo hi p (q - p) (sym same) .1)) ∙ sym same
 
 module _ (s : List ℕ) (l p h : ℕ) (ds : List ℕ) (q : ℕ) (e : digits h .parse s l p ≡ found ds q) where
   digits-found : (p + suc h ≤ length s) × (p + suc h ≤ l) × (tail (halves (take (suc h) (drop p s))) ≡ ds) × (p + suc h ≡ q)

@@ -2,7 +2,7 @@
 use Prim.Native.Nat.{ℕ, _+_, _-_, _≤_}
 use mathlib.Core.Bool.{Bool, true, false, not, _&&_}
 use mathlib.Core.List.{List}
-use mathlib.Core.Path.{_≡_, refl, sym, ap, _∙_}
+use mathlib.Core.Path.{_≡_, refl, sym, _∙_}
 use native.Mathlib.Omega.{arith}
 use borrow.Author.Tests.{not-false, ltb-false, eqb-true}
 use lib.Dec.{eqb, leb, ltb}
@@ -11,7 +11,7 @@ use lib.Seq.{length-take-le}
 use Rattle.crc.specs.Crc.{crc32Of}
 use Rattle.refusal.specs.declared.Refusal.{Refusal}
 use Rattle.choices.specs.Choice.{if_then_else_}
-use Rattle.framing.specs.Section.{isKind, fixedBits, sectionLength, headingOf, payloadOf, readSection, IsGood}
+use Rattle.framing.specs.Section.{isKind, fixedBits, sectionLength, headingOf, payloadOf, readSection}
 use Rattle.framing.specs.declared.Heading.{Heading}
 use Rattle.framing.specs.declared.Sectioned.{Sectioned}
 use Rattle.framing.specs.declared.Sectioned.the-variants.{Good, Refused}
@@ -79,7 +79,3 @@ module _ (s : List ℕ) (h : Heading) (n : ℕ) (a : Accepted s h n) where
   payload-length =
       let l = accepted-length in
       length-take-le (length s - 12) (drop 8 s) (rw length-drop (omega arith)) ∙ sym (a .size)
-
--- an answer of the judgement says all of it
-pub is-good : (s : List ℕ) (h : Heading) (n : ℕ) → readSection s ≡ Good h n → IsGood s h (payloadOf s)
-is-good s h n e = record { reads = e ∙ ap (Good h) (sym (payload-length s h n (accepted s h n e))); carries = refl }

@@ -1,11 +1,10 @@
 -- The index table's formats keep the laws of formats, from the descriptor up to the table.
-use Prim.Native.Nat.{ℕ, _+_, _≤_, _<_}
-use mathlib.Core.Path.{_≡_, refl, ap, _∙_}
-use mathlib.Core.List.{List}
+use Prim.Native.Nat.{ℕ, _<_}
+use mathlib.Core.Path.{refl}
 use native.Mathlib.Omega.{arith}
 use lib.ListN.{length, length-append}
 use Rattle.refusal.specs.declared.Refusal.the-variants.{LeftOver, PastPart}
-use Rattle.formats.specs.Format.{Format, _▷_, followed, under, count, number, only, reserved, digits, listOf, many, opaque, counted, lengthOf, length12, rest, exact, view, bytesOf}
+use Rattle.formats.specs.Format.{Format, _▷_, followed, count, number, only, reserved, many, opaque, lengthOf, length12, exact, view}
 use Rattle.formats.proofs.Classes.{Lawful, Filling}
 use Rattle.formats.proofs.Leaves.{count-lawful, reserved-lawful, digits-lawful, length-bytes}
 use Rattle.formats.proofs.Bits.{nibbles-among-lawful, bytes-among-lawful}

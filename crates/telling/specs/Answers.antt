@@ -2,7 +2,6 @@
 use Prim.Native.Nat.{ℕ, _+_, _*_, _%_, _^_}
 use Rattle.refusal.specs.Answers.{answerOf, refusedOf}
 use Rattle.crc.specs.Crc.{digit}
-use Rattle.days.specs.declared.Date.{Date}
 use Rattle.days.specs.declared.DayAnswer.{DayAnswer}
 use Rattle.days.specs.declared.DayAnswer.the-variants as day
 use Rattle.days.specs.declared.DateAnswer.{DateAnswer}

@@ -10,12 +10,10 @@ use lib.Seq.{length-take-le}
 use lib.Dec.{ltb, leb}
 use borrow.Author.Tests.{ltb-true, leb-true, le-leb}
 use Rattle.placing.specs.Placed.{placed}
-use Rattle.refusal.specs.declared.Refusal.{Refusal}
 use Rattle.refusal.specs.declared.Refusal.the-variants.{PastBody, PastPart, OutsideSet}
 use Rattle.formats.specs.Reading.{Reading, found, refused, andThen, need, Fault, fine, faulty, unless, judged, within}
 use Rattle.formats.specs.Format.{Format, count, only, number, followed, _▷_, nothing, under, repeat, times, tapeAll, listOf, rest, Length, counted}
 use Rattle.formats.specs.Answers.{partOf}
-use Rattle.formats.specs.declared.Part.{Part}
 use Rattle.formats.proofs.Outcomes.{found-inj, andThen-found, judged-found, within-found}
 use Rattle.formats.proofs.Classes.{Formal, Lawful, Filling}
 use Rattle.formats.proofs.Parts.{Counts, counted-lawful}
@@ -26,7 +24,7 @@ use Rattle.walks.specs.declared.Walk.{Walk}
 use Rattle.walks.specs.declared.Walk.the-variants.{At, Refused}
 use Rattle.walks.specs.declared.Count.{Count}
 use Rattle.walks.specs.declared.Opened.{Opened}
-use Rattle.walks.proofs.Pairs.{stays, passed, Steady, empty, dependent, renamed, regroup}
+use Rattle.walks.proofs.Pairs.{passed, Steady, empty, dependent, renamed, regroup}
 
 -- the number told is the number found
 pub value-found : {C : Format ℕ} {s : List ℕ} {l : ℕ} {x : Walk} {wet : Bool} {t : List ℕ} {c : Count} {t₁ : List ℕ}
@@ -87,16 +85,6 @@ module _ {A : Type 0} {C : Format ℕ} {G : Format A} {s : List ℕ} {l : ℕ} {
   flag-on h v = dependent f under-steady (w .past) (λ n p q room e k. on n (omega (arith, value-found w n p q room e k)) v) (passed v) (v .dry)
 
 -- ---- a part by its length
-
-module _ (L : Length) (s : List ℕ) (l : ℕ) {x : Walk} where
-  pub entered-refused : {e : Refusal} → x ≡ Refused e → record { walk = Refused e; end = 0 } ≡ entered L s l x
-  unfolding entered
-  entered-refused h = ap (entered L s l) (sym h)
-
-  -- by what the reading of the part's bytes answers
-  pub entered-at : {p room : ℕ} {y : Part} → x ≡ At p room → y ≡ partOf (counted L rest .parse s l p) → openedBy room y ≡ entered L s l x
-  unfolding entered
-  entered-at {room} h e = ap (openedBy room) e ∙ ap (entered L s l) (sym h)
 
 module _ (L : Length) (s : List ℕ) (l : ℕ) where
   -- a part that lies in the body is entered at its first byte
@@ -219,11 +207,6 @@ pub record Ahead {A B : Type 0} (F : Format A) (s : List ℕ) (l : ℕ) (x : Wal
 
 pub ahead-start : {A : Type 0} {F : Format A} {s : List ℕ} {l : ℕ} {x : Walk} {wet : Bool} {t : List ℕ} → Ahead F s l x wet t F x t
 ahead-start = record { same = refl; whole = λ r t″ w. w }
-
--- a refusal makes the whole refused
-pub ahead-stop : {A B : Type 0} {F : Format A} {G : Format B} {s : List ℕ} {l : ℕ} {x : Walk} {wet : Bool} {t : List ℕ} {y : Walk} {t′ : List ℕ} {e : Refusal}
-    → Ahead F s l x wet t G y t′ → y ≡ Refused e → Walked F s l x wet t (Refused e) t′
-ahead-stop {t′} {e} a h = a .whole (Refused e) t′ (stays h)
 
 module _ {A B : Type 0} {W : Format A} (F : Format B) {s : List ℕ} {l : ℕ} {x : Walk} {wet : Bool} {t : List ℕ} {y : Walk} {t′ : List ℕ} (n : ℕ) where
   pub times-turn : {z : Walk} {t″ : List ℕ} → Lawful F → 0 < n → Ahead W s l x wet t (times n F) y t′

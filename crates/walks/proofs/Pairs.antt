@@ -6,7 +6,6 @@ use mathlib.Core.Bool.{Bool, true, false}
 use native.Mathlib.Omega.{arith}
 use lib.ListN.{length, length-append}
 use lib.Dec.{leb}
-use borrow.Author.Tests.{le-leb, lt-leb}
 use Rattle.choices.specs.Choice.{if_then_else_}
 use Rattle.placing.specs.Placed.{placed}
 use Rattle.placing.proofs.Placing.{placed-next, placed-length, placed-none}
@@ -153,11 +152,6 @@ module _ {A : Type 0} {B : A → Type 0} {F : Format A} {G : (a : A) → Format 
             small;
       }
 
-pub walked-both : {A B : Type 0} (F : Format A) (G : Format B) (s : List ℕ) (l : ℕ) → Formal G → (x : Walk) → walked (F ▷ G) s l x ≡ walked G s l (walked F s l x)
-walked-both F G s l g x =
-    sym (both-said F (λ a. G) s l (λ a. g .steady) x (walked F s l x) (walked G s l (walked F s l x)) refl (λ a p q room e h. refl)
-    (λ e h. ap (walked G s l) h ∙ walked-refused G s l e ∙ sym h))
-
 pub pair : {A B : Type 0} {F : Format A} {G : Format B} {s : List ℕ} {l : ℕ} {x : Walk} {wet : Bool} {t : List ℕ} {r : Walk} {t₁ : List ℕ} {r′ : Walk} {t₂ : List ℕ}
     → Lawful F → Formal G → Walked F s l x wet t r t₁ → Walked G s l r wet t₁ r′ t₂ → Walked (F ▷ G) s l x wet t r′ t₂
 pair f g w v = dependent f (λ a. g .steady) w (λ a p q room e h. v) (passed v) (v .dry)
@@ -204,20 +198,6 @@ unfolding view
 view-walk {F} f g gf w = renamed f (λ p room e. refl) (λ a p q k e. ap (λ y. F .tape y k) (gf a)) w
 
 -- ---- no byte left
-
-module _ (leftOver : ℕ → Refusal) (l : ℕ) {x : Walk} where
-  pub leaving-refused : {e : Refusal} → x ≡ Refused e → Refused e ≡ leaving leftOver l x
-  unfolding leaving
-  leaving-refused h = ap (leaving leftOver l) (sym h)
-
-  module _ {q room : ℕ} (h : x ≡ At q room) where
-    pub leaving-at : l ≤ q → At q room ≡ leaving leftOver l x
-    unfolding leaving
-    leaving-at k = rw (h, le-leb l q k)
-
-    pub leaving-left : q < l → Refused (leftOver q) ≡ leaving leftOver l x
-    unfolding leaving
-    leaving-left k = rw (h, lt-leb l q k)
 
 pub exact-walk : {A : Type 0} {F : Format A} (leftOver : ℕ → Refusal) {s : List ℕ} {l : ℕ} {x : Walk} {wet : Bool} {t : List ℕ} {r : Walk} {t′ : List ℕ} {r′ : Walk}
     → Walked F s l x wet t r t′ → r′ ≡ leaving leftOver l r → Walked (exact leftOver F) s l x wet t r′ t′

@@ -1,5 +1,4 @@
 -- `valuelines::put_volumes` meets its contract: a line for each volume, one after the other.
-use mathlib.Core.List.{_++_}
 use borrow.Author.Needs.{needs}
 use Rattle.printing.proofs.Putting.{room-first, put-room, put-then}
 use Rattle.valuelines.specs.Report.{fullLine, aboveLine, volumeLines}

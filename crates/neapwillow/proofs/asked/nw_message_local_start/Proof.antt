@@ -1,5 +1,5 @@
 -- `neapwillow::nw_message_local_start` meets its contract: the field asked for, and its local time.
-use mathlib.Core.Path.{ap, ap₂, _∙_}
+use mathlib.Core.Path.{ap₂, _∙_}
 use mir.Facts.{toZ-ofZ}
 use borrow.Author.Needs.{needs}
 use Rattle.local.specs.Clock.{unpackOf}

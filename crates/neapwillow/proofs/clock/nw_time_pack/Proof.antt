@@ -1,5 +1,5 @@
 -- `neapwillow::nw_time_pack` meets its contract: the inner answer, packed.
-use mathlib.Core.Path.{sym, ap, _∙_}
+use mathlib.Core.Path.{ap, _∙_}
 use mir.Facts.{toZ-ofZ}
 use borrow.Author.Needs.{needs}
 use Rattle.local.specs.Clock.{packOf}

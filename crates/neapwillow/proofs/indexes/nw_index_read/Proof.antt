@@ -1,5 +1,5 @@
 -- `neapwillow::nw_index_read` meets its contract: the inner answer, packed.
-use mathlib.Core.Path.{sym, ap, _∙_}
+use mathlib.Core.Path.{ap, _∙_}
 use borrow.Author.Needs.{needs}
 use Rattle.telling.specs.Answers.{readAnswer}
 use Rattle.neapwillow.proofs.indexes.nw_index_read.Statement.{statement}
