@@ -1,7 +1,8 @@
 // plain_configuration: the configuration table in plain C, made from document 01 and the header, to measure by.
 #include "plain_configuration.h"
 
-#include "plain_fields.h"
+#include "plain_numbers.h"
+#include "plain_tables.h"
 
 enum { FIRST_AT = 1, HEAD = 3, MOST_MAPPING = 5, MOST_VOLUME = 100 };
 
@@ -12,17 +13,6 @@ static const uint8_t terminals_at[8] = {[NW_FREQUENCY] = 9, [NW_PERIOD] = 4, [NW
 static size_t least_of(unsigned tag) { return tag < 8 ? leasts[tag] : 0; }
 
 // ---- what holds of the fields, read or to be written
-
-static int is_day(uint64_t year, uint64_t month, uint64_t day) {
-    static const uint8_t days[12] = {31, 28, 31, 30, 31, 30, 31, 31, 30, 31, 30, 31};
-    if (month < 1 || month > 12 || day < 1 || year < 1900 || year > 2038) return 0;
-    // 1900 has no leap day either, but its February lies before the range.
-    if (day > days[month - 1] + (uint64_t)(month == 2 && year % 4 == 0)) return 0;
-    uint64_t date = year << 16 | month << 8 | day;
-    return date >= (1900 << 16 | 3 << 8 | 1) && date <= (2038 << 16 | 4 << 8 | 22);
-}
-
-static int is_time(uint64_t hour, uint64_t minute, uint64_t second) { return hour < 24 && minute < 60 && second < 60; }
 
 static int is_digit(uint8_t c) { return c >= '0' && c <= '9'; }
 
@@ -46,13 +36,13 @@ static unsigned address_fault(uint64_t kind, const uint8_t *s, size_t n) {
     return 0;
 }
 
-// ---- a whole body
+// ---- the fields of a body taken
 
 static unsigned take_day(struct reader *r) {
     const uint8_t *s = r->s + r->at;
     unsigned no = need(r, 4);
     if (no) return no;
-    if (!is_day(big_endian(s, 2), s[2], s[3])) return IMPOSSIBLE;
+    if (!plain_is_day((uint32_t)big_endian(s, 2), s[2], s[3])) return IMPOSSIBLE;
     r->at += 4;
     return 0;
 }
@@ -66,18 +56,10 @@ static unsigned take_time(struct reader *r) {
     return 0;
 }
 
-static unsigned take_up_to(struct reader *r, unsigned least, unsigned most) {
-    unsigned no = need(r, 1);
-    if (no) return no;
-    if (r->s[r->at] < least || r->s[r->at] > most) return OUTSIDE;
-    r->at++;
-    return 0;
-}
-
 // Kind and address. A wrong length is refused at the length, another fault where the address begins.
 static unsigned take_return(struct reader *r) {
     size_t length;
-    unsigned no = take_up_to(r, 1, 3);
+    unsigned no = take_small(r, 0, 1, 3);
     if (no || (no = take_length(r, 1, &length))) return no;
     no = address_fault(r->s[r->at - 2], r->s + r->at, length);
     if (no == PAST_PART) r->at--;
@@ -85,24 +67,9 @@ static unsigned take_return(struct reader *r) {
     return no;
 }
 
-static unsigned take_parameters(struct reader *r) {
-    unsigned no = take(r, 1);
-    if (no) return no;
-    size_t left = r->s[r->at - 1];
-    r->entries += 1 + left;
-    for (; left > 0; left--)
-        if ((no = take(r, 1))) return no;
-    return 0;
-}
-
-static unsigned take_terminals(struct reader *r) {
-    unsigned no = take(r, 1);
-    if (no) return no;
-    size_t left = r->s[r->at - 1];
-    r->entries += 1 + 2 * left;
-    for (; left > 0; left--)
-        if ((no = take_digits(r, RESOURCE_BYTES))) return no;
-    return 0;
+static unsigned take_parameter(struct reader *r) {
+    r->entries++;
+    return take(r, 1);
 }
 
 // What stands before the terminals, or all that there is where there are none.
@@ -114,11 +81,11 @@ static unsigned take_head(struct reader *r, unsigned tag) {
     case NW_FREQUENCY:
         r->entries += 3;
         if ((no = take(r, 4)) || (no = take(r, 4))) return no;
-        return take_up_to(r, 0, MOST_MAPPING);
+        return take_small(r, 0, 0, MOST_MAPPING);
     case NW_RETURN: r->entries += 3; return take_return(r);
     case NW_PERIOD: r->entries++; return take(r, 4);
-    case NW_VOLUME: r->entries++; return take_up_to(r, 0, MOST_VOLUME);
-    case NW_QUERY: return take_parameters(r);
+    case NW_VOLUME: r->entries++; return take_small(r, 0, 0, MOST_VOLUME);
+    case NW_QUERY: return take_several(r, 0, 0, 0xFF, take_parameter);
     default: r->entries += 2; r->at = r->end; return 0;
     }
 }
@@ -133,41 +100,23 @@ static unsigned take_content_length(struct reader *r, unsigned tag, size_t *leng
     return PAST_PART;
 }
 
+// The content that stands after a tag and a length.
+static unsigned take_content(struct reader *r) {
+    unsigned tag = r->s[r->at - HEAD], no = take_head(r, tag);
+    return no || !has_terminals(tag) ? no : take_several(r, 0, 0, 0xFF, take_resource);
+}
+
 static unsigned take_command(struct reader *r) {
-    size_t length, outer = r->end;
-    unsigned tag, no = take(r, 1);
-    if (no) return no;
-    tag = r->s[r->at - 1];
-    if ((no = take_content_length(r, tag, &length))) return no;
+    size_t length;
+    unsigned no = take(r, 1);
+    if (no || (no = take_content_length(r, r->s[r->at - 1], &length))) return no;
     r->entries++;
-    r->end = r->at + length;
-    if ((no = take_head(r, tag)) || (has_terminals(tag) && (no = take_terminals(r)))) return no;
-    if (r->at < r->end) return PAST_PART;
-    r->end = outer;
-    return 0;
+    return take_filled(r, length, take_content);
 }
 
 static unsigned take_body(struct reader *r) {
-    unsigned no = take(r, 1);
-    if (no) return no;
-    for (size_t left = r->s[0]; left > 0; left--)
-        if ((no = take_command(r))) return no;
-    if ((no = skip_part(r, 2))) return no;
-    r->entries += 3;
-    return r->at < r->n ? NW_LEFT_OVER : 0;
-}
-
-// Judges a body; the reader then has the entries of its form.
-static nw_answer judge(struct reader *r, uint32_t kind) {
-    if (kind != NW_CONFIGURATION) return NW_OTHER_KIND;
-    if (r->n > NW_MOST_BODY) return NW_TOO_LARGE;
-    unsigned no = take_body(r);
-    return no ? refused(no, r->at) : 0;
-}
-
-nw_answer plain_configuration_read(uint32_t kind, const uint8_t *body, size_t n) {
-    struct reader r = {body, n, n, 0, 0};
-    return judge(&r, kind);
+    unsigned no = take_several(r, 0, 0, 0xFF, take_command);
+    return no ? no : take_signature(r);
 }
 
 // ---- an accepted body laid onto a tape: nothing is judged any more
@@ -195,21 +144,12 @@ static void lay_command(struct layer *l) {
     lay_number(l, 1, UINT8_MAX);
     l->at += 2;
     lay_head(l, tag, length);
-    if (!has_terminals(tag)) return;
-    lay_number(l, 1, UINT8_MAX);
-    for (uint64_t left = l->to[-1]; left > 0; left--) lay_span(l, RESOURCE_BYTES);
+    if (has_terminals(tag)) lay_several(l, UINT8_MAX, lay_resource);
 }
 
-nw_answer plain_configuration_lay(uint32_t kind, const uint8_t *body, size_t n, uint64_t *tape, size_t entries) {
-    struct reader r = {body, n, n, 0, 0};
-    nw_answer got = judge(&r, kind);
-    if (NW_REFUSAL(got)) return got;
-    if (r.entries > entries) return NW_OUTPUT_TOO_SMALL;
-    struct layer l = {body, 0, tape};
-    lay_number(&l, 1, UINT8_MAX);
-    for (size_t left = body[0]; left > 0; left--) lay_command(&l);
-    lay_part(&l, 2);
-    return value(r.entries);
+static void lay_body(struct layer *l) {
+    lay_several(l, UINT8_MAX, lay_command);
+    lay_part(l, 2);
 }
 
 // ---- a form judged and measured
@@ -217,7 +157,7 @@ nw_answer plain_configuration_lay(uint32_t kind, const uint8_t *body, size_t n, 
 static unsigned form_clock(struct form *f) {
     unsigned no;
     if ((no = form_number(f, 0, 0xFFFF)) || (no = form_number(f, 0, 0xFF)) || (no = form_number(f, 0, 0xFF))) return no;
-    if (!is_day(f->t[-3], f->t[-2], f->t[-1])) return IMPOSSIBLE;
+    if (!plain_is_day((uint32_t)f->t[-3], (uint32_t)f->t[-2], (uint32_t)f->t[-1])) return IMPOSSIBLE;
     for (int i = 0; i < 3; i++)
         if ((no = form_number(f, 0, 0xFF))) return no;
     f->bytes += 7;
@@ -231,24 +171,9 @@ static unsigned form_return(struct form *f) {
     return address_fault(f->t[-3], f->pool + f->t[-2], f->t[-1]);
 }
 
-static unsigned form_parameters(struct form *f) {
-    unsigned no = form_number(f, 0, UINT64_MAX);
-    if (no) return no;
-    uint64_t left = f->t[-1];
+static unsigned form_parameter(struct form *f) {
     f->bytes++;
-    for (f->large |= left > 0xFF; left > 0; left--, f->bytes++)
-        if ((no = form_number(f, 0, 0xFF))) return no;
-    return 0;
-}
-
-static unsigned form_terminals(struct form *f) {
-    unsigned no = form_number(f, 0, UINT64_MAX);
-    if (no) return no;
-    uint64_t left = f->t[-1];
-    f->bytes++;
-    for (f->large |= left > 0xFF; left > 0; left--)
-        if ((no = form_digits(f, RESOURCE_BYTES))) return no;
-    return 0;
+    return form_number(f, 0, 0xFF);
 }
 
 static unsigned form_head(struct form *f, uint64_t tag) {
@@ -263,7 +188,7 @@ static unsigned form_head(struct form *f, uint64_t tag) {
     case NW_RETURN: return form_return(f);
     case NW_PERIOD: f->bytes += 4; return form_number(f, 0, UINT32_MAX);
     case NW_VOLUME: f->bytes++; return form_number(f, 0, MOST_VOLUME);
-    case NW_QUERY: return form_parameters(f);
+    case NW_QUERY: return form_several(f, 0, UINT64_MAX, form_parameter);
     default: return form_opaque(f, 0, 0xFFFF);
     }
 }
@@ -275,20 +200,12 @@ static unsigned form_command(struct form *f) {
     uint64_t tag = f->t[-1];
     f->bytes += HEAD;
     if ((no = form_head(f, tag))) return no;
-    return has_terminals(tag) ? form_terminals(f) : 0;
+    return has_terminals(tag) ? form_several(f, 0, UINT64_MAX, form_resource) : 0;
 }
 
-// 19, 18, 20, 15 or 22 of a form, or its body's length.
-static nw_answer measure(struct form *f) {
-    unsigned no = form_number(f, 0, UINT64_MAX);
-    if (no) return no;
-    uint64_t left = f->t[-1];
-    f->bytes = 1;
-    for (f->large = left > 0xFF; left > 0; left--)
-        if ((no = form_command(f))) return no;
-    if ((no = form_opaque(f, 2, 0xFFFF))) return no;
-    if (f->left > 0) return OUTSIDE;
-    return f->large || f->bytes > NW_MOST_BODY ? NW_TOO_LARGE : value(f->bytes);
+static unsigned form_body(struct form *f) {
+    unsigned no = form_several(f, 0, UINT64_MAX, form_command);
+    return no ? no : form_signature(f);
 }
 
 // ---- a form written: nothing is judged any more
@@ -316,24 +233,30 @@ static void put_command(struct writer *w) {
     uint8_t *length = w->to;
     w->to += 2;
     put_head(w, tag);
-    if (has_terminals(tag)) {
-        uint64_t left = *w->t;
-        for (put_number(w, 1, 0); left > 0; left--) put_digits(w);
-    }
-    put(length, (uint64_t)(w->to - length - 2), 2);
+    if (has_terminals(tag)) put_several(w, 0, put_digits);
+    put_length(w, length, 2, 0);
+}
+
+static void put_body(struct writer *w) {
+    put_several(w, 0, put_command);
+    put_opaque(w, 2);
+}
+
+// ---- whole bodies and forms
+
+static const struct table table = {NW_CONFIGURATION, take_body, lay_body, form_body, put_body};
+
+nw_answer plain_configuration_read(uint32_t kind, const uint8_t *body, size_t n) {
+    return read_table(&table, kind, body, n);
+}
+
+nw_answer plain_configuration_lay(uint32_t kind, const uint8_t *body, size_t n, uint64_t *tape, size_t entries) {
+    return lay_table(&table, kind, body, n, tape, entries);
 }
 
 nw_answer plain_configuration_write(const uint8_t *pool, size_t pool_bytes, const uint64_t *tape, size_t entries,
                                     uint8_t *out, size_t room) {
-    struct form f = {tape, entries, pool, pool_bytes, 0, 0};
-    nw_answer got = measure(&f);
-    if (NW_REFUSAL(got)) return got;
-    if (NW_VALUE(got) > room) return NW_OUTPUT_TOO_SMALL;
-    struct writer w = {tape, pool, out};
-    uint64_t left = *w.t;
-    for (put_number(&w, 1, 0); left > 0; left--) put_command(&w);
-    put_opaque(&w, 2);
-    return got;
+    return write_table(&table, pool, pool_bytes, tape, entries, out, room);
 }
 
 // ---- fields of a body asked for: what stands before them is passed by its length, and not judged
@@ -431,13 +354,11 @@ static nw_answer asked_wide(const uint8_t *body, size_t n, size_t p, unsigned ta
     return no ? no : asked_number(&r, 4);
 }
 
-static nw_answer asked_up_to(const uint8_t *body, size_t n, size_t p, unsigned tag, size_t place, unsigned least,
-                             unsigned most) {
+static nw_answer asked_within(const uint8_t *body, size_t n, size_t p, unsigned tag, size_t place, unsigned least,
+                              unsigned most) {
     struct reader r;
     nw_answer no = enter_as(&r, body, n, p, tag, place);
-    if (no) return no;
-    unsigned fault = take_up_to(&r, least, most);
-    return fault ? refused(fault, r.at) : value(body[r.at - 1]);
+    return no ? no : asked_small(&r, 0, least, most);
 }
 
 nw_answer plain_command_frequency(const uint8_t *body, size_t n, size_t p) {
@@ -449,11 +370,11 @@ nw_answer plain_command_symbol_rate(const uint8_t *body, size_t n, size_t p) {
 }
 
 nw_answer plain_command_mapping(const uint8_t *body, size_t n, size_t p) {
-    return asked_up_to(body, n, p, NW_FREQUENCY, 8, 0, MOST_MAPPING);
+    return asked_within(body, n, p, NW_FREQUENCY, 8, 0, MOST_MAPPING);
 }
 
 nw_answer plain_command_return_kind(const uint8_t *body, size_t n, size_t p) {
-    return asked_up_to(body, n, p, NW_RETURN, 0, 1, 3);
+    return asked_within(body, n, p, NW_RETURN, 0, 1, 3);
 }
 
 nw_answer plain_command_return_address(const uint8_t *body, size_t n, size_t p) {
@@ -468,7 +389,7 @@ nw_answer plain_command_return_address(const uint8_t *body, size_t n, size_t p) 
 nw_answer plain_command_period(const uint8_t *body, size_t n, size_t p) { return asked_wide(body, n, p, NW_PERIOD, 0); }
 
 nw_answer plain_command_volume(const uint8_t *body, size_t n, size_t p) {
-    return asked_up_to(body, n, p, NW_VOLUME, 0, 0, MOST_VOLUME);
+    return asked_within(body, n, p, NW_VOLUME, 0, 0, MOST_VOLUME);
 }
 
 nw_answer plain_command_parameter_count(const uint8_t *body, size_t n, size_t p) {

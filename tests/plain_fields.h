@@ -18,6 +18,12 @@ enum {
 // Digits and the reserved bits before them.
 enum { IDENTIFIER_BYTES = 18, RESOURCE_BYTES = 12 };
 
+// 1 March 1900 and 22 April 2038.
+enum { FIRST_DAY = 15079, LAST_DAY = 65535 };
+
+// Made part of each caller, where its widths and functions are constants: the C that is measured is as if written out.
+#define INLINED static inline __attribute__((always_inline))
+
 static inline nw_answer refused(unsigned number, size_t place) { return (nw_answer)place << 8 | number; }
 static inline nw_answer value(uint64_t x) { return x << 8; }
 static inline nw_answer part(size_t start, size_t length) { return value((uint64_t)start << 24 | length); }
@@ -34,7 +40,7 @@ static inline uint64_t big_endian(const uint8_t *s, size_t width) {
 static inline uint64_t above_nine(uint64_t x) { return x >> 3 & (x >> 2 | x >> 1) & UINT64_C(0x1111111111111111); }
 
 // The first four bits are reserved and no digit. No way out at the first bad one, so that the loop can run wide.
-static inline int bad_digits(const uint8_t *s, size_t width) {
+INLINED int bad_digits(const uint8_t *s, size_t width) {
     uint8_t bad = (uint8_t)above_nine(s[0] & 15u);
     for (size_t i = 1; i < width; i++) bad |= (uint8_t)(s[i] >> 3 & (s[i] >> 2 | s[i] >> 1) & 0x11);
     return bad != 0;
@@ -42,12 +48,24 @@ static inline int bad_digits(const uint8_t *s, size_t width) {
 
 static inline unsigned digit_of(const uint8_t *s, size_t i) { return i % 2 ? s[(i + 1) / 2] >> 4 : s[i / 2] & 15u; }
 
+static inline int is_time(uint64_t hour, uint64_t minute, uint64_t second) {
+    return hour < 24 && minute < 60 && second < 60;
+}
+
+// 0, 18 or 20 of a time field of 40 bits that is not live.
+static inline unsigned time_fault(uint64_t field) {
+    if (above_nine(field & 0xFFFFFF)) return DIGIT;
+    if (field >> 24 < FIRST_DAY || (field >> 16 & 0xFF) > 0x23 || (field >> 8 & 0xFF) > 0x59 || (field & 0xFF) > 0x59)
+        return IMPOSSIBLE;
+    return 0;
+}
+
 // A place in a body, and the end of the counted part that is being read. Each `take` passes a field and answers 0, or
 // answers the refusal's number and stays: the place of a refusal is where the reader then stands.
 struct reader {
     const uint8_t *s;
     size_t n, end, at;
-    size_t entries; // of the form that asks for what was passed
+    unsigned entries; // of the form that asks for what was passed; as a size_t gcc adds it together with `at`, slowly
 };
 
 static inline unsigned need(const struct reader *r, size_t width) {
@@ -67,7 +85,17 @@ static inline unsigned reserved(const struct reader *r, unsigned mask) {
     return no ? no : (r->s[r->at] & mask) == mask ? 0 : RESERVED;
 }
 
-static inline unsigned take_digits(struct reader *r, size_t width) {
+// A number below the reserved bits of a byte, from `least` to `most`.
+static inline unsigned take_small(struct reader *r, unsigned mask, unsigned least, unsigned most) {
+    unsigned no = reserved(r, mask);
+    if (no) return no;
+    unsigned x = r->s[r->at] & ~mask;
+    if (x < least || x > most) return OUTSIDE;
+    r->at++;
+    return 0;
+}
+
+INLINED unsigned take_digits(struct reader *r, size_t width) {
     unsigned no = reserved(r, 0xF0);
     if (no || (no = need(r, width))) return no;
     if (bad_digits(r->s + r->at, width)) return DIGIT;
@@ -91,6 +119,41 @@ static inline unsigned skip_part(struct reader *r, size_t width) {
     unsigned no = take_length(r, width, &length);
     if (no == 0) r->at += length;
     return no;
+}
+
+static inline unsigned take_opaque(struct reader *r, size_t width) {
+    r->entries += 2;
+    return skip_part(r, width);
+}
+
+static inline unsigned take_signature(struct reader *r) { return take_opaque(r, 2); }
+
+static inline unsigned take_resource(struct reader *r) {
+    r->entries += 2;
+    return take_digits(r, RESOURCE_BYTES);
+}
+
+typedef unsigned taker(struct reader *r);
+
+// A count as of `take_small`, and so many things.
+INLINED unsigned take_several(struct reader *r, unsigned mask, unsigned least, unsigned most, taker *one) {
+    unsigned no = take_small(r, mask, least, most);
+    if (no) return no;
+    r->entries++;
+    for (unsigned left = r->s[r->at - 1] & ~mask; left > 0; left--)
+        if ((no = one(r))) return no;
+    return 0;
+}
+
+// Fields that fill a part of so many bytes.
+INLINED unsigned take_filled(struct reader *r, size_t length, taker *fields) {
+    size_t outer = r->end;
+    r->end = r->at + length;
+    unsigned no = fields(r);
+    if (no) return no;
+    if (r->at < r->end) return PAST_PART;
+    r->end = outer;
+    return 0;
 }
 
 // ---- an accepted body laid onto a tape
@@ -118,6 +181,14 @@ static inline void lay_part(struct layer *l, size_t width) {
     size_t length = big_endian(l->s + l->at, width);
     l->at += width;
     lay_span(l, length);
+}
+
+static inline void lay_resource(struct layer *l) { lay_span(l, RESOURCE_BYTES); }
+
+// A count in the low bits of a byte, and so many things.
+INLINED void lay_several(struct layer *l, uint64_t mask, void (*one)(struct layer *l)) {
+    lay_number(l, 1, mask);
+    for (uint64_t left = l->to[-1]; left > 0; left--) one(l);
 }
 
 // ---- a form judged and measured
@@ -150,7 +221,7 @@ static inline unsigned form_span(struct form *f, const uint8_t **s, uint64_t *le
     return 0;
 }
 
-static inline unsigned form_digits(struct form *f, size_t width) {
+INLINED unsigned form_digits(struct form *f, size_t width) {
     const uint8_t *s;
     uint64_t length;
     unsigned no = form_span(f, &s, &length);
@@ -167,6 +238,20 @@ static inline unsigned form_opaque(struct form *f, size_t width, uint64_t most) 
     if (no) return no;
     if (length > most) f->large = 1;
     else f->bytes += width + length;
+    return 0;
+}
+
+static inline unsigned form_signature(struct form *f) { return form_opaque(f, 2, 0xFFFF); }
+static inline unsigned form_resource(struct form *f) { return form_digits(f, RESOURCE_BYTES); }
+
+// A count that is written in a byte, and so many things.
+INLINED unsigned form_several(struct form *f, uint64_t least, uint64_t most, unsigned (*one)(struct form *f)) {
+    unsigned no = form_number(f, least, most);
+    if (no) return no;
+    uint64_t left = f->t[-1];
+    f->bytes++;
+    for (f->large |= left > 0xFF; left > 0; left--)
+        if ((no = one(f))) return no;
     return 0;
 }
 
@@ -206,6 +291,17 @@ static inline void put_opaque(struct writer *w, size_t width) {
     put_span(w);
 }
 
+// The length of what was put after its own bytes, which begin at a place.
+static inline void put_length(struct writer *w, uint8_t *at, size_t width, uint64_t fixed) {
+    put(at, fixed | ((uint64_t)(w->to - at) - width), width);
+}
+
+// A count below the fixed bits of a byte, and so many things.
+INLINED void put_several(struct writer *w, uint64_t fixed, void (*one)(struct writer *w)) {
+    uint64_t left = *w->t;
+    for (put_number(w, 1, fixed); left > 0; left--) one(w);
+}
+
 // ---- fields asked for
 
 // A reader at a place of the part of a body from `begin` to `end`; 0 where there is no such part.
@@ -219,6 +315,12 @@ static inline int stands(struct reader *r, const uint8_t *body, size_t n, size_t
 static inline nw_answer asked_number(struct reader *r, size_t width) {
     unsigned no = take(r, width);
     return no ? refused(no, r->at) : value(big_endian(r->s + r->at - width, width));
+}
+
+// The number of `take_small`.
+static inline nw_answer asked_small(struct reader *r, unsigned mask, unsigned least, unsigned most) {
+    unsigned no = take_small(r, mask, least, most);
+    return no ? refused(no, r->at) : value(r->s[r->at - 1] & ~mask);
 }
 
 static inline nw_answer asked_digits(struct reader *r, size_t width) {
@@ -235,6 +337,28 @@ static inline nw_answer asked_part(struct reader *r, size_t width) {
     size_t length;
     unsigned no = take_length(r, width, &length);
     return no ? refused(no, r->at) : part(r->at, length);
+}
+
+// ---- parts passed by their lengths, to what stands after them
+
+static inline nw_answer skip_parts(struct reader *r, uint64_t count, size_t width) {
+    for (unsigned no; count > 0; count--)
+        if ((no = skip_part(r, width))) return refused(no, r->at);
+    return 0;
+}
+
+// A count in a byte, and so many parts.
+static inline nw_answer skip_list(struct reader *r, size_t width) {
+    nw_answer count = asked_number(r, 1);
+    return NW_REFUSAL(count) ? count : skip_parts(r, NW_VALUE(count), width);
+}
+
+// The i-th part of the list at which the reader stands.
+static inline nw_answer asked_part_of_list(struct reader *r, uint64_t i, size_t width) {
+    nw_answer count = asked_number(r, 1), no;
+    if (NW_REFUSAL(count)) return count;
+    if (i >= NW_VALUE(count)) return OUTSIDE;
+    return (no = skip_parts(r, i, width)) ? no : asked_part(r, width);
 }
 
 #endif

@@ -1,9 +1,13 @@
 // plain_index: the index table in plain C, made from document 01 and the header alone, to measure the library by.
 #include "plain_index.h"
 
-#include "plain_fields.h"
+#include "plain_numbers.h"
+#include "plain_tables.h"
 
 enum { TYPE_BYTES = 5 };
+
+// The most that the ten bits of a short length can say.
+enum { MOST_SHORT = 0x3FF };
 
 // Where fields stand in a message that have a fixed place.
 enum { NETWORK_AT = 18, START_AT = 20, END_AT = 25, TYPE_AT = 30, CLASS_AT = 35, COUNT_AT = 36, RESOURCES_AT = 37 };
@@ -11,13 +15,9 @@ enum { NETWORK_AT = 18, START_AT = 20, END_AT = 25, TYPE_AT = 30, CLASS_AT = 35,
 // Where fields of a channel stand after its flag.
 enum { STREAM_AT = 2, PROGRAM_AT = 4, PCR_AT = 6, DESCRIPTORS_AT = 8 };
 
-// 0, 18 or 20 of a time field. The live mark is a good end.
-static unsigned time_fault(uint64_t field, int is_end) {
-    if (is_end && field == NW_LIVE) return 0;
-    if (above_nine(field & 0xFFFFFF)) return DIGIT;
-    if (field >> 24 < 15079 || (field >> 16 & 0xFF) > 0x23 || (field >> 8 & 0xFF) > 0x59 || (field & 0xFF) > 0x59)
-        return IMPOSSIBLE;
-    return 0;
+// The live mark is a good end.
+static inline unsigned start_or_end_fault(uint64_t field, int is_end) {
+    return is_end && field == NW_LIVE ? 0 : time_fault(field);
 }
 
 static int bad_type(const uint8_t *s) { return (s[0] | s[1] | s[2] | s[3] | s[4]) > 0x7F; }
@@ -25,7 +25,7 @@ static int in_set(unsigned class_or_level) { return class_or_level - 1 < 4; }
 
 static inline unsigned take_time(struct reader *r, int is_end) {
     unsigned no = need(r, 5);
-    if (no || (no = time_fault(big_endian(r->s + r->at, 5), is_end))) return no;
+    if (no || (no = start_or_end_fault(big_endian(r->s + r->at, 5), is_end))) return no;
     r->at += 5;
     return 0;
 }
@@ -48,43 +48,49 @@ static inline unsigned take_short_length(struct reader *r, size_t *length) {
     unsigned no = reserved(r, 0xF0);
     if (no || (no = need(r, 2))) return no;
     size_t field = big_endian(r->s + r->at, 2);
-    *length = field & 0x3FF;
+    *length = field & MOST_SHORT;
     if ((no = need(r, 2 + *length))) return no;
     if (field & 0xC00) return RESERVED;
     r->at += 2;
     return 0;
 }
 
-// ---- a whole body
+// ---- the fields of a body taken
 
-// A length and descriptors that fill their part.
-static inline unsigned take_descriptors(struct reader *r) {
-    size_t length, outer = r->end;
-    unsigned no = take_short_length(r, &length);
-    if (no) return no;
-    for (r->end = r->at + length; r->at < r->end; r->at += length) {
-        r->at++;
-        if ((no = take_length(r, 1, &length))) return no;
-        r->entries += 3;
-    }
+// Things that fill a part of so many bytes.
+INLINED unsigned take_repeated(struct reader *r, size_t length, taker *one) {
+    size_t outer = r->end;
+    unsigned no;
+    for (r->end = r->at + length; r->at < r->end;)
+        if ((no = one(r))) return no;
     r->end = outer;
     r->entries++;
     return 0;
 }
 
+static inline unsigned take_descriptor(struct reader *r) {
+    r->at++;
+    r->entries += 3;
+    return skip_part(r, 1);
+}
+
+static inline unsigned take_descriptors(struct reader *r) {
+    size_t length;
+    unsigned no = take_short_length(r, &length);
+    return no ? no : take_repeated(r, length, take_descriptor);
+}
+
+static inline unsigned take_stream(struct reader *r) {
+    r->at++;
+    r->entries += 2;
+    unsigned no = take_pid(r);
+    return no ? no : take_descriptors(r);
+}
+
 static inline unsigned take_streams(struct reader *r) {
-    size_t length, outer = r->end;
+    size_t length;
     unsigned no = take_length(r, 2, &length);
-    if (no) return no;
-    r->end = r->at + length;
-    while (r->at < r->end) {
-        r->at++;
-        if ((no = take_pid(r)) || (no = take_descriptors(r))) return no;
-        r->entries += 2;
-    }
-    r->end = outer;
-    r->entries++;
-    return 0;
+    return no ? no : take_repeated(r, length, take_stream);
 }
 
 static unsigned take_channel(struct reader *r) {
@@ -96,57 +102,199 @@ static unsigned take_channel(struct reader *r) {
     return take_streams(r);
 }
 
-static unsigned take_resources(struct reader *r) {
-    unsigned no = take(r, 1);
-    if (no) return no;
-    size_t count = r->s[r->at - 1];
-    r->entries += 1 + 2 * count;
-    for (; count > 0; count--)
-        if ((no = take_digits(r, RESOURCE_BYTES))) return no;
-    return 0;
-}
-
-static unsigned take_message(struct reader *r) {
-    size_t length, outer = r->end;
-    unsigned no = take_length(r, 2, &length);
-    if (no) return no;
-    r->end = r->at + length;
+static unsigned take_message_fields(struct reader *r) {
+    unsigned no;
     if ((no = take_digits(r, IDENTIFIER_BYTES)) || (no = take(r, 2)) || (no = take_time(r, 0)) ||
         (no = take_time(r, 1)) || (no = take_type(r)) || (no = need(r, 1)))
         return no;
     if (!in_set(r->s[r->at] >> 4) || !in_set(r->s[r->at] & 15u)) return OUTSIDE;
     r->at++;
-    if ((no = take_resources(r)) || (no = reserved(r, 0xFE))) return no;
+    if ((no = take_several(r, 0, 0, 0xFF, take_resource)) || (no = take_small(r, 0xFE, 0, 1))) return no;
     r->entries += 10;
-    if (r->s[r->at++] & 1 && (no = take_channel(r))) return no;
-    if (r->at < r->end) return PAST_PART;
-    r->end = outer;
-    return 0;
+    return r->s[r->at - 1] & 1 ? take_channel(r) : 0;
+}
+
+static unsigned take_message(struct reader *r) {
+    size_t length;
+    unsigned no = take_length(r, 2, &length);
+    return no ? no : take_filled(r, length, take_message_fields);
 }
 
 static unsigned take_body(struct reader *r) {
-    size_t length;
-    unsigned no = take(r, 1);
-    if (no) return no;
-    for (size_t left = r->s[0]; left > 0; left--)
-        if ((no = take_message(r))) return no;
-    if ((no = take_length(r, 2, &length))) return no;
-    r->at += length;
-    r->entries += 3;
-    return r->at < r->n ? NW_LEFT_OVER : 0;
+    unsigned no = take_several(r, 0, 0, 0xFF, take_message);
+    return no ? no : take_signature(r);
 }
 
-// Judges a body; the reader then has the entries of its form.
-static nw_answer judge(struct reader *r, uint32_t kind) {
-    if (kind != NW_INDEX) return NW_OTHER_KIND;
-    if (r->n > NW_MOST_BODY) return NW_TOO_LARGE;
-    unsigned no = take_body(r);
-    return no ? refused(no, r->at) : 0;
+// ---- an accepted body laid onto a tape: nothing is judged any more
+
+// The count of things that fill a part, whose length is in the low bits of two bytes, and each.
+INLINED void lay_repeated(struct layer *l, size_t mask, void (*one)(struct layer *l)) {
+    size_t end = l->at + 2 + (big_endian(l->s + l->at, 2) & mask);
+    uint64_t *count = l->to++;
+    l->at += 2;
+    for (*count = 0; l->at < end; ++*count) one(l);
 }
+
+static void lay_descriptor(struct layer *l) {
+    lay_number(l, 1, 0xFF);
+    lay_part(l, 1);
+}
+
+static void lay_stream(struct layer *l) {
+    lay_number(l, 1, 0xFF);
+    lay_number(l, 2, 0x1FFF);
+    lay_repeated(l, MOST_SHORT, lay_descriptor);
+}
+
+static void lay_channel(struct layer *l) {
+    for (int i = 0; i < 3; i++) lay_number(l, 2, 0xFFFF);
+    lay_number(l, 2, 0x1FFF);
+    lay_repeated(l, MOST_SHORT, lay_descriptor);
+    lay_repeated(l, 0xFFFF, lay_stream);
+}
+
+static void lay_message(struct layer *l) {
+    l->at += 2;
+    lay_span(l, IDENTIFIER_BYTES);
+    lay_number(l, 2, 0xFFFF);
+    lay_number(l, 5, NW_LIVE);
+    lay_number(l, 5, NW_LIVE);
+    lay_span(l, TYPE_BYTES);
+    *l->to++ = l->s[l->at] >> 4;
+    lay_number(l, 1, 15);
+    lay_several(l, 0xFF, lay_resource);
+    lay_number(l, 1, 1);
+    if (l->to[-1]) lay_channel(l);
+}
+
+static void lay_body(struct layer *l) {
+    lay_several(l, 0xFF, lay_message);
+    lay_part(l, 2);
+}
+
+// ---- a form judged and measured
+
+static inline unsigned form_type(struct form *f) {
+    const uint8_t *s;
+    uint64_t length;
+    unsigned no = form_span(f, &s, &length);
+    return no || length != TYPE_BYTES || bad_type(s) ? OUTSIDE : 0;
+}
+
+static inline unsigned form_time(struct form *f, int is_end) {
+    unsigned no = form_number(f, 0, NW_LIVE);
+    return no ? no : start_or_end_fault(f->t[-1], is_end);
+}
+
+// The count of things that are to fill a part, whose length in two bytes is at most `most`, and each.
+INLINED unsigned form_repeated(struct form *f, uint64_t most, unsigned (*one)(struct form *f)) {
+    unsigned no = form_number(f, 0, UINT64_MAX);
+    if (no) return no;
+    uint64_t before = f->bytes;
+    for (uint64_t left = f->t[-1]; left > 0; left--)
+        if ((no = one(f))) return no;
+    f->large |= f->bytes - before > most;
+    f->bytes += 2;
+    return 0;
+}
+
+static unsigned form_descriptor(struct form *f) {
+    unsigned no = form_number(f, 0, 0xFF);
+    f->bytes++;
+    return no ? no : form_opaque(f, 1, 0xFF);
+}
+
+static unsigned form_stream(struct form *f) {
+    unsigned no;
+    if ((no = form_number(f, 0, 0xFF)) || (no = form_number(f, 0, 0x1FFF))) return no;
+    f->bytes += 3;
+    return form_repeated(f, MOST_SHORT, form_descriptor);
+}
+
+static unsigned form_channel(struct form *f) {
+    unsigned no;
+    for (int i = 0; i < 3; i++)
+        if ((no = form_number(f, 0, 0xFFFF))) return no;
+    f->bytes += 8;
+    if ((no = form_number(f, 0, 0x1FFF)) || (no = form_repeated(f, MOST_SHORT, form_descriptor))) return no;
+    return form_repeated(f, 0xFFFF, form_stream);
+}
+
+static unsigned form_message(struct form *f) {
+    uint64_t before = f->bytes;
+    unsigned no;
+    if ((no = form_digits(f, IDENTIFIER_BYTES)) || (no = form_number(f, 0, 0xFFFF)) || (no = form_time(f, 0)) ||
+        (no = form_time(f, 1)) || (no = form_type(f)) || (no = form_number(f, 1, 4)) || (no = form_number(f, 1, 4)) ||
+        (no = form_several(f, 0, UINT64_MAX, form_resource)) || (no = form_number(f, 0, 1)) ||
+        (f->t[-1] && (no = form_channel(f))))
+        return no;
+    f->bytes += COUNT_AT - IDENTIFIER_BYTES + 1;
+    f->large |= f->bytes - before > 0xFFFF;
+    f->bytes += 2;
+    return 0;
+}
+
+static unsigned form_body(struct form *f) {
+    unsigned no = form_several(f, 0, UINT64_MAX, form_message);
+    return no ? no : form_signature(f);
+}
+
+// ---- a form written: nothing is judged any more
+
+// So many things, after their length below the fixed bits of two bytes.
+INLINED void put_repeated(struct writer *w, uint64_t fixed, void (*one)(struct writer *w)) {
+    uint8_t *length = w->to;
+    w->to += 2;
+    for (uint64_t left = *w->t++; left > 0; left--) one(w);
+    put_length(w, length, 2, fixed);
+}
+
+static void put_descriptor(struct writer *w) {
+    put_number(w, 1, 0);
+    put_opaque(w, 1);
+}
+
+static void put_stream(struct writer *w) {
+    put_number(w, 1, 0);
+    put_number(w, 2, 0xE000);
+    put_repeated(w, 0xF000, put_descriptor);
+}
+
+static void put_channel(struct writer *w) {
+    for (int i = 0; i < 3; i++) put_number(w, 2, 0);
+    put_number(w, 2, 0xE000);
+    put_repeated(w, 0xF000, put_descriptor);
+    put_repeated(w, 0, put_stream);
+}
+
+static void put_message(struct writer *w) {
+    uint8_t *length = w->to;
+    w->to += 2;
+    put_digits(w);
+    put_number(w, 2, 0);
+    put_number(w, 5, 0);
+    put_number(w, 5, 0);
+    put_span(w);
+    *w->to++ = (uint8_t)(w->t[0] << 4 | w->t[1]);
+    w->t += 2;
+    put_several(w, 0, put_digits);
+    uint64_t flag = *w->t;
+    put_number(w, 1, 0xFE);
+    if (flag) put_channel(w);
+    put_length(w, length, 2, 0);
+}
+
+static void put_body(struct writer *w) {
+    put_several(w, 0, put_message);
+    put_opaque(w, 2);
+}
+
+// ---- whole bodies and forms
+
+static const struct table table = {NW_INDEX, take_body, lay_body, form_body, put_body};
 
 nw_answer plain_index_read(uint32_t kind, const uint8_t *body, size_t n) {
-    struct reader r = {body, n, n, 0, 0};
-    return judge(&r, kind);
+    return read_table(&table, kind, body, n);
 }
 
 nw_answer plain_index_records(uint32_t kind, const uint8_t *body, size_t n, nw_record *list, size_t room) {
@@ -164,233 +312,28 @@ nw_answer plain_index_records(uint32_t kind, const uint8_t *body, size_t n, nw_r
     return value(count);
 }
 
-// ---- an accepted body laid onto a tape: nothing is judged any more
-
-static void lay_descriptors(struct layer *l) {
-    size_t end = l->at + 2 + (big_endian(l->s + l->at, 2) & 0x3FF);
-    uint64_t *count = l->to++;
-    l->at += 2;
-    for (*count = 0; l->at < end; ++*count) {
-        lay_number(l, 1, 0xFF);
-        l->at++;
-        lay_span(l, l->s[l->at - 1]);
-    }
-}
-
-static void lay_channel(struct layer *l) {
-    for (int i = 0; i < 3; i++) lay_number(l, 2, 0xFFFF);
-    lay_number(l, 2, 0x1FFF);
-    lay_descriptors(l);
-    size_t end = l->at + 2 + big_endian(l->s + l->at, 2);
-    uint64_t *count = l->to++;
-    l->at += 2;
-    for (*count = 0; l->at < end; ++*count) {
-        lay_number(l, 1, 0xFF);
-        lay_number(l, 2, 0x1FFF);
-        lay_descriptors(l);
-    }
-}
-
-static void lay_message(struct layer *l) {
-    l->at += 2;
-    lay_span(l, IDENTIFIER_BYTES);
-    lay_number(l, 2, 0xFFFF);
-    lay_number(l, 5, NW_LIVE);
-    lay_number(l, 5, NW_LIVE);
-    lay_span(l, TYPE_BYTES);
-    *l->to++ = l->s[l->at] >> 4;
-    lay_number(l, 1, 15);
-    size_t resources = l->s[l->at];
-    lay_number(l, 1, 0xFF);
-    for (; resources > 0; resources--) lay_span(l, RESOURCE_BYTES);
-    lay_number(l, 1, 1);
-    if (l->to[-1]) lay_channel(l);
-}
-
 nw_answer plain_index_lay(uint32_t kind, const uint8_t *body, size_t n, uint64_t *tape, size_t entries) {
-    struct reader r = {body, n, n, 0, 0};
-    nw_answer got = judge(&r, kind);
-    if (NW_REFUSAL(got)) return got;
-    if (r.entries > entries) return NW_OUTPUT_TOO_SMALL;
-    struct layer l = {body, 0, tape};
-    lay_number(&l, 1, 0xFF);
-    for (size_t left = body[0]; left > 0; left--) lay_message(&l);
-    l.at += 2;
-    lay_span(&l, n - l.at);
-    return value(r.entries);
-}
-
-// ---- a form judged and measured
-
-static inline unsigned form_type(struct form *f) {
-    const uint8_t *s;
-    uint64_t length;
-    unsigned no = form_span(f, &s, &length);
-    return no || length != TYPE_BYTES || bad_type(s) ? OUTSIDE : 0;
-}
-
-static inline unsigned form_time(struct form *f, int is_end) {
-    unsigned no = form_number(f, 0, NW_LIVE);
-    return no ? no : time_fault(f->t[-1], is_end);
-}
-
-static unsigned form_descriptors(struct form *f) {
-    unsigned no = form_number(f, 0, UINT64_MAX);
-    if (no) return no;
-    uint64_t left = f->t[-1], before = f->bytes;
-    for (; left > 0; left--, f->bytes++)
-        if ((no = form_number(f, 0, 0xFF)) || (no = form_opaque(f, 1, 0xFF))) return no;
-    f->large |= f->bytes - before > 0x3FF;
-    f->bytes += 2;
-    return 0;
-}
-
-static unsigned form_streams(struct form *f) {
-    unsigned no = form_number(f, 0, UINT64_MAX);
-    if (no) return no;
-    uint64_t left = f->t[-1], before = f->bytes;
-    for (; left > 0; left--, f->bytes += 3)
-        if ((no = form_number(f, 0, 0xFF)) || (no = form_number(f, 0, 0x1FFF)) || (no = form_descriptors(f))) return no;
-    f->large |= f->bytes - before > 0xFFFF;
-    f->bytes += 2;
-    return 0;
-}
-
-static unsigned form_channel(struct form *f) {
-    unsigned no;
-    for (int i = 0; i < 3; i++)
-        if ((no = form_number(f, 0, 0xFFFF))) return no;
-    f->bytes += 8;
-    if ((no = form_number(f, 0, 0x1FFF)) || (no = form_descriptors(f))) return no;
-    return form_streams(f);
-}
-
-static unsigned form_resources(struct form *f) {
-    unsigned no = form_number(f, 0, UINT64_MAX);
-    if (no) return no;
-    uint64_t left = f->t[-1];
-    for (f->large |= left > 0xFF; left > 0; left--)
-        if ((no = form_digits(f, RESOURCE_BYTES))) return no;
-    return 0;
-}
-
-static unsigned form_message(struct form *f) {
-    uint64_t before = f->bytes;
-    unsigned no;
-    if ((no = form_digits(f, IDENTIFIER_BYTES)) || (no = form_number(f, 0, 0xFFFF)) || (no = form_time(f, 0)) ||
-        (no = form_time(f, 1)) || (no = form_type(f)) || (no = form_number(f, 1, 4)) || (no = form_number(f, 1, 4)) ||
-        (no = form_resources(f)) || (no = form_number(f, 0, 1)) || (f->t[-1] && (no = form_channel(f))))
-        return no;
-    f->bytes += RESOURCES_AT - IDENTIFIER_BYTES + 1;
-    f->large |= f->bytes - before > 0xFFFF;
-    f->bytes += 2;
-    return 0;
-}
-
-// 19, 18, 20 or 22 of a form, or its body's length.
-static nw_answer measure(struct form *f) {
-    unsigned no = form_number(f, 0, UINT64_MAX);
-    if (no) return no;
-    uint64_t left = f->t[-1];
-    f->bytes = 1;
-    for (f->large = left > 0xFF; left > 0; left--)
-        if ((no = form_message(f))) return no;
-    if ((no = form_opaque(f, 2, 0xFFFF))) return no;
-    if (f->left > 0) return OUTSIDE;
-    return f->large || f->bytes > NW_MOST_BODY ? NW_TOO_LARGE : value(f->bytes);
-}
-
-// ---- a form written: nothing is judged any more
-
-// The length of what was put after its two bytes.
-static inline void put_length(struct writer *w, uint8_t *at, unsigned fixed) {
-    put(at, fixed | (uint64_t)(w->to - at - 2), 2);
-}
-
-static void put_descriptors(struct writer *w) {
-    uint8_t *length = w->to;
-    w->to += 2;
-    for (uint64_t left = *w->t++; left > 0; left--) {
-        put_number(w, 1, 0);
-        put_opaque(w, 1);
-    }
-    put_length(w, length, 0xF000);
-}
-
-static void put_channel(struct writer *w) {
-    for (int i = 0; i < 3; i++) put_number(w, 2, 0);
-    put_number(w, 2, 0xE000);
-    put_descriptors(w);
-    uint8_t *length = w->to;
-    w->to += 2;
-    for (uint64_t left = *w->t++; left > 0; left--) {
-        put_number(w, 1, 0);
-        put_number(w, 2, 0xE000);
-        put_descriptors(w);
-    }
-    put_length(w, length, 0);
-}
-
-static void put_message(struct writer *w) {
-    uint8_t *length = w->to;
-    w->to += 2;
-    put_digits(w);
-    put_number(w, 2, 0);
-    put_number(w, 5, 0);
-    put_number(w, 5, 0);
-    put_span(w);
-    *w->to++ = (uint8_t)(w->t[0] << 4 | w->t[1]);
-    w->t += 2;
-    uint64_t resources = *w->t;
-    for (put_number(w, 1, 0); resources > 0; resources--) put_digits(w);
-    uint64_t flag = *w->t;
-    put_number(w, 1, 0xFE);
-    if (flag) put_channel(w);
-    put_length(w, length, 0);
+    return lay_table(&table, kind, body, n, tape, entries);
 }
 
 nw_answer plain_index_write(const uint8_t *pool, size_t pool_bytes, const uint64_t *tape, size_t entries, uint8_t *out,
                             size_t room) {
-    struct form f = {tape, entries, pool, pool_bytes, 0, 0};
-    nw_answer got = measure(&f);
-    if (NW_REFUSAL(got)) return got;
-    if (NW_VALUE(got) > room) return NW_OUTPUT_TOO_SMALL;
-    struct writer w = {tape, pool, out};
-    uint64_t left = *w.t;
-    for (put_number(&w, 1, 0); left > 0; left--) put_message(&w);
-    put_opaque(&w, 2);
-    return got;
+    return write_table(&table, pool, pool_bytes, tape, entries, out, room);
 }
 
 // ---- fields of a body asked for: what stands before them is passed by its length, and not judged
 
 nw_answer plain_index_message_count(const uint8_t *body, size_t n) { return n == 0 ? PAST_BODY : value(body[0]); }
 
-// Passes some messages from the second byte on.
-static unsigned skip_messages(struct reader *r, uint64_t count) {
-    size_t length;
-    unsigned no;
-    for (r->at = 1; count > 0; count--, r->at += length)
-        if ((no = take_length(r, 2, &length))) return no;
-    return 0;
-}
-
-static nw_answer part_after(struct reader *r, uint64_t messages) {
-    size_t length;
-    unsigned no = skip_messages(r, messages);
-    if (no || (no = take_length(r, 2, &length))) return refused(no, r->at);
-    return part(r->at, length);
-}
-
 nw_answer plain_index_message(const uint8_t *body, size_t n, uint64_t i) {
     struct reader r = {body, n, n, 0, 0};
-    if (n == 0) return PAST_BODY;
-    return i < body[0] ? part_after(&r, i) : OUTSIDE;
+    return asked_part_of_list(&r, i, 2);
 }
 
 nw_answer plain_index_signature(const uint8_t *body, size_t n) {
     struct reader r = {body, n, n, 0, 0};
-    return n == 0 ? PAST_BODY : part_after(&r, body[0]);
+    nw_answer no = skip_list(&r, 2);
+    return no ? no : asked_part(&r, 2);
 }
 
 // ---- fields of a message asked for, each at its own place
@@ -568,30 +511,8 @@ nw_answer plain_stream_descriptors(const uint8_t *body, size_t n, size_t end, si
 
 // ---- local times
 
-// The date of a day, as year, month and day of the answer's value. The year is taken to begin in March, so that a leap
-// day is its last, and days are counted from 1 March of the year 0, 678,881 days before day 0.
-static uint64_t date_of(uint64_t day) {
-    uint64_t z = day + 678881, era = z / 146097, of_era = z % 146097;
-    uint64_t year = (of_era - of_era / 1460 + of_era / 36524 - of_era / 146096) / 365;
-    uint64_t of_year = of_era - (365 * year + year / 4 - year / 100), month = (5 * of_year + 2) / 153;
-    uint64_t date = of_year - (153 * month + 2) / 5 + 1;
-    year += era * 400 + (month >= 10);
-    month += month < 10 ? 3 : (uint64_t)-9;
-    return year << 16 | month << 8 | date;
-}
-
-static uint64_t decimal(uint64_t digits) { return (digits >> 4 & 15) * 10 + (digits & 15); }
-
-// What nw_time_unpack answers of a good field: 19 for the offset, 18 for the live mark, 20 for a day out of range.
 static nw_answer local_time(nw_answer field, int32_t offset) {
-    if (NW_REFUSAL(field)) return field;
-    uint64_t x = NW_VALUE(field);
-    if (offset < -720 || offset > 840) return OUTSIDE;
-    if (x == NW_LIVE) return DIGIT;
-    uint64_t minute = (x >> 24) * 1440 + decimal(x >> 16) * 60 + decimal(x >> 8) + (uint64_t)(int64_t)offset;
-    uint64_t day = minute / 1440;
-    if (day < 15079 || day > 65535) return IMPOSSIBLE;
-    return value(date_of(day) << 24 | minute / 60 % 24 << 16 | minute % 60 << 8 | decimal(x));
+    return NW_REFUSAL(field) ? field : plain_time_unpack(NW_VALUE(field), offset);
 }
 
 nw_answer plain_message_local_start(const uint8_t *body, size_t n, size_t at, size_t length, int32_t offset) {

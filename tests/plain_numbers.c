@@ -33,18 +33,21 @@ uint32_t plain_crc32(const uint8_t *s, size_t n) {
     return by_bytes(held, s, n);
 }
 
+// Four bits at a time.
 uint16_t plain_crc16(const uint8_t *s, size_t n) {
-    uint32_t held = 0xFFFF;
-    for (size_t i = 0; i < n; i++) {
-        held ^= (uint32_t)s[i] << 8;
-        for (int bit = 0; bit < 8; bit++) held = held << 1 ^ (held & 0x8000 ? 0x11021 : 0);
+    static const uint16_t steps[16] = {0x0000, 0x1021, 0x2042, 0x3063, 0x4084, 0x50A5, 0x60C6, 0x70E7,
+                                       0x8108, 0x9129, 0xA14A, 0xB16B, 0xC18C, 0xD1AD, 0xE1CE, 0xF1EF};
+    unsigned held = 0xFFFF;
+    for (size_t i = 0; i < 2 * n; i++) {
+        unsigned next = i % 2 ? s[i / 2] & 15u : s[i / 2] >> 4;
+        held = (held << 4 & 0xFFFF) ^ steps[held >> 12 ^ next];
     }
     return (uint16_t)held;
 }
 
 // ---- days
 
-enum { FIRST_DAY = 15079, LAST_DAY = 65535, FIRST_YEAR = 1900, LAST_YEAR = 2038 };
+enum { FIRST_YEAR = 1900, LAST_YEAR = 2038 };
 
 // Days from 1 January of the year 1 to day 0, 17 November 1858.
 enum { BEFORE_DAY_0 = 678575 };
@@ -63,12 +66,18 @@ static uint32_t new_year(uint32_t year) {
 
 static int is_in_range(uint64_t day) { return day >= FIRST_DAY && day <= LAST_DAY; }
 
+int plain_is_day(uint32_t year, uint32_t month, uint32_t day) {
+    if (year < FIRST_YEAR || year > LAST_YEAR || month < 1 || month > 12) return 0;
+    if (day < 1 || day > days_of(year, month)) return 0;
+    uint32_t date = year << 16 | month << 8 | day;
+    return date >= (FIRST_YEAR << 16 | 3 << 8 | 1) && date <= (LAST_YEAR << 16 | 4 << 8 | 22);
+}
+
 nw_answer plain_day_of(uint32_t year, uint32_t month, uint32_t day) {
-    if (year < FIRST_YEAR || year > LAST_YEAR || month < 1 || month > 12) return IMPOSSIBLE;
-    if (day < 1 || day > days_of(year, month)) return IMPOSSIBLE;
+    if (!plain_is_day(year, month, day)) return IMPOSSIBLE;
     uint32_t number = new_year(year) + day - 1;
     for (uint32_t m = 1; m < month; m++) number += days_of(year, m);
-    return is_in_range(number) ? value(number) : IMPOSSIBLE;
+    return value(number);
 }
 
 nw_answer plain_date_of(uint32_t day) {
@@ -94,19 +103,14 @@ nw_answer plain_time_pack(uint32_t year, uint32_t month, uint32_t day, uint32_t 
                           int32_t offset) {
     if (!is_offset(offset)) return OUTSIDE;
     nw_answer local = plain_day_of(year, month, day);
-    if (NW_REFUSAL(local) || hour > 23 || minute > 59 || second > 59) return IMPOSSIBLE;
+    if (NW_REFUSAL(local) || !is_time(hour, minute, second)) return IMPOSSIBLE;
     uint64_t at = NW_VALUE(local) * MINUTES + hour * 60 + minute - (uint64_t)(int64_t)offset;
     if (!is_in_range(at / MINUTES)) return IMPOSSIBLE;
     return value(at / MINUTES << 24 | two_digits(at / 60 % 24) << 16 | two_digits(at % 60) << 8 | two_digits(second));
 }
 
-// 0, 19, 18 or 20 of a time field that is not live.
-static unsigned field_fault(uint64_t field) {
-    if (field >> 40) return OUTSIDE;
-    if (above_nine(field & 0xFFFFFF)) return DIGIT;
-    if (decimal(field >> 16) > 23 || decimal(field >> 8) > 59 || decimal(field) > 59) return IMPOSSIBLE;
-    return is_in_range(field >> 24) ? 0 : IMPOSSIBLE;
-}
+// 0, 19, 18 or 20 of any number as a time field that is not live.
+static unsigned field_fault(uint64_t field) { return field >> 40 ? OUTSIDE : time_fault(field); }
 
 nw_answer plain_time_unpack(uint64_t field, int32_t offset) {
     if (!is_offset(offset)) return OUTSIDE;

@@ -10,7 +10,11 @@ void plain_fill_tables(void);
 // Eight bytes at a time by eight tables; and, to measure by, a byte at a time by one.
 uint32_t plain_crc32(const uint8_t *s, size_t n);
 uint32_t plain_crc32_byte_table(const uint8_t *s, size_t n);
+
 uint16_t plain_crc16(const uint8_t *s, size_t n);
+
+// Whether there is such a day from 1 March 1900 to 22 April 2038.
+int plain_is_day(uint32_t year, uint32_t month, uint32_t day);
 
 nw_answer plain_day_of(uint32_t year, uint32_t month, uint32_t day);
 nw_answer plain_date_of(uint32_t day);
