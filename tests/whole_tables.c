@@ -281,9 +281,26 @@ static void ask_certificate(const uint8_t *body, size_t n) {
     TRY(certificate_signature, body, n);
 }
 
-// ---- the index table asked
+// ---- parts of a body asked
 
 static size_t end_of(nw_answer part) { return NW_PART_START(part) + NW_PART_LENGTH(part); }
+
+typedef void asks_part(const uint8_t *body, size_t n, size_t at, size_t length);
+
+// A part that was answered, and what begins and ends near it.
+static void ask_near(asks_part *ask, const uint8_t *body, size_t n, nw_answer part) {
+    if (NW_REFUSAL(part)) return;
+    ask(body, n, NW_PART_START(part), NW_PART_LENGTH(part));
+    ask(body, n, around(NW_PART_START(part)), around(NW_PART_LENGTH(part)));
+}
+
+// What begins anywhere, and ends about the body's end.
+static void ask_anywhere(asks_part *ask, const uint8_t *body, size_t n) {
+    size_t at = below(n + 2);
+    ask(body, n, at, around(n - at));
+}
+
+// ---- the index table asked
 
 // What begins at p in a part that ends at `end`. Answers where the next one begins.
 static size_t ask_placed(const uint8_t *body, size_t n, size_t end, size_t p, int is_stream) {
@@ -346,13 +363,9 @@ static void ask_index(const uint8_t *body, size_t n) {
     TRY(index_signature, body, n);
     for (int left = 4; left > 0; left--) {
         uint64_t i = one_of(count);
-        nw_answer part = TRY(index_message, body, n, i);
-        if (NW_REFUSAL(part)) continue;
-        ask_message(body, n, NW_PART_START(part), NW_PART_LENGTH(part));
-        ask_message(body, n, around(NW_PART_START(part)), around(NW_PART_LENGTH(part)));
+        ask_near(ask_message, body, n, TRY(index_message, body, n, i));
     }
-    size_t at = below(n + 2);
-    ask_message(body, n, at, around(n - at));
+    ask_anywhere(ask_message, body, n);
 }
 
 // ---- the content table asked
@@ -381,13 +394,9 @@ static void ask_content(const uint8_t *body, size_t n) {
     TRY(content_signature, body, n);
     for (int left = 4; left > 0; left--) {
         uint64_t i = one_of(count);
-        nw_answer part = TRY(content_language, body, n, i);
-        if (NW_REFUSAL(part)) continue;
-        ask_language(body, n, NW_PART_START(part), NW_PART_LENGTH(part));
-        ask_language(body, n, around(NW_PART_START(part)), around(NW_PART_LENGTH(part)));
+        ask_near(ask_language, body, n, TRY(content_language, body, n, i));
     }
-    size_t at = below(n + 2);
-    ask_language(body, n, at, around(n - at));
+    ask_anywhere(ask_language, body, n);
 }
 
 // ---- the configuration table asked
