@@ -1,10 +1,11 @@
 """Certificate bodies and forms, good, damaged, too large, by chance: as the library takes them and a second program."""
-import collections
 import itertools
 import random
 
 import calls
+import make_fields
 import second_certificate as second
+import table_checks as checks
 from second_certificate import KIND, MOST_BODY
 
 chance = random.Random(86)
@@ -139,26 +140,21 @@ def layings():
 
 
 def laid(lists, certificates, signature):
-    """The pool and the tape of some fields: shuffled, with bytes between them that belong to none."""
-    data = [*lists, *certificates, signature]
-    pool, begins = chance.randbytes(chance.randrange(3)), {}
-    for i in chance.sample(range(len(data)), len(data)):
-        begins[i] = len(pool)
-        pool += data[i] + chance.randbytes(chance.randrange(3))
-    spans = [[begins[i], len(data[i])] for i in range(len(data))]
-    return pool, [len(lists), *sum(spans[:len(lists)], []), len(certificates), *sum(spans[len(lists):], [])]
-
-
-def out(room):
-    """An output, whose bytes are seen to stay or go."""
-    return b'\xE5' * room
+    """The pool and the tape of some fields."""
+    form = make_fields.Form()
+    for name, parts in ('list', lists), ('certificate', certificates):
+        form.count(name + ' count', parts)
+        for part in parts:
+            form.span(name, part)
+    form.span('signature', signature)
+    return form.laid(chance), form.tape
 
 
 def rooms(form):
     """A form with outputs just long enough, one byte short, longer, and of no bytes."""
     pool, tape = form
     need = len(second.written(*second.form(pool, tape)))
-    return [('certificate_write', pool, tape, out(room)) for room in (need, need - 1, need + 1, need + 40, 0, 1)]
+    return [('certificate_write', pool, tape, checks.out(room)) for room in (need, need - 1, need + 1, need + 40, 0, 1)]
 
 
 FORMS = [laid(*fields(lists, certificates, most))
@@ -237,13 +233,13 @@ def writings():
         yield from rooms(laid(*fields(lists, certificates, 4)))
     for form in (*malformed(), *wrapping()):
         for room in 300, 0:
-            yield 'certificate_write', *form, out(room)
+            yield 'certificate_write', *form, checks.out(room)
     for form in too_large():
         for room in 3, 66000:
-            yield 'certificate_write', *form, out(room)
+            yield 'certificate_write', *form, checks.out(room)
     for form in at_most_body():
-        for room in 0, MOST_BODY - 1, MOST_BODY:
-            yield 'certificate_write', *form, out(room)
+        for pool, tape, room in make_fields.in_large_rooms(*form):
+            yield 'certificate_write', pool, tape, checks.out(room)
 
 
 # ---- what was written, read back
@@ -278,24 +274,18 @@ def read_back(cases, got):
     print('%d written bodies read back as they were asked for' % len(wrote))
 
 
-def by_refusal(got):
-    return collections.Counter(int(answer.split()[0]) for answer in got)
-
-
 def main():
     # Answers that document 01's words give at once.
     for body, answer in ((b'', '14 0'), (b'\0', '14 1'), (bytes(3), '14 2'), (bytes(5), '16 4'), (b'\1', '14 1'),
                          (b'\1\0\1', '14 1'), (b'\0\1\2a', '14 2'), (b'\1\0\1ab', '14 5'),
                          (bytes(4), '0 0 0 0 0 0 0 %d' % (4 * 2**24))):
         assert calls.told(second.certificate_read, KIND, body) == answer, body
-    reads, asks, lays, writes = list(readings()), list(askings()), list(layings()), list(writings())
-    got = calls.compare('a second program', second, reads + asks + lays + writes)
-    asked = len(reads) + len(asks)
-    told = {'read': by_refusal(got[:len(reads)]), 'asked': by_refusal(got[len(reads):asked]),
-            'laid': by_refusal(got[asked:-len(writes)]), 'written': by_refusal(got[-len(writes):])}
-    for what, refusals in told.items():
-        print(what, ', '.join('%d: %d' % pair for pair in sorted(refusals.items())))
-    assert [sorted(refusals) for refusals in told.values()] == [[0, 2, 14, 16, 22], [0, 19], [0, 2, 14, 16, 21], [0, 19, 21, 22]]
+    others, writes = [*readings(), *askings(), *layings()], [*writings()]
+    cases = others + writes
+    got = calls.compare('a second program', second, cases)
+    assert checks.by_refusal(cases, got) == {
+        'certificate_read': {0, 2, 14, 16, 22}, 'certificate_authorization': {0, 19}, 'certificate_part': {0, 19},
+        'certificate_lay': {0, 2, 14, 16, 21}, 'certificate_write': {0, 19, 21, 22}}
     assert len(got) > 20000
     read_back(writes, got[-len(writes):])
 

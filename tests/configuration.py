@@ -105,14 +105,6 @@ def askings(bodies):
         yield from of_body(byte * (MOST_BODY + 1))
 
 
-# ---- forms
-
-
-def writings():
-    for pool, tape, room in make_configuration.writings(SEED, COUNT):
-        yield 'configuration_write', pool, tape, checks.out(room)
-
-
 # The numbers with which each field of a command is answered, in the order of calls.c.
 OPAQUE = {0, 14, 15, 19}
 DATED = OPAQUE | {20}
@@ -123,9 +115,8 @@ OF_COMMAND = ({0, 19}, OPAQUE, *[DATED] * 6, OPAQUE, DIGITS, *[OPAQUE] * 9)
 def main():
     checks.there_and_back(chance, second_configuration.read, second_configuration.write, make_configuration)
     library = checks.Comparison(second_configuration_calls, 'configuration_', 'command_')
-    bodies = [*make_configuration.readings(SEED, COUNT)]
-    tables = {case: table for case in bodies
-              if (table := checks.table_or_none(second_configuration_calls.table_of, *case))}
+    bodies = [*make_fields.readings(make_configuration, SEED, COUNT)]
+    tables = checks.tables_of(second_configuration_calls.table_of, bodies)
     assert len(set(bodies)) > COUNT and len(tables) > COUNT // 4
 
     told = library.compare([*checks.hand_made(second_configuration_calls, by_hand()), *readings(bodies, tables)])
@@ -133,10 +124,8 @@ def main():
     body_numbers = {0, 2, 14, 15, 16, 17, 18, 19, 20, 22}
     assert told['configuration_read'] == body_numbers and told['configuration_lay'] == body_numbers | {21}
 
-    cases = [*writings()]
-    told = library.compare(cases)
-    assert len(cases) > COUNT and told == {'configuration_write': {0, 15, 18, 19, 20, 21, 22}}
-    library.must_meet('configuration_write', configuration_cases.WRITE)
+    numbers = {0, 15, 18, 19, 20, 21, 22}
+    library.compare_writings('configuration', make_configuration, numbers, configuration_cases.WRITE)
 
     cases = [*askings(bodies)]
     told = library.compare(cases)

@@ -95,20 +95,11 @@ def askings(bodies):
         yield from of_body(byte * (MOST_BODY + 1))
 
 
-# ---- forms
-
-
-def writings():
-    for pool, tape, room in make_content.writings(SEED, COUNT):
-        yield 'content_write', pool, tape, checks.out(room)
-
-
 def main():
     checks.there_and_back(chance, second_content.read, second_content.write, make_content)
     library = checks.Comparison(second_content_calls, 'content_', 'language_', 'auxiliary_')
     bodies = [*make_content.readings(SEED, COUNT)]
-    tables = {(kind, body): table for kind, body, _ in bodies
-              if (table := checks.table_or_none(second_content_calls.table_of, kind, body))}
+    tables = checks.tables_of(second_content_calls.table_of, ((kind, body) for kind, body, _ in bodies))
     assert len(set(bodies)) > COUNT and len(tables) > COUNT // 6
 
     told = library.compare([*checks.hand_made(second_content_calls, by_hand()), *readings(bodies, tables)])
@@ -116,10 +107,7 @@ def main():
     body_numbers = {0, 2, 14, 15, 16, 17, 18, 19, 22}
     assert told['content_read'] == body_numbers | {23} and told['content_lay'] == body_numbers | {21}
 
-    cases = [*writings()]
-    told = library.compare(cases)
-    assert len(cases) > COUNT and told == {'content_write': {0, 18, 19, 21, 22}}
-    library.must_meet('content_write', content_cases.WRITE)
+    library.compare_writings('content', make_content, {0, 18, 19, 21, 22}, content_cases.WRITE)
 
     cases = [*askings(bodies)]
     told = library.compare(cases)

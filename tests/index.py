@@ -166,19 +166,11 @@ def askings(bodies, tables):
         yield from of_body(body)
 
 
-# ---- forms
-
-
-def writings():
-    for pool, tape, room in make_index.writings(SEED, COUNT):
-        yield 'index_write', pool, tape, checks.out(room)
-
-
 def main():
     checks.there_and_back(chance, second_index.read, second_index.write, make_index)
     library = checks.Comparison(second_index_calls, 'index_', 'message_', 'descriptor_', 'stream_')
-    bodies = [*make_index.readings(SEED, COUNT)]
-    tables = {case: table for case in bodies if (table := checks.table_or_none(second_index_calls.table_of, *case))}
+    bodies = [*make_fields.readings(make_index, SEED, COUNT)]
+    tables = checks.tables_of(second_index_calls.table_of, bodies)
     assert len(set(bodies)) > COUNT and len(tables) > COUNT // 4
 
     told = library.compare([*checks.hand_made(second_index_calls, by_hand()), *readings(bodies, tables)])
@@ -186,10 +178,7 @@ def main():
     body_numbers = {0, 2, 14, 15, 16, 17, 18, 19, 20, 22}
     assert told['index_read'] == body_numbers and told['index_records'] == told['index_lay'] == body_numbers | {21}
 
-    cases = [*writings()]
-    told = library.compare(cases)
-    assert len(cases) > COUNT and told == {'index_write': {0, 18, 19, 20, 21, 22}}
-    library.must_meet('index_write', index_cases.WRITE)
+    library.compare_writings('index', make_index, {0, 18, 19, 20, 21, 22}, index_cases.WRITE)
 
     cases = [*askings(bodies, tables)]
     told = library.compare(cases)

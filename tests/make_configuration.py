@@ -1,7 +1,6 @@
 """Configuration tables by chance, as values, bodies and forms, good and damaged; all from a seed."""
 import datetime
 import itertools
-import random
 
 import make_fields as make
 from make_fields import END, MOST_BODY
@@ -233,11 +232,9 @@ def resource_bodies():
         yield bytes([1, 2, 0, size]) + content + rest
 
 
-def readings(seed, count):
-    """About so many bodies by chance, good and damaged, and some more that are always the same: what `read` takes."""
-    chance = random.Random(seed)
-    sample = sample_table(chance)
-    found = [
+def bodies_always(chance, sample):
+    """Bodies near a sample table, and of clocks, addresses and contents of every kind."""
+    return [
         *make.all_short(), *content_bodies(), *resource_bodies(), *(clock_body(*clock) for clock in clocks()),
         *(address_body(3, address) for address in (*GOOD_NAMES, *BAD_NAMES)),
         *(address_body(kind, b'1' * size) for kind in (1, 2, 3) for size in range(14)),
@@ -246,21 +243,9 @@ def readings(seed, count):
         *(address_body(3, b'a:%d' % port) for port in range(65500, 65600)),
         *make.near(items(sample)), *(body for one in samples(chance) for body in make.near(items(one))),
         *make.every_value(items(sample), ('command count', 'tag', 'mapping', 'address kind', 'volume'))]
-    tables = (table(chance) for _ in range(count // 5))
-    yield from ((KIND, body) for body in found)
-    yield from ((KIND, body) for body in make.bodies(chance, tables, items, BAD, large(chance)))
-    yield from ((KIND, make.body_of(items(one))) for one in largest(chance))
-    yield from make.kinds_and_sizes(KIND, make.body_of(items(sample)))
 
 
 # ---- forms
-
-
-def form(chance, table):
-    """The pool and the tape of a table."""
-    made = form_of(chance, table)
-    pool = made.laid(chance)
-    return pool, made.tape
 
 
 def form_of(chance, table):
@@ -356,20 +341,11 @@ def around_most_body():
     yield [255, *[200, 0, 65535] * 255, 0, 65535]
 
 
-def writings(seed, count):
-    """About so many forms by chance, good and damaged, and some more that are always the same: what `write` takes."""
-    chance = random.Random(seed)
-    tables = (table(chance) for _ in range(count // 5))
-    yield from make.forms(chance, tables, items, form_of, BAD_ENTRIES)
-    yield from make.forms(chance, large(chance), items, form_of, BAD_ENTRIES)
+def forms_always():
+    """Clocks and addresses of every kind, and forms around the most of each count and length."""
     yield from ((b'', [1, 1, *clock, 0, 0], 13) for clock in clocks())
     yield from ((pool, tape, 400) for pool, tape in name_forms())
     for tape in too_large():
         yield from make.with_faults(b'1' * 65537, tape, 66000)
     for tape in around_most_body():
-        for room in 0, MOST_BODY - 1, MOST_BODY:
-            yield b'1' * 65535, tape, room
-    made = form_of(chance, sample_table(chance))
-    pool = made.laid(chance)
-    yield from make.huge_counts(pool, made.names, made.tape, COUNTS)
-    yield from ((*one, 1000) for one in make.near_form(pool, made.tape))
+        yield from make.in_large_rooms(b'1' * 65535, tape)

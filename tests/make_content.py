@@ -140,13 +140,6 @@ def readings(seed, count):
 # ---- forms
 
 
-def form(chance, table):
-    """The pool and the tape of a table."""
-    made = form_of(chance, table)
-    pool = made.laid(chance)
-    return pool, made.tape
-
-
 def form_of(chance, table):
     made = make.Form()
     made.digits('identifier', table['identifier'], chance)
@@ -203,19 +196,9 @@ def around_most_body():
     yield tape(text=65535, agency=255, files=(65535, 65535), languages=5, signature=65535)
 
 
-def writings(seed, count):
-    """About so many forms by chance, good and damaged, and some more that are always the same: what `write` takes."""
-    chance = random.Random(seed)
-    tables = (table(chance) for _ in range(count // 5))
-    yield from make.forms(chance, tables, items, form_of, BAD_ENTRIES)
-    yield from make.forms(chance, large(chance), items, form_of, BAD_ENTRIES)
+def forms_always():
+    """Forms around the most of each count and length."""
     for one in too_large():
         yield from make.with_faults(b'a' * 65537, one, sum(one) + 100)
     for one in around_most_body():
-        pool = b'a' * max(65535, *one)
-        for room in 0, MOST_BODY - 1, MOST_BODY:
-            yield pool, one, room
-    made = form_of(chance, sample_table(chance))
-    pool = made.laid(chance)
-    yield from make.huge_counts(pool, made.names, made.tape, COUNTS)
-    yield from ((*one, 1000) for one in make.near_form(pool, made.tape))
+        yield from make.in_large_rooms(b'a' * max(65535, *one), one)

@@ -1,5 +1,6 @@
-"""What the generators of index, content and configuration tables share: parts by chance, damage to bodies and forms."""
+"""What the generators of tables share: parts by chance, damage to bodies and forms, whole readings and writings."""
 import itertools
+import random
 
 MOST_BODY = 1045504
 LIVE = 2**40 - 1
@@ -291,7 +292,7 @@ def one_of(*values):
     return lambda chance, what: chance.choice(values)
 
 
-# ---- whole readings
+# ---- whole readings, of a table whose maker is its generator's module
 
 
 FEW_VALUES = (0, 1, 2, 3, 4, 5, 6, 7, 9, 0x0A, 0x10, 0x44, 0x55, 0x7F, 0x80, 0x90, 0xA0, 0xEF, 0xF0, 0xF8, 0xFE, 0xFF)
@@ -368,6 +369,18 @@ def bodies(chance, tables, items, bad, large):
         yield body_of(good) + b'\0'
         for _ in range(6):
             yield damaged(chance, good, bad)
+
+
+def readings(maker, seed, count):
+    """What `read` takes: about so many bodies by chance, good and damaged, and some more that are always the same."""
+    chance = random.Random(seed)
+    sample = maker.sample_table(chance)
+    found = [*maker.bodies_always(chance, sample)]
+    tables = (maker.table(chance) for _ in range(count // 5))
+    yield from ((maker.KIND, body) for body in found)
+    yield from ((maker.KIND, body) for body in bodies(chance, tables, maker.items, maker.BAD, maker.large(chance)))
+    yield from ((maker.KIND, body_of(maker.items(one))) for one in maker.largest(chance))
+    yield from kinds_and_sizes(maker.KIND, body_of(maker.items(sample)))
 
 
 def kinds_and_sizes(right_kind, body):
@@ -495,6 +508,15 @@ def room_for(chance, size):
     return chance.choice((size, size, size + 1, size + 40, max(size - 1, 0), 0))
 
 
+def writings(maker, seed, count):
+    """What `write` takes: about so many forms by chance, good and damaged, and some more that are always the same."""
+    chance = random.Random(seed)
+    tables = itertools.chain((maker.table(chance) for _ in range(count // 5)), maker.large(chance))
+    yield from forms(chance, tables, maker.items, maker.form_of, maker.BAD_ENTRIES)
+    yield from maker.forms_always()
+    yield from near_form(chance, maker.form_of(chance, maker.sample_table(chance)), maker.COUNTS)
+
+
 def forms(chance, tables, items, form_of, bad):
     """Good forms, each with damaged ones and with little room."""
     for table in tables:
@@ -507,7 +529,14 @@ def forms(chance, tables, items, form_of, bad):
             yield *damaged_form(chance, form, pool, form.tape, bad), size + 40
 
 
-def near_form(pool, tape):
+def near_form(chance, form, counts):
+    """A form laid in a pool, with each of some counts huge and each part changed, in room that is enough."""
+    pool = form.laid(chance)
+    for changed in (*huge_counts(pool, form.names, form.tape, counts), *each_changed(pool, form.tape)):
+        yield *changed, 1000
+
+
+def each_changed(pool, tape):
     """Tapes that end early or go on, each entry changed, each byte of the pool changed."""
     yield from ((pool, tape[:size]) for size in range(len(tape)))
     yield from ((pool, tape + more) for more in ([0], [0, 0], [TOP - 1]))
@@ -530,10 +559,15 @@ def with_faults(pool, tape, size):
     yield pool, tape[:-2] + [0, 65536], size
 
 
+def in_large_rooms(pool, tape):
+    """A form around the largest body, with no room, room for it, and a byte less."""
+    return ((pool, tape, room) for room in (0, MOST_BODY - 1, MOST_BODY))
+
+
 def huge_counts(pool, names, tape, counts):
     """Each count of a form is huge, or some multiple of it is a small number of 64 bits; the tape stays as it is."""
     for i, name in enumerate(names):
         if name in counts:
             for more in (2**32, 2**56, 2**60, 2**61, 2**62, 2**63, TOP - 1):
                 for count in (more, (more + tape[i]) % TOP):
-                    yield pool, tape[:i] + [count] + tape[i + 1:], 1000
+                    yield pool, tape[:i] + [count] + tape[i + 1:]

@@ -1,6 +1,4 @@
 """Index tables by chance, as values, bodies and forms, good and damaged; all from a seed."""
-import random
-
 import make_fields as make
 from make_fields import END, LIVE, MOST_BODY, SHORT, TOP
 
@@ -172,27 +170,13 @@ BAD = {
     'stream PID': [make.cleared(3)]}
 
 
-def readings(seed, count):
-    """About so many bodies by chance, good and damaged, and some more that are always the same: what `read` takes."""
-    chance = random.Random(seed)
-    sample = sample_table(chance)
-    found = [*make.all_short(), *make.near(items(sample)),
-             *make.every_value(items(sample), ('class and level', 'channel flag', 'message count', 'resource count'))]
-    tables = (table(chance) for _ in range(count // 5))
-    yield from ((KIND, body) for body in found)
-    yield from ((KIND, body) for body in make.bodies(chance, tables, items, BAD, large(chance)))
-    yield from ((KIND, make.body_of(items(one))) for one in largest(chance))
-    yield from make.kinds_and_sizes(KIND, make.body_of(items(sample)))
+def bodies_always(chance, sample):
+    """Short bodies, and bodies near a sample table."""
+    return [*make.all_short(), *make.near(items(sample)),
+            *make.every_value(items(sample), ('class and level', 'channel flag', 'message count', 'resource count'))]
 
 
 # ---- forms
-
-
-def form(chance, table):
-    """The pool and the tape of a table."""
-    made = form_of(chance, table)
-    pool = made.laid(chance)
-    return pool, made.tape
 
 
 def form_of(chance, table):
@@ -296,18 +280,9 @@ def around_most_body():
     yield [255, *message * 255, 0, 65535]
 
 
-def writings(seed, count):
-    """About so many forms by chance, good and damaged, and some more that are always the same: what `write` takes."""
-    chance = random.Random(seed)
-    tables = (table(chance) for _ in range(count // 5))
-    yield from make.forms(chance, tables, items, form_of, BAD_ENTRIES)
-    yield from make.forms(chance, large(chance), items, form_of, BAD_ENTRIES)
+def forms_always():
+    """Forms around the most of each count and length."""
     for tape in too_large():
         yield from make.with_faults(b'a' * 65537, tape, 66000)
     for tape in around_most_body():
-        for room in 0, MOST_BODY - 1, MOST_BODY:
-            yield b'a' * 65535, tape, room
-    made = form_of(chance, sample_table(chance))
-    pool = made.laid(chance)
-    yield from make.huge_counts(pool, made.names, made.tape, COUNTS)
-    yield from ((*one, 1000) for one in make.near_form(pool, made.tape))
+        yield from make.in_large_rooms(b'a' * 65535, tape)

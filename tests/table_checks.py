@@ -1,4 +1,4 @@
-"""What the tests of index, content and configuration share: the library held to a second program, what must be met."""
+"""What the tests of tables share: the library held to a second program, what must be met."""
 import collections
 import types
 
@@ -37,6 +37,13 @@ class Comparison:
     def compare(self, cases):
         """The numbers with which each call, and each field of one that asks for several, was answered."""
         return by_refusal(cases, calls.compare('a second program', self.program, cases))
+
+    def compare_writings(self, table, make, numbers, refusals):
+        """The generator's forms written: these numbers are answered, these refusals met, and no others."""
+        call = table + '_write'
+        cases = [(call, pool, tape, out(room)) for pool, tape, room in make_fields.writings(make, SEED, COUNT)]
+        assert self.compare(cases) == {call: numbers} and len(cases) > COUNT
+        self.must_meet(call, refusals)
 
     def must_meet(self, call, expected):
         """Every refusal of a call that can be met, with the field that it is of, was met, and no other."""
@@ -80,15 +87,20 @@ def there_and_back(chance, read, write, make):
     for table in tables:
         body = make_fields.body_of(make.items(table))
         assert second_fields.plain(read(make.KIND, body)) == table
-        assert write(*make.form(chance, table), len(body)) == body
+        form = make.form_of(chance, table)
+        assert write(form.laid(chance), form.tape, len(body)) == body
     print('%d tables are read and written by the second program as they were made' % len(tables))
 
 
-def table_or_none(table_of, kind, body):
-    try:
-        return table_of(kind, body)
-    except calls.Refused:
-        return None
+def tables_of(table_of, bodies):
+    """The tables of those bodies, each with its kind, that are accepted."""
+    found = {}
+    for kind, body in bodies:
+        try:
+            found[kind, body] = table_of(kind, body)
+        except calls.Refused:
+            pass
+    return found
 
 
 # ---- lent outputs
