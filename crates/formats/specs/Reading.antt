@@ -20,6 +20,11 @@ abbrev pub need : {A : Type 0} → Bool → Refusal → Reading A → Reading A
 need true r x = x
 need false r x = refused r
 
+-- the number that was found, 0 for none
+abbrev pub valueOf : Reading ℕ → ℕ
+valueOf (found n q) = n
+valueOf (refused r) = 0
+
 -- what is wrong with a value, if anything
 pub data Fault : Type 0 where
   fine : Fault

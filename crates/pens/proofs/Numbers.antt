@@ -11,7 +11,7 @@ use lib.Dec.{leb, ltb}
 use borrow.Author.Tests.{ltb-true, ltb-false, le-leb, lt-leb, lt-ltb}
 use Rattle.refusal.specs.declared.Refusal.{Refusal}
 use Rattle.refusal.specs.declared.Refusal.the-variants.{OutsideSet}
-use Rattle.formats.specs.Reading.{Reading, found, refused, andThen, need, Fault, fine, unless, judged}
+use Rattle.formats.specs.Reading.{Reading, found, refused, andThen, need, Fault, fine, unless, judged, valueOf}
 use Rattle.formats.specs.Format.{Format, entry, bytesOf, count, only, among, number, nibbles, nibblesAmong, below, reserved}
 use Rattle.formats.specs.Answers.{numberOf}
 use Rattle.formats.specs.declared.Number.the-variants.{Is, Refused as NoNumber}
@@ -19,7 +19,7 @@ use Rattle.formats.proofs.Outcomes.{found-inj, andThen-found, need-found, judge
 use Rattle.formats.proofs.Leaves.{length-bytes, all-of}
 use Rattle.formats.proofs.Readers.{number-found, number-refused}
 use Rattle.formats.proofs.Bits.{bytes-power, below-power}
-use Rattle.pens.specs.Penned.{more, Penned, valueOf, valueAt, Counted}
+use Rattle.pens.specs.Penned.{more, Penned, valueAt, Counted}
 use Rattle.pens.specs.declared.Pen.{Pen}
 use Rattle.pens.specs.declared.Pen.the-variants.{At, Refused}
 use Rattle.pens.specs.declared.Count.{Count}

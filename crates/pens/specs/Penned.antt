@@ -8,7 +8,7 @@ use lib.Dec.{ltb}
 use Rattle.choices.specs.Choice.{if_then_else_}
 use Rattle.placing.specs.Placed.{placed}
 use Rattle.refusal.specs.declared.Refusal.{Refusal}
-use Rattle.formats.specs.Reading.{Reading, found, refused}
+use Rattle.formats.specs.Reading.{Reading, found, refused, valueOf}
 use Rattle.formats.specs.Format.{Format, entry, bytesOf}
 use Rattle.pens.specs.declared.Pen.{Pen}
 use Rattle.pens.specs.declared.Pen.the-variants.{At, Refused}
@@ -37,10 +37,6 @@ pub record Penned {A : Type 0} (F : Format A) (pool tape : List ℕ) (x : Pen) (
       → size + length (F .print a) ≤ 1045504 → size + length (F .print a) ≤ length out → out′ ≡ placed out size (F .print a)
 
 -- the number that the form lays out, 0 for none
-abbrev pub valueOf : Reading ℕ → ℕ
-valueOf (found n k) = n
-valueOf (refused r) = 0
-
 unfoldable pub valueAt : Format ℕ → List ℕ → List ℕ → Pen → ℕ
 valueAt C pool tape (At size k) = valueOf (C .form pool tape k)
 valueAt C pool tape (Refused r) = 0

@@ -11,7 +11,7 @@ use lib.Dec.{ltb, leb}
 use borrow.Author.Tests.{ltb-true, leb-true, le-leb}
 use Rattle.placing.specs.Placed.{placed}
 use Rattle.refusal.specs.declared.Refusal.the-variants.{PastBody, PastPart, OutsideSet}
-use Rattle.formats.specs.Reading.{Reading, found, refused, andThen, need, Fault, fine, faulty, unless, judged, within}
+use Rattle.formats.specs.Reading.{Reading, found, refused, andThen, need, Fault, fine, faulty, unless, judged, within, valueOf}
 use Rattle.formats.specs.Format.{Format, count, only, number, followed, _▷_, nothing, under, repeat, times, tapeAll, listOf, rest, Length, counted}
 use Rattle.formats.specs.Answers.{partOf}
 use Rattle.formats.proofs.Outcomes.{found-inj, andThen-found, judged-found, within-found}
@@ -19,7 +19,7 @@ use Rattle.formats.proofs.Classes.{Formal, Lawful, Filling}
 use Rattle.formats.proofs.Parts.{Counts, counted-lawful}
 use Rattle.formats.proofs.Lists.{all-steady}
 use Rattle.formats.proofs.Elements.{repeat-length}
-use Rattle.walks.specs.Walked.{onward, walked, Walked, valueOf, valueAt, Counted, openedBy, entered}
+use Rattle.walks.specs.Walked.{onward, walked, Walked, valueAt, Counted, openedBy, entered}
 use Rattle.walks.specs.declared.Walk.{Walk}
 use Rattle.walks.specs.declared.Walk.the-variants.{At, Refused}
 use Rattle.walks.specs.declared.Count.{Count}

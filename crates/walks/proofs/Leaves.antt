@@ -13,7 +13,7 @@ use Rattle.placing.specs.Placed.{placed}
 use Rattle.placing.proofs.Placing.{stored, placed-none, placed-next}
 use Rattle.refusal.specs.declared.Refusal.{Refusal}
 use Rattle.refusal.specs.declared.Refusal.the-variants.{PastBody, PastPart, DigitAboveNine, OutsideSet}
-use Rattle.formats.specs.Reading.{Reading, found, refused, andThen, need, Fault, unless, judged}
+use Rattle.formats.specs.Reading.{Reading, found, refused, andThen, need, Fault, unless, judged, valueOf}
 use Rattle.formats.specs.Format.{Format, numberAt, count, only, outside, number, nibbles, nibblesAmong, reserved, bytes, bytesAmong, every, halves, tail, decimal, digits, rest, Length, lengthOf, counted, opaque}
 use Rattle.formats.specs.Time.{time, endTime}
 use Rattle.formats.specs.Answers.{numberOf, partOf, fieldOf, numberRead, partRead}
@@ -28,7 +28,7 @@ use Rattle.formats.proofs.Readers.{number-found, number-refused, part-found, pa
 use Rattle.walks.specs.declared.Walk.{Walk}
 use Rattle.walks.specs.declared.Walk.the-variants.{At, Refused}
 use Rattle.walks.specs.declared.Count.{Count}
-use Rattle.walks.specs.Walked.{onward, walked, leaving, Inside, Walked, valueOf, valueAt, Counted, openedBy, entered}
+use Rattle.walks.specs.Walked.{onward, walked, leaving, Inside, Walked, valueAt, Counted, openedBy, entered}
 use Rattle.walks.specs.Entries.{Laid, Stepped, entryOf, pastNumber, worth, Told, spanOf, pastPart, endOf}
 use Rattle.walks.proofs.Pairs.{stays}
 use Rattle.walks.proofs.Counts.{entered-inside}

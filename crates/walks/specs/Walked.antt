@@ -8,7 +8,7 @@ use lib.Dec.{leb}
 use Rattle.choices.specs.Choice.{if_then_else_}
 use Rattle.refusal.specs.declared.Refusal.{Refusal}
 use Rattle.placing.specs.Placed.{placed}
-use Rattle.formats.specs.Reading.{Reading, found, refused}
+use Rattle.formats.specs.Reading.{Reading, found, refused, valueOf}
 use Rattle.formats.specs.Format.{Format, Length, counted, rest}
 use Rattle.formats.specs.Answers.{partOf}
 use Rattle.formats.specs.declared.Part.{Part}
@@ -56,10 +56,6 @@ pub record Walked {A : Type 0} (F : Format A) (s : List ℕ) (l : ℕ) (x : Walk
 -- ---- numbers and parts on the way
 
 -- the number that was found, 0 for none
-abbrev pub valueOf : Reading ℕ → ℕ
-valueOf (found n q) = n
-valueOf (refused r) = 0
-
 unfoldable pub valueAt : Format ℕ → List ℕ → ℕ → Walk → ℕ
 valueAt C s l (At p room) = valueOf (C .parse s l p)
 valueAt C s l (Refused r) = 0
