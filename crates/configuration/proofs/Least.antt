@@ -1,19 +1,15 @@
 -- No well-formed content of a command is shorter than the least content of its tag.
-use Prim.Native.Nat.{ℕ, zero, suc, _+_, _-_, _≤_, zero-le}
-use mathlib.Core.Path.{_≡_, refl, ap, _∙_}
+use Prim.Native.Nat.{ℕ, zero, suc, _+_, _≤_, zero-le}
+use mathlib.Core.Path.{_≡_, refl}
 use mathlib.Core.List.{List}
 use mathlib.Core.Bool.{true}
 use native.Mathlib.Omega.{arith}
-use native.Mathlib.Nat.{le-refl}
 use lib.ListN.{length, length-append}
 use Rattle.choices.proofs.Tests.{both}
 use Rattle.formats.specs.Format.{Format, Length, _▷_, followed, only, count, number, digits, listOf, opaque, lengthOf, rest, exact, counted}
-use Rattle.formats.specs.Answers.{fieldOf}
-use Rattle.formats.specs.declared.Part.the-variants.{Of}
-use Rattle.formats.proofs.Stand.{stands-whole}
 use Rattle.formats.proofs.Classes.{Ok}
-use Rattle.formats.proofs.Leaves.{length-bytes, digits-lawful}
-use Rattle.formats.proofs.Strings.{digits-part}
+use Rattle.formats.proofs.Leaves.{length-bytes}
+use Rattle.formats.proofs.Strings.{digits-take}
 use Rattle.formats.specs.Resource.{resource}
 use Rattle.configuration.specs.Configuration.{terminals, date, clock, fitting, address, Said, said, orderOf, least}
 
@@ -55,16 +51,6 @@ opaque-takes w = counted-takes w (lengthOf w) rest (count-takes w)
 address-takes : (kind : ℕ) → Takes 1 (address kind)
 unfolding address fitting
 address-takes kind = counted-takes 1 (fitting kind) _ (count-takes 1)
-
--- digits are read back from the bytes that they take
-digits-take : (h : ℕ) (ds : List ℕ) → Ok (digits h) ds → h + 1 ≡ length (digits h .print ds)
-digits-take h ds o =
-    let bs = digits h .print ds in
-    let n = length bs in
-    let e = digits-lawful h .back bs n 0 ds o (stands-whole bs) (omega arith) (le-refl n) in
-    let z : Of 0 (h + 1) ≡ Of 0 (0 + n - 0) = digits-part bs n 0 h ds (0 + n) e ∙ ap (fieldOf 0) e in
-    let y : h + 1 ≡ 0 + n - 0 = cc in
-    omega arith
 
 code-takes : (x : List ℕ × List ℕ) → (opaque 1 ▷ resource) .right x ≡ true → 13 ≤ length ((opaque 1 ▷ resource) .print x)
 unfolding followed digits

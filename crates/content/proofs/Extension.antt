@@ -1,9 +1,8 @@
 -- The extension: the first 18 bytes of an accepted or a written body are its identifier, whose CRC-16 the extension has to be.
-use Prim.Native.Nat.{ℕ, _+_, _-_, _≤_}
+use Prim.Native.Nat.{ℕ, _≤_}
 use mathlib.Core.Path.{_≡_, refl, sym, ap, _∙_}
 use mathlib.Core.List.{List}
 use native.Mathlib.Omega.{arith}
-use native.Mathlib.Nat.{le-refl}
 use lib.ListN.{length, take, length-append}
 use lib.Seq.{length-take-le, take-at}
 use lib.Dec.{leb, eqb}
@@ -14,17 +13,14 @@ use Rattle.refusal.specs.declared.Refusal.the-variants.{OtherKind, LeftOver, Ot
 use Rattle.crc.specs.Crc.{crc16Of}
 use Rattle.formats.specs.Reading.{Reading, found, refused, andThen, need}
 use Rattle.formats.specs.Format.{followed, digits, exact, view}
-use Rattle.formats.specs.Answers.{stepOf, fieldOf}
+use Rattle.formats.specs.Answers.{stepOf}
 use Rattle.formats.specs.Body.{longest, reading, bodyRead}
 use Rattle.formats.specs.declared.Step.the-variants.{At, Refused as NoStep}
-use Rattle.formats.specs.declared.Part.the-variants.{Of}
 use Rattle.formats.proofs.Outcomes.{found-inj, need-found}
-use Rattle.formats.proofs.Stand.{stands-whole}
 use Rattle.formats.proofs.Classes.{Bytes, Ok}
-use Rattle.formats.proofs.Leaves.{digits-lawful}
 use Rattle.formats.proofs.Elements.{exact-found, view-found, followed-found}
 use Rattle.formats.proofs.Laying.{table}
-use Rattle.formats.proofs.Strings.{digits-part, digits-fill}
+use Rattle.formats.proofs.Strings.{digits-part, digits-take, digits-fill}
 use Rattle.content.specs.Content.{contentKind, identifier, Content, fields, content, extensionOf, readingOf, contentRead}
 
 -- an accepted body begins with its identifier
@@ -40,20 +36,11 @@ module _ (w : ℕ) (s : List ℕ) (b : Bytes s) where
       (f .in-body, f .printed ∙ ap (identifier .print) same)
 
 -- and so does a printed one
-identifier-length : (ds : List ℕ) → Ok identifier ds → 18 ≡ length (identifier .print ds)
-identifier-length ds o =
-    let bs = identifier .print ds in
-    let n = length bs in
-    let e = digits-lawful 17 .back bs n 0 ds o (stands-whole bs) (omega arith) (le-refl n) in
-    let z : Of 0 18 ≡ Of 0 (0 + n - 0) = digits-part bs n 0 17 ds (0 + n) e ∙ ap (fieldOf 0) e in
-    let y : 18 ≡ 0 + n - 0 = cc in
-    omega arith
-
 pub printed-identifier : (w : ℕ) (c : Content) → Ok (content w) c → (18 ≤ length (content w .print c)) × (take 18 (content w .print c) ≡ identifier .print (c .identifier))
 unfolding content fields exact view followed digits
 printed-identifier w c o =
     let right = both (identifier .right (c .identifier)) _ (o .right) .0 in
-    let long = identifier-length (c .identifier) (record { right = right; small = refl }) in
+    let long = digits-take 17 (c .identifier) (record { right = right; small = refl }) in
     (simp length-append (omega (arith, long)), take-at (identifier .print (c .identifier)) _ 18 (sym long))
 
 module _ (w kind : ℕ) (s : List ℕ) where

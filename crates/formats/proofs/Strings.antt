@@ -23,9 +23,9 @@ use Rattle.formats.specs.Answers.{stepOf, numberOf, fieldOf, reached, nu
 use Rattle.formats.specs.declared.Step.the-variants.{At, Refused as NoStep}
 use Rattle.formats.specs.declared.Number.the-variants.{Is, Refused as NoNumber}
 use Rattle.formats.specs.declared.Part.the-variants.{Of, Refused as NoPart}
-use Rattle.formats.proofs.Stand.{taken}
+use Rattle.formats.proofs.Stand.{taken, stands-whole}
 use Rattle.formats.proofs.Outcomes.{found-inj, need-found, within-found}
-use Rattle.formats.proofs.Classes.{Bytes, Found}
+use Rattle.formats.proofs.Classes.{Bytes, Ok, Found}
 use Rattle.formats.proofs.Leaves.{reserved-found, digits-lawful}
 use Rattle.formats.proofs.Readers.{field-found, field-refused}
 use Rattle.formats.proofs.Bits.{number-is-count}
@@ -279,6 +279,16 @@ module _ (s : List ℕ) (l p h : ℕ) (ds : List ℕ) (q : ℕ) (e : digits h .p
   digits-many : Bytes s → length ds ≡ h + h + 1
   unfolding digits
   digits-many b = eqb-true (length ds) (h + h + 1) (both (eqb (length ds) (h + h + 1)) (decimal ds) (digits-stand b .ok .right) .0)
+
+-- digits are read back from the bytes that they take
+pub digits-take : (h : ℕ) (ds : List ℕ) → Ok (digits h) ds → h + 1 ≡ length (digits h .print ds)
+digits-take h ds o =
+    let bs = digits h .print ds in
+    let n = length bs in
+    let e = digits-lawful h .back bs n 0 ds o (stands-whole bs) (omega arith) (le-refl n) in
+    let z : Of 0 (h + 1) ≡ Of 0 (0 + n - 0) = digits-part bs n 0 h ds (0 + n) e ∙ ap (fieldOf 0) e in
+    let y : h + 1 ≡ 0 + n - 0 = cc in
+    omega arith
 
 digits-entries : (h : ℕ) (ds : List ℕ) (at : ℕ) → digits h .tape ds at ≡ at ∷ (h + 1) ∷ []
 unfolding digits
