@@ -18,14 +18,14 @@ use Rattle.formats.proofs.Leaves.{count-lawful, count-small, small-count, digit
 use Rattle.formats.proofs.Bits.{among-lawful}
 use Rattle.formats.proofs.Parts.{only-ok, only-lawful, only-filling, unless-even, outside-even, number-lawful, followed-lawful, view-lawful, rest-filling, exact-filling, Counts, counted-lawful, least-counts, opaque-lawful}
 use Rattle.formats.proofs.Lists.{list-lawful}
-use Rattle.formats.specs.Resource.{resource}
+use Rattle.formats.proofs.Resources.{resources-lawful}
 use Rattle.configuration.specs.Address.{lengthFits, isAddress}
 use Rattle.configuration.specs.Configuration.{terminals, dayFault, date, clock, addressFault, fitting, address, Order, setClock, setCode, tune, setReturn, setPeriod, setVolume, query, other, orderOf, said, least, command, fields, configuration}
 use Rattle.configuration.proofs.Least.{enough}
 
 pub terminals-lawful : Lawful terminals
 unfolding terminals
-terminals-lawful = list-lawful resource (digits-lawful 11) (count 1) (count-lawful 1)
+terminals-lawful = resources-lawful
 
 -- ---- the clock: whether a day or a time is possible does not depend on its place
 

@@ -5,6 +5,7 @@ pub mod Classes
 pub mod Leaves
 pub mod Parts
 pub mod Lists
+pub mod Resources
 pub mod RoundTrips
 pub mod Times
 pub mod Readers

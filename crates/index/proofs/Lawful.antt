@@ -10,8 +10,8 @@ use Rattle.formats.proofs.Leaves.{count-lawful, reserved-lawful, digits-lawful,
 use Rattle.formats.proofs.Bits.{nibbles-among-lawful, bytes-among-lawful}
 use Rattle.formats.proofs.Parts.{number-lawful, followed-lawful, under-lawful, view-lawful, exact-filling, counted-lawful, length-counts, length12-counts, opaque-lawful}
 use Rattle.formats.proofs.Lists.{list-lawful, many-filling}
+use Rattle.formats.proofs.Resources.{resources-lawful}
 use Rattle.formats.proofs.Times.{time-lawful, end-lawful}
-use Rattle.formats.specs.Resource.{resource, resources}
 use Rattle.index.specs.Index.{Descriptor, descriptor, descriptors, Stream, streamFields, stream, streams, channelFields, channel, flagged, head, named, unnamed, messageFields, message, fields, index}
 
 -- each takes a byte at least
@@ -75,9 +75,6 @@ unfolding head
 head-lawful =
     followed-lawful _ _ (digits-lawful 17) (λ a. followed-lawful _ _ (number-lawful 2) (λ b. followed-lawful _ _ time-lawful (λ c.
     followed-lawful _ _ end-lawful (λ d. followed-lawful _ _ (bytes-among-lawful 0 0x7F 5) (λ e. nibbles-among-lawful 1 4)))))
-
-pub resources-lawful : Lawful resources
-resources-lawful = list-lawful resource (digits-lawful 11) (count 1) (count-lawful 1)
 
 pub message-fields-lawful : Lawful messageFields
 unfolding messageFields

@@ -6,7 +6,8 @@ use Rattle.formats.proofs.Parts.{followed-lawful, length-counts}
 use Rattle.walks.proofs.Pairs.{pair, view-walk, exact-walk}
 use Rattle.walks.proofs.Counts.{counted-walk}
 use Rattle.index.specs.Index.{named, unnamed, message, messageFields}
-use Rattle.index.proofs.Lawful.{head-lawful, resources-lawful, flagged-lawful, inner-filling}
+use Rattle.formats.proofs.Resources.{resources-lawful}
+use Rattle.index.proofs.Lawful.{head-lawful, flagged-lawful, inner-filling}
 use Rattle.indexreader.proofs.walking.walk_message.Statement.{statement}
 use Rattle.indexreader.proofs.walking.walk_message.Tie as tie
 
