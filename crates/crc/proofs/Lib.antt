@@ -1,5 +1,6 @@
 -- The laws of the checksums and the values to hold.
 pub mod Laws
 pub mod Walk
+pub mod Braid
 pub mod Burst
 pub mod Vectors

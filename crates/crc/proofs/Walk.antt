@@ -59,27 +59,6 @@ walk-nibbles {w} {p} {s} {xs} {i} {r} r′ v h e e′ =
     walk-byte r′ v h
     (e′ ∙ ap (λ (x : ℕ). crc w p x (bitsOf 4 b)) e ∙ sym (ap (crc w p r) (bits-append 4 4 b) ∙ crc-append w p r (bitsOf 4 (b / 16)) (bitsOf 4 b)))
 
--- as many bytes as the register has, as the number d
-walk-word : (k : ℕ) {p s : ℕ} {xs : List ℕ} {i r : ℕ} (d r′ : ℕ) → Walk (8 * k) p s xs i r → bitsOf (8 * k) d ≡ bytesBits (take k (drop i xs))
-    → r′ ≡ crc (8 * k) p 0 (bitsOf (8 * k) (bitXor r d)) → Walk (8 * k) p s xs (i + k) r′
-walk-word k {p} {s} {xs} {i} {r} d r′ v h e = walk-more k r′ v (e ∙ sym (crc-whole (8 * k) p r d) ∙ ap (crc (8 * k) p r) h)
-
--- twice as many, as the numbers d and e of two parts
-pub walk-words : (k : ℕ) {p s : ℕ} {xs : List ℕ} {i r : ℕ} (d e a b : ℕ) → Walk (8 * k) p s xs i r
-    → bitsOf (8 * k) d ≡ bytesBits (take (i + k - i) (drop i xs)) → bitsOf (8 * k) e ≡ bytesBits (take (i + (k + k) - (i + k)) (drop (i + k) xs))
-    → a ≡ crc (8 * k) p 0 (bitsOf (8 * k) (bitXor r d) ++ replicate (8 * k) false) → b ≡ crc (8 * k) p 0 (bitsOf (8 * k) e)
-    → Walk (8 * k) p s xs (i + (k + k)) (bitXor b a)
-walk-words k {p} {s} {xs} {i} {r} d e a b v hd he ea eb =
-    let w : ℕ = 8 * k in
-    let x : List Bool = bitsOf w (bitXor r d) in
-    let first : i + k - i ≡ k = omega arith in
-    let second : i + (k + k) - (i + k) ≡ k = omega arith in
-    subst (λ (n : ℕ). Walk w p s xs n (bitXor b a)) (add-assoc i k k)
-    (walk-more k (bitXor b a) (walk-word k d (crc w p 0 x) v (hd ∙ ap (λ (n : ℕ). bytesBits (take n (drop i xs))) first) refl)
-    (xor-comm b a ∙ ap₂ bitXor (ea ∙ ap (λ (n : ℕ). crc w p 0 (x ++ replicate n false)) (sym (length-bits w e))) eb
-    ∙ sym (crc-apart w p 0 x (bitsOf w e)) ∙ crc-append w p 0 x (bitsOf w e)
-    ∙ ap (crc w p (crc w p 0 x)) (he ∙ ap (λ (n : ℕ). bytesBits (take n (drop (i + k) xs))) second)))
-
 -- ---- four bytes as one number
 
 pub four-bytes : (xs : List ℕ) → length xs ≡ 4 → xs ≡ getD xs 0 0 ∷ getD xs 1 0 ∷ getD xs 2 0 ∷ getD xs 3 0 ∷ []

@@ -8,8 +8,10 @@ ghost use mathlib.Core.Bool.{false};
 ghost use mathlib.Core.List.{[], _∷_, _++_};
 ghost use mathlib.Core.Path.{_≡_};
 ghost use lib.ListN.{length, replicate};
+ghost use Prim.Native.Nat.{_≤_};
 ghost use Rattle.register.specs.Register.{bitsOf, bytesBits, crc};
 ghost use Rattle.crc.specs.Crc.{crc16Of, crc32Of};
+ghost use Rattle.crc.specs.Lanes.{Read};
 
 // Four bytes as one number, the first the highest.
 fn joined(a: u8, b: u8, c: u8, d: u8) -> u32
@@ -46,39 +48,74 @@ fn by_bytes(reg: u32, s: &[u8]) -> u32
     r
 }
 
-// The register, from zero, after the 32 bits of x and 32 zeros.
-fn first_word(x: u32) -> u32
-    ensures { λ r. ⌜ r ≡ crc 32 0x04C11DB7 0 (bitsOf 32 x ++ replicate 32 false) ⌝ }
+// The register, from zero, after the 32 bits of x and 96 zeros.
+fn first_far(x: u32) -> u32
+    ensures { λ r. ⌜ r ≡ crc 32 0x04C11DB7 0 (bitsOf 32 x ++ replicate 96 false) ⌝ }
 {
-    firstword::table7(x / 16777216)
-        ^ (firstword::table6(x / 65536) ^ (firstword::table5(x / 256) ^ firstword::table4(x)))
+    firstfar::table15(x / 16777216)
+        ^ (firstfar::table14(x / 65536) ^ (firstfar::table13(x / 256) ^ firstfar::table12(x)))
+}
+
+// The register, from zero, after the 32 bits of x and 64 zeros.
+fn second_far(x: u32) -> u32
+    ensures { λ r. ⌜ r ≡ crc 32 0x04C11DB7 0 (bitsOf 32 x ++ replicate 64 false) ⌝ }
+{
+    secondfar::table11(x / 16777216)
+        ^ (secondfar::table10(x / 65536) ^ (secondfar::table9(x / 256) ^ secondfar::table8(x)))
 }
 
 // The register, from zero, after the 32 bits of x.
-fn second_word(x: u32) -> u32
+fn near(x: u32) -> u32
     ensures { λ r. ⌜ r ≡ crc 32 0x04C11DB7 0 (bitsOf 32 x) ⌝ }
 {
     secondword::table3(x / 16777216)
         ^ (secondword::table2(x / 65536) ^ (secondword::table1(x / 256) ^ secondword::table0(x)))
 }
 
-// CRC_32 of s, eight bytes a turn and the last few one a turn. A short string turns off first, before anything is made ready for the eight.
+// What two lanes leave: the place that they have come to, what goes in with the next word, and what is added two words on.
+struct Lanes {
+    at: usize,
+    next: u32,
+    later: u32,
+}
+
+// Two lanes, eight bytes a turn while sixteen are left: the words of a turn go in by their tables with eight bytes to follow, and what they
+// come to waits for a turn, so that no lookup waits for the turn before. The lanes change places each turn: every table has one lookup.
+//
+// The second word comes first: its lookups wait for nothing, and the compiler adds them up in the order of the code.
+fn two_lanes(s: &[u8]) -> Lanes
+    ensures { λ r. ⌜ (r .at ≤ length (now (s .entry))) × Read 0x04C11DB7 0xFFFFFFFF (now (s .entry)) (r .at) (r .next) 0 (r .later) ⌝ }
+{
+    let mut next: u32 = 0xFFFFFFFF;
+    let mut later: u32 = 0;
+    let mut i: usize = 0;
+    while 16 <= s.len() - i {
+        let waits = second_far(word(&s[i + 4..i + 8])) ^ first_far(next ^ word(&s[i..i + 4]));
+        next = later;
+        later = waits;
+        i += 8;
+    }
+    Lanes { at: i, next, later }
+}
+
+// CRC_32 of s: two lanes as far as they go; then four bytes a turn, which brings them together; then the last bytes.
 //
 // Only parts of s are lent: with s itself lent the compiler takes its address and length from memory, and every caller puts them there.
-// The second word comes first: its lookups need not wait for the turn before, and the compiler adds them up in the order of the code.
 pub fn crc32(s: &[u8]) -> u32
     ensures { λ r. ⌜ r ≡ crc32Of (now (s .entry)) ⌝ }
 {
-    let mut r: u32 = 0xFFFFFFFF;
-    if s.len() < 8 {
-        return by_bytes(r, &s[0..]);
+    let lanes = two_lanes(&s[0..]);
+    let mut i = lanes.at;
+    let mut next = lanes.next;
+    let mut after: u32 = 0;
+    let mut later = lanes.later;
+    while 4 <= s.len() - i {
+        next = after ^ near(next ^ word(&s[i..i + 4]));
+        after = later;
+        later = 0;
+        i += 4;
     }
-    let mut i: usize = 0;
-    while 8 <= s.len() - i {
-        r = second_word(word(&s[i + 4..i + 8])) ^ first_word(r ^ word(&s[i..i + 4]));
-        i += 8;
-    }
-    by_bytes(r, &s[i..])
+    by_bytes(next, &s[i..])
 }
 
 // The register after the four low bits of x.

@@ -1,107 +1,42 @@
--- `crc32` meets its contract: a short string is `by_bytes`; else the register is always that of the bytes passed, and the rest is `by_bytes`.
-use Prim.Native.Nat.{_-_, _≤_}
-use lib.ListN.{length}
+-- `crc32` meets its contract: what two lanes leave comes together in a turn or two, and the last bytes go in one a turn.
+use mathlib.Core.List.{List}
+use mathlib.Core.Path.{subst}
+use Prim.Native.Nat.{ℕ, _-_, _≤_}
+use native.Mathlib.Omega.{arith}
+use lib.ListN.{length, take, drop}
+use lib.Seq.{take-all}
 use borrow.Author.Needs.{needs}
 use Rattle.crc.specs.Crc.{crc32Of}
-use Rattle.crc.proofs.Walk.{Walk, walk-start, walk-words, walk-rest}
+use Rattle.crc.specs.Lanes.{Read}
+use Rattle.crc.proofs.Walk.{walk-rest}
+use Rattle.crc.proofs.Braid.{near-turn, read-end}
 use Rattle.crc.proofs.crc32.Statement.{statement}
 use Rattle.crc.proofs.crc32.Tie as tie
 
 abbrev Inv-loop : tie.InvT-loop
-Inv-loop s r₀ i₀ r i = (i ≤ length s) × Walk 32 0x04C11DB7 0xFFFFFFFF s i r
+Inv-loop s i₀ next₀ after₀ later₀ i next after later = (i ≤ length s) × (Read 0x04C11DB7 0xFFFFFFFF s i next after later)
 
 abbrev μ-loop : tie.MeasureT-loop
-μ-loop s r₀ i₀ r i = length s - i
+μ-loop s i₀ next₀ after₀ later₀ i next after later = length s - i
 
-sub-by-bytes : tie.Need-sub-by-bytes Inv-loop μ-loop
-sub-by-bytes c = search needs
-
-part-by-bytes-start : tie.Need-part-by-bytes-start Inv-loop μ-loop
-part-by-bytes-start c = search needs
-
-part-by-bytes-end : tie.Need-part-by-bytes-end Inv-loop μ-loop
-part-by-bytes-end c = search needs
-
-by-bytes-requires : tie.Need-by-bytes-requires Inv-loop μ-loop
-by-bytes-requires c κs = search needs
-
-returns : tie.Need-returns Inv-loop μ-loop
-unfolding crc32Of
-returns c = walk-rest (walk-start (search needs)) (c .by-bytes .ensures)
+-- the part that two lanes read is all of the string
+whole : (s : List ℕ) (i q0 q2 : ℕ) → let part = take (length s - 0) (drop 0 s) in
+    (i ≤ length part) × Read 0x04C11DB7 0xFFFFFFFF part i q0 0 q2 → (i ≤ length s) × Read 0x04C11DB7 0xFFFFFFFF s i q0 0 q2
+whole s i q0 q2 = subst (λ xs. (i ≤ length xs) × Read 0x04C11DB7 0xFFFFFFFF xs i q0 0 q2) (take-all (length s - 0) s (omega arith))
 
 loop-holds : tie.Need-loop-holds Inv-loop μ-loop
-loop-holds c = (search needs, walk-start (search needs))
-
-sub-loop : tie.Need-sub-loop Inv-loop μ-loop
-sub-loop c = search needs
-
-add-word : tie.Need-add-word Inv-loop μ-loop
-add-word c = search needs
-
-add-word-2 : tie.Need-add-word-2 Inv-loop μ-loop
-add-word-2 c = search needs
-
-sub-word : tie.Need-sub-word Inv-loop μ-loop
-sub-word c = search needs
-
-part-word-start : tie.Need-part-word-start Inv-loop μ-loop
-part-word-start c = search needs
-
-part-word-end : tie.Need-part-word-end Inv-loop μ-loop
-part-word-end c = search needs
-
-word-requires : tie.Need-word-requires Inv-loop μ-loop
-word-requires c κs = search needs
-
-second-word-requires : tie.Need-second-word-requires Inv-loop μ-loop
-second-word-requires c κs = search needs
-
-add-word-3 : tie.Need-add-word-3 Inv-loop μ-loop
-add-word-3 c = search needs
-
-sub-word-2 : tie.Need-sub-word-2 Inv-loop μ-loop
-sub-word-2 c = search needs
-
-part-word-start-2 : tie.Need-part-word-start-2 Inv-loop μ-loop
-part-word-start-2 c = search needs
-
-part-word-end-2 : tie.Need-part-word-end-2 Inv-loop μ-loop
-part-word-end-2 c = search needs
-
-word-requires-2 : tie.Need-word-requires-2 Inv-loop μ-loop
-word-requires-2 c κs = search needs
-
-first-word-requires : tie.Need-first-word-requires Inv-loop μ-loop
-first-word-requires c κs = search needs
-
-add-i : tie.Need-add-i Inv-loop μ-loop
-add-i c = search needs
-
-loop-less : tie.Need-loop-less Inv-loop μ-loop
-loop-less c = search needs
+loop-holds c = whole _ _ _ _ (c .two-lanes .ensures)
 
 loop-again : tie.Need-loop-again Inv-loop μ-loop
 loop-again c =
-    let m = c .before .before .before in (
-      search needs,
-      walk-words 4 _ _ _ _ (m .before .before .before .before .loop .inv .1) (c .before .word2 .ensures) (m .before .word .ensures) (c .first-word .ensures) (m .second-word .ensures),
-    )
+    let here = c .before .before .before .before .loop .inv .1 in
+    (search needs, near-turn here _ _ (c .before .word .ensures) (c .near .ensures))
 
-sub-by-bytes-2 : tie.Need-sub-by-bytes-2 Inv-loop μ-loop
-sub-by-bytes-2 c = search needs
-
-part-by-bytes-start-2 : tie.Need-part-by-bytes-start-2 Inv-loop μ-loop
-part-by-bytes-start-2 c = search needs
-
-part-by-bytes-end-2 : tie.Need-part-by-bytes-end-2 Inv-loop μ-loop
-part-by-bytes-end-2 c = search needs
-
-by-bytes-requires-2 : tie.Need-by-bytes-requires-2 Inv-loop μ-loop
-by-bytes-requires-2 c κs = search needs
-
-returns-2 : tie.Need-returns-2 Inv-loop μ-loop
+returns : tie.Need-returns Inv-loop μ-loop
 unfolding crc32Of
-returns-2 c = walk-rest (c .before .before .before .loop .inv .1) (c .by-bytes2 .ensures)
+returns c =
+    let read = c .before .before .before .loop .inv .1 in
+    walk-rest (read-end read (search needs)) (c .by-bytes .ensures)
 
 pub crc32-spec : {M : Type 1} → statement M
 crc32-spec =
@@ -109,31 +44,23 @@ crc32-spec =
     (tie.spec
     Inv-loop
     μ-loop
-    sub-by-bytes
-    part-by-bytes-start
-    part-by-bytes-end
-    by-bytes-requires
-    returns
+    (λ c. search needs)
+    (λ c. search needs)
+    (λ c. search needs)
+    (λ c κs. search needs)
     loop-holds
-    sub-loop
-    add-word
-    add-word-2
-    sub-word
-    part-word-start
-    part-word-end
-    word-requires
-    second-word-requires
-    add-word-3
-    sub-word-2
-    part-word-start-2
-    part-word-end-2
-    word-requires-2
-    first-word-requires
-    add-i
-    loop-less
+    (λ c. search needs)
+    (λ c. search needs)
+    (λ c. search needs)
+    (λ c. search needs)
+    (λ c. search needs)
+    (λ c κs. search needs)
+    (λ c κs. search needs)
+    (λ c. search needs)
+    (λ c. search needs)
     loop-again
-    sub-by-bytes-2
-    part-by-bytes-start-2
-    part-by-bytes-end-2
-    by-bytes-requires-2
-    returns-2)
+    (λ c. search needs)
+    (λ c. search needs)
+    (λ c. search needs)
+    (λ c κs. search needs)
+    returns)

@@ -1,0 +1,14 @@
+-- `second_far` meets its contract: its entries are the lookups of the four chunks of x, in the tables from 8 on.
+use borrow.Author.Needs.{needs}
+use Rattle.register.proofs.Lookups.{lookups, crc-lookups}
+use Rattle.crc.proofs.second_far.Statement.{statement}
+use Rattle.crc.proofs.second_far.Tie as tie
+
+returns : tie.Need-returns
+unfolding lookups
+returns c =
+    let a = c .before .before .before .before in
+    cc (crc-lookups 8 32 0x04C11DB7 8 3 (a .args .x))
+
+pub second-far-spec : {M : Type 1} → statement M
+second-far-spec = tie.close (tie.spec (λ c κs. search needs) (λ c κs. search needs) (λ c κs. search needs) (λ c κs. search needs) returns)
