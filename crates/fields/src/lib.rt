@@ -35,8 +35,8 @@ fn wide(x: u8) -> u64
     x as u64
 }
 
-// The number in w bytes at p, the high one first.
-fn number_at(s: &[u8], p: usize, w: usize) -> u64
+// The number in w bytes at p, the high one first, a byte a turn.
+fn long_number_at(s: &[u8], p: usize, w: usize) -> u64
     requires { ⌜ (p + w ≤ length (now s)) × (w ≤ 7) ⌝ }
     ensures { λ r. ⌜ r ≡ numberAt (now (s .entry)) p w ⌝ }
 {
@@ -48,6 +48,20 @@ fn number_at(s: &[u8], p: usize, w: usize) -> u64
         k = k + 1;
     }
     v
+}
+
+// The number in w bytes at p, the high one first: nearly all have one or two.
+fn number_at(s: &[u8], p: usize, w: usize) -> u64
+    requires { ⌜ (p + w ≤ length (now s)) × (w ≤ 7) ⌝ }
+    ensures { λ r. ⌜ r ≡ numberAt (now (s .entry)) p w ⌝ }
+{
+    if w == 1 {
+        return wide(s[p]);
+    }
+    if w == 2 {
+        return wide(s[p]) * 256 + wide(s[p + 1]);
+    }
+    long_number_at(s, p, w)
 }
 
 // A number of w bytes.
@@ -280,24 +294,70 @@ pub fn read_bytes(s: &[u8], l: usize, p: usize, n: usize, lo: u8, hi: u8) -> Par
     }
 }
 
-// Whether each of the n bytes at p holds two decimal digits.
-pub fn all_decimal(s: &[u8], p: usize, n: usize) -> bool
+// Whether the byte at p holds two decimal digits.
+fn one(s: &[u8], p: usize) -> bool
+    requires { ⌜ p + 1 ≤ length (now s) ⌝ }
+    ensures { λ r. ⌜ r ≡ decimal (halves (take 1 (drop p (now (s .entry))))) ⌝ }
+{
+    let b = s[p];
+    (b < 160) & (b % 16 < 10)
+}
+
+// Whether each of the two bytes at p does. No test waits for another, so that the compiler can join them.
+fn two(s: &[u8], p: usize) -> bool
+    requires { ⌜ p + 2 ≤ length (now s) ⌝ }
+    ensures { λ r. ⌜ r ≡ decimal (halves (take 2 (drop p (now (s .entry))))) ⌝ }
+{
+    one(s, p) & one(s, p + 1)
+}
+
+// Each of four.
+fn four(s: &[u8], p: usize) -> bool
+    requires { ⌜ p + 4 ≤ length (now s) ⌝ }
+    ensures { λ r. ⌜ r ≡ decimal (halves (take 4 (drop p (now (s .entry))))) ⌝ }
+{
+    two(s, p) & two(s, p + 2)
+}
+
+// Each of eight.
+fn eight(s: &[u8], p: usize) -> bool
+    requires { ⌜ p + 8 ≤ length (now s) ⌝ }
+    ensures { λ r. ⌜ r ≡ decimal (halves (take 8 (drop p (now (s .entry))))) ⌝ }
+{
+    four(s, p) & four(s, p + 4)
+}
+
+// Whether each of the n bytes at p does, one a turn.
+fn by_bytes(s: &[u8], p: usize, n: usize) -> bool
     requires { ⌜ p + n ≤ length (now s) ⌝ }
     ensures { λ r. ⌜ r ≡ decimal (halves (take n (drop p (now (s .entry))))) ⌝ }
 {
-    let end = p + n;
-    let mut k = p;
-    while k < end {
-        let b = s[k];
-        if 159 < b {
-            return false;
-        }
-        if 9 < b % 16 {
+    let mut k: usize = 0;
+    while k < n {
+        if !one(s, p + k) {
             return false;
         }
         k = k + 1;
     }
     true
+}
+
+// Whether each of the n bytes at p holds two decimal digits: eight a turn, and the last eight, some of them once more.
+pub fn all_decimal(s: &[u8], p: usize, n: usize) -> bool
+    requires { ⌜ p + n ≤ length (now s) ⌝ }
+    ensures { λ r. ⌜ r ≡ decimal (halves (take n (drop p (now (s .entry))))) ⌝ }
+{
+    let mut j: usize = 0;
+    while 8 < n - j {
+        if !eight(s, p + j) {
+            return false;
+        }
+        j = j + 8;
+    }
+    if 8 <= n {
+        return eight(s, p + (n - 8));
+    }
+    by_bytes(s, p, n)
 }
 
 // Four reserved bits and 2 h + 1 decimal digits, in h + 1 bytes: the first byte holds the reserved bits and one digit.

@@ -1,32 +1,47 @@
--- `fields::all_decimal` meets its contract: the bytes from here on hold decimal digits where all do.
-use Prim.Native.Nat.{_-_}
-use mathlib.Core.Path.{_≡_, refl}
-use lib.ListN.{take, drop}
-use Rattle.formats.specs.Format.{halves, decimal, every}
-use Rattle.formats.proofs.Strings.{every-done, pair, decimal-start, pairs-high, pairs-low, pairs-next}
+-- `fields::all_decimal` meets its contract: the bytes so far pass, and the last eight decide; which of them were tested before does not matter.
+use Prim.Native.Nat.{_-_, _≤_}
+use mathlib.Core.Path.{_≡_, refl, sym, _∙_}
+use mathlib.Core.Bool.{true}
 use native.Mathlib.Omega.{arith}
 use borrow.Author.Needs.{needs}
+use borrow.Author.Tests.{not-true, not-false}
+use Rattle.formats.specs.Format.{halves, decimal}
+use Rattle.fields.proofs.Digits.{digitsAt, digits-fail, digits-further, digits-last}
 use Rattle.fields.proofs.all_decimal.Statement.{statement}
 use Rattle.fields.proofs.all_decimal.Tie as tie
 
 abbrev Inv-loop : tie.InvT-loop
-Inv-loop s p n end k₀ k = decimal (halves (take n (drop p s))) ≡ every pair (take (end - k) (drop k s))
+Inv-loop s p n j₀ j = (j ≤ n) × (digitsAt s p j ≡ true)
 
 abbrev μ-loop : tie.MeasureT-loop
-μ-loop s p n end k₀ k = end - k
+μ-loop s p n j₀ j = n - j
 
 pub all-decimal-spec : {M : Type 1} → statement M
+unfolding decimal halves
 all-decimal-spec =
     tie.close
     (tie.spec
     Inv-loop
     μ-loop
-    (λ c. search needs)
-    (λ c. decimal-start (c .args .s .now) (c .args .p) (c .args .n) _ refl)
+    (λ c. (omega arith, refl))
     (λ c. omega arith)
-    (λ c. let v = c .before .before .before .loop in pairs-high _ (v .k) _ _ (v .inv) (omega arith) (omega arith) (omega arith))
-    (λ c. let v = c .before .before .before .before .loop in pairs-low _ (v .k) _ _ (v .inv) (omega arith) (omega arith) (omega arith) (omega arith))
-    (λ c. search needs)
-    (λ c. search needs)
-    (λ c. let v = c .before .before .before .before .loop in pairs-next _ (v .k) _ _ (v .inv) (omega arith) (omega arith) (omega arith) (omega arith))
-    (λ c. let v = c .before .loop in every-done _ _ (v .k) _ _ (v .inv) (omega arith)))
+    (λ c. omega arith)
+    (λ c κs. omega arith)
+    (λ c.
+    let given = c .before .before .before .before .before .args in
+    let v = c .before .before .before .loop in
+    sym (digits-fail (given .s .now) (given .p) (given .n) (v .j) (v .inv .1) 8 (omega arith) (sym (c .before .eight .ensures) ∙ not-true _ (c .if1 .taken))))
+    (λ c. omega arith)
+    (λ c. omega arith)
+    (λ c.
+    let given = c .before .before .before .before .before .args in
+    let v = c .before .before .before .loop in
+    (omega arith, digits-further (given .s .now) (given .p) (given .n) (v .j) (v .inv .1) 8 (sym (c .before .eight .ensures) ∙ not-false _ (c .if1 .left))))
+    (λ c. omega arith)
+    (λ c κs. omega arith)
+    (λ c.
+    let given = c .before .before .before .before .before .args in
+    let v = c .before .before .before .loop in
+    c .eight2 .ensures ∙ digits-last (given .s .now) (given .p) (given .n) (v .j) (v .inv .1) 8 (omega arith) (omega arith))
+    (λ c κs. omega arith)
+    (λ c. c .by-bytes .ensures))

@@ -1,33 +1,34 @@
--- `fields::number_at` meets its contract: after k turns v is the number of the first k bytes, and fits them.
-use Prim.Native.Nat.{_-_, _^_, _≤_, _<_}
-use mathlib.Core.Path.{_≡_, ap, _∙_}
-use native.Mathlib.Nat.{pow-zero}
-use Rattle.formats.specs.Format.{numberAt}
-use Rattle.formats.proofs.Readers.{number-start, number-more, more-fits, six-bytes}
+-- `fields::number_at` meets its contract: a number of one byte is the byte, one of two is the first times 256 and the second.
 use native.Mathlib.Omega.{arith}
 use borrow.Author.Needs.{needs}
+use Rattle.fields.proofs.Numbers.{number-one, number-two}
 use Rattle.fields.proofs.number_at.Statement.{statement}
 use Rattle.fields.proofs.number_at.Tie as tie
 
-abbrev Inv-loop : tie.InvT-loop
-Inv-loop s p w v₀ k₀ v k = (k ≤ w) × (v ≡ numberAt s p k) × (v < 256 ^ k)
+returns : tie.Need-returns
+returns c =
+    let given = c .before .before .before .before .args in
+    number-one (given .s .now) (given .p) (given .w) (c .wide .result) (omega arith) (c .wide .ensures .0)
 
-abbrev μ-loop : tie.MeasureT-loop
-μ-loop s p w v₀ k₀ v k = w - k
+returns-2 : tie.Need-returns-2
+returns-2 c =
+    let given = c .before .before .before .before .before .before .before .args in
+    number-two (given .s .now) (given .p) (given .w) (c .before .before .wide2 .result) (c .wide3 .result) (omega arith) (c .before .before .wide2 .ensures .0) (c .wide3 .ensures .0)
 
 pub number-at-spec : {M : Type 1} → statement M
 number-at-spec =
     tie.close
     (tie.spec
-    Inv-loop
-    μ-loop
-    (λ c. (omega arith, number-start _ _, omega (arith, pow-zero 256)))
+    (λ c. search needs)
+    (λ c κs. search needs)
+    returns
+    (λ c. search needs)
+    (λ c κs. search needs)
+    (λ c. search needs)
     (λ c. search needs)
     (λ c. search needs)
     (λ c κs. search needs)
-    (λ c. omega (arith, six-bytes (c .before .before .before .loop .k) (c .before .before .before .loop .v) (omega arith) (c .before .before .before .loop .inv .2)))
-    (λ c. omega (arith, six-bytes (c .before .before .before .loop .k) (c .before .before .before .loop .v) (omega arith) (c .before .before .before .loop .inv .2)))
     (λ c. search needs)
-    (λ c. search needs)
-    (λ c. let l = c .before .before .before .loop in (omega arith, number-more _ _ (l .k) (l .v) _ (l .inv .1) (c .wide .ensures .0), more-fits (l .k) (l .v) _ (l .inv .2) (c .wide .ensures .1)))
-    (λ c. let l = c .before .loop in l .inv .1 ∙ ap (numberAt _ _) (omega arith)))
+    returns-2
+    (λ c κs. search needs)
+    (λ c. search needs))

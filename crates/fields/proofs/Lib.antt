@@ -1,0 +1,3 @@
+-- The laws of digits tested side by side, and of short numbers.
+pub mod Digits
+pub mod Numbers
