@@ -41,7 +41,7 @@ fn put_heading(h: Heading, n: usize, out: &mut [u8])
     out[2] = (length % 256) as u8;
     out[3] = (h.extension / 256 % 256) as u8;
     out[4] = (h.extension % 256) as u8;
-    out[5] = 0xC0 + (h.version * 2 + bit(h.current));
+    out[5] = 0xC0 + ((h.version * 2) as u8 + bit(h.current));
     out[6] = h.number;
     out[7] = h.last;
 }
@@ -135,7 +135,7 @@ pub fn cut_section(
             let h = Heading {
                 kind: kind as u8,
                 extension: extension as u16,
-                version: version as u8,
+                version: version as u16,
                 current: true,
                 number: number as u8,
                 last: (count - 1) as u8,

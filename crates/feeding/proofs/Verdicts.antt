@@ -131,12 +131,13 @@ pub record Sized (s : List ℕ) (h : Heading) (n : ℕ) : Type 0 where
   pub long : length s ≡ n + 12
   pub short : n ≤ 4084
   pub numbered : h .number ≤ h .last
+  pub versioned : h .version ≤ 31
 
 pub sized : (s : List ℕ) (h : Heading) (n : ℕ) → readSection s ≡ Good h n → Sized s h n
 unfolding headingOf
 sized s h n e =
     let a = accepted s h n e in
-    record { long = accepted-length s h n a; short = accepted-short s h n a; numbered = rw (a .heading) (a .ordered) }
+    record { long = accepted-length s h n a; short = accepted-short s h n a; numbered = rw (a .heading) (a .ordered); versioned = rw (a .heading) (omega arith) }
 
 -- the part of it that is handed on is its payload
 pub payload-part : (s : List ℕ) (h : Heading) (n : ℕ) → Sized s h n → take (8 + n - 8) (drop 8 s) ≡ payloadOf s
@@ -208,11 +209,11 @@ module _ (g : Gathering) (store s : List ℕ) (h : Heading) where
       go false p = absurd (refuse-not-take ImpossibleState (sym (verdict-impossible g store s p) ∙ e))
 
   -- the payload lies in the byte string, is at most 4,084 bytes long, and has its place in the store
-  pub take-fits : verdictOf g store s ≡ Take h → (12 ≤ length s) × (length s ≤ 4096) × (place (h .number) + 4084 ≤ length store)
+  pub take-fits : verdictOf g store s ≡ Take h → (12 ≤ length s) × (length s ≤ 4096) × (place (h .number) + 4084 ≤ length store) × (h .version ≤ 31)
   take-fits e =
       let t = take-is e in
       let q = sized s h (t .length-of) (t .reads) in
-      (omega arith, omega arith, place-within (length store) (h .last) (h .number) (t .heard .roomy) (q .numbered))
+      (omega arith, omega arith, place-within (length store) (h .last) (h .number) (t .heard .roomy) (q .numbered), q .versioned)
 
 -- ---- answer, state and store
 

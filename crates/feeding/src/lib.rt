@@ -49,7 +49,7 @@ fn heading_agrees(g: Gathering, h: Heading) -> bool
     if g.extension != h.extension {
         return false;
     }
-    if g.version != h.version {
+    if (g.version as u16) != h.version {
         return false;
     }
     if g.last != h.last {

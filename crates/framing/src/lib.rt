@@ -12,7 +12,7 @@ pub struct Heading {
     // table_id: FB configuration, FC certificate, FD index, FE content.
     pub kind: u8,
     pub extension: u16,
-    pub version: u8,
+    pub version: u16,
     pub current: bool,
     pub number: u8,
     pub last: u8,
@@ -82,7 +82,7 @@ fn heading_of(s: &[u8]) -> Heading
     Heading {
         kind: s[0],
         extension: word_of(s[3], s[4]) as u16,
-        version: s[5] / 2 % 32,
+        version: (s[5] / 2 % 32) as u16,
         current: s[5] % 2 == 1,
         number: s[6],
         last: s[7],

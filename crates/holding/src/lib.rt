@@ -189,13 +189,13 @@ pub fn has_room(bytes: usize, last: u8) -> bool
 
 // The state with a section taken, whose payload has n bytes.
 pub fn with_section(g: Gathering, h: Heading, n: usize) -> Gathering
-    requires { ⌜ n ≤ 4084 ⌝ }
+    requires { ⌜ (n ≤ 4084) × (h .version ≤ 31) ⌝ }
     ensures { λ r. ⌜ r ≡ withSection g h n ⌝ }
 {
     let mut next = g;
     next.extension = h.extension;
     next.kind = h.kind;
-    next.version = h.version;
+    next.version = h.version as u8;
     next.last = h.last;
     next.held[h.number as usize] = n as u16 + 1;
     next

@@ -22,6 +22,7 @@ put-heading-spec =
     (λ c. search needs)
     (λ c. simp length-set (omega arith))
     (λ c. search needs)
+    (λ c. search needs)
     (λ c κs. search needs)
     (λ c. search needs)
     (λ c. search needs)

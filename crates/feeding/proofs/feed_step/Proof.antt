@@ -16,7 +16,7 @@ use Rattle.feeding.proofs.feed_step.Tie as tie
 taken-at : (c : tie.After-h) → verdictOf (c .before .before .before .before .before .before .args .g) (now (c .before .before .before .before .before .before .args .store)) (now (c .before .before .before .before .before .before .args .s)) ≡ Take (c .h .given .0 .0)
 taken-at c = sym (c .before .before .decide .ensures) ∙ c .h .given .1
 
-fits-at : (c : tie.After-h) → (12 ≤ length (now (c .before .before .before .before .before .before .args .s))) × (length (now (c .before .before .before .before .before .before .args .s)) ≤ 4096) × (place (c .h .given .0 .0 .number) + 4084 ≤ length (now (c .before .before .before .before .before .before .args .store)))
+fits-at : (c : tie.After-h) → (12 ≤ length (now (c .before .before .before .before .before .before .args .s))) × (length (now (c .before .before .before .before .before .before .args .s)) ≤ 4096) × (place (c .h .given .0 .0 .number) + 4084 ≤ length (now (c .before .before .before .before .before .before .args .store))) × (c .h .given .0 .0 .version ≤ 31)
 fits-at c = take-fits _ _ _ _ (taken-at c)
 
 long : (c : tie.After-place-of) → 8 ≤ length (now (c .before .before .before .before .before .before .before .before .args .s)) - 4

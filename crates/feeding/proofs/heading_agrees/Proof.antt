@@ -12,6 +12,7 @@ heading-agrees-spec =
     (λ c. agrees-none _ _ (c .if1 .taken))
     (λ c. agrees-not _ _ (omega arith) (λ s. omega arith))
     (λ c. agrees-not _ _ (omega arith) (λ s. omega arith))
+    (λ c. search needs)
     (λ c. agrees-not _ _ (omega arith) (λ s. omega arith))
     (λ c. agrees-not _ _ (omega arith) (λ s. omega arith))
     (λ c. agrees-same _ _ (search needs)))

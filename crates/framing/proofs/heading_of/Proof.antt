@@ -18,4 +18,5 @@ heading-of-spec =
     (λ c. search needs)
     (λ c. search needs)
     (λ c. search needs)
+    (λ c. search needs)
     (λ c. heading-of-is _ _ (c .before .before .before .before .word-of .ensures .0)))
