@@ -82,6 +82,42 @@ fn put_streams(pool: &[u8], tape: &[u64], x: Pen, out: &mut [u8], wet: bool) -> 
     pens::close(x, b, 2, 0, 65536, out, wet)
 }
 
+// The same once more for the channel's own: the compiler lays a function of this length into its caller only where it is called at one place.
+fn put_all_descriptors_of_channel(
+    pool: &[u8],
+    tape: &[u64],
+    x: Pen,
+    out: &mut [u8],
+    wet: bool,
+) -> Pen
+    ensures { λ r. ⌜ Penned (many descriptor) (now (pool .entry)) (now (tape .entry)) x wet (now (out .entry)) r (now (out .exit)) ⌝ }
+{
+    let things = pens::take_count(tape, x);
+    let mut pen = things.pen;
+    let mut left = things.n;
+    while 0 < left {
+        match put_descriptor(pool, tape, pen, out, wet) {
+            Pen::Refused(r) => {
+                return Pen::Refused(r);
+            }
+            Pen::At(size, k) => {
+                pen = Pen::At(size, k);
+            }
+        }
+        left = left - 1;
+    }
+    pen
+}
+
+// And so its length and they.
+fn put_descriptors_of_channel(pool: &[u8], tape: &[u64], x: Pen, out: &mut [u8], wet: bool) -> Pen
+    ensures { λ r. ⌜ Penned descriptors (now (pool .entry)) (now (tape .entry)) x wet (now (out .entry)) r (now (out .exit)) ⌝ }
+{
+    let a = pens::gap(x, 2);
+    let b = put_all_descriptors_of_channel(pool, tape, a, out, wet);
+    pens::close(x, b, 2, 0xF000, 1024, out, wet)
+}
+
 // "network, stream, program 16 each; 3 reserved, PCR PID 13", descriptors and streams.
 fn put_channel(pool: &[u8], tape: &[u64], x: Pen, out: &mut [u8], wet: bool) -> Pen
     ensures { λ r. ⌜ Penned channel (now (pool .entry)) (now (tape .entry)) x wet (now (out .entry)) r (now (out .exit)) ⌝ }
@@ -91,7 +127,7 @@ fn put_channel(pool: &[u8], tape: &[u64], x: Pen, out: &mut [u8], wet: bool) -> 
     let c = pens::put_number(tape, b, 2, out, wet);
     let pid = pens::put_reserved(tape, c, 3, 1, out, wet);
     let d = pid.pen;
-    let e = put_descriptors(pool, tape, d, out, wet);
+    let e = put_descriptors_of_channel(pool, tape, d, out, wet);
     put_streams(pool, tape, e, out, wet)
 }
 

@@ -23,5 +23,5 @@ put-channel-spec =
     (pair-pen (c .before .before .before .before .before .before .before .before .before .before .before .before .before .before .before .before .before .before .put-number2 .ensures _)
     (pair-pen (c .before .before .before .before .before .before .before .before .before .before .before .before .before .before .put-number3 .ensures _)
     (pair-pen (c .before .before .before .before .before .before .before .before .before .before .put-reserved .ensures _ .past)
-    (pair-pen (c .before .before .before .before .before .before .put-descriptors .ensures) (c .before .before .put-streams .ensures))))))
+    (pair-pen (c .before .before .before .before .before .before .put-descriptors-of-channel .ensures) (c .before .before .put-streams .ensures))))))
     _ _ (λ a. refl)))
