@@ -49,6 +49,20 @@ static uint64_t crc32_slicing(const uint8_t *s, size_t n) { return plain_crc32(s
 static uint64_t read_library(const uint8_t *s, size_t n) { return nw_section_read(s, n); }
 static uint64_t read_slicing(const uint8_t *s, size_t n) { return plain_section_read(s, n); }
 
+// ---- a day-first time read at an offset, and its field unpacked again
+
+enum { TEXT = 19, EAST = 480 };
+
+static uint64_t text_library(const uint8_t *s, size_t n) { return nw_time_read_text(s, n, EAST); }
+static uint64_t text_plain(const uint8_t *s, size_t n) { return plain_time_read_text(s, n, EAST); }
+
+static uint64_t field_of(const uint8_t *s) {
+    return (uint64_t)s[0] << 32 | (uint64_t)s[1] << 24 | (uint64_t)s[2] << 16 | (uint64_t)s[3] << 8 | s[4];
+}
+
+static uint64_t unpack_library(const uint8_t *s, size_t n) { return n ? nw_time_unpack(field_of(s), EAST) : 0; }
+static uint64_t unpack_plain(const uint8_t *s, size_t n) { return n ? plain_time_unpack(field_of(s), EAST) : 0; }
+
 // ---- a body cut into all its sections, one right after the other
 
 typedef nw_answer cutter(const uint8_t *body, size_t n, uint32_t kind, uint32_t extension, uint32_t version,
@@ -369,6 +383,10 @@ static void fill_bytes(size_t n) {
     for (size_t i = 0; i < n; i++) input[i] = (uint8_t)((chance = chance * 1664525 + 1013904223) >> 24);
 }
 
+// The text that document 01's date program is given first, and what it is at +8 hours as a field.
+static void fill_text(size_t n) { memcpy(input, "03/11/2024 07:45:00", n); }
+static void fill_field(size_t n) { memcpy(input, "\xEC\xC8\x23\x45\x00", n); }
+
 static void fill_section(size_t n) {
     static uint8_t payload[NW_MOST_PAYLOAD];
     fill_bytes(n - 12);
@@ -591,6 +609,8 @@ static const struct operation operations[] = {
      fill_section,
      {{"neapwillow", read_library}, {"C, slicing by 8", read_slicing}},
      {12, 188, 4096}},
+    {"time from text", fill_text, {{"neapwillow", text_library}, {"C", text_plain}}, {TEXT}},
+    {"time from a field", fill_field, {{"neapwillow", unpack_library}, {"C", unpack_plain}}, {5}},
     {"cutting",
      fill_bytes,
      {{"neapwillow", cut_library}, {"C, slicing by 8", cut_slicing}},
