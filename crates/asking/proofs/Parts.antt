@@ -10,8 +10,8 @@ use borrow.Author.Tests.{le-leb, lt-ltb}
 use Rattle.formats.specs.Reading.{found, fine}
 use Rattle.formats.specs.Format.{Format, digits, followed, many, rest, Length, lengthOf, counted, printAll}
 use Rattle.formats.specs.Answers.{partOf, digitRead}
+use Rattle.formats.specs.Held.{PartHolds}
 use Rattle.formats.specs.declared.Number.the-variants.{Is}
-use Rattle.formats.specs.declared.Part.{Part}
 use Rattle.formats.specs.declared.Part.the-variants.{Of}
 use Rattle.formats.proofs.Outcomes.{found-inj, andThen-found, judged-found, within-found}
 use Rattle.formats.proofs.Classes.{Bytes, Lawful, Filling}
@@ -58,15 +58,6 @@ counted-holds L F s l p x q e =
       bytes = bytes;
       part = ap partOf bytes ∙ rw (many, add-sub-cancel (i .1) m);
     }
-
--- the part answered, which ends at q, holds what F reads in it
-pub record PartHolds {A : Type 0} (F : Format A) (s : List ℕ) (part : Part) (x : A) (q : ℕ) : Type 0 where
-  pub at : ℕ
-  pub size : ℕ
-  pub is : part ≡ Of at size
-  pub ends : at + size ≡ q
-  pub in-body : q ≤ length s
-  pub inner : F .parse s q at ≡ found x q
 
 module _ {A : Type 0} (L : Length) (F : Format A) (f : Filling F) (s : List ℕ) (b : Bytes s) (l p : ℕ) (x : A) (q : ℕ) (e : counted L F .parse s l p ≡ found x q) where
   ends-there : counted-holds L F s l p x q e .at + counted-holds L F s l p x q e .size ≡ q

@@ -12,7 +12,8 @@ use Rattle.formats.specs.declared.Number.the-variants.{Is}
 use Rattle.formats.specs.declared.Part.{Part}
 use Rattle.formats.specs.declared.Part.the-variants.{Refused as NoPart}
 use Rattle.formats.proofs.Classes.{Bytes}
-use Rattle.formats.proofs.Elements.{Fills, exact-found, view-found, followed-found, list-found, listed-is, listed-past, opaque-fills}
+use Rattle.formats.specs.Held.{Fills}
+use Rattle.formats.proofs.Elements.{exact-found, view-found, followed-found, list-found, listed-is, listed-past, opaque-fills}
 use Rattle.formats.proofs.RoundTrips as trips
 use Rattle.certificate.specs.Certificate.{Certificates, certificateKind, named, unnamed, fields, certificate}
 use Rattle.certificate.specs.Asked.{parts, authorizationCount, authorizationPart, certificateCount, certificatePart, signaturePart}

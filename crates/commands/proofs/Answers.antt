@@ -30,7 +30,8 @@ use Rattle.configuration.specs.Configuration.{date, clock, addressFault, fittin
 use Rattle.asking.specs.Asking.{entry}
 use Rattle.asking.proofs.Answers.{part-found, part-refused}
 use Rattle.asking.proofs.Sizes.{count-sized, number-sized, only-found}
-use Rattle.asking.proofs.Parts.{counted-holds, PartHolds}
+use Rattle.formats.specs.Held.{PartHolds}
+use Rattle.asking.proofs.Parts.{counted-holds}
 use Rattle.commands.specs.declared.Place.the-variants.{In, Refused as NoPlace}
 use Rattle.commands.specs.declared.Three.the-variants.{Are, Refused as NoThree}
 use Rattle.commands.specs.Asked.{commandCount, signaturePart, tagAt, bytesAt, commandTag, commandContent, contentAt, inCommand, placeOf, threeOf, clockDate, clockTime, codeAddress, codeAt, addressIn, returnAddress, listAt, parameterAt, parameter, terminalsIn, terminalsAt, terminalCount, terminalAt}

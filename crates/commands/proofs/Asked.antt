@@ -27,7 +27,8 @@ use Rattle.configuration.proofs.Lawful.{said-filling, configuration-filling}
 use Rattle.asking.specs.Asking.{entry}
 use Rattle.asking.proofs.Sizes.{Sized, count-sized, only-found, number-sized, number-inside, digits-sized, next, repeat-sized, nth-sized}
 use Rattle.asking.proofs.Entries.{all-same}
-use Rattle.asking.proofs.Parts.{PartHolds, part-holds, bytes-hold, part-begins, digit-is, digits-bytes, depending-found}
+use Rattle.formats.specs.Held.{PartHolds}
+use Rattle.asking.proofs.Parts.{part-holds, bytes-hold, part-begins, digit-is, digits-bytes, depending-found}
 use Rattle.commands.specs.Asked.{commandCount, signaturePart, tagAt, bytesAt, commandTag, commandContent, contentAt, inCommand, clockDate, clockTime, clockYear, clockMonth, clockDay, clockHour, clockMinute, clockSecond, codeAddress, codeAt, codeResource, codeDigit, frequency, symbolRate, mapping, returnKind, addressIn, returnAddress, period, volume, parameterCount, listAt, parameterAt, parameter, terminalsIn, terminalsAt, terminalCount, terminalAt, terminal, terminalDigit}
 use Rattle.commands.proofs.Answers.{tag-found, content-there, three, address-fills}
 

@@ -3,7 +3,7 @@ use Prim.Native.Nat.{ℕ, zero, suc, _+_, _-_, _≤_, _<_}
 use mathlib.Core.Path.{_≡_, refl, sym, ap, ap₂, _∙_}
 use mathlib.Core.List.{List}
 use native.Mathlib.Omega.{arith}
-use lib.ListN.{length, getD, take, drop}
+use lib.ListN.{length, getD}
 use lib.Dec.{leb}
 use borrow.Author.Tests.{lt-ltb, le-ltb, leb-true}
 use Rattle.refusal.specs.declared.Refusal.{Refusal}
@@ -11,8 +11,7 @@ use Rattle.refusal.specs.declared.Refusal.the-variants.{OutsideSet}
 use Rattle.formats.specs.Reading.{Reading, found, refused, andThen}
 use Rattle.formats.specs.Format.{Format, repeat, listOf, followed, _▷_, view, exact, opaque}
 use Rattle.formats.specs.Answers.{partOf, after, listed}
-use Rattle.formats.specs.declared.Part.{Part}
-use Rattle.formats.specs.declared.Part.the-variants.{Of}
+use Rattle.formats.specs.Held.{Fills}
 use Rattle.formats.proofs.Outcomes.{found-inj, andThen-found, need-found}
 use Rattle.formats.proofs.Readers.{opaque-found}
 
@@ -93,10 +92,6 @@ module _ {A : Type 0} (C : Format ℕ) (F : Format A) (s : List ℕ) (l p : ℕ)
       rw (f .1, le-ltb i (length xs) h)
 
 -- ---- opaque bytes
-
--- the part of s that the bytes xs fill
-abbrev pub Fills : List ℕ → Part → List ℕ → Type 0
-Fills s part xs = (a n : ℕ) × (part ≡ Of a n) × (a + n ≤ length s) × (take n (drop a s) ≡ xs)
 
 pub opaque-fills : (s : List ℕ) (l p w : ℕ) (xs : List ℕ) (q : ℕ) → opaque w .parse s l p ≡ found xs q → Fills s (partOf (found xs q)) xs
 opaque-fills s l p w xs q e =

@@ -4,4 +4,5 @@ pub mod Format
 pub mod Time
 pub mod Resource
 pub mod Answers
+pub mod Held
 pub mod Body

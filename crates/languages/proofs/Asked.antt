@@ -22,7 +22,8 @@ use Rattle.asking.specs.Asking.{entry, nthOf}
 use Rattle.asking.proofs.Sizes.{among-sized, number-sized, bytes-are, bytes-sized, reserved-sized, digits-sized, next}
 use Rattle.asking.proofs.Answers.{asked}
 use Rattle.asking.proofs.Entries.{entry-found, nth-past, all-same, nth-same}
-use Rattle.asking.proofs.Parts.{PartHolds, part-holds, bytes-hold, part-begins, digit-is, digits-bytes}
+use Rattle.formats.specs.Held.{PartHolds}
+use Rattle.asking.proofs.Parts.{part-holds, bytes-hold, part-begins, digit-is, digits-bytes}
 use Rattle.content.specs.Content.{contentKind, Auxiliary, auxiliary, auxiliaries, Language, LanguageFields, languageFields, language, identifier, Content, Fields, fields, content, extensionOf}
 use Rattle.content.proofs.Lawful.{language-fields-lawful, content-filling}
 use Rattle.languages.specs.Asked.{identifierPart, identifierDigit, extension, languagesCounted, languageCount, languagePart, signaturePart, lettersPart, characterSet, textIn, agencyIn, auxiliariesIn, textPart, agencyPart, auxiliaryCount, typeIn, auxiliaryType, auxiliaryPart}

@@ -27,7 +27,8 @@ use Rattle.asking.specs.Asking.{fieldIn}
 use Rattle.asking.proofs.Sizes.{count-sized, number-sized, number-inside, time-sized, end-sized, nibbles-among-sized, bytes-are, bytes-sized, reserved-sized, digits-sized, next, repeat-sized, nth-sized}
 use Rattle.asking.proofs.Answers.{asked}
 use Rattle.asking.proofs.Entries.{all-same, after-same}
-use Rattle.asking.proofs.Parts.{PartHolds, part-holds, bytes-hold, part-begins, digit-is, digits-bytes, depending-found}
+use Rattle.formats.specs.Held.{PartHolds}
+use Rattle.asking.proofs.Parts.{part-holds, bytes-hold, part-begins, digit-is, digits-bytes, depending-found}
 use Rattle.index.specs.Index.{Descriptor, descriptor, descriptors, Stream, streamFields, stream, streams, Channel, ChannelFields, channelFields, channel, Flagged, flagged, identifier, Message, HeadFields, MessageFields, head, messageFields, named, unnamed, message, Index, fields, index, indexKind}
 use Rattle.messages.specs.Asked.{messageCount, messagePart, signaturePart, identifierPart, identifierDigit, network, start, end, typePart, class, level, resourceCount, resourceAt, resourcePart, resourceDigit, flagAt, flag, channelAt, channelNetwork, channelStream, channelProgram, pcrPid, descriptorsPart, streamsPart, firstByte, descriptorTag, descriptorPart, streamType, streamPid, streamDescriptors}
 use Rattle.index.proofs.Lawful.{all-descriptors-filling, all-streams-filling, inner-filling, index-filling}
