@@ -1,7 +1,7 @@
 -- Demand 3, for any list of byte strings, good and bad, that are fed to a fresh state and any store: "a body is handed out exactly when the good, current
 -- sections of the fixed table cover every number and no two of one number differ, and it is their contents in number order".
 use Prim.Native.Nat.{ℕ, _≤_}
-use mathlib.Core.Path.{_≡_, refl}
+use mathlib.Core.Path.{_≡_}
 use mathlib.Core.List.{List}
 use native.Mathlib.Omega.{arith}
 use lib.ListN.{length}
@@ -11,7 +11,7 @@ use Rattle.handing.specs.declared.Handed.the-variants.{Body}
 use Rattle.account.specs.Account.{Account, idle, account, Covered, Complete, bodyOf}
 use Rattle.account.specs.Gathers.{Box, freshBox, ByteStrings, run, handing, HandsOut, Refuses, Fixes, Gathers, Answers, nothing-begun, two-differ, one-missing, too-small, handed-out}
 use Rattle.account.proofs.Standing.{Stands, fresh-stands, calm-stands, spoiled-stands}
-use Rattle.account.proofs.Feeds.{run-stands}
+use Rattle.account.proofs.Feeds.{fresh-run}
 use Rattle.account.proofs.Finding.{finds}
 use Rattle.account.proofs.Handing.{answers-by}
 
@@ -52,14 +52,15 @@ fixes (spoiled-stands x l z k) = (x .same .kind, x .same .extension, x .same .ve
 -- ---- the theorems
 
 module _ (store : List ℕ) (fed : List (List ℕ)) (areBytes : ByteStrings fed) (out : List ℕ) where
-  stands : Stands (length store) (run (freshBox store) fed) (account (hasRoom (length store)) idle fed)
-  unfolding freshBox
-  stands = run-stands (length store) fed areBytes (freshBox store) idle (fresh-stands refl refl)
-
   -- every answer of handing out after a run, refusals too
   pub handing-answers : Answers (run (freshBox store) fed) out (account (hasRoom (length store)) idle fed)
-  handing-answers = answers-by (run (freshBox store) fed) out (finds (length store) (run (freshBox store) fed) stands)
+  handing-answers = answers-by (run (freshBox store) fed) out (finds (length store) (run (freshBox store) fed) (fresh-run store fed areBytes))
 
   pub demand-3 : Gathers (account (hasRoom (length store)) idle fed) (run (freshBox store) fed) out
   demand-3 =
-      record { fixed = fixes stands; only-when = only-complete handing-answers; when = when-complete handing-answers; body-is = what-body handing-answers }
+      record {
+        fixed = fixes (fresh-run store fed areBytes);
+        only-when = only-complete handing-answers;
+        when = when-complete handing-answers;
+        body-is = what-body handing-answers;
+      }

@@ -12,20 +12,19 @@ use Rattle.framing.specs.declared.Heading.{Heading}
 use Rattle.framing.specs.declared.Sectioned.the-variants.{Good}
 use Rattle.placing.proofs.Placing.{placed-length}
 use Rattle.framing.proofs.RoundTrip.{good-printed}
-use Rattle.holding.specs.State.{freshState, possibleOf, place, hasRoom, withSection}
+use Rattle.holding.specs.State.{freshState, place, hasRoom, withSection}
 use Rattle.holding.specs.declared.Gathering.{Gathering}
-use Rattle.holding.proofs.Lists.{greatest-at}
-use Rattle.holding.proofs.State.{Fresh, fresh-fields, fresh-one, place-within}
+use Rattle.holding.proofs.State.{place-within}
 use Rattle.feeding.specs.Feeding.{agrees, verdictOf, stateBy, storeBy}
 use Rattle.feeding.specs.declared.Verdict.{Verdict}
 use Rattle.feeding.specs.declared.Verdict.the-variants.{Refuse, Repeat, Contradict, Take}
-use Rattle.feeding.proofs.Verdicts.{SameHeading, Heard as Passed, agrees-none, agrees-is, verdict-bad, verdict-good, Decided, old, other, short, spoiled, new, again, clash, decided}
-use Rattle.account.specs.Account.{heard, Section, Account, idle, table, sameTable, counted, account, Agree}
-use Rattle.account.specs.Gathers.{Box, ByteStrings, feed, run}
+use Rattle.feeding.proofs.Verdicts.{SameHeading, Heard as Passed, verdict-bad, verdict-good, Decided, old, other, short, spoiled, new, again, clash, decided}
+use Rattle.account.specs.Account.{heard, Section, Account, idle, table, counted, account, Agree}
+use Rattle.account.specs.Gathers.{Box, freshBox, ByteStrings, feed, run}
 use Rattle.account.proofs.Taking.{Ready, begun-with}
 use Rattle.account.proofs.Keeping.{Kept, agree-front, kept-again, kept-clash, kept-more, kept-none}
 use Rattle.account.proofs.Hearing.{ReadAs, as-good, as-bad, readAs, heard-bad, heard-old, heard-good, counted-nothing, counted-first, counted-none, counted-same, counted-other, feed-by}
-use Rattle.account.proofs.Standing.{Fixed, Stands, fresh-stands, calm-stands, spoiled-stands, never, begun-kind, begun-possible, fresh-possible, fresh-ready, fixed-ready, fixed-spoiled, spoiled-marked, same-with, agrees-table, formed-kind}
+use Rattle.account.proofs.Standing.{Fixed, Stands, fresh-stands, calm-stands, spoiled-stands, never, stands-possible, fresh-agrees, fresh-calm, fresh-held, fresh-ready, fixed-ready, fixed-spoiled, spoiled-marked, same-with, fixed-agrees, fixed-heading, fixed-not-short, formed-kind}
 
 -- ---- a good section
 
@@ -78,11 +77,8 @@ module _ (bytes : ℕ) (box : Box) (s : List ℕ) (areBytes : AreBytes s) (h : H
 
   -- nothing begun: it begins, unless there is no room
   module _ (z : g ≡ freshState) (l : length (box .store) ≡ bytes) where
-    fresh : Fresh g
-    fresh = fresh-fields g (rw z fresh-one)
-
     empty : (k : ℕ) → getD (g .held) k 0 ≡ 0
-    empty k = let a = greatest-at (g .held) k in let b = fresh .none in omega arith
+    empty = rw z fresh-held
 
     begins : Passed g (box .store) h → verdictOf g (box .store) s ≡ Take h → Stands bytes (feed box s) (table h (section ∷ []))
     unfolding withSection
@@ -92,40 +88,30 @@ module _ (bytes : ℕ) (box : Box) (s : List ℕ) (areBytes : AreBytes s) (h : H
 
     good-fresh : (v : Verdict) → verdictOf g (box .store) s ≡ v → Decided g (box .store) h p v → Stands bytes (feed box s) (counted (hasRoom bytes) idle (heard s))
     good-fresh v f (old c) = still idle (fresh-stands z l) _ f _ (unheard idle c)
-    good-fresh v f (other c a) = never (agrees g h) (sym (agrees-none g h (fresh .kind))) a
+    good-fresh v f (other c a) = never (agrees g h) (rw z (fresh-agrees h)) a
     good-fresh v f (short c a r) = still idle (fresh-stands z l) _ f _ (rw (heard-good s h n e c) (counted-none (hasRoom bytes) h p (rw l at r)))
-    good-fresh v f (spoiled c a r x) = absurd (x (fresh .spoiled))
+    good-fresh v f (spoiled c a r x) = absurd (x (rw z fresh-calm))
     good-fresh v f (new x u) = rw (heard-good s h n e (x .current), counted-first (hasRoom bytes) h p (rw l at (x .roomy))) (begins x f)
     good-fresh v f (again x u q) = absurd (u (empty (h .number)))
     good-fresh v f (clash x u q) = absurd (u (empty (h .number)))
 
   -- a table is fixed
   module _ (t : Heading) (S : List Section) (x : Fixed g bytes t) (l : length (box .store) ≡ bytes) where
-    agreed : agrees g h ≡ true → SameHeading g h
-    agreed = agrees-is g h (begun-kind g (x .begun))
-
-    key : agrees g h ≡ sameTable t h
-    key = agrees-table g t h (x .same) (begun-kind g (x .begun))
-
-    -- its room was found when it was fixed
-    not-short : {A : Type 0} → agrees g h ≡ true → hasRoom (length (box .store)) (h .last) ≡ false → A
-    not-short a r = never (hasRoom bytes (t .last)) (x .roomy) (rw (l, ← (agreed a .last), x .same .last) at r)
-
     counts : h .current ≡ true → agrees g h ≡ true → counted (hasRoom bytes) (table t S) (heard s) ≡ table t (S ++ section ∷ [])
-    counts c a = rw (heard-good s h n e c) (counted-same (hasRoom bytes) h p t S (sym key ∙ a))
+    counts c a = rw (heard-good s h n e c) (counted-same (hasRoom bytes) h p t S (sym (fixed-agrees x h) ∙ a))
 
     passes : h .current ≡ true → agrees g h ≡ false → counted (hasRoom bytes) (table t S) (heard s) ≡ table t S
-    passes c a = rw (heard-good s h n e c) (counted-other (hasRoom bytes) h p t S (sym key ∙ a))
+    passes c a = rw (heard-good s h n e c) (counted-other (hasRoom bytes) h p t S (sym (fixed-agrees x h) ∙ a))
 
     good-calm : g .spoiled ≡ 0 → Kept g (box .store) S → (v : Verdict) → verdictOf g (box .store) s ≡ v → Decided g (box .store) h p v
         → Stands bytes (feed box s) (counted (hasRoom bytes) (table t S) (heard s))
     unfolding stateBy storeBy
     good-calm z k v f (old c) = still (table t S) (calm-stands x l z k) _ f _ (unheard (table t S) c)
     good-calm z k v f (other c a) = still (table t S) (calm-stands x l z k) _ f _ (passes c a)
-    good-calm z k v f (short c a r) = not-short a r
+    good-calm z k v f (short c a r) = fixed-not-short x h (box .store) l a r
     good-calm z k v f (spoiled c a r y) = absurd (y z)
     good-calm z k v f (new y u) =
-        let a = agreed (y .agreed) in
+        let a = fixed-heading x h (y .agreed) in
         rw (counts (y .current) (y .agreed))
         (takes t S (fixed-ready g bytes t h x (a .last)) k (same-with g t h (length p) (x .same) a) (sym (a .last) ∙ x .same .last) y l u f)
     good-calm z k v f (again y u q) =
@@ -138,7 +124,7 @@ module _ (bytes : ℕ) (box : Box) (s : List ℕ) (areBytes : AreBytes s) (h : H
         → Stands bytes (feed box s) (counted (hasRoom bytes) (table t S) (heard s))
     good-spoiled z k v f (old c) = still (table t S) (spoiled-stands x l z k) _ f _ (unheard (table t S) c)
     good-spoiled z k v f (other c a) = still (table t S) (spoiled-stands x l z k) _ f _ (passes c a)
-    good-spoiled z k v f (short c a r) = not-short a r
+    good-spoiled z k v f (short c a r) = fixed-not-short x h (box .store) l a r
     good-spoiled z k v f (spoiled c a r y) = still (table t (S ++ section ∷ [])) (spoiled-stands x l z (λ i. k (agree-front S (section ∷ []) i))) _ f _ (counts c a)
     good-spoiled z k v f (new y u) = absurd (z (y .calm))
     good-spoiled z k v f (again y u q) = absurd (z (y .calm))
@@ -147,11 +133,6 @@ module _ (bytes : ℕ) (box : Box) (s : List ℕ) (areBytes : AreBytes s) (h : H
 -- ---- any byte string, and any list of them
 
 module _ (bytes : ℕ) (box : Box) (s : List ℕ) (areBytes : AreBytes s) where
-  possible : {a : Account} → Stands bytes box a → possibleOf (box .state) ≡ true
-  possible (fresh-stands z l) = rw z fresh-possible
-  possible (calm-stands x l z k) = begun-possible (box .state) (x .begun)
-  possible (spoiled-stands x l z k) = begun-possible (box .state) (x .begun)
-
   feed-good : {a : Account} → Stands bytes box a → (h : Heading) (n : ℕ) → readSection s ≡ Good h n
       → (v : Verdict) → verdictOf (box .state) (box .store) s ≡ v → Decided (box .state) (box .store) h (payloadOf s) v
       → Stands bytes (feed box s) (counted (hasRoom bytes) a (heard s))
@@ -164,9 +145,10 @@ module _ (bytes : ℕ) (box : Box) (s : List ℕ) (areBytes : AreBytes s) where
   feed-stands {a} st = go (readAs s)
     where
       go : ReadAs s → Stands bytes (feed box s) (counted (hasRoom bytes) a (heard s))
-      go (as-good h n e) = feed-good st h n e _ (verdict-good (box .state) (box .store) s (possible st) h n e) (decided (box .state) (box .store) h (payloadOf s))
+      go (as-good h n e) =
+          feed-good st h n e _ (verdict-good (box .state) (box .store) s (stands-possible st) h n e) (decided (box .state) (box .store) h (payloadOf s))
       go (as-bad r e) =
-          rw (heard-bad s r e, counted-nothing (hasRoom bytes) a, feed-by box s (Refuse r) (verdict-bad (box .state) (box .store) s (possible st) r e)) st
+          rw (heard-bad s r e, counted-nothing (hasRoom bytes) a, feed-by box s (Refuse r) (verdict-bad (box .state) (box .store) s (stands-possible st) r e)) st
 
 pub run-stands : (bytes : ℕ) (fed : List (List ℕ)) → ByteStrings fed → (box : Box) (a : Account) → Stands bytes box a
     → Stands bytes (run box fed) (account (hasRoom bytes) a fed)
@@ -175,3 +157,9 @@ run-stands bytes [] areBytes box a st = st
 run-stands bytes (s ∷ fed) areBytes box a st =
     run-stands bytes fed (λ r i. areBytes r (List·Memᴰ·tail i)) (feed box s) (counted (hasRoom bytes) a (heard s))
     (feed-stands bytes box s (areBytes s (List·Memᴰ·head refl)) st)
+
+-- a run of feeds, from a fresh state
+pub fresh-run : (store : List ℕ) (fed : List (List ℕ)) → ByteStrings fed
+    → Stands (length store) (run (freshBox store) fed) (account (hasRoom (length store)) idle fed)
+unfolding freshBox
+fresh-run store fed areBytes = run-stands (length store) fed areBytes (freshBox store) idle (fresh-stands refl refl)

@@ -5,7 +5,7 @@ use mathlib.Core.Bool.{Bool, true, false, false≢true}
 use mathlib.Core.List.{List}
 use native.Mathlib.Omega.{arith}
 use borrow.Author.Tests.{ne-eqb, le-leb}
-use lib.ListN.{length, drop, replicate}
+use lib.ListN.{length, getD, drop, replicate}
 use lib.Seq.{getD-drop}
 use Rattle.framing.specs.Section.{isKind, WellFormed}
 use Rattle.framing.specs.declared.Heading.{Heading}
@@ -14,7 +14,7 @@ use Rattle.holding.specs.declared.Gathering.{Gathering}
 use Rattle.holding.proofs.Lists.{greatest-most, zeros-at}
 use Rattle.holding.proofs.State.{Begun, begun-test, possible-some, possible-none, fresh-one}
 use Rattle.feeding.specs.Feeding.{agrees}
-use Rattle.feeding.proofs.Verdicts.{SameHeading}
+use Rattle.feeding.proofs.Verdicts.{SameHeading, agrees-none, agrees-is}
 use Rattle.account.specs.Account.{Section, Account, idle, table, sameTable, Agree}
 use Rattle.account.specs.Gathers.{Box}
 use Rattle.account.proofs.Taking.{Ready}
@@ -40,7 +40,7 @@ never b p q = absurd (false≢true (sym q ∙ p))
 
 -- ---- states
 
-pub begun-kind : (g : Gathering) → Begun g → g .kind ≡ 0 → ⊥
+begun-kind : (g : Gathering) → Begun g → g .kind ≡ 0 → ⊥
 unfolding isKind
 begun-kind g b e = false≢true (rw e at (b .kind))
 
@@ -54,6 +54,19 @@ begun-possible g b = possible-some g (begun-kind g b) ∙ sym (begun-test g b)
 pub fresh-possible : possibleOf freshState ≡ true
 unfolding freshState
 fresh-possible = possible-none freshState refl ∙ fresh-one
+
+-- the fresh state agrees with every heading, is not spoiled and holds no number
+pub fresh-agrees : (h : Heading) → agrees freshState h ≡ true
+unfolding freshState
+fresh-agrees h = sym (agrees-none freshState h refl)
+
+pub fresh-calm : freshState .spoiled ≡ 0
+unfolding freshState
+fresh-calm = refl
+
+pub fresh-held : (k : ℕ) → getD (freshState .held) k 0 ≡ 0
+unfolding freshState
+fresh-held k = zeros-at 256 k
 
 pub fresh-none : nothingBegun freshState ≡ true
 unfolding nothingBegun freshState
@@ -99,11 +112,27 @@ same-with g t h n a b =
       last = sym (b .last) ∙ a .last;
     }
 
--- a state of t's table agrees with the headings of this table
-pub agrees-table : (g : Gathering) (t h : Heading) → SameHeading g t → (g .kind ≡ 0 → ⊥) → agrees g h ≡ sameTable t h
-unfolding agrees nothingBegun sameTable
-agrees-table g t h s k = rw (ne-eqb (g .kind) 0 k, s .kind, s .extension, s .version, s .last)
+-- a state of t's table agrees with the headings of this table, which has found room
+module _ {g : Gathering} {bytes : ℕ} {t : Heading} (x : Fixed g bytes t) (h : Heading) where
+  pub fixed-agrees : agrees g h ≡ sameTable t h
+  unfolding agrees nothingBegun sameTable
+  fixed-agrees = let s = x .same in rw (ne-eqb (g .kind) 0 (begun-kind g (x .begun)), s .kind, s .extension, s .version, s .last)
+
+  pub fixed-heading : agrees g h ≡ true → SameHeading g h
+  fixed-heading = agrees-is g h (begun-kind g (x .begun))
+
+  -- so 10 can't be
+  pub fixed-not-short : {A : Type 0} (store : List ℕ) → length store ≡ bytes → agrees g h ≡ true → hasRoom (length store) (h .last) ≡ false → A
+  fixed-not-short store l a r = never (hasRoom bytes (t .last)) (x .roomy) (rw (l, ← (fixed-heading a .last), x .same .last) at r)
 
 pub formed-kind : (h : Heading) → WellFormed h → isKind (h .kind) ≡ true
 unfolding isKind
 formed-kind h w = rw (le-leb 0xFB (h .kind) (w .kind-low), le-leb (h .kind) 0xFE (w .kind-high))
+
+-- ---- what a box stands for
+
+-- "A state is possible if it is exactly the fresh one, or" begun
+pub stands-possible : {bytes : ℕ} {box : Box} {a : Account} → Stands bytes box a → possibleOf (box .state) ≡ true
+stands-possible (fresh-stands z l) = rw z fresh-possible
+stands-possible {box = box} (calm-stands x l z k) = begun-possible (box .state) (x .begun)
+stands-possible {box = box} (spoiled-stands x l z k) = begun-possible (box .state) (x .begun)
