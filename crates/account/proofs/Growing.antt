@@ -6,6 +6,7 @@ use mathlib.Core.List.{List, [], _∷_, _++_, List·Memᴰ as In, List·Memᴰ·
 use mathlib.Core.Logic.{_⊎_, inl, inr}
 use native.Mathlib.Omega.{arith}
 use borrow.Author.Tests.{eq-eqb}
+use Rattle.choices.specs.Choice.{if_then_else_}
 use Rattle.framing.specs.Section.{payloadOf}
 use Rattle.framing.specs.declared.Heading.{Heading}
 use Rattle.account.specs.Account.{Heard, nothing, goodCurrent, heard, Section, Account, idle, table, sameTable, counted, account, Present}
@@ -48,6 +49,35 @@ account-none room (s ∷ fed) f = go (heardIs s) ∙ account-none room fed (λ t
     go : HeardIs s → account room (counted room idle (heard s)) fed ≡ account room idle fed
     go (hears-nothing e) = rw (e, counted-nothing room idle)
     go (hears h p e) = rw (e, counted-none room h p (f s (List·Memᴰ·head refl) h p e))
+
+-- ---- room
+
+-- a fixed table found room
+abbrev FoundRoom : (ℕ → Bool) → Account → Type 0
+FoundRoom room idle = Unit {0}
+FoundRoom room (table t S) = room (t .last) ≡ true
+
+counted-room : (room : ℕ → Bool) (a : Account) (x : Heard) → FoundRoom room a → FoundRoom room (counted room a x)
+unfolding counted
+counted-room room a nothing r = r
+counted-room room idle (goodCurrent h p) r = go (room (h .last)) refl
+  where
+    go : (b : Bool) → room (h .last) ≡ b → FoundRoom room (if b then table h (record { number = h .number; contents = p } ∷ []) else idle)
+    go true e = e
+    go false e = tt
+counted-room room (table t S) (goodCurrent h p) r = go (sameTable t h)
+  where
+    go : (b : Bool) → FoundRoom room (if b then table t (S ++ record { number = h .number; contents = p } ∷ []) else table t S)
+    go true = r
+    go false = r
+
+account-room : (room : ℕ → Bool) (a : Account) (fed : List (List ℕ)) → FoundRoom room a → FoundRoom room (account room a fed)
+unfolding account
+account-room room a [] r = r
+account-room room a (s ∷ fed) r = account-room room (counted room a (heard s)) fed (counted-room room a (heard s) r)
+
+pub table-room : (room : ℕ → Bool) (fed : List (List ℕ)) (t : Heading) (S : List Section) → account room idle fed ≡ table t S → room (t .last) ≡ true
+table-room room fed t S e = rw e at (account-room room idle fed tt)
 
 -- ---- the table's heading
 

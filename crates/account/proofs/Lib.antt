@@ -3,8 +3,10 @@ pub mod Parts
 pub mod Taking
 pub mod Keeping
 pub mod Hearing
+pub mod Agreeing
 pub mod Standing
 pub mod Feeds
+pub mod Answering
 pub mod Joining
 pub mod Finding
 pub mod Handing

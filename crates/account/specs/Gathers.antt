@@ -11,6 +11,7 @@ use Rattle.framing.specs.declared.Heading.{Heading}
 use Rattle.holding.specs.State.{freshState}
 use Rattle.holding.specs.declared.Gathering.{Gathering}
 use Rattle.feeding.specs.Feeding.{fedOf, storeAfter}
+use Rattle.feeding.specs.declared.Answer.{Answer}
 use Rattle.handing.specs.Handing.{handedOf, outAfter}
 use Rattle.handing.specs.declared.Handed.{Handed}
 use Rattle.handing.specs.declared.Handed.the-variants.{Body, Refused}
@@ -37,6 +38,14 @@ feed box s = record { state = fedOf (box .state) (box .store) s .state; store = 
 unfoldable pub run : Box → List (List ℕ) → Box
 run box [] = box
 run box (s ∷ fed) = run (feed box s) fed
+
+-- what a feed answers, and all the feeds of a run, in its order
+abbrev pub answerOf : Box → List ℕ → Answer
+answerOf box s = fedOf (box .state) (box .store) s .answer
+
+unfoldable pub answersOf : Box → List (List ℕ) → List Answer
+answersOf box [] = []
+answersOf box (s ∷ fed) = answerOf box s ∷ answersOf (feed box s) fed
 
 -- ---- handing out
 

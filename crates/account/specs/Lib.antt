@@ -1,4 +1,5 @@
 -- The definitions that the theorems cite.
 pub mod Account
+pub mod Answering
 pub mod Gathers
 pub mod Arrival
