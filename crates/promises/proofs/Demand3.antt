@@ -1,6 +1,11 @@
 -- Demand 3: the theorems of account.
+use lib.ListN.{length}
+use Rattle.holding.specs.State.{hasRoom}
 use Rattle.account.proofs.Demand3.{demand-3, handing-answers}
+use Rattle.account.proofs.Answering.{run-possible, feed-answers, run-answers}
+use Rattle.account.proofs.Growing.{table-room}
 use Rattle.account.proofs.Whole.{arrives-whole}
+use Rattle.account.proofs.Cuts.{printed-arrives, cut-arrives}
 use Rattle.account.proofs.Listed.{comes-back}
 use Rattle.promises.specs.Demand3.{Demand3}
 
@@ -11,6 +16,12 @@ demand3 =
       when = λ store fed b out. demand-3 store fed b out .when;
       body-is = λ store fed b out. demand-3 store fed b out .body-is;
       answers = handing-answers;
+      feeds = feed-answers;
+      all-feeds = run-answers;
+      possible = run-possible;
+      has-room = λ store. table-room (hasRoom (length store));
       arrives = arrives-whole;
+      printed-arrives = printed-arrives;
+      cut-arrives = cut-arrives;
       comes-back = comes-back;
     }
