@@ -1,4 +1,4 @@
-# make proves and builds the library and its two programs; it can also check, install, uninstall, drill and clean.
+# make proves and builds the library and its two programs; `make help` lists what else it can do.
 # What is built is for x86-64. Elsewhere it is cross-built, and what is run runs under the kit's emulator.
 VERSION := $(shell cat VERSION)
 PREFIX ?= /usr/local
@@ -11,17 +11,29 @@ INSTALL ?= install
 
 ARCHIVE = target/staticlib/libneapwillow.a
 PROGRAMS = dates section
-PAGES1 = $(PROGRAMS:%=$(MANDIR)/man1/%.1)
-PAGES3 = $(MANDIR)/man3/neapwillow.3
-INSTALLED = $(PROGRAMS:%=$(BINDIR)/%) $(LIBDIR)/libneapwillow.a $(LIBDIR)/pkgconfig/neapwillow.pc \
-    $(INCLUDEDIR)/neapwillow.h $(PAGES1) $(PAGES3)
-FILL = sed -e 's|@VERSION@|$(VERSION)|g' -e 's|@PREFIX@|$(PREFIX)|g' -e 's|@LIBDIR@|$(LIBDIR)|g' -e 's|@INCLUDEDIR@|$(INCLUDEDIR)|g'
+BUILT = $(ARCHIVE) $(PROGRAMS:%=target/bin/%)
+SOURCES := crates.txt $(shell find crates -type f)
 
-.PHONY: all check drill install uninstall clean
+# Below the prefix a folder is told by it, so that the installed tree can be moved as a whole.
+below = $(subst $(PREFIX)/,$${prefix}/,$(1))
+FILL = sed -e 's|@VERSION@|$(VERSION)|g' -e 's|@PREFIX@|$(PREFIX)|g' \
+    -e 's|@LIBDIR@|$(call below,$(LIBDIR))|g' -e 's|@INCLUDEDIR@|$(call below,$(INCLUDEDIR))|g'
 
-# rt staticlib and rt check, of what is older than a source.
-all:
+.PHONY: all help check drill install uninstall clean
+
+all: $(BUILT)
+
+# Only what is older than a source: once it is built, `make install` needs neither the prover nor a tree that can be written.
+$(BUILT) &: $(SOURCES)
 	tools/build
+
+help:
+	@echo 'make            proves and builds the library and the programs $(PROGRAMS)'
+	@echo 'make install    puts them down below PREFIX ($(PREFIX)), with header, man pages and pkg-config file; DESTDIR stages'
+	@echo 'make uninstall  removes them again'
+	@echo 'make check      runs the tests through C, without the proofs; ./test is the whole gate'
+	@echo 'make drill      a drill from end to end'
+	@echo 'make clean      removes what was built'
 
 # The tests through C, without the proofs' own gate: that is ./test.
 check: all
@@ -31,16 +43,20 @@ drill:
 	tools/drill
 
 install: all
-	$(INSTALL) -d $(addprefix $(DESTDIR),$(sort $(dir $(INSTALLED))))
-	$(INSTALL) -m 755 $(PROGRAMS:%=target/bin/%) $(DESTDIR)$(BINDIR)/
-	$(INSTALL) -m 644 $(ARCHIVE) $(DESTDIR)$(LIBDIR)/
-	$(INSTALL) -m 644 include/neapwillow.h $(DESTDIR)$(INCLUDEDIR)/
-	$(FILL) neapwillow.pc.in >$(DESTDIR)$(LIBDIR)/pkgconfig/neapwillow.pc
-	for page in $(PROGRAMS); do $(FILL) man/$$page.1.in >$(DESTDIR)$(MANDIR)/man1/$$page.1 || exit 1; done
-	$(FILL) man/neapwillow.3.in >$(DESTDIR)$(MANDIR)/man3/neapwillow.3
+	$(INSTALL) -d "$(DESTDIR)$(BINDIR)" "$(DESTDIR)$(LIBDIR)/pkgconfig" "$(DESTDIR)$(INCLUDEDIR)" "$(DESTDIR)$(MANDIR)/man1" "$(DESTDIR)$(MANDIR)/man3"
+	for name in $(PROGRAMS); do \
+	    $(INSTALL) -m 755 "target/bin/$$name" "$(DESTDIR)$(BINDIR)/" && \
+	    $(FILL) "man/$$name.1.in" >"$(DESTDIR)$(MANDIR)/man1/$$name.1" || exit 1; \
+	done
+	$(INSTALL) -m 644 $(ARCHIVE) "$(DESTDIR)$(LIBDIR)/"
+	$(INSTALL) -m 644 include/neapwillow.h "$(DESTDIR)$(INCLUDEDIR)/"
+	$(FILL) neapwillow.pc.in >"$(DESTDIR)$(LIBDIR)/pkgconfig/neapwillow.pc"
+	$(FILL) man/neapwillow.3.in >"$(DESTDIR)$(MANDIR)/man3/neapwillow.3"
 
 uninstall:
-	rm -f $(addprefix $(DESTDIR),$(INSTALLED))
+	for name in $(PROGRAMS); do rm -f "$(DESTDIR)$(BINDIR)/$$name" "$(DESTDIR)$(MANDIR)/man1/$$name.1"; done
+	rm -f "$(DESTDIR)$(LIBDIR)/libneapwillow.a" "$(DESTDIR)$(LIBDIR)/pkgconfig/neapwillow.pc" \
+	    "$(DESTDIR)$(INCLUDEDIR)/neapwillow.h" "$(DESTDIR)$(MANDIR)/man3/neapwillow.3"
 
 # What was built, and not what was proved: `rm -rf target` removes that too.
 clean:
