@@ -13,9 +13,8 @@ use Rattle.times.specs.declared.Fielded.the-variants.{Field}
 use Rattle.choices.proofs.Tests.{and-of}
 use Rattle.offset.specs.Offset.{isOffset}
 use Rattle.local.specs.declared.LocalTime.{LocalTime}
-use Rattle.local.specs.declared.Unpacked.the-variants.{At as LocalAt}
-use Rattle.local.specs.Clock.{packOf, unpackOf}
-use Rattle.local.specs.Text.{form, isDigit, fits, formed, TwoDigits, two, typed, readText, Typable, tens, units, textOf}
+use Rattle.local.specs.Clock.{packOf}
+use Rattle.local.specs.Text.{form, isDigit, fits, formed, TwoDigits, two, typed, readText, Typable, tens, units, textOf, IsText}
 use Rattle.local.proofs.Clocks.{pack-by}
 use Rattle.local.proofs.Forms.{same-length, fits-at, places, no-offset, by-form}
 use Rattle.local.proofs.RoundTrip.{unpack-packed}
@@ -137,13 +136,6 @@ module _ (s : List ℕ) (e : formed form s ≡ true) where
       ∷ tens-two s 17 (p .second) i ∷ units-two s 17 (p .second) i ∷ [])
 
 -- an accepted text is the characters of a local time, and the field gives that local time back
-pub record IsText (s : List ℕ) (offset : ℤ) (f : ℕ) : Type 0 where
-  pub time : LocalTime
-  pub typable : Typable time
-  pub characters : s ≡ textOf time
-  pub packs : packOf time offset ≡ Field f
-  pub unpacks : unpackOf f offset ≡ LocalAt time
-
 pub text-accepted : (s : List ℕ) (offset : ℤ) (f : ℕ) → readText s offset ≡ Field f → IsText s offset f
 text-accepted s offset f e = by (isOffset offset) refl
   where

@@ -1,6 +1,7 @@
 -- Packing and unpacking at one offset are exact inverses: each accepted local time comes back from its field, and each accepted field from its local time.
 use mathlib.Core.Path.{_≡_, refl, sym, ap, _∙_, subst}
 use mathlib.Core.Bool.{Bool, true, false}
+use mathlib.Core.Logic.{_↔_}
 use Prim.Native.Nat.{ℕ, _/_, _%_}
 use native.Mathlib.Omega.{arith}
 use borrow.Author.Tests.{le-leb}
@@ -16,32 +17,17 @@ use Rattle.times.specs.declared.Moment.{Moment}
 use Rattle.times.specs.declared.Timed.{Timed}
 use Rattle.times.specs.declared.Timed.the-variants.{At, Refused}
 use Rattle.times.specs.declared.Fielded.the-variants.{Field, Refused as NotFielded}
-use Rattle.times.specs.Field.{isInstant, readTime, writeTime}
+use Rattle.times.specs.Field.{isInstant, readTime}
 use Rattle.choices.proofs.Tests.{and-of}
 use Rattle.times.proofs.Instants.{instant}
 use Rattle.times.proofs.Inverse.{reads-written, writes-read}
 use Rattle.offset.specs.Offset.{isOffset, toUtc, toLocal}
 use Rattle.offset.proofs.Moving.{arrived}
-use Rattle.offset.proofs.Exact.{utc-back, local-back, local-exactly}
+use Rattle.offset.proofs.Exact.{utc-exactly, local-exactly}
 use Rattle.local.specs.declared.LocalTime.{LocalTime}
 use Rattle.local.specs.declared.Unpacked.the-variants.{At as LocalAt, Refused as NotUnpacked}
-use Rattle.local.specs.Clock.{isClock, secondOf, localMoment, written, packedAt, packOf, atSecond, dated, unpackedAt, unpackOf}
+use Rattle.local.specs.Clock.{isClock, secondOf, localMoment, written, packedAt, packOf, atSecond, dated, unpackedAt, unpackOf, Shows, IsFieldOf}
 use Rattle.local.proofs.Clocks.{clock-within, no-day, on-day, pack-by, unpack-by}
-
--- the local moment m has the date and time of day t
-record Shows (t : LocalTime) (m : Moment) : Type 0 where
-  day : dayOf (t .year) (t .month) (t .day) ≡ Day (m .day)
-  clock : isClock t ≡ true
-  second : m .second ≡ secondOf t
-
--- the field f is t at an offset
-record Says (t : LocalTime) (offset : ℤ) (f : ℕ) : Type 0 where
-  local : Moment
-  utc : Moment
-  offset-is : isOffset offset ≡ true
-  shows : Shows t local
-  moved : toUtc local offset ≡ At utc
-  written : writeTime utc ≡ Field f
 
 -- ---- a local moment and its date and time
 
@@ -105,41 +91,47 @@ no-field r f e = let z : _≡_ {A = ℕ} 0 1 = cc in omega arith
 no-time : (r : Refusal) (t : LocalTime) → NotUnpacked r ≡ LocalAt t → ⊥
 no-time r t e = let z : _≡_ {A = ℕ} 0 1 = cc in omega arith
 
--- ---- both answer exactly where the field says the local time
+-- ---- both answer exactly where the field is that of the local time
 
 module _ (t : LocalTime) (offset : ℤ) (f : ℕ) where
-  packs : Says t offset f → packOf t offset ≡ Field f
+  packs : IsFieldOf t offset f → packOf t offset ≡ Field f
   unfolding packedAt written
   packs s =
-      pack-by t offset (s .offset-is)
+      pack-by t offset (s .is-local .offset-is)
       ∙ ap (packedAt offset) (moment-shows t (s .local) (s .shows))
-      ∙ ap written (s .moved)
+      ∙ ap written (utc-exactly (s .local) (s .utc) offset .1 (s .is-local))
       ∙ s .written
 
-  packs-only : packOf t offset ≡ Field f → Says t offset f
+  packs-only : packOf t offset ≡ Field f → IsFieldOf t offset f
   unfolding packedAt written
   packs-only e = by (isOffset offset) refl
     where
-      by : (b : Bool) → isOffset offset ≡ b → Says t offset f
+      by : (b : Bool) → isOffset offset ≡ b → IsFieldOf t offset f
       by true o =
           let p = handed (packedAt offset) (Field f) (λ r. no-field r f) (localMoment t) (sym (pack-by t offset o) ∙ e) in
           let w = handed written (Field f) (λ r. no-field r f) (toUtc (p .0) offset) (p .2) in
-          record { local = p .0; utc = w .0; offset-is = o; shows = shows-moment t (p .0) (p .1); moved = w .1; written = w .2 }
+          record {
+            local = p .0;
+            utc = w .0;
+            shows = shows-moment t (p .0) (p .1);
+            is-local = utc-exactly (p .0) (w .0) offset .0 (w .1);
+            written = w .2;
+          }
       by false o = let z : _≡_ {A = ℕ} 0 1 = cc (pack-by t offset o) in absurd (omega arith)
 
-  unpacks : Says t offset f → unpackOf f offset ≡ LocalAt t
+  unpacks : IsFieldOf t offset f → unpackOf f offset ≡ LocalAt t
   unfolding unpackedAt
   unpacks s =
-      unpack-by f offset (s .offset-is)
+      unpack-by f offset (s .is-local .offset-is)
       ∙ ap (unpackedAt offset) (reads-written (s .utc) 0 (s .written))
-      ∙ ap dated (utc-back (s .local) (s .utc) offset (s .moved))
+      ∙ ap dated (local-exactly (s .local) (s .utc) offset .1 (s .is-local))
       ∙ dated-shows t (s .local) (s .shows)
 
-  unpacks-only : unpackOf f offset ≡ LocalAt t → Says t offset f
+  unpacks-only : unpackOf f offset ≡ LocalAt t → IsFieldOf t offset f
   unfolding unpackedAt dated
   unpacks-only e = by (isOffset offset) refl
     where
-      by : (b : Bool) → isOffset offset ≡ b → Says t offset f
+      by : (b : Bool) → isOffset offset ≡ b → IsFieldOf t offset f
       by true o =
           let p = handed (unpackedAt offset) (LocalAt t) (λ r. no-time r t) (readTime f 0) (sym (unpack-by f offset o) ∙ e) in
           let w = handed dated (LocalAt t) (λ r. no-time r t) (toLocal (p .0) offset) (p .2) in
@@ -147,12 +139,17 @@ module _ (t : LocalTime) (offset : ℤ) (f : ℕ) where
           record {
             local = w .0;
             utc = p .0;
-            offset-is = o;
             shows = shows-dated t (w .0) (i .local-is) (w .2);
-            moved = local-back (w .0) (p .0) offset (w .1);
+            is-local = i;
             written = writes-read f 0 (p .1);
           }
       by false o = let z : _≡_ {A = ℕ} 0 1 = cc (unpack-by f offset o) in absurd (omega arith)
+
+  pub packs-exactly : (packOf t offset ≡ Field f) ↔ IsFieldOf t offset f
+  packs-exactly = (packs-only, packs)
+
+  pub unpacks-exactly : (unpackOf f offset ≡ LocalAt t) ↔ IsFieldOf t offset f
+  unpacks-exactly = (unpacks-only, unpacks)
 
   -- a packed local time is unpacked as it was, and an unpacked field packed as it was
   pub unpack-packed : packOf t offset ≡ Field f → unpackOf f offset ≡ LocalAt t

@@ -1,5 +1,6 @@
 -- What a reader has to believe of local times: the UTC field of a local date and time, and the local date and time of a field.
-use mathlib.Core.Bool.{Bool, _&&_, cond}
+use mathlib.Core.Path.{_≡_}
+use mathlib.Core.Bool.{Bool, true, _&&_, cond}
 use Prim.Native.Nat.{ℕ, _+_, _*_, _/_, _%_}
 use lib.Dec.{leb}
 use lib.IntN.{ℤ}
@@ -9,12 +10,13 @@ use Rattle.days.specs.declared.DayAnswer.the-variants.{Day, Refused as NoDay}
 use Rattle.days.specs.declared.DateAnswer.{DateAnswer}
 use Rattle.days.specs.declared.DateAnswer.the-variants.{On, Refused as NoDate}
 use Rattle.days.specs.Calendar.{dayOf, dateOf}
+use Rattle.times.specs.declared.Moment.{Moment}
 use Rattle.times.specs.declared.Timed.{Timed}
 use Rattle.times.specs.declared.Timed.the-variants.{At, Refused}
 use Rattle.times.specs.declared.Fielded.{Fielded}
-use Rattle.times.specs.declared.Fielded.the-variants.{Refused as NotFielded}
+use Rattle.times.specs.declared.Fielded.the-variants.{Field, Refused as NotFielded}
 use Rattle.times.specs.Field.{readTime, writeTime}
-use Rattle.offset.specs.Offset.{isOffset, toUtc, toLocal}
+use Rattle.offset.specs.Offset.{isOffset, toUtc, toLocal, IsLocal}
 use Rattle.local.specs.declared.LocalTime.{LocalTime}
 use Rattle.local.specs.declared.Unpacked.{Unpacked}
 use Rattle.local.specs.declared.Unpacked.the-variants.{At as LocalAt, Refused as NotUnpacked}
@@ -77,3 +79,19 @@ unpackedAt offset (Refused r) = NotUnpacked r
 -- "UTC to local: 19, 18, 20"
 unfoldable pub unpackOf : ℕ → ℤ → Unpacked
 unpackOf field offset = cond (isOffset offset) (unpackedAt offset (readTime field 0)) (NotUnpacked (OutsideSet 0))
+
+-- ---- what is said of a local time and its field
+
+-- the local moment m has the date and the time of day t
+pub record Shows (t : LocalTime) (m : Moment) : Type 0 where
+  pub day : dayOf (t .year) (t .month) (t .day) ≡ Day (m .day)
+  pub clock : isClock t ≡ true
+  pub second : m .second ≡ secondOf t
+
+-- the field is that of the UTC moment whose local date and time, at the offset, is t
+pub record IsFieldOf (t : LocalTime) (offset : ℤ) (field : ℕ) : Type 0 where
+  pub local : Moment
+  pub utc : Moment
+  pub shows : Shows t local
+  pub is-local : IsLocal local utc offset
+  pub written : writeTime utc ≡ Field field

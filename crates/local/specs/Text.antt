@@ -1,4 +1,5 @@
 -- What a reader has to believe of date text: `dd/mm/yyyy hh:mm:ss`, day first, character by character.
+use mathlib.Core.Path.{_≡_}
 use mathlib.Core.Bool.{Bool, true, false, _&&_, cond}
 use mathlib.Core.List.{List, [], _∷_}
 use Prim.Native.Nat.{ℕ, _+_, _-_, _*_, _/_, _%_, _≤_, _<_}
@@ -7,10 +8,11 @@ use lib.IntN.{ℤ}
 use lib.ListN.{length, getD}
 use Rattle.refusal.specs.declared.Refusal.the-variants.{OutsideSet, NotOfTheForm}
 use Rattle.times.specs.declared.Fielded.{Fielded}
-use Rattle.times.specs.declared.Fielded.the-variants.{Refused}
+use Rattle.times.specs.declared.Fielded.the-variants.{Field, Refused}
 use Rattle.offset.specs.Offset.{isOffset}
 use Rattle.local.specs.declared.LocalTime.{LocalTime}
-use Rattle.local.specs.Clock.{packOf}
+use Rattle.local.specs.declared.Unpacked.the-variants.{At}
+use Rattle.local.specs.Clock.{packOf, unpackOf}
 
 -- the three characters that are no digits
 abbrev pub slash : ℕ
@@ -100,3 +102,11 @@ textOf t =
     ∷ tens (t .hour) ∷ units (t .hour) ∷ colon
     ∷ tens (t .minute) ∷ units (t .minute) ∷ colon
     ∷ tens (t .second) ∷ units (t .second) ∷ []
+
+-- the text is the characters of a local time, whose field at the offset gives that local time back
+pub record IsText (s : List ℕ) (offset : ℤ) (field : ℕ) : Type 0 where
+  pub time : LocalTime
+  pub typable : Typable time
+  pub characters : s ≡ textOf time
+  pub packs : packOf time offset ≡ Field field
+  pub unpacks : unpackOf field offset ≡ At time
