@@ -1,0 +1,6 @@
+-- The theorems: of any order, and of each function's.
+pub mod Order
+pub mod Sections
+pub mod Cutter
+pub mod Gathering
+pub mod Times
