@@ -41,6 +41,7 @@ use Rattle.contentwriter.specs.declared.Written.the-variants.{Refused as NotWri
 use Rattle.records.specs.Records.{recording, bodyRecorded, recordedOver, recorded}
 use Rattle.records.specs.declared.Record.{Record}
 use Rattle.promises.specs.Demand1.{Numbered, WritesNothing, OnlySpoils, Demand1}
+use Rattle.promises.proofs.Lists.{given-exactly}
 
 -- ---- numbers
 
@@ -229,4 +230,4 @@ only-spoils =
 -- ---- the demand
 
 pub demand1 : Demand1
-demand1 = record { numbered = numbered; writes-nothing = writes-nothing; only-spoils = only-spoils }
+demand1 = record { numbered = numbered; given-exactly = given-exactly; writes-nothing = writes-nothing; only-spoils = only-spoils }

@@ -43,6 +43,7 @@ use Rattle.contentwriter.specs.declared.Written.the-variants.{Of}
 use Rattle.configuration.specs.Configuration.{configurationKind, configuration}
 use Rattle.configuration.proofs.RoundTrips.{configuration-trips}
 use Rattle.promises.specs.Demand2.{WellFormed, Holds, WrittenAndRead, HoldsContent, Extended, SectionsRead, Times, Days, Demand2}
+use Rattle.promises.proofs.LocalTimes.{local-times}
 
 -- ---- tables
 
@@ -245,4 +246,5 @@ demand2 =
       sections = sections;
       times = times;
       days = calendar;
+      local-times = local-times;
     }

@@ -1,5 +1,7 @@
 -- The proofs of the promises, most by citing what the crates prove.
+pub mod Lists
 pub mod Demand1
+pub mod LocalTimes
 pub mod Demand2
 pub mod Demand3
 pub mod Values

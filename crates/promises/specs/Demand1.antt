@@ -23,6 +23,7 @@ use Rattle.contentwriter.specs.Written.{contentWritten}
 use Rattle.contentwriter.specs.declared.Written.the-variants.{Refused as NotWritten}
 use Rattle.records.specs.Records.{bodyRecorded, recorded}
 use Rattle.records.specs.declared.Record.{Record}
+use Rattle.promises.specs.Lists.{GivenExactly}
 
 -- "Every input of every length is taken without a fault, and every call finishes." This is the language's to say, and no theorem: a function
 -- is built only once it is proved that it never indexes past an end, wraps a sum, loses bits or divides by 0, and that it ends. No offered
@@ -37,9 +38,9 @@ pub record Numbered : Type 0 where
   pub told : (r : Refusal) → refusedOf r % 256 ≡ numberOf r
   pub not-told : (value : ℕ) → answerOf 0 value % 256 ≡ 0
 
--- "[..] given exactly when the list says": the list and its orders are definitions, and each function's answer is what they say (`Offered`).
--- Sections: `readSection`. Feeding: `verdictOf`. Handing out: `completeOf`, `fitting`. Bodies: `reading` and the tables' formats, for content
--- `readingOf`. Writers: `writing`. Cutter: `cutting`. Days and times: `dayOf`, `dateOf`, `packOf`, `unpackOf`, `readText`, `showing`.
+-- "[..] given exactly when the list says": for sections, the gathering, the cutter, local times and text `Lists` states it, list by list. For
+-- bodies and writers the order is that of the fields, and the list is the definition that the answer is equal to (`Offered`): `reading` and the
+-- tables' formats, for content `readingOf`; `writing`. So it is for days and instants, which have 18 to 20 alone: `dayOf`, `dateOf`, `showing`.
 
 -- "[..] and a refused call writes nothing": whatever the refusal r, the output, the store, the tape and the list of records are left as they were
 pub record WritesNothing : Type 1 where
@@ -61,5 +62,6 @@ pub record OnlySpoils : Type 0 where
 
 pub record Demand1 : Type 1 where
   pub numbered : Numbered
+  pub given-exactly : GivenExactly
   pub writes-nothing : WritesNothing
   pub only-spoils : OnlySpoils

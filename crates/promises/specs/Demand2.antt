@@ -33,6 +33,7 @@ use Rattle.content.specs.Content.{Content, contentKind, content, extensionOf, r
 use Rattle.contentwriter.specs.Written.{contentWritten}
 use Rattle.contentwriter.specs.declared.Written.the-variants.{Of}
 use Rattle.configuration.specs.Configuration.{configurationKind, configuration}
+use Rattle.promises.specs.LocalTimes.{LocalTimes}
 
 -- "Written and read as the standard has it, doubtful places settled in 01": a table's definition lists its fields in wire order beside 01's words
 -- (`certificate`, `index`, `content`, `configuration`), and so do `readSection` and `printed` for a section, `readTime` for a time field and
@@ -135,3 +136,5 @@ pub record Demand2 : Type 0 where
   pub sections : SectionsRead
   pub times : Times
   pub days : Days
+  -- day first, and there and back
+  pub local-times : LocalTimes

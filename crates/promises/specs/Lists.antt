@@ -1,0 +1,46 @@
+-- "Given exactly when the list says": each answer is the first refusal of its list whose condition holds, or the value if none does. The lists
+-- stand in orders' `Sections`, `Gathering`, `Cutter` and `Times`, each number beside 01's words, and `AsListed` in its `Order`.
+use Prim.Native.Nat.{ℕ, _-_}
+use mathlib.Core.Path.{_≡_}
+use mathlib.Core.List.{List}
+use lib.IntN.{ℤ}
+use lib.ListN.{length}
+use Rattle.times.specs.declared.Fielded.the-variants.{Refused as NotFielded}
+use Rattle.local.specs.Clock.{packOf, unpackOf}
+use Rattle.local.specs.Text.{readText}
+use Rattle.local.specs.declared.LocalTime.{LocalTime}
+use Rattle.local.specs.declared.Unpacked.the-variants.{Refused as NotUnpacked}
+use Rattle.framing.specs.Section.{headingOf, readSection}
+use Rattle.framing.specs.declared.Sectioned.the-variants.{Good, Refused as NotGood}
+use Rattle.cutting.specs.Cutting.{sectionCount, countedOf, sectionOf, cutAnswer}
+use Rattle.cutting.specs.declared.Counted.the-variants.{Sections, Refused as NotCounted}
+use Rattle.cutting.specs.declared.Cut.the-variants.{Written, Refused as NotCut}
+use Rattle.holding.specs.declared.Gathering.{Gathering}
+use Rattle.handing.specs.Handing.{bodyOf, completeOf, handedOf}
+use Rattle.handing.specs.declared.Completeness.the-variants.{Complete, Refused as NotComplete}
+use Rattle.handing.specs.declared.Handed.the-variants.{Body, Refused as NotHanded}
+use Rattle.orders.specs.Order.{AsListed}
+use Rattle.orders.specs.Sections.{sectionLines}
+use Rattle.orders.specs.Gathering.{FedAsListed, completeLines, handingLines}
+use Rattle.orders.specs.Cutter.{countLines, cutterLines}
+use Rattle.orders.specs.Times.{IsField, packingLines, IsLocalTime, unpackingLines, textLines}
+
+pub record GivenExactly : Type 0 where
+  -- "Section: 1 to 7 as numbered"
+  pub section : (s : List ℕ) → AsListed NotGood (λ a. a ≡ Good (headingOf s) (length s - 12)) (sectionLines s) (readSection s)
+  -- "Feeding: 12, 1 to 7, 8, 9, 10, 11"
+  pub feeding : (g : Gathering) (store s : List ℕ) → FedAsListed g store s
+  -- "Handing out: 12; 13 if nothing begun; 10; 11; 13; 25; 21", of which the first five say whether all of a table is there
+  pub complete : (g : Gathering) (bytes : ℕ) → AsListed NotComplete (λ a. a ≡ Complete) (completeLines g bytes) (completeOf g bytes)
+  pub handing-out : (g : Gathering) (store out : List ℕ)
+      → AsListed NotHanded (λ a. a ≡ Body (length (bodyOf g store))) (handingLines g store out) (handedOf g store out)
+  -- "Cutter: 2, 19 (version above 31), 14 (L = 0), 22, 6, 21", of which 14 and 22 are the count's
+  pub count : (bytes : ℕ) → AsListed NotCounted (λ a. a ≡ Sections (sectionCount bytes)) (countLines bytes) (countedOf bytes)
+  pub cutter : (body : List ℕ) (kind extension version number : ℕ) (out : List ℕ)
+      → AsListed NotCut (λ a. a ≡ Written (length (sectionOf body kind extension version number)))
+      (cutterLines body kind extension version number out) (cutAnswer body kind extension version number out)
+  -- "Local from UTC adds it (order 19, 18, 20)"; to UTC 19, 20
+  pub packing : (t : LocalTime) (offset : ℤ) → AsListed NotFielded IsField (packingLines t offset) (packOf t offset)
+  pub unpacking : (field : ℕ) (offset : ℤ) → AsListed NotUnpacked IsLocalTime (unpackingLines field offset) (unpackOf field offset)
+  -- "Text: [..] Order: 19 (offset), 24, 20"
+  pub text : (s : List ℕ) (offset : ℤ) → AsListed NotFielded IsField (textLines s offset) (readText s offset)
