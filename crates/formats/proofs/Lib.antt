@@ -14,3 +14,4 @@ pub mod Laying
 pub mod Inner
 pub mod Bits
 pub mod Strings
+pub mod Places
