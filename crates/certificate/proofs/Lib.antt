@@ -1,5 +1,6 @@
 -- The laws that other crates cite.
 pub mod Lawful
 pub mod RoundTrips
+pub mod Places
 pub mod Answers
 pub mod Table

@@ -3,4 +3,5 @@ pub mod Least
 pub mod Orders
 pub mod Lawful
 pub mod RoundTrips
+pub mod Places
 pub mod Values

@@ -2,3 +2,4 @@
 pub mod Lawful
 pub mod RoundTrips
 pub mod Extension
+pub mod Places
