@@ -3,3 +3,4 @@ pub mod Lawful
 pub mod RoundTrips
 pub mod Extension
 pub mod Places
+pub mod Smallest
