@@ -66,7 +66,8 @@ module _ {A : Type 0} (F : Format A) (n i : ℕ) (s : List ℕ) (l p : ℕ) wher
   nth-there h = rw (lt-ltb i n h)
 
 -- what is read after i others is read where they end
-after-all : {A : Type 0} (F : Format A) (s : List ℕ) (l i p : ℕ) (xs : List A) (q : ℕ) → repeat (F .parse s l) i p ≡ found xs q → after F i s l p ≡ F .parse s l q
+pub after-all : {A : Type 0} (F : Format A) (s : List ℕ) (l i p : ℕ) (xs : List A) (q : ℕ) → repeat (F .parse s l) i p ≡ found xs q
+    → after F i s l p ≡ F .parse s l q
 unfolding repeat after
 after-all F s l zero p xs q e = ap (F .parse s l) (found-inj e .1)
 after-all F s l (suc i) p xs q e =

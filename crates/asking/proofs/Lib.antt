@@ -3,3 +3,4 @@ pub mod Sizes
 pub mod Answers
 pub mod Entries
 pub mod Parts
+pub mod Turns

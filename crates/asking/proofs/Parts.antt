@@ -1,22 +1,26 @@
 -- What a counted part holds, and the fields of an accepted body as they are asked for: the part answered is the one that holds them.
 use Prim.Native.Nat.{ℕ, _+_, _/_, _%_, _≤_, _<_}
 use mathlib.Core.Path.{_≡_, sym, ap, subst, _∙_}
-use mathlib.Core.List.{List, []}
+use mathlib.Core.List.{List}
 use native.Mathlib.Omega.{arith}
 use native.Mathlib.Nat.{add-sub-cancel, add-sub-cancel-left, le-add-right}
 use lib.ListN.{length, getD, take, drop, length-drop}
 use lib.Seq.{length-take-le}
-use borrow.Author.Tests.{le-leb, lt-ltb}
+use lib.Dec.{eqb}
+use borrow.Author.Tests.{eqb-true, le-leb, lt-ltb, le-ltb}
+use Rattle.choices.proofs.Tests.{both}
+use Rattle.refusal.specs.declared.Refusal.the-variants.{OutsideSet}
 use Rattle.formats.specs.Reading.{found, fine}
-use Rattle.formats.specs.Format.{Format, digits, followed, many, rest, Length, lengthOf, counted, printAll}
+use Rattle.formats.specs.Format.{Format, decimal, digits, followed, rest, Length, lengthOf, length12, counted}
 use Rattle.formats.specs.Answers.{partOf, digitRead}
 use Rattle.formats.specs.Held.{PartHolds}
-use Rattle.formats.specs.declared.Number.the-variants.{Is}
+use Rattle.formats.specs.declared.Number.the-variants.{Is, Refused as NoNumber}
 use Rattle.formats.specs.declared.Part.the-variants.{Of}
 use Rattle.formats.proofs.Outcomes.{found-inj, andThen-found, judged-found, within-found}
-use Rattle.formats.proofs.Classes.{Bytes, Lawful, Filling}
+use Rattle.formats.proofs.Classes.{Bytes, Filling}
+use Rattle.formats.proofs.Leaves.{digits-lawful}
 use Rattle.formats.proofs.Strings.{digits-part, digits-fill}
-use Rattle.asking.proofs.Sizes.{count-sized}
+use Rattle.asking.proofs.Sizes.{Sized, count-sized, reserved-sized}
 
 -- ---- counted parts
 
@@ -83,21 +87,25 @@ module _ {A : Type 0} (L : Length) (F : Format A) (f : Filling F) (s : List ℕ)
       let h = counted-holds L F s l p x q e in
       (take (h .size) (drop (h .at) s), h .bytes ∙ ap (found (take (h .size) (drop (h .at) s))) ends-there)
 
--- a part after a length of w bytes begins so many bytes after it
-pub part-begins : {A : Type 0} (w : ℕ) (F : Format A) (f : Filling F) (s : List ℕ) (b : Bytes s) (l p : ℕ) (x : A) (q : ℕ) (e : counted (lengthOf w) F .parse s l p ≡ found x q)
-    → part-holds (lengthOf w) F f s b l p x q e .at ≡ p + w
-unfolding part-holds lengthOf
-part-begins w F f s b l p x q e =
-    let h = counted-holds (lengthOf w) F s l p x q e in
-    count-sized w s l p (h .counts) (h .at) (h .told)
+pub length-sized : (w : ℕ) → Sized (lengthOf w .field) w
+unfolding lengthOf
+length-sized w = count-sized w
 
--- ---- several to the end of their part
+pub length12-sized : Sized (length12 .field) 2
+unfolding length12
+length12-sized = reserved-sized 4 1
 
--- a part of several has the first one at its start, and the others from where that one ends
-module _ {A : Type 0} (F : Format A) (f : Lawful F) (g : Filling (many F)) (s : List ℕ) (b : Bytes s) (l p : ℕ) (inside : l ≤ length s) (left : p ≤ l) where
-  pub many-none : (q : ℕ) → many F .parse s l p ≡ found [] q → p ≡ l
-  unfolding many printAll
-  many-none q e = omega (arith, g .forth s l p [] q b inside left e .next, g .ends s l p [] q b inside left e)
+-- a part begins after its length, of k bytes
+pub part-after : {A : Type 0} (L : Length) (k : ℕ) → Sized (L .field) k → (F : Format A) (f : Filling F) (s : List ℕ) (b : Bytes s) (l p : ℕ) (x : A) (q : ℕ)
+    (e : counted L F .parse s l p ≡ found x q) → part-holds L F f s b l p x q e .at ≡ p + k
+unfolding part-holds
+part-after L k z F f s b l p x q e =
+    let h = counted-holds L F s l p x q e in
+    z s l p (h .counts) (h .at) (h .told)
+
+pub part-begins : {A : Type 0} (w : ℕ) (F : Format A) (f : Filling F) (s : List ℕ) (b : Bytes s) (l p : ℕ) (x : A) (q : ℕ)
+    (e : counted (lengthOf w) F .parse s l p ≡ found x q) → part-holds (lengthOf w) F f s b l p x q e .at ≡ p + w
+part-begins w F f s b l p x q e = part-after (lengthOf w) w (length-sized w) F f s b l p x q e
 
 -- ---- digits
 
@@ -106,6 +114,22 @@ module _ (s : List ℕ) (l p h : ℕ) (ds : List ℕ) (q : ℕ) (e : digits h .p
   pub digit-is : (i : ℕ) → i < length ds → digitRead h i s l p ≡ Is (getD ds i 0) (p + (i + 1) / 2)
   unfolding digitRead
   digit-is i k = rw (e, lt-ltb i (length ds) k)
+
+  module _ (b : Bytes s) (inside : l ≤ length s) where
+    many-digits : length ds ≡ h + h + 1
+    unfolding digits
+    many-digits =
+        let f = digits-fill s l p h p (h + 1) b (digits-part s l p h ds q e) .2 in
+        let ok = digits-lawful h .forth s l p ds q b inside (omega (arith, f .in-part)) e .ok in
+        eqb-true (length ds) (h + h + 1) (both (eqb (length ds) (h + h + 1)) (decimal ds) (ok .right) .0)
+
+    -- "4 reserved, 35 digits" and "4 reserved + 23 digits": so many are there, and no other
+    pub digit-there : (i : ℕ) → i < h + h + 1 → digitRead h i s l p ≡ Is (getD ds i 0) (p + (i + 1) / 2)
+    digit-there i k = digit-is i (omega (arith, many-digits))
+
+    pub digit-past : (i : ℕ) → h + h + 1 ≤ i → digitRead h i s l p ≡ NoNumber (OutsideSet 0)
+    unfolding digitRead
+    digit-past i k = rw (e, le-ltb i (length ds) (omega (arith, many-digits)))
 
   pub digits-bytes : Bytes s → take (h + 1) (drop p s) ≡ digits h .print ds
   digits-bytes b =
