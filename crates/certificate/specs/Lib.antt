@@ -1,3 +1,4 @@
 -- The definitions that other crates cite.
 pub mod Certificate
 pub mod Asked
+pub mod Agreement
