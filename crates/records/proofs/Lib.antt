@@ -2,3 +2,4 @@
 pub mod Places
 pub mod Plans
 pub mod Again
+pub mod Laid

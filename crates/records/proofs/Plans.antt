@@ -1,25 +1,25 @@
 -- What is planned before a record is laid is what the table says: its count, its records, and the refusals before them.
 use Prim.Native.Nat.{ℕ, zero, suc, _≤_, _<_}
-use mathlib.Core.Path.{_≡_, refl, sym, ap, ap₂, _∙_}
+use mathlib.Core.Path.{_≡_, refl, sym, ap, ap₂, subst, _∙_}
 use mathlib.Core.List.{List, _++_}
 use native.Mathlib.Omega.{arith}
 use lib.ListN.{length, drop}
 use lib.Seq.{sets, sets-eq}
-use lib.Dec.{leb, eqb}
 use native.Mathlib.Nat.{zero-add}
-use borrow.Author.Tests.{le-leb, lt-leb, leb-true}
+use borrow.Author.Tests.{le-leb, lt-leb}
 use Rattle.refusal.specs.declared.Refusal.{Refusal}
-use Rattle.refusal.specs.declared.Refusal.the-variants.{OtherKind, TooLarge, OutputTooSmall, LeftOver}
+use Rattle.refusal.specs.declared.Refusal.the-variants.{OutputTooSmall, LeftOver}
 use Rattle.formats.specs.Reading.{Reading, found, refused}
-use Rattle.formats.specs.Format.{count}
+use Rattle.formats.specs.Format.{count, repeat}
 use Rattle.formats.specs.Answers.{stepOf}
-use Rattle.formats.specs.Body.{longest, reading, bodyRead}
+use Rattle.formats.specs.Body.{reading, bodyRead}
 use Rattle.formats.specs.declared.Step.the-variants.{At, Refused as NoStep}
 use Rattle.formats.proofs.Classes.{Bytes}
-use Rattle.formats.proofs.Outcomes.{need-found}
 use Rattle.formats.proofs.Elements.{exact-found, view-found, followed-found, list-found}
 use Rattle.formats.proofs.Laying.{table}
-use Rattle.index.specs.Index.{message, Index, fields, index, indexKind}
+use Rattle.formats.proofs.RoundTrips as trips
+use Rattle.index.specs.Index.{Message, message, Index, fields, index, indexKind}
+use Rattle.index.proofs.Lawful.{index-filling}
 use Rattle.records.specs.Records.{recordsOf, recordedOver, recording, bodyRecorded, recorded}
 use Rattle.records.specs.Steps.{standing, placedAt, recordsFrom, recordsIn, countIn, Planned}
 use Rattle.records.specs.declared.Record.{Record}
@@ -30,18 +30,24 @@ use Rattle.records.proofs.Places.{count-stands, messages-placed}
 
 -- an accepted body's messages, from position 1 on
 module _ (kind : ℕ) (s : List ℕ) (b : Bytes s) (t : Index) (q : ℕ) (e : reading index indexKind kind s ≡ found t q) where
-  table-stands : (standing s 0 1 ≡ length (t .messages)) × (recordsFrom s 1 (length (t .messages)) ≡ recordsOf (t .messages) 1)
-  unfolding reading index fields
-  table-stands =
-      let k = need-found (eqb kind indexKind) OtherKind _ t q e in
-      let k′ = need-found (leb (length s) longest) TooLarge _ t q (k .1) in
-      let v = view-found _ _ fields s (length s) 0 t q (exact-found LeftOver _ s (length s) 0 t q (k′ .1) .0) in
+  pub messages-read : (standing s 0 1 ≡ length (t .messages))
+      × (end : ℕ) × (repeat (message .parse s (length s)) (length (t .messages)) 1 ≡ found (t .messages) end)
+  unfolding index fields
+  messages-read =
+      let a = trips.accepted index index-filling indexKind kind s b t q e in
+      let v = view-found _ _ fields s (length s) 0 t q (exact-found LeftOver _ s (length s) 0 t q (a .2) .0) in
       let f = followed-found _ _ s (length s) 0 (v .0) q (v .1) in
-      let m : v .0 .0 ≡ t .messages = ap (λ t. t .messages) (v .2) in
       let g = list-found (count 1) message s (length s) 0 (v .0 .0) (f .0) (f .1) in
       let c = count-stands 1 s (length s) 0 (length (v .0 .0)) (g .0) (g .1) in
-      let r = messages-placed s b (leb-true _ _ (k′ .0)) (length (v .0 .0)) (g .0) (v .0 .0) (f .0) (g .2) in
-      (c .0 ∙ ap length m, ap (recordsFrom s 1) (ap length (sym m)) ∙ ap (λ p. recordsFrom s p (length (v .0 .0))) (sym (c .1)) ∙ r ∙ ap₂ recordsOf m (c .1))
+      subst (λ (ms : List Message). (standing s 0 1 ≡ length ms) × (end : ℕ) × (repeat (message .parse s (length s)) (length ms) 1 ≡ found ms end))
+      (ap (λ t. t .messages) (v .2))
+      (c .0, f .0, ap (repeat (message .parse s (length s)) (length (v .0 .0))) (sym (c .1)) ∙ g .2)
+
+  table-stands : (standing s 0 1 ≡ length (t .messages)) × (recordsFrom s 1 (length (t .messages)) ≡ recordsOf (t .messages) 1)
+  table-stands =
+      let small = trips.accepted index index-filling indexKind kind s b t q e .1 in
+      let r = messages-read in
+      (r .0, messages-placed s b small (length (t .messages)) 1 (t .messages) (r .1) (r .2))
 
 module _ (kind : ℕ) (s : List ℕ) (room : ℕ) where
   pub plan-no : (r : Refusal) → NoStep r ≡ bodyRead index indexKind kind s → Planned kind s room (record { n = 0; answer = NoStep r })
