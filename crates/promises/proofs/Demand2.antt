@@ -1,4 +1,4 @@
--- Demand 2: for every table from its round trips, for sections, times and days from their crates' theorems.
+-- Demand 2: for every table from its round trips and the agreement of its fields, for sections, times and days from their crates' theorems.
 use Prim.Native.Nat.{ℕ, _+_, _≤_}
 use mathlib.Core.Path.{_≡_, refl, sym, ap, _∙_, subst}
 use mathlib.Core.Bool.{true}
@@ -29,15 +29,16 @@ use Rattle.formats.specs.declared.Step.the-variants.{At}
 use Rattle.formats.proofs.Classes.{Ok}
 use Rattle.formats.proofs.Outcomes.{found-inj, andThen-found, need-found}
 use Rattle.formats.proofs.RoundTrips as trips
-use Rattle.formats.specs.declared.Number.the-variants.{Is}
 use Rattle.certificate.specs.Certificate.{certificateKind, certificate}
 use Rattle.certificate.proofs.RoundTrips.{certificate-trips}
-use Rattle.index.specs.Index.{Index, indexKind, index}
+use Rattle.certificate.proofs.Table.{certificate-asked}
+use Rattle.index.specs.Index.{indexKind, index}
 use Rattle.index.proofs.RoundTrips.{index-trips}
-use Rattle.messages.specs.Asked.{messageCount}
-use Rattle.messages.proofs.Asked.{table-asked}
+use Rattle.messages.proofs.Asked.{index-asked}
+use Rattle.records.proofs.Laid.{records-are}
 use Rattle.content.specs.Content.{Content, contentKind, content, extensionOf, readingOf, contentRead}
 use Rattle.content.proofs.RoundTrips.{content-trips}
+use Rattle.languages.proofs.Asked.{content-asked}
 use Rattle.contentwriter.specs.Written.{writtenOf, contentWritten}
 use Rattle.contentwriter.specs.declared.Written.the-variants.{Of}
 use Rattle.configuration.specs.Configuration.{configurationKind, configuration}
@@ -230,10 +231,6 @@ calendar =
 
 -- ---- the demand
 
-message-count : (kind : ℕ) (body : List ℕ) (t : Index) → AreBytes body → Holds index indexKind kind body t → messageCount body ≡ Is (length (t .messages)) 1
-message-count kind body t b h =
-    table-asked kind body (b .byte) t (length body) (held-reads index indexKind index-trips kind body t h) .messages-counted
-
 pub demand2 : Demand2
 demand2 =
     record {
@@ -242,7 +239,14 @@ demand2 =
       contents = round-trips (content 3) contentKind (content-trips 3);
       configurations = round-trips configuration configurationKind configuration-trips;
       extended = extended;
-      message-count = message-count;
+      certificates-asked = λ kind body t b h.
+          certificate-asked kind body (b .byte) t (length body) (held-reads certificate certificateKind certificate-trips kind body t h);
+      indexes-asked = λ kind body t b h.
+          index-asked kind body (b .byte) t (length body) (held-reads index indexKind index-trips kind body t h);
+      contents-asked = λ kind body t b h.
+          content-asked 3 kind body (b .byte) t (length body) (held-reads (content 3) contentKind (content-trips 3) kind body t h);
+      records-are = λ kind body t b h.
+          records-are kind body (b .byte) t (length body) (held-reads index indexKind index-trips kind body t h);
       sections = sections;
       times = times;
       days = calendar;

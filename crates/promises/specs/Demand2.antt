@@ -25,11 +25,13 @@ use Rattle.formats.specs.Reading.{found}
 use Rattle.formats.specs.Format.{Format}
 use Rattle.formats.specs.Body.{longest, reading, bodyRead, writing, bodyWritten, output, bodyLaid, laidTape}
 use Rattle.formats.specs.declared.Step.the-variants.{At}
-use Rattle.formats.specs.declared.Number.the-variants.{Is}
-use Rattle.certificate.specs.Certificate.{certificateKind, certificate}
+use Rattle.certificate.specs.Certificate.{Certificates, certificateKind, certificate}
+use Rattle.certificate.specs.Agreement.{CertificateAsked}
 use Rattle.index.specs.Index.{Index, indexKind, index}
-use Rattle.messages.specs.Asked.{messageCount}
+use Rattle.messages.specs.Agreement.{IndexAsked}
+use Rattle.records.specs.Agreement.{RecordsAre}
 use Rattle.content.specs.Content.{Content, contentKind, content, extensionOf, readingOf, contentRead}
+use Rattle.languages.specs.Agreement.{ContentAsked}
 use Rattle.contentwriter.specs.Written.{contentWritten}
 use Rattle.contentwriter.specs.declared.Written.the-variants.{Of}
 use Rattle.configuration.specs.Configuration.{configurationKind, configuration}
@@ -131,8 +133,13 @@ pub record Demand2 : Type 0 where
   pub contents : WrittenAndRead (content 3) contentKind
   pub configurations : WrittenAndRead configuration configurationKind
   pub extended : Extended
-  -- no count is made up: it is that of the table's messages
-  pub message-count : (kind : ℕ) (body : List ℕ) (t : Index) → AreBytes body → Holds index indexKind kind body t → messageCount body ≡ Is (length (t .messages)) 1
+  -- "Every field of an accepted table can be asked for, opaque bytes as the part of the body they fill; one that isn't there is 19, place 0"
+  pub certificates-asked : (kind : ℕ) (body : List ℕ) (t : Certificates) → AreBytes body → Holds certificate certificateKind kind body t
+      → CertificateAsked body t
+  pub indexes-asked : (kind : ℕ) (body : List ℕ) (t : Index) → AreBytes body → Holds index indexKind kind body t → IndexAsked body t
+  pub contents-asked : (kind : ℕ) (body : List ℕ) (t : Content) → AreBytes body → Holds (content 3) contentKind kind body t → ContentAsked 3 body t
+  -- "messages are laid in a lent list of message records": record i is message i's
+  pub records-are : (kind : ℕ) (body : List ℕ) (t : Index) → AreBytes body → Holds index indexKind kind body t → RecordsAre kind body t
   pub sections : SectionsRead
   pub times : Times
   pub days : Days
