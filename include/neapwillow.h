@@ -665,11 +665,11 @@ nw_answer nw_command_terminal_digit(const uint8_t *body, size_t n, size_t p, uin
  * The first four bits of a resource or terminal in the pool do not matter.
  * Refusals, in this order, with nothing written and place 0: that of the first field that is wrong, in
  * the order of the tape (19, the tape is too short, a span is not in the pool or has not the length
- * stated above, a number is outside its set or has more bits than its field, or a return address is
- * not of its kind's form; 15, a return address of kind 1 or 2 has another length; 18, a digit above 9;
- * 20, an impossible day, once its three numbers are taken, or time, once its three are); 19, the tape
- * has entries left over; 22, a count or length too large for its field, or more than NW_MOST_BODY
- * bytes; 21, out is too small. */
+ * stated above, a number but the clock's is outside its set or has more bits than its field, or a
+ * return address is not of its kind's form; 15, a return address of kind 1 or 2 has another length;
+ * 18, a digit above 9; 20, an impossible day, once its three numbers are taken, or time, once its
+ * three are, however large they are); 19, the tape has entries left over; 22, a count or length too
+ * large for its field, or more than NW_MOST_BODY bytes; 21, out is too small. */
 nw_answer nw_configuration_write(const uint8_t *pool, size_t pool_bytes, const uint64_t *tape,
                                  size_t entries, uint8_t *out, size_t room);
 

@@ -113,6 +113,16 @@ CALLS = [
     (('configuration_write', b'', [1, 1, 2014, 2, 28, 24, 0, 0, 0, 0], b''), '20 0 -'),
     (('configuration_write', b'', [1, 1, 2014, 2, 28, 0, 0, 0, 0, 0], b'\xE5' * 13),
      '0 13 01010007' + YEAR + '021c0000000000'),
+    # A clock's number that is too large for its field is 20, where the tape goes on past its day or its time: before a
+    # later field's refusal, after an earlier one's.
+    *((('configuration_write', b'', [1, 1, *clock, 0, 0], b''), '20 0 -') for clock in (
+        (2024, 257, 1, 0, 0, 0), (65536, 1, 1, 0, 0, 0), (65536 + 2024, 1, 1, 0, 0, 0), (2024, 1, 257, 0, 0, 0),
+        (2024, 1, 1, 256, 0, 0), (2024, 1, 1, 0, 256, 0), (2024, 1, 1, 0, 0, 256), (2**64 - 1,) * 6)),
+    (('configuration_write', b'', [1, 1, 2024, 257], b''), '19 0 -'),
+    (('configuration_write', b'', [1, 1, 2024, 257, 1], b''), '20 0 -'),
+    (('configuration_write', b'', [1, 1, 2024, 1, 1, 256, 0], b''), '19 0 -'),
+    (('configuration_write', b'', [2, 1, 2024, 257, 1, 0, 0, 0, 6, 101, 0, 0, 0], b''), '20 0 -'),
+    (('configuration_write', b'', [2, 6, 101, 0, 1, 2024, 257, 1, 0, 0, 0, 0, 0], b''), '19 0 -'),
     (('configuration_write', b'1' * 300, [1, 4, 1, 0, 300, 0, 0, 0], b''), '15 0 -'),
     (('configuration_write', b'a' * 300 + b':1', [1, 4, 3, 0, 302, 0, 0, 0], b''), '22 0 -'),
     (('configuration_write', b'a' * 300, [1, 4, 3, 0, 300, 0, 0, 0], b''), '19 0 -'),
@@ -182,8 +192,10 @@ for tag in range(3, 8):
 
 TERMINALS = ['command %d terminal' % tag for tag in range(3, 8)]
 WRITE = on_tape(
-    'command count, parameter count,' + ','.join(name + ' count' for name in TERMINALS),
-    'tag, year, month, day, hour, minute, second, frequency, symbol rate, mapping, address kind, period, volume,'
+    # A clock's numbers are taken as they are, as counts are.
+    'command count, parameter count, year, month, day, hour, minute, second,'
+    + ','.join(name + ' count' for name in TERMINALS),
+    'tag, frequency, symbol rate, mapping, address kind, period, volume,'
     'parameter', 'command 2 address, command 4 address, content, signature',
     'command 2 resource,' + ','.join(TERMINALS)) | {*pairs("""
 year: 20

@@ -154,12 +154,20 @@ static void lay_body(struct layer *l) {
 
 // ---- a form judged and measured
 
+// Three numbers, however large: the day or the time that they say is judged.
+static unsigned form_three(struct form *f) {
+    if (f->left < 3) return OUTSIDE;
+    f->t += 3;
+    f->left -= 3;
+    return 0;
+}
+
 static unsigned form_clock(struct form *f) {
-    unsigned no;
-    if ((no = form_number(f, 0, 0xFFFF)) || (no = form_number(f, 0, 0xFF)) || (no = form_number(f, 0, 0xFF))) return no;
+    unsigned no = form_three(f);
+    if (no) return no;
+    if (f->t[-3] > 0xFFFF || f->t[-2] > 0xFF || f->t[-1] > 0xFF) return IMPOSSIBLE;
     if (!plain_is_day((uint32_t)f->t[-3], (uint32_t)f->t[-2], (uint32_t)f->t[-1])) return IMPOSSIBLE;
-    for (int i = 0; i < 3; i++)
-        if ((no = form_number(f, 0, 0xFF))) return no;
+    if ((no = form_three(f))) return no;
     f->bytes += 7;
     return is_time(f->t[-3], f->t[-2], f->t[-1]) ? 0 : IMPOSSIBLE;
 }

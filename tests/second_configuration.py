@@ -18,7 +18,7 @@ NAME_AND_PORT = re.compile(rb'[\x21-\x39\x3B-\x7E]+:([0-9]{1,5})')
 def is_day(year, month, day):
     try:
         return FIRST_DATE <= datetime.date(year, month, day) <= LAST_DATE
-    except ValueError:
+    except (ValueError, OverflowError):
         return False
 
 
@@ -151,11 +151,11 @@ def form_command(taken):
 
 
 def form_clock(taken, command):
-    """The day is judged when its three numbers are taken, the time when its three are."""
-    date = {name: taken.number(name, most) for name, most in (('year', 0xFFFF), ('month', 0xFF), ('day', 0xFF))}
+    """The day is judged when its three numbers are taken, the time when its three are: too large ones are impossible."""
+    date = {name: taken.entry(name) for name in ('year', 'month', 'day')}
     if not is_day(**date):
         refuse(20, 'year')
-    time = {name: taken.number(name, 0xFF) for name in ('hour', 'minute', 'second')}
+    time = {name: taken.entry(name) for name in ('hour', 'minute', 'second')}
     if not is_time(**time):
         refuse(20, 'hour')
     return {**date, **time}

@@ -11,22 +11,21 @@ use lib.Dec.{ltb, leb, eqb}
 use borrow.Author.Tests.{ltb-true, le-leb, lt-leb, lt-ltb, le-ltb, eq-eqb, ne-eqb}
 use Rattle.refusal.specs.declared.Refusal.{Refusal}
 use Rattle.refusal.specs.declared.Refusal.the-variants.{PastBody, PastPart, OutsideSet, ImpossibleDay}
-use Rattle.days.specs.Calendar.{dayOf}
-use Rattle.days.specs.declared.DayAnswer.the-variants.{Day, Refused as NoDay}
+use Rattle.days.specs.Calendar.{hasDay}
 use Rattle.formats.specs.Reading.{Reading, found, refused, andThen, need, unless, judged, within}
-use Rattle.formats.specs.Format.{Format, count, number, among, only, followed, _▷_, listOf, opaque, rest, lengthOf, leastOf, counted}
+use Rattle.formats.specs.Format.{Format, count, number, among, only, followed, listOf, opaque, rest, lengthOf, leastOf, counted}
 use Rattle.formats.specs.Answers.{numberOf, partOf, numberAmong, numberRead, partRead, endedAll}
 use Rattle.formats.specs.declared.Step.the-variants.{At, Refused as NoStep}
 use Rattle.formats.specs.declared.Number.the-variants.{Is, Refused as NoNumber}
 use Rattle.formats.specs.declared.Part.the-variants.{Of, Refused as NoPart}
 use Rattle.formats.proofs.Outcomes.{found-inj, andThen-found, need-found, within-found}
 use Rattle.formats.proofs.Classes.{Bytes}
-use Rattle.formats.proofs.Elements.{followed-found}
 use Rattle.formats.proofs.Bits.{number-is-count, number-among}
 use Rattle.formats.proofs.Readers.{number-found, number-refused, number-facts, list-no, list-all, step-found, step-refused}
 use Rattle.formats.proofs.Readers as readers
 use Rattle.configuration.specs.Address.{lengthFits, isAddress}
-use Rattle.configuration.specs.Configuration.{date, clock, addressFault, fitting, address, least}
+use Rattle.configuration.specs.Configuration.{plain, date, clock, addressFault, fitting, address, least}
+use Rattle.configuration.proofs.Clocks.{day-fault}
 use Rattle.asking.specs.Asking.{entry}
 use Rattle.asking.proofs.Answers.{part-found, part-refused}
 use Rattle.asking.proofs.Sizes.{count-sized, number-sized, only-found}
@@ -73,12 +72,6 @@ module _ {A : Type 0} (F : Format A) (tag k : ℕ) (s : List ℕ) (p : ℕ) wher
 -- ---- numbers
 
 module _ (s : List ℕ) (b : Bytes s) where
-  number-there : (w l p v q : ℕ) → Is v q ≡ numberRead w s l p → number w .parse s l p ≡ found v q
-  number-there w l p v q e = number-found (number w .parse s l p) v q (e ∙ number-is-count w s l p b)
-
-  number-gone : (w l p : ℕ) (r : Refusal) → NoNumber r ≡ numberRead w s l p → number w .parse s l p ≡ refused r
-  number-gone w l p r e = number-refused (number w .parse s l p) r (e ∙ number-is-count w s l p b)
-
   pub among-read : (lo hi l p : ℕ) → numberAmong lo hi p (numberRead 1 s l p) ≡ numberOf (among lo hi (number 1) .parse s l p)
   among-read lo hi l p = ap (numberAmong lo hi p) (number-is-count 1 s l p b) ∙ number-among lo hi (number 1) s l p
 
@@ -178,9 +171,6 @@ module _ (s : List ℕ) (p : ℕ) where
 
 -- ---- three numbers
 
-abbrev pub three : ℕ → Format (ℕ × (ℕ × ℕ))
-three w = number w ▷ (number 1 ▷ number 1)
-
 three-found : (x : Reading (ℕ × (ℕ × ℕ))) (a b c q : ℕ) → Are a b c q ≡ threeOf x → x ≡ found (a, (b, c)) q
 three-found (found y t) a b c q e =
     let i : y .0 ≡ a = cc in
@@ -194,34 +184,24 @@ three-refused : (x : Reading (ℕ × (ℕ × ℕ))) (r : Refusal) → NoThree r 
 three-refused (refused t) r e = let a : t ≡ r = cc in ap refused a
 three-refused (found y q) r e = absurd (let z : _≡_ {A = ℕ} 0 1 = cc in omega arith)
 
-module _ (s : List ℕ) (b : Bytes s) (l p w : ℕ) where
-  pub three-no-first : (r : Refusal) → NoNumber r ≡ numberRead w s l p → NoThree r ≡ threeOf (three w .parse s l p)
-  unfolding followed
-  three-no-first r e = rw (number-gone s b w l p r e)
+module _ (s : List ℕ) (l p w : ℕ) where
+  pub three-no-first : (r : Refusal) → NoNumber r ≡ numberRead w s l p → NoThree r ≡ threeOf (plain w .parse s l p)
+  unfolding followed numberRead
+  three-no-first r e = rw (number-refused (count w .parse s l p) r e)
 
   module _ (x q : ℕ) (e : Is x q ≡ numberRead w s l p) where
-    pub three-no-second : (r : Refusal) → NoNumber r ≡ numberRead 1 s l q → NoThree r ≡ threeOf (three w .parse s l p)
-    unfolding followed
-    three-no-second r f = rw (number-there s b w l p x q e, number-gone s b 1 l q r f)
+    pub three-no-second : (r : Refusal) → NoNumber r ≡ numberRead 1 s l q → NoThree r ≡ threeOf (plain w .parse s l p)
+    unfolding followed numberRead
+    three-no-second r f = rw (number-found (count w .parse s l p) x q e, number-refused (count 1 .parse s l q) r f)
 
     module _ (y t : ℕ) (f : Is y t ≡ numberRead 1 s l q) where
-      pub three-no-third : (r : Refusal) → NoNumber r ≡ numberRead 1 s l t → NoThree r ≡ threeOf (three w .parse s l p)
-      unfolding followed
-      three-no-third r g = rw (number-there s b w l p x q e, number-there s b 1 l q y t f, number-gone s b 1 l t r g)
+      pub three-no-third : (r : Refusal) → NoNumber r ≡ numberRead 1 s l t → NoThree r ≡ threeOf (plain w .parse s l p)
+      unfolding followed numberRead
+      three-no-third r g = rw (number-found (count w .parse s l p) x q e, number-found (count 1 .parse s l q) y t f, number-refused (count 1 .parse s l t) r g)
 
-      pub three-is : (z end : ℕ) → Is z end ≡ numberRead 1 s l t → Are x y z end ≡ threeOf (three w .parse s l p)
-      unfolding followed
-      three-is z end g = rw (number-there s b w l p x q e, number-there s b 1 l q y t f, number-there s b 1 l t z end g)
-
-  -- each is below the power of its bytes
-  number-small : (v at x q : ℕ) → number v .parse s l at ≡ found x q → x < 256 ^ v
-  number-small v at x q e = number-facts s l at v x q b (ap numberOf (sym e) ∙ sym (number-is-count v s l at b)) .2
-
-  pub three-small : (x y z end : ℕ) → Are x y z end ≡ threeOf (three w .parse s l p) → (x < 256 ^ w) × (y < 256) × (z < 256)
-  three-small x y z end e =
-      let f = followed-found (number w) (number 1 ▷ number 1) s l p (x, (y, z)) end (three-found (three w .parse s l p) x y z end e) in
-      let g = followed-found (number 1) (number 1) s l (f .0) (y, z) end (f .2) in
-      (number-small w p x (f .0) (f .1), number-small 1 (f .0) y (g .0) (g .1), number-small 1 (g .0) z end (g .2))
+      pub three-is : (z end : ℕ) → Is z end ≡ numberRead 1 s l t → Are x y z end ≡ threeOf (plain w .parse s l p)
+      unfolding followed numberRead
+      three-is z end g = rw (number-found (count w .parse s l p) x q e, number-found (count 1 .parse s l q) y t f, number-found (count 1 .parse s l t) z end g)
 
 -- ---- 1: the clock
 
@@ -235,31 +215,31 @@ module _ (s : List ℕ) (p : ℕ) where
   clock-no r e = rw (place-refused (contentAt 1 s p) r e)
 
   module _ (q l : ℕ) (e : In q l ≡ placeOf (contentAt 1 s p)) where
-    pub date-bad : (r : Refusal) → NoThree r ≡ threeOf (three 2 .parse s l q) → NoThree r ≡ clockDate s p
+    pub date-bad : (r : Refusal) → NoThree r ≡ threeOf (plain 2 .parse s l q) → NoThree r ≡ clockDate s p
     unfolding clockDate date only
-    date-bad r f = rw (place-found (contentAt 1 s p) q l e, add-zero q, three-refused (three 2 .parse s l q) r f)
+    date-bad r f = rw (place-found (contentAt 1 s p) q l e, add-zero q, three-refused (plain 2 .parse s l q) r f)
 
-    module _ (x y z end : ℕ) (f : Are x y z end ≡ threeOf (three 2 .parse s l q)) where
-      pub date-impossible : (r : Refusal) → NoDay r ≡ dayOf x y z → NoThree (ImpossibleDay q) ≡ clockDate s p
+    module _ (x y z end : ℕ) (f : Are x y z end ≡ threeOf (plain 2 .parse s l q)) where
+      pub date-impossible : hasDay x y z ≡ false → NoThree (ImpossibleDay q) ≡ clockDate s p
       unfolding clockDate date only
-      date-impossible r g = rw (place-found (contentAt 1 s p) q l e, add-zero q, three-found (three 2 .parse s l q) x y z end f, ← g)
+      date-impossible g = rw (place-found (contentAt 1 s p) q l e, add-zero q, three-found (plain 2 .parse s l q) x y z end f, day-fault x y z q, g)
 
-      pub date-is : (n : ℕ) → Day n ≡ dayOf x y z → Are x y z end ≡ clockDate s p
+      pub date-is : hasDay x y z ≡ true → Are x y z end ≡ clockDate s p
       unfolding clockDate date only
-      date-is n g = rw (place-found (contentAt 1 s p) q l e, add-zero q, three-found (three 2 .parse s l q) x y z end f, ← g)
+      date-is g = rw (place-found (contentAt 1 s p) q l e, add-zero q, three-found (plain 2 .parse s l q) x y z end f, day-fault x y z q, g)
 
-    pub clock-bad : (r : Refusal) → NoThree r ≡ threeOf (three 1 .parse s l (q + 4)) → NoThree r ≡ clockTime s p
+    pub clock-bad : (r : Refusal) → NoThree r ≡ threeOf (plain 1 .parse s l (q + 4)) → NoThree r ≡ clockTime s p
     unfolding clockTime clock only
-    clock-bad r f = rw (place-found (contentAt 1 s p) q l e, three-refused (three 1 .parse s l (q + 4)) r f)
+    clock-bad r f = rw (place-found (contentAt 1 s p) q l e, three-refused (plain 1 .parse s l (q + 4)) r f)
 
-    module _ (x y z end : ℕ) (f : Are x y z end ≡ threeOf (three 1 .parse s l (q + 4))) where
+    module _ (x y z end : ℕ) (f : Are x y z end ≡ threeOf (plain 1 .parse s l (q + 4))) where
       pub clock-impossible : (leb x 23 && (leb y 59 && leb z 59)) ≡ false → NoThree (ImpossibleDay (q + 4)) ≡ clockTime s p
       unfolding clockTime clock only
-      clock-impossible g = rw (place-found (contentAt 1 s p) q l e, three-found (three 1 .parse s l (q + 4)) x y z end f, g)
+      clock-impossible g = rw (place-found (contentAt 1 s p) q l e, three-found (plain 1 .parse s l (q + 4)) x y z end f, g)
 
       pub clock-is : (leb x 23 && (leb y 59 && leb z 59)) ≡ true → Are x y z end ≡ clockTime s p
       unfolding clockTime clock only
-      clock-is g = rw (place-found (contentAt 1 s p) q l e, three-found (three 1 .parse s l (q + 4)) x y z end f, g)
+      clock-is g = rw (place-found (contentAt 1 s p) q l e, three-found (plain 1 .parse s l (q + 4)) x y z end f, g)
 
 -- ---- 2: the code
 

@@ -22,7 +22,7 @@ use Rattle.formats.proofs.Parts.{rest-filling}
 use Rattle.formats.proofs.Elements.{exact-found, view-found, followed-found, list-found}
 use Rattle.formats.proofs.RoundTrips as trips
 use Rattle.formats.specs.Resource.{resource}
-use Rattle.configuration.specs.Configuration.{configurationKind, terminals, date, clock, address, Order, setClock, setCode, tune, setReturn, setPeriod, setVolume, query, other, orderOf, Said, said, least, Command, command, Configuration, fields, configuration}
+use Rattle.configuration.specs.Configuration.{configurationKind, terminals, plain, date, clock, address, Order, setClock, setCode, tune, setReturn, setPeriod, setVolume, query, other, orderOf, Said, said, least, Command, command, Configuration, fields, configuration}
 use Rattle.configuration.proofs.Lawful.{said-filling, configuration-filling}
 use Rattle.asking.specs.Asking.{entry}
 use Rattle.asking.proofs.Sizes.{Sized, count-sized, only-found, number-sized, number-inside, digits-sized, next, repeat-sized, nth-sized}
@@ -30,23 +30,23 @@ use Rattle.asking.proofs.Entries.{all-same}
 use Rattle.formats.specs.Held.{PartHolds}
 use Rattle.asking.proofs.Parts.{part-holds, bytes-hold, part-begins, digit-is, digits-bytes, depending-found}
 use Rattle.commands.specs.Asked.{commandCount, signaturePart, tagAt, bytesAt, commandTag, commandContent, contentAt, inCommand, clockDate, clockTime, clockYear, clockMonth, clockDay, clockHour, clockMinute, clockSecond, codeAddress, codeAt, codeResource, codeDigit, frequency, symbolRate, mapping, returnKind, addressIn, returnAddress, period, volume, parameterCount, listAt, parameterAt, parameter, terminalsIn, terminalsAt, terminalCount, terminalAt, terminal, terminalDigit}
-use Rattle.commands.proofs.Answers.{tag-found, content-there, three, address-fills}
+use Rattle.commands.proofs.Answers.{tag-found, content-there, address-fills}
 
 -- ---- fields of a fixed size
 
-three-sized : (w : ℕ) → Sized (three w) (w + 2)
-three-sized w s l p x q e =
-    let f = next (number w) (number 1 ▷ number 1) w (number-sized w) s l p (p + w) x q refl e in
-    let g = next (number 1) (number 1) 1 (number-sized 1) s l (p + w) (p + w + 1) (x .1) q refl (f .1) in
-    omega (arith, number-sized 1 s l (p + w + 1) (x .1 .1) q (g .1))
+plain-sized : (w : ℕ) → Sized (plain w) (w + 2)
+plain-sized w s l p x q e =
+    let f = next (count w) (count 1 ▷ count 1) w (count-sized w) s l p (p + w) x q refl e in
+    let g = next (count 1) (count 1) 1 (count-sized 1) s l (p + w) (p + w + 1) (x .1) q refl (f .1) in
+    omega (arith, count-sized 1 s l (p + w + 1) (x .1 .1) q (g .1))
 
 date-sized : Sized date 4
 unfolding date
-date-sized s l p x q e = three-sized 2 s l p x q (only-found _ (three 2) s l p x q e)
+date-sized s l p x q e = plain-sized 2 s l p x q (only-found _ (plain 2) s l p x q e)
 
 clock-sized : Sized clock 3
 unfolding clock
-clock-sized s l p x q e = three-sized 1 s l p x q (only-found _ (three 1) s l p x q e)
+clock-sized s l p x q e = plain-sized 1 s l p x q (only-found _ (plain 1) s l p x q e)
 
 among-sized : (lo hi : ℕ) → Sized (among lo hi (number 1)) 1
 among-sized lo hi s l p x q e = number-sized 1 s l p x q (only-found _ (number 1) s l p x q e)

@@ -1,5 +1,4 @@
 // The fields of a configuration table, asked for one by one: of the body, and of a command told by p, where its tag stands.
-use days::DayAnswer;
 use formats::Number;
 use formats::Part;
 use formats::Step;
@@ -11,9 +10,9 @@ use settings::least_content;
 ghost use mathlib.Core.Path.{_≡_};
 ghost use Prim.Native.Nat.{_≤_};
 ghost use lib.ListN.{length};
-ghost use Rattle.formats.specs.Format.{count, number, among, _▷_};
+ghost use Rattle.formats.specs.Format.{count, number, among};
 ghost use Rattle.formats.specs.Answers.{numberOf, partOf};
-ghost use Rattle.configuration.specs.Configuration.{address};
+ghost use Rattle.configuration.specs.Configuration.{plain, address};
 ghost use Rattle.commands.specs.Asked.{commandCount, signaturePart, commandTag, commandContent, contentAt, inCommand, placeOf, threeOf, firstOf, secondOf, thirdOf, clockDate, clockTime, clockYear, clockMonth, clockDay, clockHour, clockMinute, clockSecond, resourceOf, digitOf, codeAddress, codeAt, codeResource, codeDigit, frequency, symbolRate, mapping, returnKind, addressIn, returnAddress, period, volume, parameterCount, listAt, parameterAt, parameter, terminalsIn, terminalsAt, terminalCount, terminalAt, terminal, terminalDigit};
 
 // A place in a command's content, and where the content ends; or a refusal.
@@ -115,7 +114,7 @@ fn among_in(s: &[u8], p: usize, tag: u64, k: usize, lo: u64, hi: u64) -> Number
 // A number of w bytes and two of one byte.
 fn read_three(s: &[u8], l: usize, p: usize, w: usize) -> Three
     requires { ⌜ w ≤ 7 ⌝ }
-    ensures { λ r. ⌜ r ≡ threeOf ((number w ▷ (number 1 ▷ number 1)) .parse (now (s .entry)) l p) ⌝ }
+    ensures { λ r. ⌜ r ≡ threeOf (plain w .parse (now (s .entry)) l p) ⌝ }
 {
     match fields::read_number(s, l, p, w) {
         Number::Refused(r) => Three::Refused(r),
@@ -137,14 +136,12 @@ fn clock_date(s: &[u8], p: usize) -> Three
         Place::Refused(r) => Three::Refused(r),
         Place::In(q, l) => match read_three(s, l, q, 2) {
             Three::Refused(r) => Three::Refused(r),
-            Three::Are(year, month, day, end) => match days::day_of(
-                year as u32,
-                month as u32,
-                day as u32,
-            ) {
-                DayAnswer::Refused(r) => Three::Refused(Refusal::ImpossibleDay(q)),
-                DayAnswer::Day(n) => Three::Are(year, month, day, end),
-            },
+            Three::Are(year, month, day, end) => {
+                if clocks::is_day(year, month, day) {
+                    return Three::Are(year, month, day, end);
+                }
+                Three::Refused(Refusal::ImpossibleDay(q))
+            }
         },
     }
 }

@@ -12,7 +12,7 @@ use Rattle.days.specs.Calendar.{dayOf}
 use Rattle.days.specs.declared.DayAnswer.{DayAnswer}
 use Rattle.days.specs.declared.DayAnswer.the-variants.{Day, Refused}
 use Rattle.formats.specs.Reading.{Fault, fine, faulty, isFine}
-use Rattle.formats.specs.Format.{_▷_, only, outside, count, number, rest, leastOf, counted}
+use Rattle.formats.specs.Format.{only, outside, count, number, rest, leastOf, counted}
 use Rattle.formats.proofs.Classes.{Lawful, Filling}
 use Rattle.formats.proofs.Leaves.{count-lawful, count-small, small-count, digits-lawful}
 use Rattle.formats.proofs.Bits.{among-lawful}
@@ -20,7 +20,7 @@ use Rattle.formats.proofs.Parts.{only-ok, only-lawful, only-filling, unless-eve
 use Rattle.formats.proofs.Lists.{list-lawful}
 use Rattle.formats.proofs.Resources.{resources-lawful}
 use Rattle.configuration.specs.Address.{lengthFits, isAddress}
-use Rattle.configuration.specs.Configuration.{terminals, dayFault, date, clock, addressFault, fitting, address, Order, setClock, setCode, tune, setReturn, setPeriod, setVolume, query, other, orderOf, said, least, command, fields, configuration}
+use Rattle.configuration.specs.Configuration.{terminals, dayFault, plain, date, clock, addressFault, fitting, address, Order, setClock, setCode, tune, setReturn, setPeriod, setVolume, query, other, orderOf, said, least, command, fields, configuration}
 use Rattle.configuration.proofs.Least.{enough}
 
 pub terminals-lawful : Lawful terminals
@@ -29,8 +29,8 @@ terminals-lawful = resources-lawful
 
 -- ---- the clock: whether a day or a time is possible does not depend on its place
 
-three-lawful : (w : ℕ) → Lawful (number w ▷ (number 1 ▷ number 1))
-three-lawful w = followed-lawful _ _ (number-lawful w) (λ a. followed-lawful _ _ (number-lawful 1) (λ b. number-lawful 1))
+pub plain-lawful : (w : ℕ) → Lawful (plain w)
+plain-lawful w = followed-lawful _ _ (count-lawful w) (λ a. followed-lawful _ _ (count-lawful 1) (λ b. count-lawful 1))
 
 day-even : (d : DayAnswer) (p : ℕ) → isFine (dayFault d p) ≡ isFine (dayFault d 0)
 day-even (Day n) p = refl
@@ -38,11 +38,11 @@ day-even (Refused r) p = refl
 
 pub date-lawful : Lawful date
 unfolding date
-date-lawful = only-lawful _ _ (λ x. day-even (dayOf (x .0) (x .1 .0) (x .1 .1))) (three-lawful 2)
+date-lawful = only-lawful _ _ (λ x. day-even (dayOf (x .0) (x .1 .0) (x .1 .1))) (plain-lawful 2)
 
 pub clock-lawful : Lawful clock
 unfolding clock
-clock-lawful = only-lawful _ _ (λ x. unless-even (leb (x .0) 23 && (leb (x .1 .0) 59 && leb (x .1 .1) 59)) ImpossibleDay) (three-lawful 1)
+clock-lawful = only-lawful _ _ (λ x. unless-even (leb (x .0) 23 && (leb (x .1 .0) 59 && leb (x .1 .1) 59)) ImpossibleDay) (plain-lawful 1)
 
 -- ---- the return address
 

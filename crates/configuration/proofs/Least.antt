@@ -11,7 +11,7 @@ use Rattle.formats.proofs.Classes.{Ok}
 use Rattle.formats.proofs.Leaves.{length-bytes}
 use Rattle.formats.proofs.Strings.{digits-take}
 use Rattle.formats.specs.Resource.{resource}
-use Rattle.configuration.specs.Configuration.{terminals, date, clock, fitting, address, Said, said, orderOf, least}
+use Rattle.configuration.specs.Configuration.{terminals, plain, date, clock, fitting, address, Said, said, orderOf, least}
 
 -- each value takes n bytes at least
 abbrev Takes : {A : Type 0} → ℕ → Format A → Type 0
@@ -37,8 +37,8 @@ counted-takes : {A : Type 0} (n : ℕ) (L : Length) (F : Format A) → Takes n (
 unfolding counted
 counted-takes n L F f a = simp length-append (omega (arith, f (length (F .print a))))
 
-three-take : (w : ℕ) → Takes (w + 2) (number w ▷ (number 1 ▷ number 1))
-three-take w = followed-takes w 2 _ _ (number-takes w) (λ a. followed-takes 1 1 _ _ (number-takes 1) (λ b. number-takes 1))
+plain-takes : (w : ℕ) → Takes (w + 2) (plain w)
+plain-takes w = followed-takes w 2 _ _ (count-takes w) (λ a. followed-takes 1 1 _ _ (count-takes 1) (λ b. count-takes 1))
 
 terminals-take : Takes 1 terminals
 unfolding terminals
@@ -62,7 +62,7 @@ code-takes x r =
 pub enough : (tag : ℕ) (x : Said (orderOf tag)) → Ok (said (orderOf tag)) x → least tag ≤ length (said (orderOf tag) .print x)
 unfolding least orderOf said exact date clock only
 enough zero x o = zero-le
-enough (suc zero) x o = followed-takes 4 3 date (λ a. clock) (three-take 2) (λ a. three-take 1) x
+enough (suc zero) x o = followed-takes 4 3 date (λ a. clock) (plain-takes 2) (λ a. plain-takes 1) x
 enough (suc (suc zero)) x o = code-takes x (o .right)
 enough (suc (suc (suc zero))) x o =
     followed-takes 4 6 _ _ (number-takes 4) (λ a. followed-takes 4 2 _ _ (number-takes 4) (λ b. followed-takes 1 1 _ _ (number-takes 1) (λ c. terminals-take))) x

@@ -5,3 +5,4 @@ pub mod Lawful
 pub mod RoundTrips
 pub mod Places
 pub mod Values
+pub mod Clocks

@@ -6,8 +6,8 @@ use mathlib.Core.Bool.{Bool, true, false}
 use lib.ListN.{length}
 use Rattle.refusal.specs.declared.Refusal.the-variants.{PastPart, OutsideSet, ImpossibleDay}
 use Rattle.days.specs.Calendar.{leap, monthLength, isDate, monthsFrom, yearOf, monthOf, daysOf, monthStart, dayNumber, inRange, hasDay, dayOf}
-use Rattle.formats.specs.Reading.{found}
-use Rattle.formats.specs.Format.{numberAt, count, only, number, followed, every, repeat, listOf, rest, exact, view, lengthOf, leastOf, counted}
+use Rattle.formats.specs.Reading.{found, refused}
+use Rattle.formats.specs.Format.{entry, numberAt, count, only, number, followed, every, repeat, listOf, rest, exact, view, lengthOf, leastOf, counted}
 use Rattle.formats.specs.Body.{reading, bodyRead}
 use Rattle.formats.specs.declared.Step.{Step}
 use Rattle.formats.specs.declared.Step.the-variants.{At, Refused}
@@ -34,6 +34,14 @@ pub contents :
     × (commandRead 1 (0x07 ∷ 0xDE ∷ 2 ∷ 28 ∷ 23 ∷ 59 ∷ 60 ∷ []) ≡ Refused (ImpossibleDay 8))
 unfolding bodyRead reading configuration exact view fields followed listOf repeat count numberAt command number only counted leastOf least said orderOf terminals lengthOf rest address fitting lengthFits isAddress hostAndPort date clock dayOf hasDay isDate monthLength leap inRange dayNumber monthStart monthsFrom daysOf yearOf monthOf
 contents = (refl, refl, refl, refl, refl, refl, refl, refl, refl)
+
+-- numbers of a form that are too large for their fields: month 257, minute 256; and a tape that ends inside the clock
+pub clocks-too-large :
+    (date .form [] (2024 ∷ 257 ∷ 1 ∷ []) 0 ≡ refused (ImpossibleDay 0))
+    × (clock .form [] (0 ∷ 256 ∷ 0 ∷ []) 0 ≡ refused (ImpossibleDay 0))
+    × (date .form [] (2024 ∷ 257 ∷ []) 0 ≡ refused (OutsideSet 0))
+unfolding date clock only followed count entry dayOf hasDay isDate
+clocks-too-large = (refl, refl, refl)
 
 -- the standard's year: "2014: 0x7de"
 pub year-2014 : number 2 .parse (0x07 ∷ 0xDE ∷ []) 2 0 ≡ found 2014 2

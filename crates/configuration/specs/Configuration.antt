@@ -24,17 +24,22 @@ terminals = resources
 
 -- ---- 1: the clock
 
+-- "plain binary": a number of w bytes and two of one byte. A clock's number that is too large for its field (year above 65,535, another
+-- above 255) is an impossible day or time for the writer: 20, not 19.
+abbrev pub plain : ℕ → Format (ℕ × (ℕ × ℕ))
+plain w = count w ▷ (count 1 ▷ count 1)
+
 abbrev pub dayFault : DayAnswer → ℕ → Fault
 dayFault (Day n) at = fine
 dayFault (Refused r) at = faulty (ImpossibleDay at)
 
 -- "year 16, month, day": "an impossible or out-of-range day is 20 at the year"
 unfoldable pub date : Format (ℕ × (ℕ × ℕ))
-date = only (λ x at. dayFault (dayOf (x .0) (x .1 .0) (x .1 .1)) at) (number 2 ▷ (number 1 ▷ number 1))
+date = only (λ x at. dayFault (dayOf (x .0) (x .1 .0) (x .1 .1)) at) (plain 2)
 
 -- "hour, minute, second": "an impossible time 20 at the hour"
 unfoldable pub clock : Format (ℕ × (ℕ × ℕ))
-clock = only (λ x at. unless (leb (x .0) 23 && (leb (x .1 .0) 59 && leb (x .1 .1) 59)) (ImpossibleDay at)) (number 1 ▷ (number 1 ▷ number 1))
+clock = only (λ x at. unless (leb (x .0) 23 && (leb (x .1 .0) 59 && leb (x .1 .1) 59)) (ImpossibleDay at)) (plain 1)
 
 -- ---- 4: the return address
 

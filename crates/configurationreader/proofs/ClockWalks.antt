@@ -1,34 +1,21 @@
--- Laws of days and times of day: a day's fault, and three numbers judged together at the first of them.
+-- Laws of days and times of day: three numbers judged together at the first of them.
 use Prim.Native.Nat.{ℕ}
-use mathlib.Core.Path.{_≡_, refl, sym, ap, _∙_}
+use mathlib.Core.Path.{_≡_, sym, ap, _∙_}
 use mathlib.Core.List.{List}
-use mathlib.Core.Bool.{Bool, true, false, cond}
+use mathlib.Core.Bool.{Bool}
 use Rattle.refusal.specs.declared.Refusal.the-variants.{ImpossibleDay}
-use Rattle.days.specs.Calendar.{dayNumber, hasDay, dayOf}
-use Rattle.days.specs.declared.DayAnswer.the-variants.{Day, Refused as NoDay}
 use Rattle.formats.specs.Reading.{found, Fault, unless}
-use Rattle.formats.specs.Format.{Format, only, number, followed, _▷_}
+use Rattle.formats.specs.Format.{Format, only, count, followed, _▷_}
 use Rattle.formats.proofs.Outcomes.{found-inj, andThen-found}
-use Rattle.formats.proofs.Parts.{number-lawful, followed-lawful}
+use Rattle.formats.proofs.Leaves.{count-lawful}
+use Rattle.formats.proofs.Parts.{followed-lawful}
 use Rattle.walks.specs.Walked.{onward, walked, judgedFrom, Walked, Counted}
 use Rattle.walks.specs.declared.Walk.{Walk}
 use Rattle.walks.specs.declared.Walk.the-variants.{At}
 use Rattle.walks.specs.declared.Count.{Count}
 use Rattle.walks.proofs.Pairs.{walked-at, pair, only-walk}
 use Rattle.walks.proofs.Counts.{value-found}
-use Rattle.configuration.specs.Configuration.{dayFault}
-
--- ---- a day's fault
-
-pub day-fault : (y m d at : ℕ) → dayFault (dayOf y m d) at ≡ unless (hasDay y m d) (ImpossibleDay at)
-unfolding dayOf
-day-fault y m d at = go (hasDay y m d)
-  where
-    go : (t : Bool) → dayFault (cond t (Day (dayNumber y m d)) (NoDay (ImpossibleDay 0))) at ≡ unless t (ImpossibleDay at)
-    go true = refl
-    go false = refl
-
--- ---- three numbers that were told
+use Rattle.configuration.specs.Configuration.{plain}
 
 -- the first of two things is the number told, and the second was found where the walk came to
 pair-told : {B : Type 0} {C : Format ℕ} (G : Format B) {s : List ℕ} {l : ℕ} {x : Walk} {wet : Bool} {t : List ℕ} {c : Count} {t₁ : List ℕ}
@@ -49,16 +36,16 @@ pair-told {B} {C} G {s} {l} u z p q room e h =
 -- all of them are walked, and then a test of the three decides
 pub three-walk : (w : ℕ) {fault : ℕ × (ℕ × ℕ) → ℕ → Fault} (test : ℕ → ℕ → ℕ → Bool) → ((z : ℕ × (ℕ × ℕ)) (at : ℕ) → fault z at ≡ unless (test (z .0) (z .1 .0) (z .1 .1)) (ImpossibleDay at))
     → {s : List ℕ} {l : ℕ} {x : Walk} {wet : Bool} {t : List ℕ} {a : Count} {t₁ : List ℕ} {b : Count} {t₂ : List ℕ} {c : Count} {t₃ : List ℕ} {r : Walk} (holds : Bool)
-    → Counted (number w) s l x wet t a t₁ → Counted (number 1) s l (a .walk) wet t₁ b t₂ → Counted (number 1) s l (b .walk) wet t₂ c t₃
+    → Counted (count w) s l x wet t a t₁ → Counted (count 1) s l (a .walk) wet t₁ b t₂ → Counted (count 1) s l (b .walk) wet t₂ c t₃
     → holds ≡ test (a .n) (b .n) (c .n) → r ≡ judgedFrom ImpossibleDay x holds (c .walk)
-    → Walked (only fault (number w ▷ (number 1 ▷ number 1))) s l x wet t r t₃
+    → Walked (only fault (plain w)) s l x wet t r t₃
 three-walk w test says {a} {b} {c} holds u v k h e =
     only-walk ImpossibleDay holds
     (λ z p q room i f.
-    let first = pair-told (number 1 ▷ number 1) u z p q room i f in
-    let second = pair-told (number 1) v (z .1) (first .1) q (first .2) (first .3) (first .4) in
+    let first = pair-told (count 1 ▷ count 1) u z p q room i f in
+    let second = pair-told (count 1) v (z .1) (first .1) q (first .2) (first .3) (first .4) in
     let third : z .1 .1 ≡ c .n = sym (value-found k (z .1 .1) (second .1) q (second .2) (second .3) (second .4)) in
     let same : test (z .0) (z .1 .0) (z .1 .1) ≡ holds = ap (λ y. test y (z .1 .0) (z .1 .1)) (first .0) ∙ ap (λ y. test (a .n) y (z .1 .1)) (second .0) ∙ ap (test (a .n) (b .n)) third ∙ sym h in
     says z p ∙ ap (λ y. unless y (ImpossibleDay p)) same)
-    (pair (number-lawful w) (followed-lawful _ _ (number-lawful 1) (λ y. number-lawful 1) .formal) (u .past) (pair (number-lawful 1) (number-lawful 1 .formal) (v .past) (k .past)))
+    (pair (count-lawful w) (followed-lawful _ _ (count-lawful 1) (λ y. count-lawful 1) .formal) (u .past) (pair (count-lawful 1) (count-lawful 1 .formal) (v .past) (k .past)))
     e

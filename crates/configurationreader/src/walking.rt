@@ -22,11 +22,11 @@ fn walk_terminals(s: &[u8], l: usize, x: Walk, tape: &mut [u64], wet: bool) -> W
 fn walk_date(s: &[u8], l: usize, x: Walk, tape: &mut [u64], wet: bool) -> Walk
     ensures { λ r. ⌜ Walked date (now (s .entry)) l x wet (now (tape .entry)) r (now (tape .exit)) ⌝ }
 {
-    let year = walks::walk_told(s, l, x, 2, tape, wet);
+    let year = walks::walk_count(s, l, x, 2, tape, wet);
     let a = year.walk;
-    let month = walks::walk_told(s, l, a, 1, tape, wet);
+    let month = walks::walk_count(s, l, a, 1, tape, wet);
     let b = month.walk;
-    let day = walks::walk_told(s, l, b, 1, tape, wet);
+    let day = walks::walk_count(s, l, b, 1, tape, wet);
     let c = day.walk;
     walks::possible(x, c, clocks::is_day(year.n, month.n, day.n))
 }
@@ -35,11 +35,11 @@ fn walk_date(s: &[u8], l: usize, x: Walk, tape: &mut [u64], wet: bool) -> Walk
 fn walk_clock(s: &[u8], l: usize, x: Walk, tape: &mut [u64], wet: bool) -> Walk
     ensures { λ r. ⌜ Walked clock (now (s .entry)) l x wet (now (tape .entry)) r (now (tape .exit)) ⌝ }
 {
-    let hour = walks::walk_told(s, l, x, 1, tape, wet);
+    let hour = walks::walk_count(s, l, x, 1, tape, wet);
     let a = hour.walk;
-    let minute = walks::walk_told(s, l, a, 1, tape, wet);
+    let minute = walks::walk_count(s, l, a, 1, tape, wet);
     let b = minute.walk;
-    let second = walks::walk_told(s, l, b, 1, tape, wet);
+    let second = walks::walk_count(s, l, b, 1, tape, wet);
     let c = second.walk;
     walks::possible(x, c, clocks::is_time(hour.n, minute.n, second.n))
 }

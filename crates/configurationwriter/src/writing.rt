@@ -1,6 +1,5 @@
 // The pen through the form of a configuration table, from its terminal lists up to the whole: each is one field of the format of its
 // name. A day and a time are judged once their numbers are put: the wet pen, which comes second, meets none that is refused.
-use days::DayAnswer;
 use formats::Part;
 use pens::Pen;
 use refusal::Refusal;
@@ -21,31 +20,31 @@ fn put_terminals(pool: &[u8], tape: &[u64], x: Pen, out: &mut [u8], wet: bool) -
 
 // ---- 1: the clock
 
-// "year 16, month, day": an impossible or out-of-range day is 20.
+// "year 16, month, day": an impossible or out-of-range day is 20, also one whose numbers are too large for their fields.
 fn put_date(tape: &[u64], x: Pen, out: &mut [u8], wet: bool) -> Pen
     ensures { λ r. ⌜ ((pool : List ℕ) → Penned date pool (now (tape .entry)) x wet (now (out .entry)) r (now (out .exit))) ⌝ }
 {
-    let year = pens::put_told(tape, x, 2, out, wet);
+    let year = pens::put_count(tape, x, 2, out, wet);
     let a = year.pen;
-    let month = pens::put_told(tape, a, 1, out, wet);
+    let month = pens::put_count(tape, a, 1, out, wet);
     let b = month.pen;
-    let day = pens::put_told(tape, b, 1, out, wet);
+    let day = pens::put_count(tape, b, 1, out, wet);
     let c = day.pen;
-    match days::day_of(year.n as u32, month.n as u32, day.n as u32) {
-        DayAnswer::Day(n) => c,
-        DayAnswer::Refused(r) => pens::refuse(c, Refusal::ImpossibleDay(0)),
+    if clocks::is_day(year.n, month.n, day.n) {
+        return c;
     }
+    pens::refuse(c, Refusal::ImpossibleDay(0))
 }
 
 // "hour, minute, second": an impossible time is 20.
 fn put_clock(tape: &[u64], x: Pen, out: &mut [u8], wet: bool) -> Pen
     ensures { λ r. ⌜ ((pool : List ℕ) → Penned clock pool (now (tape .entry)) x wet (now (out .entry)) r (now (out .exit))) ⌝ }
 {
-    let hour = pens::put_told(tape, x, 1, out, wet);
+    let hour = pens::put_count(tape, x, 1, out, wet);
     let a = hour.pen;
-    let minute = pens::put_told(tape, a, 1, out, wet);
+    let minute = pens::put_count(tape, a, 1, out, wet);
     let b = minute.pen;
-    let second = pens::put_told(tape, b, 1, out, wet);
+    let second = pens::put_count(tape, b, 1, out, wet);
     let c = second.pen;
     if clocks::is_time(hour.n, minute.n, second.n) {
         return c;

@@ -2,15 +2,22 @@
 use days::DayAnswer;
 ghost use mathlib.Core.Path.{_≡_};
 ghost use mathlib.Core.Bool.{_&&_};
-ghost use Prim.Native.Nat.{_<_};
 ghost use lib.Dec.{leb};
 ghost use Rattle.days.specs.Calendar.{hasDay};
 
-// Whether a date is one of the calendar whose day is in the range.
+// Whether a date is one of the calendar whose day is in the range: one that is too large for its fields is none.
 pub fn is_day(year: u64, month: u64, day: u64) -> bool
-    requires { ⌜ (year < 65536) × (month < 256) × (day < 256) ⌝ }
     ensures { λ r. ⌜ r ≡ hasDay year month day ⌝ }
 {
+    if 0xFFFF < year {
+        return false;
+    }
+    if 0xFF < month {
+        return false;
+    }
+    if 0xFF < day {
+        return false;
+    }
     match days::day_of(year as u32, month as u32, day as u32) {
         DayAnswer::Day(n) => true,
         DayAnswer::Refused(r) => false,

@@ -1,7 +1,6 @@
--- `commands::clock_date` meets its contract: the day of the three says whether they are answered.
+-- `commands::clock_date` meets its contract: whether the three are a day says whether they are answered.
 use mathlib.Core.Path.{sym, _∙_}
-use Rattle.commands.proofs.Answers.{three-small, date-no, date-bad, date-impossible, date-is}
-use native.Mathlib.Omega.{arith}
+use Rattle.commands.proofs.Answers.{date-no, date-bad, date-impossible, date-is}
 use borrow.Author.Needs.{needs}
 use Rattle.commands.proofs.clock_date.Statement.{statement}
 use Rattle.commands.proofs.clock_date.Tie as tie
@@ -16,13 +15,19 @@ clock-date-spec =
     (λ c κs. search needs)
     (λ c. search needs)
     (λ c. search needs)
-    (λ c. omega (arith, three-small _ (λ i. c .before .before .before .before .before .before .before .before .shared-slice-known .given i .fits) _ _ _ _ _ _ _ (sym (c .before .year .given .1) ∙ c .before .before .before .read-three .ensures)))
-    (λ c. omega (arith, three-small _ (λ i. c .before .before .before .before .before .before .before .before .shared-slice-known .given i .fits) _ _ _ _ _ _ _ (sym (c .before .year .given .1) ∙ c .before .before .before .read-three .ensures)))
-    (λ c. omega (arith, three-small _ (λ i. c .before .before .before .before .before .before .before .before .shared-slice-known .given i .fits) _ _ _ _ _ _ _ (sym (c .before .year .given .1) ∙ c .before .before .before .read-three .ensures)))
     (λ c κs. search needs)
-    (λ c. search needs)
-    (λ c. search needs)
+    (λ c.
+    let read = c .before .before .before in
+    let content = read .before .before .before .before in
+    date-is _ _ _ _ (sym (content .q .given .1) ∙ content .before .before .content .ensures)
+    _ _ _ _ (sym (read .year .given .1) ∙ read .before .before .read-three .ensures) (sym (c .before .is-day .ensures) ∙ c .if1 .taken))
     (λ c. date-no _ _ _ (sym (c .before .r .given .1) ∙ c .before .before .before .content .ensures))
-    (λ c. date-bad _ _ _ _ (sym (c .before .before .before .before .before .q .given .1) ∙ c .before .before .before .before .before .before .before .content .ensures) _ (sym (c .before .r2 .given .1) ∙ c .before .before .before .read-three .ensures))
-    (λ c. date-impossible _ _ _ _ (sym (c .before .before .before .before .before .before .before .before .before .q .given .1) ∙ c .before .before .before .before .before .before .before .before .before .before .before .content .ensures) _ _ _ _ (sym (c .before .before .before .before .before .year .given .1) ∙ c .before .before .before .before .before .before .before .read-three .ensures) _ (sym (c .before .r3 .given .1) ∙ c .before .before .before .day-of .ensures))
-    (λ c. date-is _ _ _ _ (sym (c .before .before .before .before .before .before .before .before .before .q .given .1) ∙ c .before .before .before .before .before .before .before .before .before .before .before .content .ensures) _ _ _ _ (sym (c .before .before .before .before .before .year .given .1) ∙ c .before .before .before .before .before .before .before .read-three .ensures) _ (sym (c .before .n .given .1) ∙ c .before .before .before .day-of .ensures)))
+    (λ c.
+    let content = c .before .before .before .before .before in
+    date-bad _ _ _ _ (sym (content .q .given .1) ∙ content .before .before .content .ensures)
+    _ (sym (c .before .r2 .given .1) ∙ c .before .before .before .read-three .ensures))
+    (λ c.
+    let read = c .before .before .before in
+    let content = read .before .before .before .before in
+    date-impossible _ _ _ _ (sym (content .q .given .1) ∙ content .before .before .content .ensures)
+    _ _ _ _ (sym (read .year .given .1) ∙ read .before .before .read-three .ensures) (sym (c .before .is-day .ensures) ∙ c .if1 .left)))

@@ -18,7 +18,20 @@ read-three-spec =
     (λ c κs. search needs)
     (λ c. search needs)
     (λ c. search needs)
-    (λ c. three-no-first _ (λ i. c .before .before .before .before .shared-slice-known .given i .fits) _ _ _ _ (sym (c .before .r .given .1) ∙ c .before .before .before .read-number .ensures))
-    (λ c. three-no-second _ (λ i. c .before .before .before .before .before .before .before .before .shared-slice-known .given i .fits) _ _ _ _ _ (sym (c .before .before .before .before .before .a .given .1) ∙ c .before .before .before .before .before .before .before .read-number .ensures) _ (sym (c .before .r2 .given .1) ∙ c .before .before .before .read-number2 .ensures))
-    (λ c. three-no-third _ (λ i. c .before .before .before .before .before .before .before .before .before .before .before .before .shared-slice-known .given i .fits) _ _ _ _ _ (sym (c .before .before .before .before .before .before .before .before .before .a .given .1) ∙ c .before .before .before .before .before .before .before .before .before .before .before .read-number .ensures) _ _ (sym (c .before .before .before .before .before .b .given .1) ∙ c .before .before .before .before .before .before .before .read-number2 .ensures) _ (sym (c .before .r3 .given .1) ∙ c .before .before .before .read-number3 .ensures))
-    (λ c. three-is _ (λ i. c .before .before .before .before .before .before .before .before .before .before .before .before .shared-slice-known .given i .fits) _ _ _ _ _ (sym (c .before .before .before .before .before .before .before .before .before .a .given .1) ∙ c .before .before .before .before .before .before .before .before .before .before .before .read-number .ensures) _ _ (sym (c .before .before .before .before .before .b .given .1) ∙ c .before .before .before .before .before .before .before .read-number2 .ensures) _ _ (sym (c .before .c .given .1) ∙ c .before .before .before .read-number3 .ensures)))
+    (λ c. three-no-first _ _ _ _ _ (sym (c .before .r .given .1) ∙ c .before .before .before .read-number .ensures))
+    (λ c.
+    let one = c .before .before .before .before .before in
+    three-no-second _ _ _ _ _ _ (sym (one .a .given .1) ∙ one .before .before .read-number .ensures)
+    _ (sym (c .before .r2 .given .1) ∙ c .before .before .before .read-number2 .ensures))
+    (λ c.
+    let two = c .before .before .before .before .before in
+    let one = two .before .before .before .before in
+    three-no-third _ _ _ _ _ _ (sym (one .a .given .1) ∙ one .before .before .read-number .ensures)
+    _ _ (sym (two .b .given .1) ∙ two .before .before .read-number2 .ensures)
+    _ (sym (c .before .r3 .given .1) ∙ c .before .before .before .read-number3 .ensures))
+    (λ c.
+    let two = c .before .before .before .before .before in
+    let one = two .before .before .before .before in
+    three-is _ _ _ _ _ _ (sym (one .a .given .1) ∙ one .before .before .read-number .ensures)
+    _ _ (sym (two .b .given .1) ∙ two .before .before .read-number2 .ensures)
+    _ _ (sym (c .before .c .given .1) ∙ c .before .before .before .read-number3 .ensures)))

@@ -18,7 +18,17 @@ put-clock-spec =
     (λ c κs. search needs)
     (λ c κs. search needs)
     (λ c. search needs)
-    (λ c pool. three-fine clockFault (c .before .before .before .before .before .before .before .before .before .before .before .before .put-told .ensures pool) (c .before .before .before .before .before .before .before .before .put-told2 .ensures pool) (c .before .before .before .before .put-told3 .ensures pool) (ap (λ b. unless b (ImpossibleDay 0)) (sym (c .before .is-time .ensures) ∙ c .if1 .taken)))
+    (λ c pool.
+    let third = c .before .before .before .before in
+    let second = third .before .before .before .before in
+    let first = second .before .before .before .before in
+    three-fine clockFault (first .put-count .ensures pool) (second .put-count2 .ensures pool) (third .put-count3 .ensures pool)
+    (ap (λ b. unless b (ImpossibleDay 0)) (sym (c .before .is-time .ensures) ∙ c .if1 .taken)))
     (λ c κs. search needs)
     (λ c. search needs)
-    (λ c pool. three-faulty clockFault (c .before .before .before .before .before .before .before .before .before .before .before .before .before .put-told .ensures pool) (c .before .before .before .before .before .before .before .before .before .put-told2 .ensures pool) (c .before .before .before .before .before .put-told3 .ensures pool) (ImpossibleDay 0) (ap (λ b. unless b (ImpossibleDay 0)) (sym (c .before .before .is-time .ensures) ∙ c .before .if1 .left)) _ (c .refuse .ensures)))
+    (λ c pool.
+    let third = c .before .before .before .before .before in
+    let second = third .before .before .before .before in
+    let first = second .before .before .before .before in
+    three-faulty clockFault (first .put-count .ensures pool) (second .put-count2 .ensures pool) (third .put-count3 .ensures pool) (ImpossibleDay 0)
+    (ap (λ b. unless b (ImpossibleDay 0)) (sym (c .before .before .is-time .ensures) ∙ c .before .if1 .left)) _ (c .refuse .ensures)))

@@ -1,7 +1,7 @@
--- `settings::clocks::is_day` meets its contract: a date has a day exactly where crate days answers one.
+-- `settings::clocks::is_day` meets its contract: a date that fits its fields has a day exactly where crate days answers one, and no other has.
 use mathlib.Core.Path.{sym, _∙_}
 use borrow.Author.Needs.{needs}
-use Rattle.settings.proofs.Dated.{is-day, no-day}
+use Rattle.settings.proofs.Dated.{is-day, no-day, year-too-large, month-too-large, day-too-large}
 use Rattle.settings.proofs.clocks.is_day.Statement.{statement}
 use Rattle.settings.proofs.clocks.is_day.Tie as tie
 
@@ -9,6 +9,9 @@ pub is-day-spec : {M : Type 1} → statement M
 is-day-spec =
     tie.close
     (tie.spec
+    (λ c. year-too-large _ _ _ (c .if1 .taken))
+    (λ c. month-too-large _ _ _ (c .if2 .taken))
+    (λ c. day-too-large _ _ _ (c .if3 .taken))
     (λ c. search needs)
     (λ c. search needs)
     (λ c. search needs)
