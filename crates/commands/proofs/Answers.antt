@@ -1,7 +1,7 @@
 -- What the fields asked for answer, a law for each way through.
 use Prim.Native.Nat.{ℕ, _+_, _-_, _*_, _%_, _^_, _≤_, _<_}
 use mathlib.Core.Path.{_≡_, refl, sym, ap, ap₂, subst, _∙_}
-use mathlib.Core.List.{List}
+use mathlib.Core.List.{List, [], _∷_}
 use mathlib.Core.Bool.{Bool, true, false, _&&_}
 use native.Mathlib.Omega.{arith}
 use native.Mathlib.Nat.{add-zero, add-sub-cancel, add-sub-cancel-left, mod-eq-of-lt, mul-le-mul}
@@ -13,29 +13,77 @@ use Rattle.refusal.specs.declared.Refusal.{Refusal}
 use Rattle.refusal.specs.declared.Refusal.the-variants.{PastBody, PastPart, OutsideSet, ImpossibleDay}
 use Rattle.days.specs.Calendar.{hasDay}
 use Rattle.formats.specs.Reading.{Reading, found, refused, andThen, need, unless, judged, within}
-use Rattle.formats.specs.Format.{Format, count, number, among, only, followed, listOf, opaque, rest, lengthOf, leastOf, counted}
-use Rattle.formats.specs.Answers.{numberOf, partOf, numberAmong, numberRead, partRead, endedAll}
+use Rattle.formats.specs.Format.{Format, count, number, among, only, bytes, followed, repeat, listOf, opaque, rest, lengthOf, leastOf, counted}
+use Rattle.formats.specs.Answers.{stepOf, numberOf, partOf, fieldOf, numberAmong, numberRead, partRead, endedAll}
+use Rattle.formats.specs.declared.Step.{Step}
 use Rattle.formats.specs.declared.Step.the-variants.{At, Refused as NoStep}
 use Rattle.formats.specs.declared.Number.the-variants.{Is, Refused as NoNumber}
 use Rattle.formats.specs.declared.Part.the-variants.{Of, Refused as NoPart}
 use Rattle.formats.proofs.Outcomes.{found-inj, andThen-found, need-found, within-found}
 use Rattle.formats.proofs.Classes.{Bytes}
+use Rattle.formats.proofs.Elements.{followed-found}
 use Rattle.formats.proofs.Bits.{number-is-count, number-among}
 use Rattle.formats.proofs.Readers.{number-found, number-refused, number-facts, list-no, list-all, step-found, step-refused}
 use Rattle.formats.proofs.Readers as readers
 use Rattle.configuration.specs.Address.{lengthFits, isAddress}
 use Rattle.configuration.specs.Configuration.{plain, date, clock, addressFault, fitting, address, least}
 use Rattle.configuration.proofs.Clocks.{day-fault}
-use Rattle.asking.specs.Asking.{entry}
+use Rattle.asking.specs.Asking.{entry, nthOf}
 use Rattle.asking.proofs.Answers.{part-found, part-refused}
+use Rattle.asking.proofs.Answers as asking
 use Rattle.asking.proofs.Sizes.{count-sized, number-sized, only-found}
 use Rattle.formats.specs.Held.{PartHolds}
 use Rattle.asking.proofs.Parts.{counted-holds}
 use Rattle.commands.specs.declared.Place.the-variants.{In, Refused as NoPlace}
 use Rattle.commands.specs.declared.Three.the-variants.{Are, Refused as NoThree}
-use Rattle.commands.specs.Asked.{commandCount, signaturePart, tagAt, bytesAt, commandTag, commandContent, contentAt, inCommand, placeOf, threeOf, clockDate, clockTime, codeAddress, codeAt, addressIn, returnAddress, listAt, parameterAt, parameter, terminalsIn, terminalsAt, terminalCount, terminalAt}
+use Rattle.commands.specs.Asked.{commandCount, commandPart, signaturePart, tagAt, bytesAt, commandTag, commandContent, contentAt, inCommand, placeOf, threeOf, clockDate, clockTime, codeAddress, codeAt, addressIn, returnAddress, listAt, parameterAt, parameter, terminalsIn, terminalsAt, terminalCount, terminalAt}
+
+-- ---- one thing of several bytes
+
+module _ {A : Type 0} (F : Format A) (s : List ℕ) (l p : ℕ) where
+  ended-one : endedAll F 1 s l p ≡ stepOf (F .parse s l p)
+  unfolding endedAll repeat
+  ended-one = go (F .parse s l p)
+    where
+      go : (x : Reading A) → stepOf (andThen x (λ a q. andThen (found [] q) (λ (xs : List A) r. found (a ∷ xs) r))) ≡ stepOf x
+      go (found a q) = refl
+      go (refused r) = refl
+
+  pub whole-no : (r : Refusal) → NoStep r ≡ endedAll F 1 s l p → NoPart r ≡ fieldOf p (F .parse s l p)
+  whole-no r e = rw (asking.step-refused (F .parse s l p) r (e ∙ ended-one))
+
+  pub whole-is : (end : ℕ) → At end ≡ endedAll F 1 s l p → Of p (end - p) ≡ fieldOf p (F .parse s l p)
+  whole-is end e = rw (asking.step-found (F .parse s l p) end (e ∙ ended-one) .1)
+
+rest-ends : (s : List ℕ) (l p : ℕ) (xs : List ℕ) (q : ℕ) → rest .parse s l p ≡ found xs q → l ≡ q
+unfolding rest
+rest-ends s l p xs q e = found-inj e .1
+
+-- an entry does not end before it begins
+pub entry-onward : (h w : ℕ) (s : List ℕ) (l p end : ℕ) → At end ≡ endedAll (entry h w) 1 s l p → p ≤ end
+unfolding bytes lengthOf
+entry-onward h w s l p end e =
+    let x = asking.step-found (entry h w .parse s l p) end (e ∙ ended-one (entry h w) s l p) in
+    let f = followed-found (bytes h) (opaque w) s l p (x .0) end (x .1) in
+    let head = found-inj (within-found s l p (p + h) _ (x .0 .0) (f .0) (f .1) .2) .1 in
+    let part = counted-holds (lengthOf w) rest s l (f .0) (x .0 .1) end (f .2) in
+    omega (arith, head, count-sized w s l (f .0) (part .counts) (part .at) (part .told), rest-ends s (part .at + part .size) (part .at) (x .0 .1) end (part .inner))
 
 -- ---- the table
+
+module _ (s : List ℕ) (i : ℕ) where
+  pub command-no : (r : Refusal) → NoNumber r ≡ commandCount s → NoPart r ≡ commandPart s i
+  unfolding commandPart commandCount numberRead
+  command-no r e = rw (number-refused (count 1 .parse s (length s) 0) r e)
+
+  module _ (n q : ℕ) (e : Is n q ≡ commandCount s) where
+    pub command-none : {x : Step} → x ≡ stepOf (nthOf (entry 1 2) n i s (length s) q) → (r : Refusal) → x ≡ NoStep r → NoPart r ≡ commandPart s i
+    unfolding commandPart commandCount numberRead
+    command-none f r g = rw (number-found (count 1 .parse s (length s) 0) n q e, asking.step-refused (nthOf (entry 1 2) n i s (length s) q) r (sym g ∙ f))
+
+    pub command-at : {x : Step} → x ≡ stepOf (nthOf (entry 1 2) n i s (length s) q) → (p : ℕ) → x ≡ At p → fieldOf p (entry 1 2 .parse s (length s) p) ≡ commandPart s i
+    unfolding commandPart commandCount numberRead
+    command-at f p g = rw (number-found (count 1 .parse s (length s) 0) n q e, asking.step-found (nthOf (entry 1 2) n i s (length s) q) p (sym g ∙ f) .1)
 
 module _ (s : List ℕ) where
   pub signature-no : (r : Refusal) → NoNumber r ≡ commandCount s → NoPart r ≡ signaturePart s

@@ -15,7 +15,7 @@ use Rattle.formats.specs.declared.Part.{Part}
 use Rattle.formats.specs.declared.Part.the-variants.{Refused as NoPart}
 use Rattle.formats.specs.Resource.{resource}
 use Rattle.configuration.specs.Configuration.{date, clock, address, least}
-use Rattle.asking.specs.Asking.{entry}
+use Rattle.asking.specs.Asking.{entry, nthOf}
 use Rattle.commands.specs.declared.Place.{Place}
 use Rattle.commands.specs.declared.Place.the-variants.{In, Refused as NoPlace}
 use Rattle.commands.specs.declared.Three.{Three}
@@ -25,6 +25,17 @@ use Rattle.commands.specs.declared.Three.the-variants.{Are, Refused as N
 
 unfoldable pub commandCount : List ℕ → Number
 commandCount s = numberRead 1 s (length s) 0
+
+-- a part asked for at the position found
+abbrev pub partAt : {A : Type 0} → Reading A → (ℕ → Part) → Part
+partAt (found a p) k = k p
+partAt (refused r) k = NoPart r
+
+-- "commands of tag 8, length 16, content": the part that the i-th one fills, from its tag to the end of its content
+unfoldable pub commandPart : List ℕ → ℕ → Part
+commandPart s i =
+    partAt (andThen (count 1 .parse s (length s) 0) (λ n q. nthOf (entry 1 2) n i s (length s) q)) (λ p.
+    fieldOf p (entry 1 2 .parse s (length s) p))
 
 -- it follows the commands: each has its tag, and its content after a length of 16 bits
 unfoldable pub signaturePart : List ℕ → Part

@@ -11,9 +11,10 @@ ghost use mathlib.Core.Path.{_≡_};
 ghost use Prim.Native.Nat.{_≤_};
 ghost use lib.ListN.{length};
 ghost use Rattle.formats.specs.Format.{count, number, among};
-ghost use Rattle.formats.specs.Answers.{numberOf, partOf};
+ghost use Rattle.formats.specs.Answers.{numberOf, partOf, fieldOf};
 ghost use Rattle.configuration.specs.Configuration.{plain, address};
-ghost use Rattle.commands.specs.Asked.{commandCount, signaturePart, commandTag, commandContent, contentAt, inCommand, placeOf, threeOf, firstOf, secondOf, thirdOf, clockDate, clockTime, clockYear, clockMonth, clockDay, clockHour, clockMinute, clockSecond, resourceOf, digitOf, codeAddress, codeAt, codeResource, codeDigit, frequency, symbolRate, mapping, returnKind, addressIn, returnAddress, period, volume, parameterCount, listAt, parameterAt, parameter, terminalsIn, terminalsAt, terminalCount, terminalAt, terminal, terminalDigit};
+ghost use Rattle.asking.specs.Asking.{entry};
+ghost use Rattle.commands.specs.Asked.{commandCount, commandPart, signaturePart, commandTag, commandContent, contentAt, inCommand, placeOf, threeOf, firstOf, secondOf, thirdOf, clockDate, clockTime, clockYear, clockMonth, clockDay, clockHour, clockMinute, clockSecond, resourceOf, digitOf, codeAddress, codeAt, codeResource, codeDigit, frequency, symbolRate, mapping, returnKind, addressIn, returnAddress, period, volume, parameterCount, listAt, parameterAt, parameter, terminalsIn, terminalsAt, terminalCount, terminalAt, terminal, terminalDigit};
 
 // A place in a command's content, and where the content ends; or a refusal.
 enum Place {
@@ -32,6 +33,29 @@ pub fn command_count(s: &[u8]) -> Number
     ensures { λ r. ⌜ r ≡ commandCount (now (s .entry)) ⌝ }
 {
     fields::read_number(s, s.len(), 0, 1)
+}
+
+// The part of the body that the command at p fills, passed by its tag and its length.
+fn whole(s: &[u8], p: usize) -> Part
+    ensures { λ r. ⌜ r ≡ fieldOf p (entry 1 2 .parse (now (s .entry)) (length (now (s .entry))) p) ⌝ }
+{
+    match asking::skip_entries(s, s.len(), p, 1, 2, 1) {
+        Step::Refused(r) => Part::Refused(r),
+        Step::At(end) => Part::Of(p, end - p),
+    }
+}
+
+// The part of the body that the i-th command fills, from its tag to the end of its content; 19 where there is none.
+pub fn command(s: &[u8], i: u64) -> Part
+    ensures { λ r. ⌜ r ≡ commandPart (now (s .entry)) i ⌝ }
+{
+    match command_count(s) {
+        Number::Refused(r) => Part::Refused(r),
+        Number::Is(n, q) => match asking::nth_entry(s, s.len(), q, 1, 2, n, i) {
+            Step::Refused(r) => Part::Refused(r),
+            Step::At(p) => whole(s, p),
+        },
+    }
 }
 
 // The part of the body that the signature fills: it follows the commands.
