@@ -1,36 +1,38 @@
 -- The fields asked for of an accepted body are its table's: of the body, and of each of its commands.
-use Prim.Native.Nat.{ℕ, zero, suc, _+_, _-_, _*_, _/_, _%_, _^_, _≤_, _<_}
-use mathlib.Core.Path.{_≡_, refl, sym, ap, ap₂, subst, _∙_}
+use Prim.Native.Nat.{ℕ, zero, suc, _+_, _-_, _*_, _%_, _^_, _≤_, _<_}
+use mathlib.Core.Path.{_≡_, refl, sym, ap, subst, _∙_}
 use mathlib.Core.List.{List, [], _∷_}
-use mathlib.Core.Bool.{false, _&&_}
+use mathlib.Core.Bool.{Bool, true, false, _&&_}
 use native.Mathlib.Omega.{arith}
 use native.Mathlib.Nat.{add-sub-cancel-left}
-use lib.ListN.{length, getD, take, drop}
+use lib.ListN.{length, getD, take, drop, length-drop}
+use lib.Seq.{length-take-le}
 use lib.Dec.{leb, eqb}
-use borrow.Author.Tests.{le-leb, lt-ltb, le-ltb, eq-eqb, ne-eqb}
+use borrow.Author.Tests.{leb-true, le-leb, lt-ltb, le-ltb, eq-eqb, ne-eqb}
 use Rattle.refusal.specs.declared.Refusal.the-variants.{LeftOver, PastPart, OutsideSet}
-use Rattle.formats.specs.Reading.{found, refused, unless}
-use Rattle.formats.specs.Format.{Format, count, number, among, bytes, followed, _▷_, listOf, opaque, rest, lengthOf, leastOf, counted, repeat}
+use Rattle.formats.specs.Reading.{Reading, found, refused, andThen, Fault, unless}
+use Rattle.formats.specs.Format.{Format, count, only, number, among, bytes, followed, _▷_, listOf, opaque, rest, Length, lengthOf, leastOf, counted, repeat}
 use Rattle.formats.specs.Body.{reading}
-use Rattle.formats.specs.Answers.{partOf, numberRead}
-use Rattle.formats.specs.declared.Number.the-variants.{Is, Refused as NoNumber}
+use Rattle.formats.specs.Answers.{partOf, fieldOf, numberRead, digitRead}
+use Rattle.formats.specs.declared.Number.{Number}
+use Rattle.formats.specs.declared.Number.the-variants.{Is}
 use Rattle.formats.specs.declared.Part.{Part}
-use Rattle.formats.specs.declared.Part.the-variants.{Of, Refused as NoPart}
+use Rattle.formats.specs.declared.Part.the-variants.{Of}
+use Rattle.formats.specs.Held.{PartHolds}
 use Rattle.formats.proofs.Outcomes.{found-inj, andThen-found, within-found, judged-found}
 use Rattle.formats.proofs.Classes.{Bytes}
-use Rattle.formats.proofs.Parts.{rest-filling}
 use Rattle.formats.proofs.Elements.{exact-found, view-found, followed-found, list-found}
 use Rattle.formats.proofs.RoundTrips as trips
 use Rattle.formats.specs.Resource.{resource}
-use Rattle.configuration.specs.Configuration.{configurationKind, terminals, plain, date, clock, address, Order, setClock, setCode, tune, setReturn, setPeriod, setVolume, query, other, orderOf, Said, said, least, Command, command, Configuration, fields, configuration}
+use Rattle.configuration.specs.Configuration.{configurationKind, terminals, plain, date, clock, addressFault, fitting, address, Order, setClock, setCode, tune, setReturn, setPeriod, setVolume, query, other, orderOf, Said, said, least, Command, command, Configuration, fields, configuration}
 use Rattle.configuration.proofs.Lawful.{said-filling, configuration-filling}
-use Rattle.asking.specs.Asking.{entry}
+use Rattle.asking.specs.Asking.{entry, nthOf}
 use Rattle.asking.proofs.Sizes.{Sized, count-sized, only-found, number-sized, number-inside, digits-sized, next, repeat-sized, nth-sized}
-use Rattle.asking.proofs.Entries.{all-same}
-use Rattle.formats.specs.Held.{PartHolds}
-use Rattle.asking.proofs.Parts.{part-holds, bytes-hold, part-begins, digit-is, digits-bytes, depending-found}
-use Rattle.commands.specs.Asked.{commandCount, signaturePart, tagAt, bytesAt, commandTag, commandContent, contentAt, inCommand, clockDate, clockTime, clockYear, clockMonth, clockDay, clockHour, clockMinute, clockSecond, codeAddress, codeAt, codeResource, codeDigit, frequency, symbolRate, mapping, returnKind, addressIn, returnAddress, period, volume, parameterCount, listAt, parameterAt, parameter, terminalsIn, terminalsAt, terminalCount, terminalAt, terminal, terminalDigit}
-use Rattle.commands.proofs.Answers.{tag-found, content-there, address-fills}
+use Rattle.asking.proofs.Entries.{all-same, nth-same, nth-past}
+use Rattle.asking.proofs.Parts.{counted-holds, part-holds, bytes-hold, digit-is, digits-bytes, depending-found}
+use Rattle.commands.specs.Asked.{commandCount, commandPart, signaturePart, tagAt, bytesAt, commandTag, commandContent, contentAt, inCommand, clockDate, clockTime, clockYear, clockMonth, clockDay, clockHour, clockMinute, clockSecond, codeAddress, codeAt, codeResource, codeDigit, frequency, symbolRate, mapping, returnKind, addressIn, returnAddress, period, volume, parameterCount, listAt, parameterAt, parameter, terminalsIn, terminalsAt, terminalCount, terminalAt, terminal, terminalDigit}
+use Rattle.commands.specs.Agreement.{StandAt, ResourceAsked, TerminalsAsked, ClockAsked, CodeAsked, TuneAsked, ReturnAsked, PeriodAsked, VolumeAsked, QueryAsked, OrderAsked, OthersAsked, CommandAsked, CommandsAsked, TableAsked}
+use Rattle.commands.proofs.Answers.{tag-found, content-there}
 
 -- ---- fields of a fixed size
 
@@ -59,17 +61,60 @@ asked F tag k s p l t a r c z e = rw c (ap (F .parse s l) z ∙ e)
 same-part : {A : Type 0} (F : Format A) (s : List ℕ) (part also : Part) (x : A) (q : ℕ) → also ≡ part → PartHolds F s part x q → PartHolds F s also x q
 same-part F s part also x q e h = record { at = h .at; size = h .size; is = e ∙ h .is; ends = h .ends; in-body = h .in-body; inner = h .inner }
 
--- ---- terminals, of every command that has them
+-- ---- opaque bytes
 
-pub record TerminalsAsked (s : List ℕ) (p : ℕ) (ts : List (List ℕ)) : Type 0 where
-  -- where the first one begins
-  pub begins : ℕ
-  pub terminals-counted : terminalCount s p ≡ Is (length ts) begins
-  pub terminal-is : (i : ℕ) → i < length ts → terminal s p i ≡ Of (begins + 12 * i) 12
-  pub terminal-bytes : (i : ℕ) → i < length ts → take 12 (drop (begins + 12 * i) s) ≡ resource .print (getD ts i [])
-  pub terminal-digits : (i j : ℕ) → i < length ts → j < length (getD ts i []) → terminalDigit s p i j ≡ Is (getD (getD ts i []) j 0) (begins + 12 * i + (j + 1) / 2)
-  pub terminal-past : (i : ℕ) → length ts ≤ i → terminal s p i ≡ NoPart (OutsideSet 0)
-  pub terminal-digits-past : (i j : ℕ) → length ts ≤ i → terminalDigit s p i j ≡ NoNumber (OutsideSet 0)
+-- those after a length of w bytes begin where it ends, and what follows them where they end
+module _ (L : Length) (w : ℕ) (sized : Sized (L .field) w) (s : List ℕ) (l p : ℕ) (xs : List ℕ) (q : ℕ) (e : counted L rest .parse s l p ≡ found xs q) where
+  stand : (part : Part) → part ≡ partOf (found xs q) → (at : ℕ) → p + w ≡ at → StandAt s part at xs × (q ≡ at + length xs)
+  unfolding rest
+  stand part same at z =
+      let h = counted-holds L rest s l p xs q e in
+      let begins = sized s l p (h .counts) (h .at) (h .told) in
+      let f = found-inj (h .inner) in
+      let size = add-sub-cancel-left (h .at) (h .size) in
+      let long = length-take-le (h .size) (drop (h .at) s) (simp length-drop (omega (arith, h .in-body))) in
+      let bytes = ap (λ (m : ℕ). take m (drop (h .at) s)) (sym size) ∙ f .0 in (
+        record { fills = (h .at, h .size, same ∙ ap partOf (sym e) ∙ h .part, h .in-body, bytes); begins = begins ∙ z },
+        omega (arith, f .1, begins, long, ap length bytes),
+      )
+
+-- bytes that are judged are those bytes
+counted-only : {A : Type 0} (L : Length) (fault : A → ℕ → Fault) (F : Format A) (s : List ℕ) (l p : ℕ) (x : A) (q : ℕ)
+    → counted L (only fault F) .parse s l p ≡ found x q → counted L F .parse s l p ≡ found x q
+unfolding counted
+counted-only L fault F s l p x q e =
+    let i = andThen-found (L .field .parse s l p) _ x q e in
+    let m = i .0 % L .limit in
+    let g = within-found s l p (i .1 + m) _ x q (i .3) in
+    let j = judged-found (L .fault (i .0) p) _ x q (g .2) in
+    rw (i .2, le-leb (i .1 + m) (length s) (g .0), le-leb (i .1 + m) l (g .1), j .0) (only-found fault F s (i .1 + m) (i .1) x q (j .1))
+
+address-stands : (kind : ℕ) (s : List ℕ) (l p : ℕ) (xs : List ℕ) (q : ℕ) → address kind .parse s l p ≡ found xs q
+    → (part : Part) → part ≡ partOf (found xs q) → (at : ℕ) → p + 1 ≡ at → StandAt s part at xs × (q ≡ at + length xs)
+unfolding address fitting
+address-stands kind s l p xs q e =
+    stand (fitting kind) 1 (count-sized 1) s l p xs q (counted-only (fitting kind) (addressFault kind) rest s l p xs q e)
+
+opaque-stands : (w : ℕ) (s : List ℕ) (l p : ℕ) (xs : List ℕ) (q : ℕ) → opaque w .parse s l p ≡ found xs q
+    → (part : Part) → part ≡ partOf (found xs q) → (at : ℕ) → p + w ≡ at → StandAt s part at xs × (q ≡ at + length xs)
+unfolding lengthOf
+opaque-stands w s l p xs q e = stand (lengthOf w) w (count-sized w) s l p xs q e
+
+-- ---- a resource
+
+resource-asked : (s : List ℕ) → Bytes s → (l at : ℕ) (ds : List ℕ) (q : ℕ) → resource .parse s l at ≡ found ds q
+    → (part : Part) → part ≡ fieldOf at (found ds q) → (digit : ℕ → Number) → ((j : ℕ) → digit j ≡ digitRead 11 j s l at) → ResourceAsked s part digit at ds
+unfolding digitRead
+resource-asked s b l at ds q e part same digit each =
+    let z : q - at ≡ 12 = omega (arith, digits-sized 11 s l at ds q e) in
+    record {
+      part-is = same ∙ ap (Of at) z;
+      bytes-are = digits-bytes s l at 11 ds q e b;
+      digit-is = λ j h. each j ∙ digit-is s l at 11 ds q e j h;
+      digit-past = λ j h. each j ∙ rw (e, le-ltb j (length ds) h);
+    }
+
+-- ---- terminals, of every command that has them
 
 module _ (s : List ℕ) (b : Bytes s) (p l q : ℕ) (at : terminalsAt s p ≡ found l q) (ts : List (List ℕ)) (end : ℕ) (e : terminals .parse s l q ≡ found ts end) where
   list : (count 1 .parse s l q ≡ found (length ts) (q + 1)) × (repeat (resource .parse s l) (length ts) (q + 1) ≡ found ts end)
@@ -90,74 +135,19 @@ module _ (s : List ℕ) (b : Bytes s) (p l q : ℕ) (at : terminalsAt s p ≡ fo
   unfolding terminalAt listAt
   no-place i h = rw (at, list .0, le-ltb i (length ts) h)
 
-  terminals-asked : TerminalsAsked s p ts
+  terminals-asked : (begins : ℕ) → q + 1 ≡ begins → TerminalsAsked s p begins ts
   unfolding terminalCount terminal terminalDigit
-  terminals-asked =
+  terminals-asked begins z =
+      subst (λ (a : ℕ). TerminalsAsked s p a ts) z
       record {
-        begins = q + 1;
         terminals-counted = rw (at, list .0);
-        terminal-is = λ i h. rw (place i h, resource-found i h, add-sub-cancel-left (q + 1 + 12 * i) 12);
-        terminal-bytes = λ i h. digits-bytes s l (q + 1 + 12 * i) 11 (getD ts i []) _ (resource-found i h) b;
-        terminal-digits = λ i j h k. rw (place i h) (digit-is s l (q + 1 + 12 * i) 11 (getD ts i []) _ (resource-found i h) j k);
-        terminal-past = λ i h. rw (no-place i h);
-        terminal-digits-past = λ i j h. rw (no-place i h);
+        terminal-is = λ i h.
+            resource-asked s b l (q + 1 + 12 * i) (getD ts i []) _ (resource-found i h)
+            (terminal s p i) (rw (place i h, resource-found i h)) (terminalDigit s p i) (λ j. rw (place i h));
+        terminal-past = λ i h. (rw (no-place i h), λ j. rw (no-place i h));
       }
 
 -- ---- what each command says
-
-pub record ClockAsked (s : List ℕ) (p : ℕ) (x : Said setClock) : Type 0 where
-  pub year-is : clockYear s p ≡ Is (x .0 .0) (p + 7)
-  pub month-is : clockMonth s p ≡ Is (x .0 .1 .0) (p + 7)
-  pub day-is : clockDay s p ≡ Is (x .0 .1 .1) (p + 7)
-  pub hour-is : clockHour s p ≡ Is (x .1 .0) (p + 10)
-  pub minute-is : clockMinute s p ≡ Is (x .1 .1 .0) (p + 10)
-  pub second-is : clockSecond s p ≡ Is (x .1 .1 .1) (p + 10)
-
-pub record CodeAsked (s : List ℕ) (p : ℕ) (x : Said setCode) : Type 0 where
-  -- where the address ends and the resource begins
-  pub middle : ℕ
-  pub address-holds : PartHolds rest s (codeAddress s p) (x .0) middle
-  pub resource-is : codeResource s p ≡ Of middle 12
-  pub resource-bytes : take 12 (drop middle s) ≡ resource .print (x .1)
-  pub resource-digits : (j : ℕ) → j < length (x .1) → codeDigit s p j ≡ Is (getD (x .1) j 0) (middle + (j + 1) / 2)
-
-pub record TuneAsked (s : List ℕ) (p : ℕ) (x : Said tune) : Type 0 where
-  pub frequency-is : frequency s p ≡ Is (x .0) (p + 7)
-  pub symbol-rate-is : symbolRate s p ≡ Is (x .1 .0) (p + 11)
-  pub mapping-is : mapping s p ≡ Is (x .1 .1 .0) (p + 12)
-  pub terminals-are : TerminalsAsked s p (x .1 .1 .1)
-
-pub record ReturnAsked (s : List ℕ) (p : ℕ) (x : Said setReturn) : Type 0 where
-  pub kind-is : returnKind s p ≡ Is (x .0) (p + 4)
-  -- where the address ends
-  pub middle : ℕ
-  pub address-holds : PartHolds rest s (returnAddress s p) (x .1 .0) middle
-  pub terminals-are : TerminalsAsked s p (x .1 .1)
-
-pub record PeriodAsked (s : List ℕ) (p : ℕ) (x : Said setPeriod) : Type 0 where
-  pub period-is : period s p ≡ Is (x .0) (p + 7)
-  pub terminals-are : TerminalsAsked s p (x .1)
-
-pub record VolumeAsked (s : List ℕ) (p : ℕ) (x : Said setVolume) : Type 0 where
-  pub volume-is : volume s p ≡ Is (x .0) (p + 4)
-  pub terminals-are : TerminalsAsked s p (x .1)
-
-pub record QueryAsked (s : List ℕ) (p : ℕ) (x : Said query) : Type 0 where
-  pub parameters-counted : parameterCount s p ≡ Is (length (x .0)) (p + 4)
-  pub parameter-is : (i : ℕ) → i < length (x .0) → parameter s p i ≡ Is (getD (x .0) i 0) (p + 5 + i)
-  pub parameter-past : (i : ℕ) → length (x .0) ≤ i → parameter s p i ≡ NoNumber (OutsideSet 0)
-  pub terminals-are : TerminalsAsked s p (x .1)
-
--- other commands are their content
-abbrev pub OrderAsked : (order : Order) → List ℕ → ℕ → Said order → Type 0
-OrderAsked setClock s p x = ClockAsked s p x
-OrderAsked setCode s p x = CodeAsked s p x
-OrderAsked tune s p x = TuneAsked s p x
-OrderAsked setReturn s p x = ReturnAsked s p x
-OrderAsked setPeriod s p x = PeriodAsked s p x
-OrderAsked setVolume s p x = VolumeAsked s p x
-OrderAsked query s p x = QueryAsked s p x
-OrderAsked other s p x = Unit
 
 other-order : (tag : ℕ) → 8 ≤ tag → orderOf tag ≡ other
 unfolding orderOf
@@ -165,8 +155,16 @@ other-order tag h =
     let less : (n : ℕ) → n < 8 → eqb tag n ≡ false = λ n k. ne-eqb tag n (λ e. omega (arith, e)) in
     rw (less 1 (omega arith), less 2 (omega arith), less 3 (omega arith), less 4 (omega arith), less 5 (omega arith), less 6 (omega arith), less 7 (omega arith))
 
-other-asked : (s : List ℕ) (p : ℕ) (order : Order) → order ≡ other → (x : Said order) → OrderAsked order s p x
-other-asked s p order e = subst (λ (o : Order). (x : Said o) → OrderAsked o s p x) (sym e) (λ x. tt)
+-- opaque bytes fill a content of any other tag
+module _ (s : List ℕ) (p q size : ℕ) (is : commandContent s p ≡ Of (p + 3) size) (ends : p + 3 + size ≡ q) (inside : q ≤ length s) where
+  content-stands : (x : List ℕ) → said other .parse s q (p + 3) ≡ found x q → StandAt s (commandContent s p) (p + 3) x
+  unfolding said rest
+  content-stands x e =
+      let z : size ≡ q - (p + 3) = omega arith in
+      record { fills = (p + 3, size, is, omega arith, ap (λ (m : ℕ). take m (drop (p + 3) s)) z ∙ found-inj e .0); begins = refl }
+
+  other-asked : (order : Order) → order ≡ other → (x : Said order) → said order .parse s q (p + 3) ≡ found x q → OrderAsked order s p x
+  other-asked order e = subst (λ (o : Order). (x : Said o) → said o .parse s q (p + 3) ≡ found x q → OrderAsked o s p x) (sym e) content-stands
 
 -- a command whose content goes from p + 3 to q
 module _ (s : List ℕ) (b : Bytes s) (p q : ℕ) where
@@ -184,13 +182,12 @@ module _ (s : List ℕ) (b : Bytes s) (p q : ℕ) where
   code-asked x c e =
       let f = followed-found (opaque 1) resource s q (p + 3) x q (exact-found PastPart (opaque 1 ▷ resource) s q (p + 3) x q e .0) in
       let a = asked (opaque 1) 2 0 s p q (p + 3) (x .0) (f .0) c (omega arith) (f .1) in
-      let z : q - f .0 ≡ 12 = omega (arith, digits-sized 11 s q (f .0) (x .1) q (f .2)) in
+      let address = opaque-stands 1 s q (p + 3) (x .0) (f .0) (f .1) (codeAddress s p) (rw a) (p + 4) (omega arith) in
       record {
-        middle = f .0;
-        address-holds = same-part rest s _ (codeAddress s p) (x .0) (f .0) (rw a (ap partOf (sym (f .1)))) (part-holds (lengthOf 1) rest rest-filling s b q (p + 3) (x .0) (f .0) (f .1));
-        resource-is = rw (c, f .1, f .2, z);
-        resource-bytes = digits-bytes s q (f .0) 11 (x .1) q (f .2) b;
-        resource-digits = λ j h. rw (c, f .1) (digit-is s q (f .0) 11 (x .1) q (f .2) j h);
+        address-stands = address .0;
+        resource-is =
+            subst (λ (at : ℕ). ResourceAsked s (codeResource s p) (codeDigit s p) at (x .1)) (address .1)
+            (resource-asked s b q (f .0) (x .1) q (f .2) (codeResource s p) (rw (c, f .1, f .2)) (codeDigit s p) (λ j. rw (c, f .1)));
       }
 
   tune-asked : (x : Said tune) → tagAt s p ≡ found 3 (p + 1) → contentAt 3 s p ≡ found q (p + 3) → said tune .parse s q (p + 3) ≡ found x q → TuneAsked s p x
@@ -204,7 +201,7 @@ module _ (s : List ℕ) (b : Bytes s) (p q : ℕ) where
         frequency-is = rw (asked (number 4) 3 0 s p q (p + 3) (x .0) (p + 7) c (omega arith) (f .0));
         symbol-rate-is = rw (asked (number 4) 3 4 s p q (p + 7) (x .1 .0) (p + 11) c (omega arith) (g .0));
         mapping-is = rw (asked (among 0 5 (number 1)) 3 8 s p q (p + 11) (x .1 .1 .0) (p + 12) c (omega arith) (h .0 ∙ ap (found (x .1 .1 .0)) z));
-        terminals-are = terminals-asked s b p q (p + 3 + 9) (rw (t, c)) (x .1 .1 .1) q (h .1);
+        terminals-are = terminals-asked s b p q (p + 3 + 9) (rw (t, c)) (x .1 .1 .1) q (h .1) (p + 13) (omega arith);
       }
 
   return-asked : (x : Said setReturn) → tagAt s p ≡ found 4 (p + 1) → contentAt 4 s p ≡ found q (p + 3) → said setReturn .parse s q (p + 3) ≡ found x q → ReturnAsked s p x
@@ -213,11 +210,11 @@ module _ (s : List ℕ) (b : Bytes s) (p q : ℕ) where
       let f = depending-found (among 1 3 (number 1)) (λ kind. address kind ▷ terminals) s q (p + 3) x q (exact-found PastPart _ s q (p + 3) x q e .0) in
       let z : f .0 ≡ p + 4 = omega (arith, among-sized 1 3 s q (p + 3) (x .0) (f .0) (f .1)) in
       let g = followed-found (address (x .0)) terminals s q (f .0) (x .1) q (f .2) in
+      let address = address-stands (x .0) s q (f .0) (x .1 .0) (g .0) (g .1) (returnAddress s p) (rw (c, f .1, g .1)) (p + 5) (omega (arith, z)) in
       record {
         kind-is = rw (asked (among 1 3 (number 1)) 4 0 s p q (p + 3) (x .0) (p + 4) c (omega arith) (f .1 ∙ ap (found (x .0)) z));
-        middle = g .0;
-        address-holds = same-part rest s _ (returnAddress s p) (x .1 .0) (g .0) (rw (c, f .1, g .1)) (address-fills s q (f .0) (x .0) (x .1 .0) (g .0) (g .1));
-        terminals-are = terminals-asked s b p q (g .0) (rw (t, c, f .1, g .1)) (x .1 .1) q (g .2);
+        address-stands = address .0;
+        terminals-are = terminals-asked s b p q (g .0) (rw (t, c, f .1, g .1)) (x .1 .1) q (g .2) (p + 6 + length (x .1 .0)) (omega (arith, address .1));
       }
 
   period-asked : (x : Said setPeriod) → tagAt s p ≡ found 5 (p + 1) → contentAt 5 s p ≡ found q (p + 3) → said setPeriod .parse s q (p + 3) ≡ found x q → PeriodAsked s p x
@@ -227,7 +224,7 @@ module _ (s : List ℕ) (b : Bytes s) (p q : ℕ) where
       let z : p + 3 + 4 ≡ p + 7 = omega arith in
       record {
         period-is = rw (asked (number 4) 5 0 s p q (p + 3) (x .0) (p + 7) c (omega arith) (f .0 ∙ ap (found (x .0)) z));
-        terminals-are = terminals-asked s b p q (p + 3 + 4) (rw (t, c)) (x .1) q (f .1);
+        terminals-are = terminals-asked s b p q (p + 3 + 4) (rw (t, c)) (x .1) q (f .1) (p + 8) (omega arith);
       }
 
   volume-asked : (x : Said setVolume) → tagAt s p ≡ found 6 (p + 1) → contentAt 6 s p ≡ found q (p + 3) → said setVolume .parse s q (p + 3) ≡ found x q → VolumeAsked s p x
@@ -237,7 +234,7 @@ module _ (s : List ℕ) (b : Bytes s) (p q : ℕ) where
       let z : p + 3 + 1 ≡ p + 4 = omega arith in
       record {
         volume-is = rw (asked (among 0 100 (number 1)) 6 0 s p q (p + 3) (x .0) (p + 4) c (omega arith) (f .0 ∙ ap (found (x .0)) z));
-        terminals-are = terminals-asked s b p q (p + 3 + 1) (rw (t, c)) (x .1) q (f .1);
+        terminals-are = terminals-asked s b p q (p + 3 + 1) (rw (t, c)) (x .1) q (f .1) (p + 5) (omega arith);
       }
 
   query-asked : (x : Said query) → tagAt s p ≡ found 7 (p + 1) → contentAt 7 s p ≡ found q (p + 3) → said query .parse s q (p + 3) ≡ found x q → QueryAsked s p x
@@ -256,33 +253,59 @@ module _ (s : List ℕ) (b : Bytes s) (p q : ℕ) where
             rw (c, n, lt-ltb i (length ps) h, nth-sized (number 1) 1 (number-sized 1) s q 0 (length ps) i (p + 4) ps (f .0) each h)
             (let y : p + 4 + 1 * i + 1 ≡ p + 5 + i = omega arith in ap (Is (getD ps i 0)) y);
         parameter-past = λ i h. rw (c, n, le-ltb i (length ps) h);
-        terminals-are = terminals-asked s b p q (p + 4 + length ps) (rw (t, c, n)) (x .1) q (ap (terminals .parse s q) (sym m) ∙ f .2);
+        terminals-are = terminals-asked s b p q (p + 4 + length ps) (rw (t, c, n)) (x .1) q (ap (terminals .parse s q) (sym m) ∙ f .2)
+            (p + 5 + length ps) (omega arith);
       }
 
   -- tag by tag: 0, the standard's 1 to 7 in order, and all others
   order-asked : (tag : ℕ) (x : Said (orderOf tag)) → tagAt s p ≡ found tag (p + 1) → contentAt tag s p ≡ found q (p + 3) → said (orderOf tag) .parse s q (p + 3) ≡ found x q
-      → OrderAsked (orderOf tag) s p x
+      → ((order : Order) → order ≡ other → (y : Said order) → said order .parse s q (p + 3) ≡ found y q → OrderAsked order s p y) → OrderAsked (orderOf tag) s p x
   unfolding orderOf
-  order-asked zero x t c e = tt
-  order-asked (suc zero) x t c e = clock-asked x c e
-  order-asked (suc (suc zero)) x t c e = code-asked x c e
-  order-asked (suc (suc (suc zero))) x t c e = tune-asked x t c e
-  order-asked (suc (suc (suc (suc zero)))) x t c e = return-asked x t c e
-  order-asked (suc (suc (suc (suc (suc zero))))) x t c e = period-asked x t c e
-  order-asked (suc (suc (suc (suc (suc (suc zero)))))) x t c e = volume-asked x t c e
-  order-asked (suc (suc (suc (suc (suc (suc (suc zero))))))) x t c e = query-asked x t c e
-  order-asked (suc (suc (suc (suc (suc (suc (suc (suc tag)))))))) x t c e = other-asked s p _ (other-order (suc (suc (suc (suc (suc (suc (suc (suc tag)))))))) (omega arith)) x
+  order-asked zero x t c e o = o other refl x e
+  order-asked (suc zero) x t c e o = clock-asked x c e
+  order-asked (suc (suc zero)) x t c e o = code-asked x c e
+  order-asked (suc (suc (suc zero))) x t c e o = tune-asked x t c e
+  order-asked (suc (suc (suc (suc zero)))) x t c e o = return-asked x t c e
+  order-asked (suc (suc (suc (suc (suc zero))))) x t c e o = period-asked x t c e
+  order-asked (suc (suc (suc (suc (suc (suc zero)))))) x t c e o = volume-asked x t c e
+  order-asked (suc (suc (suc (suc (suc (suc (suc zero))))))) x t c e o = query-asked x t c e
+  order-asked (suc (suc (suc (suc (suc (suc (suc (suc tag)))))))) x t c e o =
+      o _ (other-order (suc (suc (suc (suc (suc (suc (suc (suc tag)))))))) (omega arith)) x e
+
+not-among : (lo hi n : ℕ) → (lo ≤ n → n ≤ hi → ⊥) → (leb lo n && leb n hi) ≡ false
+not-among lo hi n h = go (leb lo n) (leb n hi) refl refl
+  where
+    go : (t u : Bool) → leb lo n ≡ t → leb n hi ≡ u → (t && u) ≡ false
+    go true true e f = absurd (h (leb-true lo n e) (leb-true n hi f))
+    go true false e f = refl
+    go false u e f = refl
+
+-- what is asked of another tag, or of terminals that it has not, isn't there
+module _ (s : List ℕ) (p tag : ℕ) (here : tagAt s p ≡ found tag (p + 1)) where
+  elsewhere : (k : ℕ) → (tag ≡ k → ⊥) → contentAt k s p ≡ refused (OutsideSet 0)
+  unfolding contentAt
+  elsewhere k h = rw (here, ne-eqb tag k h)
+
+  no-terminals : (3 ≤ tag → tag ≤ 7 → ⊥) → terminalsAt s p ≡ refused (OutsideSet 0)
+  unfolding terminalsAt
+  no-terminals h = rw (here, not-among 3 7 tag h)
+
+  others-asked : OthersAsked s p tag
+  unfolding clockYear clockMonth clockDay clockHour clockMinute clockSecond clockDate clockTime codeAddress codeResource codeDigit codeAt frequency symbolRate mapping returnKind returnAddress period volume parameterCount parameter parameterAt terminalCount terminal terminalDigit terminalAt
+  others-asked =
+      record {
+        no-date = λ h. let e = elsewhere 1 h in (rw e, rw e, rw e);
+        no-time = λ h. let e = elsewhere 1 h in (rw e, rw e, rw e);
+        no-code = λ h. let e = elsewhere 2 h in (rw e, rw e, λ j. rw e);
+        no-tuning = λ h. let e = elsewhere 3 h in (rw e, rw e, rw e);
+        no-return = λ h. let e = elsewhere 4 h in (rw e, rw e);
+        no-period = λ h. rw (elsewhere 5 h);
+        no-volume = λ h. rw (elsewhere 6 h);
+        no-query = λ h. let e = elsewhere 7 h in (rw e, λ i. rw e);
+        no-terminals = λ h. let e = no-terminals h in (rw e, λ i. rw e, λ i j. rw e);
+      }
 
 -- ---- a command, which begins at p and ends at q
-
-pub record CommandAsked (s : List ℕ) (p : ℕ) (c : Command) (q : ℕ) : Type 0 where
-  pub tag-is : commandTag s p ≡ Is (c .0) (p + 1)
-  pub content-holds : PartHolds (said (orderOf (c .0))) s (commandContent s p) (c .1) q
-  pub content-begins : content-holds .at ≡ p + 3
-  pub order-is : OrderAsked (orderOf (c .0)) s p (c .1)
-  -- what is asked of another tag, or of terminals that it has not, isn't there
-  pub other-tag : (tag : ℕ) → (c .0 ≡ tag → ⊥) → contentAt tag s p ≡ refused (OutsideSet 0)
-  pub no-terminals : (leb 3 (c .0) && leb (c .0) 7) ≡ false → terminalsAt s p ≡ refused (OutsideSet 0)
 
 -- a part that is not too short is the part of its length
 at-least : {A : Type 0} (w least : ℕ) (F : Format A) (s : List ℕ) (l p : ℕ) (x : A) (q : ℕ) → counted (leastOf w least) F .parse s l p ≡ found x q → counted (lengthOf w) F .parse s l p ≡ found x q
@@ -318,16 +341,17 @@ module _ (s : List ℕ) (b : Bytes s) (p : ℕ) (c : Command) (q : ℕ) (e : com
       let g = bytes-hold (leastOf 2 (least (c .0))) (said (orderOf (c .0))) (said-filling (orderOf (c .0))) s b (length s) (p + 1) (c .1) q (parts .1) in
       rw (parts .0, eq-eqb (c .0) (c .0) refl, g .1)
 
-  pub command-asked : CommandAsked s p c q
-  unfolding commandTag contentAt terminalsAt
+  command-asked : CommandAsked s p c q
+  unfolding commandTag
   command-asked =
+      let is = holds .is ∙ ap (λ (a : ℕ). Of a (holds .size)) begins in
+      let o = other-asked s p q (holds .size) is (omega (arith, holds .ends, begins)) (holds .in-body) in
       record {
         tag-is = rw (parts .0);
         content-holds = holds;
         content-begins = begins;
-        order-is = order-asked s b p q (c .0) (c .1) (parts .0) entered (ap (said (orderOf (c .0)) .parse s q) (sym begins) ∙ holds .inner);
-        other-tag = λ t h. rw (parts .0, ne-eqb (c .0) t h);
-        no-terminals = λ h. rw (parts .0, h);
+        order-is = order-asked s b p q (c .0) (c .1) (parts .0) entered (ap (said (orderOf (c .0)) .parse s q) (sym begins) ∙ holds .inner) o;
+        others = others-asked s p (c .0) (parts .0);
       }
 
   -- passed by its tag and its length, it ends there too
@@ -341,30 +365,72 @@ module _ (s : List ℕ) (b : Bytes s) (p : ℕ) (c : Command) (q : ℕ) (e : com
 
 -- ---- the table
 
--- the commands stand one after the other, from p to q
-unfoldable pub InTurn : List ℕ → ℕ → List Command → ℕ → Type 0
-InTurn s p [] q = p ≡ q
-InTurn s p (c ∷ cs) q = (r : ℕ) × (command .parse s (length s) p ≡ found c r) × CommandAsked s p c r × InTurn s r cs q
+-- one thing more
+repeat-next : {A : Type 0} (f : ℕ → Reading A) (i p : ℕ) (xs : List A) (t : ℕ) → repeat f i p ≡ found xs t → (y : A) (r : ℕ) → f t ≡ found y r
+    → (ys : List A) × (repeat f (suc i) p ≡ found ys r)
+unfolding repeat
+repeat-next f zero p xs t e y r g = (y ∷ [], rw (ap f (found-inj e .1) ∙ g))
+repeat-next f (suc i) p xs t e y r g =
+    let a = andThen-found (f p) _ xs t e in
+    let b = andThen-found (repeat f i (a .1)) _ xs t (a .3) in
+    let n = repeat-next f i (a .1) (b .0) t (b .2 ∙ ap (found (b .0)) (found-inj (b .3) .1)) y r g in (
+      a .0 ∷ n .0,
+      ap (λ x. andThen x (λ z q. andThen (repeat f (suc i) q) (λ zs u. found (z ∷ zs) u))) (a .2) ∙ ap (λ x. andThen x (λ zs u. found (a .0 ∷ zs) u)) (n .1),
+    )
 
-pub record TableAsked (s : List ℕ) (t : Configuration) (q : ℕ) : Type 0 where
-  pub commands-counted : commandCount s ≡ Is (length (t .commands)) 1
-  -- where the last one ends
-  pub end : ℕ
-  pub commands-stand : InTurn s 1 (t .commands) end
-  pub signature-holds : PartHolds rest s (signaturePart s) (t .signature) q
-  pub signature-begins : signature-holds .at ≡ end + 2
+-- the position after what was found
+abbrev after : {A : Type 0} → Reading A → ℕ
+after (found a q) = q
+after (refused r) = 0
 
-module _ (s : List ℕ) (b : Bytes s) where
-  in-turn : (cs : List Command) (p q : ℕ) → repeat (command .parse s (length s)) (length cs) p ≡ found cs q → InTurn s p cs q
-  unfolding InTurn repeat
-  in-turn [] p q e = found-inj e .1
-  in-turn (c ∷ cs) p q e =
-      let i = andThen-found (command .parse s (length s) p) _ (c ∷ cs) q e in
-      let j = andThen-found (repeat (command .parse s (length s)) (length cs) (i .1)) _ (c ∷ cs) q (i .3) in
-      let k = found-inj (j .3) in
-      let here : i .0 ≡ c = ap (λ (ys : List Command). getD ys 0 c) (k .0) in
-      let rest-of : j .0 ≡ cs = ap (drop 1) (k .0) in
-      (i .1, i .2 ∙ ap (λ (y : Command). found y (i .1)) here, command-asked s b p c (i .1) (i .2 ∙ ap (λ (y : Command). found y (i .1)) here), in-turn cs (i .1) q (j .2 ∙ ap₂ found rest-of (k .1)))
+-- the commands that a list was read as, from 1 to `end`
+module _ (s : List ℕ) (b : Bytes s) (cs : List Command) (end : ℕ) (counted-there : count 1 .parse s (length s) 0 ≡ found (length cs) 1)
+    (e : repeat (command .parse s (length s)) (length cs) 1 ≡ found cs end) where
+  -- where the i-th one begins: past those before it, by their tags and lengths
+  abbrev place-of : ℕ → ℕ
+  place-of i = after (repeat (entry 1 2 .parse s (length s)) i 1)
+
+  record Nth (d : Command) (i : ℕ) : Type 0 where
+    pub ends : ℕ
+    pub reads : command .parse s (length s) (place-of i) ≡ found (getD cs i d) ends
+    pub next-begins : place-of (suc i) ≡ ends
+    pub part-is : commandPart s i ≡ Of (place-of i) (ends - place-of i)
+
+  nth-command : (d : Command) (i : ℕ) → i < length cs → Nth d i
+  unfolding commandPart nthOf repeat
+  nth-command d i h =
+      let n = nth-same command (entry 1 2) s (length s) (passed s b) d (length cs) i 1 cs end e h in
+      let past = rw (lt-ltb i (length cs) h) at (n .3) in
+      let one = passed s b (n .1) (getD cs i d) (n .2) (n .4) in
+      let here : place-of i ≡ n .1 = ap after past in
+      let more = repeat-next (entry 1 2 .parse s (length s)) i 1 (n .0) (n .1) past (one .0) (n .2) (one .1) in
+      record {
+        ends = n .2;
+        reads = rw here (n .4);
+        next-begins = ap after (more .1);
+        part-is = rw (counted-there, lt-ltb i (length cs) h, past, one .1);
+      }
+
+  none : Command
+  unfolding orderOf
+  none = (0, [])
+
+  commands-asked : CommandsAsked s cs end
+  unfolding commandPart repeat
+  commands-asked =
+      record {
+        place = place-of;
+        begins = refl;
+        ends = ap after (all-same command (entry 1 2) s (length s) (passed s b) (length cs) 1 cs end e .1);
+        command-is = λ i h.
+            let n = nth-command none i h in
+            let c = command-asked s b (place-of i) (getD cs i none) (n .ends) (n .reads) in
+            (n .ends - place-of i, n .part-is, omega (arith, n .next-begins, c .content-holds .ends, c .content-begins));
+        command-fields = λ d i h.
+            let n = nth-command d i h in
+            subst (λ (q : ℕ). CommandAsked s (place-of i) (getD cs i d) q) (sym (n .next-begins)) (command-asked s b (place-of i) (getD cs i d) (n .ends) (n .reads));
+        command-past = λ i h. rw (counted-there, nth-past (entry 1 2) (length cs) i s (length s) 1 h);
+      }
 
 module _ (s : List ℕ) (b : Bytes s) (x : List Command × List ℕ) (q : ℕ) (e : fields .parse s (length s) 0 ≡ found x q) where
   -- where the commands end
@@ -382,28 +448,20 @@ module _ (s : List ℕ) (b : Bytes s) (x : List Command × List ℕ) (q : ℕ) (
   unfolding signaturePart listOf
   signed = rw (commands .0, all-same command (entry 1 2) s (length s) (passed s b) (length (x .0)) 1 (x .0) (two .0) (commands .1) .1)
 
-  signature-part : PartHolds rest s (signaturePart s) (x .1) q
-  signature-part = same-part rest s _ (signaturePart s) (x .1) q signed (part-holds (lengthOf 2) rest rest-filling s b (length s) (two .0) (x .1) q (two .2))
-
-  signature-at : signature-part .at ≡ two .0 + 2
-  unfolding signature-part same-part
-  signature-at = part-begins 2 rest rest-filling s b (length s) (two .0) (x .1) q (two .2)
-
-  table-fields : TableAsked s (record { commands = x .0; signature = x .1 }) q
+  table-fields : TableAsked s (record { commands = x .0; signature = x .1 })
   unfolding commandCount numberRead
   table-fields =
       record {
         commands-counted = rw (commands .0);
         end = two .0;
-        commands-stand = in-turn s b (x .0) 1 (two .0) (commands .1);
-        signature-holds = signature-part;
-        signature-begins = signature-at;
+        commands-are = commands-asked s b (x .0) (two .0) (commands .0) (commands .1);
+        signature-stands = opaque-stands 2 s (length s) (two .0) (x .1) q (two .2) (signaturePart s) (signed ∙ ap partOf (two .2)) (two .0 + 2) refl .0;
       }
 
-pub table-asked : (kind : ℕ) (s : List ℕ) → Bytes s → (t : Configuration) (q : ℕ) → reading configuration configurationKind kind s ≡ found t q → TableAsked s t q
+pub table-asked : (kind : ℕ) (s : List ℕ) → Bytes s → (t : Configuration) (q : ℕ) → reading configuration configurationKind kind s ≡ found t q → TableAsked s t
 unfolding configuration
 table-asked kind s b t q e =
     let a = trips.accepted configuration configuration-filling configurationKind kind s b t q e in
     let x = exact-found LeftOver _ s (length s) 0 t q (a .2) in
     let v = view-found _ _ fields s (length s) 0 t q (x .0) in
-    subst (λ (y : Configuration). TableAsked s y q) (v .2) (table-fields s b (v .0) q (v .1))
+    subst (λ (y : Configuration). TableAsked s y) (v .2) (table-fields s b (v .0) q (v .1))
