@@ -93,14 +93,17 @@ static void ask(struct input *in, const uint8_t *body, size_t n, bool accepted) 
     hold_number(count, 255);
     hold_part(signature, n);
     for (uint64_t i = 0; taken(count) && i < NW_VALUE(count); i++) {
-        nw_answer content = nw_command_content(body, n, p);
+        nw_answer command = nw_configuration_command(body, n, i), content = nw_command_content(body, n, p);
+        hold_part(command, n);
         hold_part(content, n);
         must(!accepted || taken(content));
         ask_command(in, body, n, p, accepted);
         if (!taken(content)) break;
-        must(NW_PART_START(content) > p);
-        p = NW_PART_START(content) + NW_PART_LENGTH(content);
+        must(taken(command) && NW_PART_START(command) == p && NW_PART_START(content) == p + 3);
+        must(NW_PART_LENGTH(command) == 3 + NW_PART_LENGTH(content));
+        p += NW_PART_LENGTH(command);
     }
+    must(!taken(nw_configuration_command(body, n, NW_VALUE(count) + take(in, 7))));
     ask_command(in, body, n, upto(in, n + 1), false);
     ask_command(in, body, n, (size_t)take(in, 8), false);
     must(!accepted || (taken(count) && taken(signature) && NW_PART_START(signature) + NW_PART_LENGTH(signature) == n));

@@ -600,18 +600,25 @@ enum nw_command {
  * digits whose byte they share. */
 nw_answer nw_configuration_read(uint32_t kind, const uint8_t *body, size_t n);
 
-/* How many commands there are, and the part that the signature fills, asked for without reading inside
- * a command, whatever else is wrong with the body. Refusals: 14, the body is empty (place 0); for the
- * signature, 14, a tag or a length before it, or its own, is cut off or passes the body's end, at its
- * place. Least lengths are not looked at. */
+/* How many commands there are, the part that the i-th command fills, from its tag to the end of its
+ * content, and the part that the signature fills, asked for without reading inside a command, whatever
+ * else is wrong with the body. Commands are counted from 0. Value: the number, or the part.
+ * Refusals, in this order: 14, the body is empty (place 0); for a command, 19, there is no i-th
+ * (place 0); for a command and the signature, 14, a tag or a length before it, or its own, is cut off
+ * or passes the body's end, at its place. Least lengths are not looked at. */
 nw_answer nw_configuration_command_count(const uint8_t *body, size_t n);
+nw_answer nw_configuration_command(const uint8_t *body, size_t n, uint64_t i);
 nw_answer nw_configuration_signature(const uint8_t *body, size_t n);
 
-/* The command whose tag stands at p: the first at 1, the next one where this one's content ends. In a
- * body that was not accepted, look at the refusal before going on to the next. Value: the tag; or the
- * part that the content fills. Refusals, in this order: 19, the body has no byte at p (place 0); for the
- * content, 14, its length is cut off or passes the body's end, or 15, is below the least of the tag, at
- * the length. */
+/* The command whose tag stands at p. These places name a command of the table: 1, if there is one;
+ * where a part told by nw_configuration_command begins; and where such a part ends, which is where the
+ * command's content ends, if it is not the last command's. So a caller who goes on at each end asks
+ * about all commands in one way over the body. The count ends the row: after the last command stands
+ * the signature, and at any other place whatever stands there is read as a command. In a body that
+ * was not accepted, look at the refusal before going on to the next. Value: the tag; or the part that
+ * the content fills. Refusals, in this order: 19, the body has no byte at p (place 0); for the content,
+ * 14, its length is cut off or passes the body's end, or 15, is below the least of the tag, at the
+ * length. */
 nw_answer nw_command_tag(const uint8_t *body, size_t n, size_t p);
 nw_answer nw_command_content(const uint8_t *body, size_t n, size_t p);
 

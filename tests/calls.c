@@ -567,8 +567,10 @@ static void call_configuration_read(const struct argument *a) {
     put_answer(got);
     if (NW_REFUSAL(got)) return;
     put_configuration(body);
+    uint64_t count = NW_VALUE(nw_configuration_command_count(body->bytes, body->length));
     size_t p = 1;
-    for (uint64_t left = NW_VALUE(nw_configuration_command_count(body->bytes, body->length)); left > 0; left--) {
+    for (uint64_t i = 0; i < count; i++) {
+        put_answer(nw_configuration_command(body->bytes, body->length, i));
         put_whole_command(body, p);
         p = end_after(p, nw_command_content(body->bytes, body->length, p));
     }
@@ -586,6 +588,10 @@ static void call_configuration_write(const struct argument *a) {
 
 static void call_configuration_fields(const struct argument *a) { put_configuration(&a[0]); }
 static void call_command_fields(const struct argument *a) { put_command(&a[0], a[1].wide); }
+
+static void call_configuration_command(const struct argument *a) {
+    put_answer(nw_configuration_command(a[0].bytes, a[0].length, a[1].wide));
+}
 
 static void call_command_code_digit(const struct argument *a) {
     put_answer(nw_command_code_digit(a[0].bytes, a[0].length, a[1].wide, a[2].wide));
@@ -654,6 +660,7 @@ static const struct call calls[] = {
     {"configuration_lay", "ubl", call_configuration_lay},
     {"configuration_write", "bto", call_configuration_write},
     {"configuration_fields", "b", call_configuration_fields},
+    {"configuration_command", "bw", call_configuration_command},
     {"command_fields", "bw", call_command_fields},
     {"command_code_digit", "bww", call_command_code_digit},
     {"command_parameter", "bww", call_command_parameter},

@@ -68,6 +68,8 @@ def of_command(body, p):
 def of_body(body):
     """The body's own fields, those of its first commands, and what is found elsewhere."""
     yield 'configuration_fields', body
+    for i in {0, number_near(body[0] if body else 0)}:
+        yield 'configuration_command', body, i
     found = places_of(body)
     elsewhere = found[0] + 1, found[-1] - 1, len(body) - 1, len(body), len(body) + 1, chance.randrange(len(body) + 1)
     for p in sorted({*found[:4], found[-1], chance.choice(found), *chance.sample(elsewhere, 2)}):
@@ -91,8 +93,10 @@ def of_sample(body):
             yield 'command_terminal', body, p, i
             for j in range(25):
                 yield 'command_terminal_digit', body, p, i, j
-    for size in range(len(body)):
+    for size in range(len(body) + 1):
         yield 'configuration_fields', body[:size]
+        for i in range(body[0] + 2):
+            yield 'configuration_command', body[:size], i
 
 
 def askings(bodies):
@@ -131,6 +135,7 @@ def main():
     told = library.compare(cases)
     checks.fields_met(told, 'configuration_fields', {0, 14}, {0, 14})
     checks.fields_met(told, 'command_fields', *OF_COMMAND)
+    assert told['configuration_command'] == {0, 14, 19}
     assert told['command_parameter'] == OPAQUE
     assert told['command_code_digit'] == told['command_terminal'] == told['command_terminal_digit'] == DIGITS
     assert len(cases) > COUNT

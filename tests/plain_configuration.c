@@ -273,13 +273,28 @@ nw_answer plain_configuration_command_count(const uint8_t *body, size_t n) {
     return n == 0 ? PAST_BODY : value(body[0]);
 }
 
+static nw_answer skip_commands(struct reader *r, uint64_t count) {
+    unsigned no;
+    for (; count > 0; count--)
+        if ((no = take(r, 1)) || (no = skip_part(r, 2))) return refused(no, r->at);
+    return 0;
+}
+
+nw_answer plain_configuration_command(const uint8_t *body, size_t n, uint64_t i) {
+    struct reader r = {body, n, n, FIRST_AT, 0};
+    nw_answer no;
+    if (n == 0) return PAST_BODY;
+    if (i >= body[0]) return OUTSIDE;
+    if ((no = skip_commands(&r, i))) return no;
+    size_t begin = r.at;
+    return (no = skip_commands(&r, 1)) ? no : part(begin, r.at - begin);
+}
+
 nw_answer plain_configuration_signature(const uint8_t *body, size_t n) {
     struct reader r = {body, n, n, FIRST_AT, 0};
-    unsigned no;
     if (n == 0) return PAST_BODY;
-    for (size_t left = body[0]; left > 0; left--)
-        if ((no = take(&r, 1)) || (no = skip_part(&r, 2))) return refused(no, r.at);
-    return asked_part(&r, 2);
+    nw_answer no = skip_commands(&r, body[0]);
+    return no ? no : asked_part(&r, 2);
 }
 
 // ---- fields of a command asked for, each at its own place

@@ -6,6 +6,7 @@
 
 nw_answer plain_configuration_read(uint32_t kind, const uint8_t *body, size_t n);
 nw_answer plain_configuration_command_count(const uint8_t *body, size_t n);
+nw_answer plain_configuration_command(const uint8_t *body, size_t n, uint64_t i);
 nw_answer plain_configuration_signature(const uint8_t *body, size_t n);
 nw_answer plain_command_tag(const uint8_t *body, size_t n, size_t p);
 nw_answer plain_command_content(const uint8_t *body, size_t n, size_t p);

@@ -21,7 +21,7 @@ def configuration_read(kind, body):
     found, at = unrefused(len(table['commands']), span(table['signature'])), 1
     for command in table['commands']:
         length = int.from_bytes(body[at + 1:at + 3], 'big')
-        found += command_items(command, part(at + 3, length))
+        found += unrefused(part(at, 3 + length)) + command_items(command, part(at + 3, length))
         at += 3 + length
     return 0, *found
 
@@ -69,13 +69,22 @@ def command_count(body):
     return Part(body, 0, len(body)).number('command count', 1)
 
 
-def signature(body):
-    """The commands are passed by their tags and lengths."""
-    reader = Part(body, 1, len(body))
-    for _ in range(command_count(body)):
+def pass_commands(reader, count):
+    """Past some commands, by their tags and lengths."""
+    for _ in range(count):
         reader.number('tag', 1)
         reader.taken(reader.length('command length', 2))
-    return reader.counted('signature length', 2)
+    return reader
+
+
+def signature(body):
+    return pass_commands(Part(body, 1, len(body)), command_count(body)).counted('signature length', 2)
+
+
+def configuration_command(body, i):
+    """From its tag to the end of its content."""
+    begin = pass_commands(Part(body, 1, len(body)), up_to(i, command_count(body))).at
+    return part(begin, pass_commands(Part(body, begin, len(body)), 1).at - begin)
 
 
 def configuration_fields(body):

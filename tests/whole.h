@@ -41,7 +41,8 @@
     X(language_auxiliary_type, "14 15 17 19") X(language_auxiliary, "14 15 17 19")                                   \
     X(content_write, "18 19 21 22") X(content_lay, "2 14 15 16 17 18 19 21 22")                                      \
     X(configuration_read, "2 14 15 16 17 18 19 20 22") X(configuration_command_count, "14")                          \
-    X(configuration_signature, "14") X(command_tag, "19") X(command_content, "14 15 19")                             \
+    X(configuration_command, "14 19") X(configuration_signature, "14")                                               \
+    X(command_tag, "19") X(command_content, "14 15 19")                                                              \
     X(command_clock_year, "14 15 19 20") X(command_clock_month, "14 15 19 20") X(command_clock_day, "14 15 19 20")   \
     X(command_clock_hour, "14 15 19 20") X(command_clock_minute, "14 15 19 20")                                      \
     X(command_clock_second, "14 15 19 20") X(command_code_address, "14 15 19")                                       \

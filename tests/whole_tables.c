@@ -440,8 +440,13 @@ static size_t ask_command(const uint8_t *body, size_t n, size_t p) {
 static void ask_configuration(const uint8_t *body, size_t n) {
     uint32_t kind = mostly(NW_CONFIGURATION);
     TRY(configuration_read, kind, body, n);
-    TRY(configuration_command_count, body, n);
+    nw_answer count = TRY(configuration_command_count, body, n);
     TRY(configuration_signature, body, n);
+    for (int left = 4; left > 0; left--) {
+        uint64_t i = one_of(count);
+        nw_answer command = TRY(configuration_command, body, n, i);
+        if (!NW_REFUSAL(command)) ask_command(body, n, NW_PART_START(command));
+    }
     size_t p = 1;
     for (int left = 10; left > 0 && p < n; left--) p = ask_command(body, n, p);
     ask_command(body, n, around(below(n + 1)));

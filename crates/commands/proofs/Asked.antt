@@ -31,7 +31,7 @@ use Rattle.asking.proofs.Sizes.{Sized, count-sized, only-found, number-sized, n
 use Rattle.asking.proofs.Entries.{all-same, nth-same, nth-past}
 use Rattle.asking.proofs.Parts.{counted-holds, part-holds, bytes-hold, digit-is, digits-bytes, depending-found}
 use Rattle.commands.specs.Asked.{commandCount, commandPart, signaturePart, tagAt, bytesAt, commandTag, commandContent, contentAt, inCommand, clockDate, clockTime, clockYear, clockMonth, clockDay, clockHour, clockMinute, clockSecond, codeAddress, codeAt, codeResource, codeDigit, frequency, symbolRate, mapping, returnKind, addressIn, returnAddress, period, volume, parameterCount, listAt, parameterAt, parameter, terminalsIn, terminalsAt, terminalCount, terminalAt, terminal, terminalDigit}
-use Rattle.commands.specs.Agreement.{StandAt, ResourceAsked, TerminalsAsked, ClockAsked, CodeAsked, TuneAsked, ReturnAsked, PeriodAsked, VolumeAsked, QueryAsked, OrderAsked, OthersAsked, CommandAsked, CommandsAsked, TableAsked}
+use Rattle.commands.specs.Agreement.{StandAt, ResourceAsked, TerminalsAsked, ClockAsked, CodeAsked, TuneAsked, ReturnAsked, PeriodAsked, VolumeAsked, QueryAsked, OrderAsked, OthersAsked, CommandAsked, CommandsAsked, ConfigurationAsked}
 use Rattle.commands.proofs.Answers.{tag-found, content-there}
 
 -- ---- fields of a fixed size
@@ -448,7 +448,7 @@ module _ (s : List ℕ) (b : Bytes s) (x : List Command × List ℕ) (q : ℕ) (
   unfolding signaturePart listOf
   signed = rw (commands .0, all-same command (entry 1 2) s (length s) (passed s b) (length (x .0)) 1 (x .0) (two .0) (commands .1) .1)
 
-  table-fields : TableAsked s (record { commands = x .0; signature = x .1 })
+  table-fields : ConfigurationAsked s (record { commands = x .0; signature = x .1 })
   unfolding commandCount numberRead
   table-fields =
       record {
@@ -458,10 +458,10 @@ module _ (s : List ℕ) (b : Bytes s) (x : List Command × List ℕ) (q : ℕ) (
         signature-stands = opaque-stands 2 s (length s) (two .0) (x .1) q (two .2) (signaturePart s) (signed ∙ ap partOf (two .2)) (two .0 + 2) refl .0;
       }
 
-pub table-asked : (kind : ℕ) (s : List ℕ) → Bytes s → (t : Configuration) (q : ℕ) → reading configuration configurationKind kind s ≡ found t q → TableAsked s t
+pub configuration-asked : (kind : ℕ) (s : List ℕ) → Bytes s → (t : Configuration) (q : ℕ) → reading configuration configurationKind kind s ≡ found t q → ConfigurationAsked s t
 unfolding configuration
-table-asked kind s b t q e =
+configuration-asked kind s b t q e =
     let a = trips.accepted configuration configuration-filling configurationKind kind s b t q e in
     let x = exact-found LeftOver _ s (length s) 0 t q (a .2) in
     let v = view-found _ _ fields s (length s) 0 t q (x .0) in
-    subst (λ (y : Configuration). TableAsked s y) (v .2) (table-fields s b (v .0) q (v .1))
+    subst (λ (y : Configuration). ConfigurationAsked s y) (v .2) (table-fields s b (v .0) q (v .1))

@@ -130,7 +130,7 @@ pub record CommandsAsked (s : List ℕ) (cs : List Command) (end : ℕ) : Type 0
   pub command-past : (i : ℕ) → length cs ≤ i → NoPartThere (commandPart s i)
 
 -- "Every field of an accepted table can be asked for": "8-bit count; commands of tag 8, length 16, content; signature"
-pub record TableAsked (s : List ℕ) (t : Configuration) : Type 0 where
+pub record ConfigurationAsked (s : List ℕ) (t : Configuration) : Type 0 where
   pub commands-counted : commandCount s ≡ Is (length (t .commands)) 1
   -- where the last command ends
   pub end : ℕ

@@ -1,6 +1,6 @@
 // The fields of a configuration table and of its commands for C, asked for one by one.
 ghost use mathlib.Core.Path.{_≡_};
-ghost use Rattle.commands.specs.Asked.{commandCount, signaturePart, commandTag, commandContent, clockYear, clockMonth, clockDay, clockHour, clockMinute, clockSecond, codeAddress, codeResource, codeDigit, frequency, symbolRate, mapping, returnKind, returnAddress, period, volume, parameterCount, parameter, terminalCount, terminal, terminalDigit};
+ghost use Rattle.commands.specs.Asked.{commandCount, commandPart, signaturePart, commandTag, commandContent, clockYear, clockMonth, clockDay, clockHour, clockMinute, clockSecond, codeAddress, codeResource, codeDigit, frequency, symbolRate, mapping, returnKind, returnAddress, period, volume, parameterCount, parameter, terminalCount, terminal, terminalDigit};
 ghost use Rattle.telling.specs.Answers.{numberAnswer, partAnswer};
 
 #[no_mangle]
@@ -8,6 +8,13 @@ pub extern "C" fn nw_configuration_command_count(body: &[u8]) -> u64
     ensures { λ r. ⌜ r ≡ numberAnswer (commandCount (now (body .entry))) ⌝ }
 {
     telling::number_answer(commands::command_count(body))
+}
+
+#[no_mangle]
+pub extern "C" fn nw_configuration_command(body: &[u8], i: u64) -> u64
+    ensures { λ r. ⌜ r ≡ partAnswer (commandPart (now (body .entry)) i) ⌝ }
+{
+    telling::part_answer(commands::command(body, i))
 }
 
 #[no_mangle]

@@ -43,6 +43,7 @@ use Rattle.contentwriter.specs.Written.{writtenOf, contentWritten}
 use Rattle.contentwriter.specs.declared.Written.the-variants.{Of}
 use Rattle.configuration.specs.Configuration.{configurationKind, configuration}
 use Rattle.configuration.proofs.RoundTrips.{configuration-trips}
+use Rattle.commands.proofs.Asked.{configuration-asked}
 use Rattle.promises.specs.Demand2.{WellFormed, Holds, WrittenAndRead, HoldsContent, Extended, SectionsRead, Times, Days, Demand2}
 use Rattle.promises.proofs.LocalTimes.{local-times}
 
@@ -245,6 +246,8 @@ demand2 =
           index-asked kind body (b .byte) t (length body) (held-reads index indexKind index-trips kind body t h);
       contents-asked = λ kind body t b h.
           content-asked 3 kind body (b .byte) t (length body) (held-reads (content 3) contentKind (content-trips 3) kind body t h);
+      configurations-asked = λ kind body t b h.
+          configuration-asked kind body (b .byte) t (length body) (held-reads configuration configurationKind configuration-trips kind body t h);
       records-are = λ kind body t b h.
           records-are kind body (b .byte) t (length body) (held-reads index indexKind index-trips kind body t h);
       sections = sections;

@@ -89,6 +89,7 @@ offered =
       nw-configuration-lay = λ kind body tape. two;
       nw-configuration-write = λ pool tape out. two;
       nw-configuration-command-count = λ body. one;
+      nw-configuration-command = λ body i. one;
       nw-configuration-signature = λ body. one;
       nw-command-tag = λ body p. one;
       nw-command-content = λ body p. one;

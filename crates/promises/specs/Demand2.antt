@@ -34,7 +34,8 @@ use Rattle.content.specs.Content.{Content, contentKind, content, extensionOf, r
 use Rattle.languages.specs.Agreement.{ContentAsked}
 use Rattle.contentwriter.specs.Written.{contentWritten}
 use Rattle.contentwriter.specs.declared.Written.the-variants.{Of}
-use Rattle.configuration.specs.Configuration.{configurationKind, configuration}
+use Rattle.configuration.specs.Configuration.{Configuration, configurationKind, configuration}
+use Rattle.commands.specs.Agreement.{ConfigurationAsked}
 use Rattle.promises.specs.LocalTimes.{LocalTimes}
 
 -- "Written and read as the standard has it, doubtful places settled in 01": a table's definition lists its fields in wire order beside 01's words
@@ -138,6 +139,8 @@ pub record Demand2 : Type 0 where
       → CertificateAsked body t
   pub indexes-asked : (kind : ℕ) (body : List ℕ) (t : Index) → AreBytes body → Holds index indexKind kind body t → IndexAsked body t
   pub contents-asked : (kind : ℕ) (body : List ℕ) (t : Content) → AreBytes body → Holds (content 3) contentKind kind body t → ContentAsked 3 body t
+  pub configurations-asked : (kind : ℕ) (body : List ℕ) (t : Configuration) → AreBytes body → Holds configuration configurationKind kind body t
+      → ConfigurationAsked body t
   -- "messages are laid in a lent list of message records": record i is message i's
   pub records-are : (kind : ℕ) (body : List ℕ) (t : Index) → AreBytes body → Holds index indexKind kind body t → RecordsAre kind body t
   pub sections : SectionsRead

@@ -29,7 +29,7 @@ use Rattle.languages.specs.Asked as languages
 use Rattle.languages.specs.Asked.{extension, languageCount, languagePart, lettersPart, characterSet, textPart, agencyPart, auxiliaryCount, auxiliaryType, auxiliaryPart}
 use Rattle.configuration.specs.Configuration.{configurationKind, configuration}
 use Rattle.commands.specs.Asked as commands
-use Rattle.commands.specs.Asked.{commandCount, commandTag, commandContent, clockYear, clockMonth, clockDay, clockHour, clockMinute, clockSecond, codeAddress, codeResource, codeDigit, frequency, symbolRate, mapping, returnKind, returnAddress, period, volume, parameterCount, parameter, terminalCount, terminal, terminalDigit}
+use Rattle.commands.specs.Asked.{commandCount, commandPart, commandTag, commandContent, clockYear, clockMonth, clockDay, clockHour, clockMinute, clockSecond, codeAddress, codeResource, codeDigit, frequency, symbolRate, mapping, returnKind, returnAddress, period, volume, parameterCount, parameter, terminalCount, terminal, terminalDigit}
 use Rattle.telling.specs.Answers.{dayAnswer, dateAnswer, weekdayAnswer, fieldAnswer, localAnswer, showingAnswer, sectionAnswer, countAnswer, lengthAnswer, feedAnswer, handAnswer, readAnswer, numberAnswer, partAnswer, writtenAnswer, contentAnswer, localFieldAnswer}
 use Rattle.promises.specs.Determined.{Determined, Determined₂, Determined₃}
 
@@ -121,6 +121,7 @@ pub record Offered : Type 0 where
   pub nw-configuration-write : (pool tape out : List ℕ) → Determined₂ (λ r out′. (r ≡ writtenAnswer (bodyWritten configuration pool tape (length out))) × (out′ ≡ output configuration pool tape out))
   -- its fields
   pub nw-configuration-command-count : (body : List ℕ) → Determined (λ r. r ≡ numberAnswer (commandCount body))
+  pub nw-configuration-command : (body : List ℕ) (i : ℕ) → Determined (λ r. r ≡ partAnswer (commandPart body i))
   pub nw-configuration-signature : (body : List ℕ) → Determined (λ r. r ≡ partAnswer (commands.signaturePart body))
   pub nw-command-tag : (body : List ℕ) (p : ℕ) → Determined (λ r. r ≡ numberAnswer (commandTag body p))
   pub nw-command-content : (body : List ℕ) (p : ℕ) → Determined (λ r. r ≡ partAnswer (commandContent body p))
