@@ -1,11 +1,11 @@
--- Laws of the way past entries, and of things one after the other that end alike: of whichever the list is read, it ends at the same place.
+-- Laws of the way past entries, and of things one after the other that end alike: of whichever the list is read, it ends, and the i-th begins, at the same place.
 use Prim.Native.Nat.{ℕ, zero, suc, _+_, _≤_, _<_}
 use mathlib.Core.Path.{_≡_, refl, sym, ap, _∙_}
 use mathlib.Core.List.{List, [], _∷_}
 use mathlib.Core.Bool.{Bool, true, false}
 use native.Mathlib.Omega.{arith}
 use native.Mathlib.Nat.{add-zero}
-use lib.ListN.{length, take, drop}
+use lib.ListN.{length, getD, take, drop}
 use lib.Dec.{ltb, leb}
 use borrow.Author.Tests.{leb-true, leb-false, le-leb, lt-leb, lt-ltb, le-ltb}
 use Rattle.refusal.specs.declared.Refusal.{Refusal}
@@ -87,6 +87,29 @@ module _ {A B : Type 0} (F : Format A) (G : Format B) (s : List ℕ) (l : ℕ) (
       let y = same p (i .0) (i .1) (i .2) in
       let ys = all-same n (i .1) (j .0) (j .1) (j .2) in
       (y .0 ∷ ys .0, rw (y .1, ys .1) (ap (found (y .0 ∷ ys .0)) (found-inj (j .3) .1)))
+
+  -- where the i-th begins
+  begins-same : (d : A) (n i p : ℕ) (xs : List A) (q : ℕ) → repeat (F .parse s l) n p ≡ found xs q → i < n
+      → (ys : List B) × (t r : ℕ) × (repeat (G .parse s l) i p ≡ found ys t) × (F .parse s l t ≡ found (getD xs i d) r)
+  unfolding repeat
+  begins-same d zero i p xs q e h = absurd (omega arith)
+  begins-same d (suc n) zero p xs q e h =
+      let i = andThen-found (F .parse s l p) _ xs q e in
+      let j = andThen-found (repeat (F .parse s l) n (i .1)) _ xs q (i .3) in
+      ([], p, i .1, refl, i .2 ∙ ap (λ x. found x (i .1)) (ap (λ ys. getD ys 0 d) (found-inj (j .3) .0)))
+  begins-same d (suc n) (suc k) p xs q e h =
+      let i = andThen-found (F .parse s l p) _ xs q e in
+      let j = andThen-found (repeat (F .parse s l) n (i .1)) _ xs q (i .3) in
+      let y = same p (i .0) (i .1) (i .2) in
+      let t = begins-same d n k (i .1) (j .0) (j .1) (j .2) (omega arith) in
+      (y .0 ∷ t .0, t .1, t .2, rw (y .1, t .3), t .4 ∙ ap (λ x. found x (t .2)) (ap (λ ys. getD ys (suc k) d) (found-inj (j .3) .0)))
+
+  pub nth-same : (d : A) (n i p : ℕ) (xs : List A) (q : ℕ) → repeat (F .parse s l) n p ≡ found xs q → i < n
+      → (ys : List B) × (t r : ℕ) × (nthOf G n i s l p ≡ found ys t) × (F .parse s l t ≡ found (getD xs i d) r)
+  unfolding nthOf
+  nth-same d n i p xs q e h =
+      let t = begins-same d n i p xs q e h in
+      (t .0, t .1, t .2, rw (lt-ltb i n h) (t .3), t .4)
 
 -- ---- parts that nothing stands before
 

@@ -1,6 +1,6 @@
 -- The fields asked for of an accepted body are its table's: of the body, and of each of its commands.
 use Prim.Native.Nat.{ℕ, zero, suc, _+_, _-_, _*_, _%_, _^_, _≤_, _<_}
-use mathlib.Core.Path.{_≡_, refl, sym, ap, subst, _∙_}
+use mathlib.Core.Path.{_≡_, refl, sym, ap, ap₂, subst, _∙_}
 use mathlib.Core.List.{List, [], _∷_}
 use mathlib.Core.Bool.{Bool, true, false, _&&_}
 use native.Mathlib.Omega.{arith}
@@ -31,7 +31,8 @@ use Rattle.asking.proofs.Sizes.{Sized, count-sized, only-found, number-sized, n
 use Rattle.asking.proofs.Entries.{all-same, nth-same, nth-past}
 use Rattle.asking.proofs.Parts.{counted-holds, part-holds, bytes-hold, digit-is, digits-bytes, depending-found}
 use Rattle.commands.specs.Asked.{commandCount, commandPart, signaturePart, tagAt, bytesAt, commandTag, commandContent, contentAt, inCommand, clockDate, clockTime, clockYear, clockMonth, clockDay, clockHour, clockMinute, clockSecond, codeAddress, codeAt, codeResource, codeDigit, frequency, symbolRate, mapping, returnKind, addressIn, returnAddress, period, volume, parameterCount, listAt, parameterAt, parameter, terminalsIn, terminalsAt, terminalCount, terminalAt, terminal, terminalDigit}
-use Rattle.commands.specs.Agreement.{StandAt, ResourceAsked, TerminalsAsked, ClockAsked, CodeAsked, TuneAsked, ReturnAsked, PeriodAsked, VolumeAsked, QueryAsked, OrderAsked, OthersAsked, CommandAsked, CommandsAsked, ConfigurationAsked}
+use Rattle.asking.specs.Agreement.{FillsAt}
+use Rattle.commands.specs.Agreement.{ResourceAsked, TerminalsAsked, ClockAsked, CodeAsked, TuneAsked, ReturnAsked, PeriodAsked, VolumeAsked, QueryAsked, OrderAsked, OthersAsked, CommandAsked, CommandsAsked, ConfigurationAsked}
 use Rattle.commands.proofs.Answers.{tag-found, content-there}
 
 -- ---- fields of a fixed size
@@ -65,7 +66,7 @@ same-part F s part also x q e h = record { at = h .at; size = h .size; is = e �
 
 -- those after a length of w bytes begin where it ends, and what follows them where they end
 module _ (L : Length) (w : ℕ) (sized : Sized (L .field) w) (s : List ℕ) (l p : ℕ) (xs : List ℕ) (q : ℕ) (e : counted L rest .parse s l p ≡ found xs q) where
-  stand : (part : Part) → part ≡ partOf (found xs q) → (at : ℕ) → p + w ≡ at → StandAt s part at xs × (q ≡ at + length xs)
+  stand : (part : Part) → part ≡ partOf (found xs q) → (at : ℕ) → p + w ≡ at → FillsAt s at part xs × (q ≡ at + length xs)
   unfolding rest
   stand part same at z =
       let h = counted-holds L rest s l p xs q e in
@@ -73,9 +74,15 @@ module _ (L : Length) (w : ℕ) (sized : Sized (L .field) w) (s : List ℕ) (l p
       let f = found-inj (h .inner) in
       let size = add-sub-cancel-left (h .at) (h .size) in
       let long = length-take-le (h .size) (drop (h .at) s) (simp length-drop (omega (arith, h .in-body))) in
-      let bytes = ap (λ (m : ℕ). take m (drop (h .at) s)) (sym size) ∙ f .0 in (
-        record { fills = (h .at, h .size, same ∙ ap partOf (sym e) ∙ h .part, h .in-body, bytes); begins = begins ∙ z },
-        omega (arith, f .1, begins, long, ap length bytes),
+      let bytes = ap (λ (m : ℕ). take m (drop (h .at) s)) (sym size) ∙ f .0 in
+      let n : h .size ≡ length xs = sym long ∙ ap length bytes in
+      let there : h .at ≡ at = begins ∙ z in (
+        record {
+          is = same ∙ ap partOf (sym e) ∙ h .part ∙ ap₂ Of there n;
+          in-body = omega (arith, h .in-body, n, there);
+          bytes = ap₂ (λ (m u : ℕ). take m (drop u s)) (sym n) (sym there) ∙ bytes;
+        },
+        omega (arith, f .1, there, n),
       )
 
 -- bytes that are judged are those bytes
@@ -90,13 +97,13 @@ counted-only L fault F s l p x q e =
     rw (i .2, le-leb (i .1 + m) (length s) (g .0), le-leb (i .1 + m) l (g .1), j .0) (only-found fault F s (i .1 + m) (i .1) x q (j .1))
 
 address-stands : (kind : ℕ) (s : List ℕ) (l p : ℕ) (xs : List ℕ) (q : ℕ) → address kind .parse s l p ≡ found xs q
-    → (part : Part) → part ≡ partOf (found xs q) → (at : ℕ) → p + 1 ≡ at → StandAt s part at xs × (q ≡ at + length xs)
+    → (part : Part) → part ≡ partOf (found xs q) → (at : ℕ) → p + 1 ≡ at → FillsAt s at part xs × (q ≡ at + length xs)
 unfolding address fitting
 address-stands kind s l p xs q e =
     stand (fitting kind) 1 (count-sized 1) s l p xs q (counted-only (fitting kind) (addressFault kind) rest s l p xs q e)
 
 opaque-stands : (w : ℕ) (s : List ℕ) (l p : ℕ) (xs : List ℕ) (q : ℕ) → opaque w .parse s l p ≡ found xs q
-    → (part : Part) → part ≡ partOf (found xs q) → (at : ℕ) → p + w ≡ at → StandAt s part at xs × (q ≡ at + length xs)
+    → (part : Part) → part ≡ partOf (found xs q) → (at : ℕ) → p + w ≡ at → FillsAt s at part xs × (q ≡ at + length xs)
 unfolding lengthOf
 opaque-stands w s l p xs q e = stand (lengthOf w) w (count-sized w) s l p xs q e
 
@@ -157,11 +164,14 @@ other-order tag h =
 
 -- opaque bytes fill a content of any other tag
 module _ (s : List ℕ) (p q size : ℕ) (is : commandContent s p ≡ Of (p + 3) size) (ends : p + 3 + size ≡ q) (inside : q ≤ length s) where
-  content-stands : (x : List ℕ) → said other .parse s q (p + 3) ≡ found x q → StandAt s (commandContent s p) (p + 3) x
+  content-stands : (x : List ℕ) → said other .parse s q (p + 3) ≡ found x q → FillsAt s (p + 3) (commandContent s p) x
   unfolding said rest
   content-stands x e =
       let z : size ≡ q - (p + 3) = omega arith in
-      record { fills = (p + 3, size, is, omega arith, ap (λ (m : ℕ). take m (drop (p + 3) s)) z ∙ found-inj e .0); begins = refl }
+      let bytes = ap (λ (m : ℕ). take m (drop (p + 3) s)) z ∙ found-inj e .0 in
+      let long = length-take-le size (drop (p + 3) s) (simp length-drop (omega arith)) in
+      let n : size ≡ length x = sym long ∙ ap length bytes in
+      record { is = is ∙ ap (Of (p + 3)) n; in-body = omega (arith, n); bytes = ap (λ (m : ℕ). take m (drop (p + 3) s)) (sym n) ∙ bytes }
 
   other-asked : (order : Order) → order ≡ other → (x : Said order) → said order .parse s q (p + 3) ≡ found x q → OrderAsked order s p x
   other-asked order e = subst (λ (o : Order). (x : Said o) → said o .parse s q (p + 3) ≡ found x q → OrderAsked o s p x) (sym e) content-stands

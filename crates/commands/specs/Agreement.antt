@@ -4,34 +4,22 @@ use Prim.Native.Nat.{ℕ, suc, _+_, _*_, _/_, _≤_, _<_}
 use mathlib.Core.Path.{_≡_}
 use mathlib.Core.List.{List, []}
 use lib.ListN.{length, getD, take, drop}
-use Rattle.refusal.specs.declared.Refusal.the-variants.{OutsideSet}
 use Rattle.formats.specs.declared.Number.{Number}
-use Rattle.formats.specs.declared.Number.the-variants.{Is, Refused as NoNumber}
+use Rattle.formats.specs.declared.Number.the-variants.{Is}
 use Rattle.formats.specs.declared.Part.{Part}
-use Rattle.formats.specs.declared.Part.the-variants.{Of, Refused as NoPart}
-use Rattle.formats.specs.Held.{Fills, PartHolds}
+use Rattle.formats.specs.declared.Part.the-variants.{Of}
+use Rattle.formats.specs.Held.{PartHolds}
 use Rattle.formats.specs.Resource.{resource}
 use Rattle.configuration.specs.Configuration.{Order, setClock, setCode, tune, setReturn, setPeriod, setVolume, query, other, orderOf, Said, said, Command, Configuration}
+use Rattle.asking.specs.Agreement.{NoNumberThere, NoPartThere, FillsAt}
 use Rattle.commands.specs.Asked.{commandCount, commandPart, signaturePart, commandTag, commandContent, clockYear, clockMonth, clockDay, clockHour, clockMinute, clockSecond, codeAddress, codeResource, codeDigit, frequency, symbolRate, mapping, returnKind, returnAddress, period, volume, parameterCount, parameter, terminalCount, terminal, terminalDigit}
-
--- "one that isn't there is 19, place 0"
-abbrev pub NotThere : Number → Type 0
-NotThere x = x ≡ NoNumber (OutsideSet 0)
-
-abbrev pub NoPartThere : Part → Type 0
-NoPartThere x = x ≡ NoPart (OutsideSet 0)
-
--- "opaque bytes as the part of the body they fill": they stand at `at`
-pub record StandAt (s : List ℕ) (part : Part) (at : ℕ) (xs : List ℕ) : Type 0 where
-  pub fills : Fills s part xs
-  pub begins : fills .0 ≡ at
 
 -- "12-byte resources": the one that begins at `at`, as its part and digit by digit
 pub record ResourceAsked (s : List ℕ) (part : Part) (digit : ℕ → Number) (at : ℕ) (ds : List ℕ) : Type 0 where
   pub part-is : part ≡ Of at 12
   pub bytes-are : take 12 (drop at s) ≡ resource .print ds
   pub digit-is : (j : ℕ) → j < length ds → digit j ≡ Is (getD ds j 0) (at + (j + 1) / 2)
-  pub digit-past : (j : ℕ) → length ds ≤ j → NotThere (digit j)
+  pub digit-past : (j : ℕ) → length ds ≤ j → NoNumberThere (digit j)
 
 -- ---- a command's fields, its tag at p
 
@@ -39,7 +27,7 @@ pub record ResourceAsked (s : List ℕ) (part : Part) (digit : ℕ → Number) (
 pub record TerminalsAsked (s : List ℕ) (p at : ℕ) (ts : List (List ℕ)) : Type 0 where
   pub terminals-counted : terminalCount s p ≡ Is (length ts) at
   pub terminal-is : (i : ℕ) → i < length ts → ResourceAsked s (terminal s p i) (terminalDigit s p i) (at + 12 * i) (getD ts i [])
-  pub terminal-past : (i : ℕ) → length ts ≤ i → NoPartThere (terminal s p i) × ((j : ℕ) → NotThere (terminalDigit s p i j))
+  pub terminal-past : (i : ℕ) → length ts ≤ i → NoPartThere (terminal s p i) × ((j : ℕ) → NoNumberThere (terminalDigit s p i j))
 
 -- "1: year 16, month, day, hour, minute, second"
 pub record ClockAsked (s : List ℕ) (p : ℕ) (x : Said setClock) : Type 0 where
@@ -52,7 +40,7 @@ pub record ClockAsked (s : List ℕ) (p : ℕ) (x : Said setClock) : Type 0 wher
 
 -- "2: address length, address, resource"
 pub record CodeAsked (s : List ℕ) (p : ℕ) (x : Said setCode) : Type 0 where
-  pub address-stands : StandAt s (codeAddress s p) (p + 4) (x .0)
+  pub address-stands : FillsAt s (p + 4) (codeAddress s p) (x .0)
   pub resource-is : ResourceAsked s (codeResource s p) (codeDigit s p) (p + 4 + length (x .0)) (x .1)
 
 -- "3: frequency 32, symbol rate 32, mapping 0 to 5, terminals"
@@ -65,7 +53,7 @@ pub record TuneAsked (s : List ℕ) (p : ℕ) (x : Said tune) : Type 0 where
 -- "4: kind 1 to 3, address length, address, terminals"
 pub record ReturnAsked (s : List ℕ) (p : ℕ) (x : Said setReturn) : Type 0 where
   pub kind-is : returnKind s p ≡ Is (x .0) (p + 4)
-  pub address-stands : StandAt s (returnAddress s p) (p + 5) (x .1 .0)
+  pub address-stands : FillsAt s (p + 5) (returnAddress s p) (x .1 .0)
   pub terminals-are : TerminalsAsked s p (p + 6 + length (x .1 .0)) (x .1 .1)
 
 -- "5: period 32, terminals"
@@ -82,7 +70,7 @@ pub record VolumeAsked (s : List ℕ) (p : ℕ) (x : Said setVolume) : Type 0 wh
 pub record QueryAsked (s : List ℕ) (p : ℕ) (x : Said query) : Type 0 where
   pub parameters-counted : parameterCount s p ≡ Is (length (x .0)) (p + 4)
   pub parameter-is : (i : ℕ) → i < length (x .0) → parameter s p i ≡ Is (getD (x .0) i 0) (p + 5 + i)
-  pub parameter-past : (i : ℕ) → length (x .0) ≤ i → NotThere (parameter s p i)
+  pub parameter-past : (i : ℕ) → length (x .0) ≤ i → NoNumberThere (parameter s p i)
   pub terminals-are : TerminalsAsked s p (p + 5 + length (x .0)) (x .1)
 
 -- "Other tags are kept as opaque bytes"
@@ -94,20 +82,20 @@ OrderAsked setReturn s p x = ReturnAsked s p x
 OrderAsked setPeriod s p x = PeriodAsked s p x
 OrderAsked setVolume s p x = VolumeAsked s p x
 OrderAsked query s p x = QueryAsked s p x
-OrderAsked other s p x = StandAt s (commandContent s p) (p + 3) x
+OrderAsked other s p x = FillsAt s (p + 3) (commandContent s p) x
 
 -- the fields of other tags than the command's, and terminals that its tag has not, are not there
 pub record OthersAsked (s : List ℕ) (p tag : ℕ) : Type 0 where
-  pub no-date : (tag ≡ 1 → ⊥) → NotThere (clockYear s p) × NotThere (clockMonth s p) × NotThere (clockDay s p)
-  pub no-time : (tag ≡ 1 → ⊥) → NotThere (clockHour s p) × NotThere (clockMinute s p) × NotThere (clockSecond s p)
-  pub no-code : (tag ≡ 2 → ⊥) → NoPartThere (codeAddress s p) × NoPartThere (codeResource s p) × ((j : ℕ) → NotThere (codeDigit s p j))
-  pub no-tuning : (tag ≡ 3 → ⊥) → NotThere (frequency s p) × NotThere (symbolRate s p) × NotThere (mapping s p)
-  pub no-return : (tag ≡ 4 → ⊥) → NotThere (returnKind s p) × NoPartThere (returnAddress s p)
-  pub no-period : (tag ≡ 5 → ⊥) → NotThere (period s p)
-  pub no-volume : (tag ≡ 6 → ⊥) → NotThere (volume s p)
-  pub no-query : (tag ≡ 7 → ⊥) → NotThere (parameterCount s p) × ((i : ℕ) → NotThere (parameter s p i))
+  pub no-date : (tag ≡ 1 → ⊥) → NoNumberThere (clockYear s p) × NoNumberThere (clockMonth s p) × NoNumberThere (clockDay s p)
+  pub no-time : (tag ≡ 1 → ⊥) → NoNumberThere (clockHour s p) × NoNumberThere (clockMinute s p) × NoNumberThere (clockSecond s p)
+  pub no-code : (tag ≡ 2 → ⊥) → NoPartThere (codeAddress s p) × NoPartThere (codeResource s p) × ((j : ℕ) → NoNumberThere (codeDigit s p j))
+  pub no-tuning : (tag ≡ 3 → ⊥) → NoNumberThere (frequency s p) × NoNumberThere (symbolRate s p) × NoNumberThere (mapping s p)
+  pub no-return : (tag ≡ 4 → ⊥) → NoNumberThere (returnKind s p) × NoPartThere (returnAddress s p)
+  pub no-period : (tag ≡ 5 → ⊥) → NoNumberThere (period s p)
+  pub no-volume : (tag ≡ 6 → ⊥) → NoNumberThere (volume s p)
+  pub no-query : (tag ≡ 7 → ⊥) → NoNumberThere (parameterCount s p) × ((i : ℕ) → NoNumberThere (parameter s p i))
   pub no-terminals : (3 ≤ tag → tag ≤ 7 → ⊥)
-      → NotThere (terminalCount s p) × ((i : ℕ) → NoPartThere (terminal s p i)) × ((i j : ℕ) → NotThere (terminalDigit s p i j))
+      → NoNumberThere (terminalCount s p) × ((i : ℕ) → NoPartThere (terminal s p i)) × ((i j : ℕ) → NoNumberThere (terminalDigit s p i j))
 
 -- "tag 8, length 16, content": the command c, which begins at p and ends at q
 pub record CommandAsked (s : List ℕ) (p : ℕ) (c : Command) (q : ℕ) : Type 0 where
@@ -135,4 +123,4 @@ pub record ConfigurationAsked (s : List ℕ) (t : Configuration) : Type 0 where
   -- where the last command ends
   pub end : ℕ
   pub commands-are : CommandsAsked s (t .commands) end
-  pub signature-stands : StandAt s (signaturePart s) (end + 2) (t .signature)
+  pub signature-stands : FillsAt s (end + 2) (signaturePart s) (t .signature)
