@@ -14,7 +14,7 @@ use Rattle.formats.specs.Reading.{faulty}
 use Rattle.formats.specs.Format.{_▷_, outside, count, number, rest}
 use Rattle.formats.proofs.Places.{FaultUntil, none, stands, unless-until, outside-until, Placed, count-placed, only-placed, number-placed, among-placed, digits-placed, followed-placed, view-placed, list-placed, rest-placed, exact-placed, counted-placed, least-placed, opaque-placed, resources-placed}
 use Rattle.configuration.specs.Address.{lengthFits, isAddress}
-use Rattle.configuration.specs.Configuration.{terminals, dayFault, date, clock, addressFault, fitting, address, Order, setClock, setCode, tune, setReturn, setPeriod, setVolume, query, other, orderOf, said, least, command, fields, configuration}
+use Rattle.configuration.specs.Configuration.{terminals, dayFault, plain, date, clock, addressFault, fitting, address, Order, setClock, setCode, tune, setReturn, setPeriod, setVolume, query, other, orderOf, said, least, command, fields, configuration}
 
 terminals-placed : Placed terminals
 unfolding terminals
@@ -22,8 +22,8 @@ terminals-placed = resources-placed
 
 -- ---- the clock
 
-three-placed : (w : ℕ) → Placed (number w ▷ (number 1 ▷ number 1))
-three-placed w = followed-placed _ _ (number-placed w) (λ a. followed-placed _ _ (number-placed 1) (λ b. number-placed 1))
+plain-placed : (w : ℕ) → Placed (plain w)
+plain-placed w = followed-placed _ _ (count-placed w) (λ a. followed-placed _ _ (count-placed 1) (λ b. count-placed 1))
 
 day-until : (d : DayAnswer) (at : ℕ) → FaultUntil at (dayFault d at)
 day-until (Day n) at = none
@@ -31,12 +31,12 @@ day-until (Refused r) at = stands (le-refl at)
 
 date-placed : Placed date
 unfolding date
-date-placed = only-placed _ _ (λ x. day-until (dayOf (x .0) (x .1 .0) (x .1 .1))) (three-placed 2)
+date-placed = only-placed _ _ (λ x. day-until (dayOf (x .0) (x .1 .0) (x .1 .1))) (plain-placed 2)
 
 clock-placed : Placed clock
 unfolding clock
 clock-placed =
-    only-placed _ _ (λ x at. unless-until (leb (x .0) 23 && (leb (x .1 .0) 59 && leb (x .1 .1) 59)) (ImpossibleDay at) (le-refl at)) (three-placed 1)
+    only-placed _ _ (λ x at. unless-until (leb (x .0) 23 && (leb (x .1 .0) 59 && leb (x .1 .1) 59)) (ImpossibleDay at) (le-refl at)) (plain-placed 1)
 
 -- ---- the return address
 

@@ -1,18 +1,16 @@
 -- Demand 1: a number and a place tell the refusal, and every verdict that refuses leaves what it was lent.
-use Prim.Native.Nat.{ℕ, _+_, _-_, _≤_}
+use Prim.Native.Nat.{ℕ, _≤_}
 use mathlib.Core.Path.{_≡_, refl, sym, ap, ap₂, _∙_}
-use mathlib.Core.Bool.{Bool, true, false, not, _&&_}
+use mathlib.Core.Bool.{Bool, true, false}
 use mathlib.Core.List.{List, [], _∷_}
 use native.Mathlib.Omega.{arith}
 use lib.ListN.{length, getD}
-use lib.Dec.{eqb, leb, ltb}
+use lib.Dec.{eqb}
 use borrow.Author.Tests.{eqb-false}
-use Rattle.choices.specs.Choice.{if_then_else_}
 use Rattle.refusal.specs.Numbers.{numberOf, placeOf}
 use Rattle.refusal.specs.declared.Refusal.{Refusal}
 use Rattle.refusal.specs.declared.Refusal.the-variants.{SectionTooShort, OtherKind, FixedBitZero, SectionLengthOutside, OtherLength, NumberAboveLast, CheckNotZero, NotCurrent, OtherHeading, StoreTooShort, Contradiction, ImpossibleState, Missing, PastBody, PastPart, LeftOver, ReservedBitZero, DigitAboveNine, OutsideSet, ImpossibleDay, OutputTooSmall, TooLarge, OtherChecksum, NotOfTheForm, BodyTooLong}
-use Rattle.crc.specs.Crc.{crc32Of}
-use Rattle.framing.specs.Section.{isKind, sectionLength, fixedBits, headingOf, payloadOf, readSection}
+use Rattle.framing.specs.Section.{payloadOf, readSection}
 use Rattle.cutting.specs.Cutting as cutter
 use Rattle.cutting.specs.declared.Cut.the-variants.{Refused as NotCut}
 use Rattle.framing.specs.declared.Heading.{Heading}
@@ -40,6 +38,7 @@ use Rattle.contentwriter.specs.Written.{writtenOf, contentWritten}
 use Rattle.contentwriter.specs.declared.Written.the-variants.{Refused as NotWritten}
 use Rattle.records.specs.Records.{recording, bodyRecorded, recordedOver, recorded}
 use Rattle.records.specs.declared.Record.{Record}
+use Rattle.promises.proofs.Places.{absurd-answer, section-refusals, places}
 use Rattle.promises.specs.Demand1.{Numbered, WritesNothing, OnlySpoils, Demand1}
 use Rattle.promises.proofs.Lists.{given-exactly}
 
@@ -98,9 +97,6 @@ numbered =
     }
 
 -- ---- what refuses writes nothing
-
-absurd-answer : {A : Type 0} → _≡_ {A = ℕ} 0 1 → A
-absurd-answer z = absurd (omega arith)
 
 cut-keeps : (v : cutter.Verdict) (out : List ℕ) (r : Refusal) → cutter.answerBy v ≡ NotCut r → cutter.outputBy v out ≡ out
 unfolding cutter.answerBy cutter.outputBy
@@ -177,20 +173,10 @@ differs : (r : Refusal) → eqb (numberOf r) 11 ≡ false → r ≡ Contradictio
 differs r n e = eqb-false (numberOf r) 11 n (ap numberOf e)
 
 -- a section is never refused for a contradiction
-not-for : (b : Bool) (r : Refusal) (x : Sectioned) → eqb (numberOf r) 11 ≡ false → (x ≡ NotGood Contradiction → ⊥) → (if b then NotGood r else x) ≡ NotGood Contradiction → ⊥
-not-for true r x n f e = differs r n (cc)
-not-for false r x n f e = f e
-
 section-not : (s : List ℕ) → readSection s ≡ NotGood Contradiction → ⊥
-unfolding readSection
-section-not s =
-    not-for (ltb (length s) 12) SectionTooShort _ refl
-    (not-for (not (isKind (getD s 0 0))) OtherKind _ refl
-    (not-for (not (fixedBits s)) FixedBitZero _ refl
-    (not-for (not (leb 9 (sectionLength s) && leb (sectionLength s) 4093)) SectionLengthOutside _ refl
-    (not-for (not (eqb (length s) (sectionLength s + 3))) OtherLength _ refl
-    (not-for (ltb (getD s 7 0) (getD s 6 0)) NumberAboveLast _ refl
-    (not-for (not (eqb (crc32Of s) 0)) CheckNotZero _ refl (λ (e : Good (headingOf s) (length s - 12) ≡ NotGood Contradiction). absurd-answer (cc))))))))
+section-not s e =
+    section-refusals (λ r. r ≡ Contradiction → ⊥) (differs SectionTooShort refl) (differs OtherKind refl) (differs FixedBitZero refl)
+    (differs SectionLengthOutside refl) (differs OtherLength refl) (differs NumberAboveLast refl) (differs CheckNotZero refl) s Contradiction e refl
 
 module _ (g : Gathering) (store s : List ℕ) where
   -- a verdict that is answered with 11 leaves the spoiled state
@@ -230,4 +216,11 @@ only-spoils =
 -- ---- the demand
 
 pub demand1 : Demand1
-demand1 = record { numbered = numbered; given-exactly = given-exactly; writes-nothing = writes-nothing; only-spoils = only-spoils }
+demand1 =
+    record {
+      numbered = numbered;
+      given-exactly = given-exactly;
+      places = places;
+      writes-nothing = writes-nothing;
+      only-spoils = only-spoils;
+    }

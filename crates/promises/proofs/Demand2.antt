@@ -1,12 +1,13 @@
 -- Demand 2: for every table from its round trips and the agreement of its fields, for sections, times and days from their crates' theorems.
-use Prim.Native.Nat.{ℕ, _+_, _≤_}
+use Prim.Native.Nat.{ℕ, zero, suc, _+_, _≤_, _<_}
 use mathlib.Core.Path.{_≡_, refl, sym, ap, _∙_, subst}
 use mathlib.Core.Bool.{true}
-use mathlib.Core.List.{List}
+use mathlib.Core.List.{List, [], _∷_}
 use native.Mathlib.Omega.{arith}
-use lib.ListN.{length, take}
-use lib.Dec.{leb, eqb}
-use borrow.Author.Tests.{eqb-true, le-leb, eq-eqb}
+use lib.ListN.{length, getD, take}
+use lib.Dec.{ltb, leb, eqb}
+use borrow.Author.Tests.{ltb-true, eqb-true, le-leb, eq-eqb}
+use Rattle.choices.proofs.Tests.{both}
 use Rattle.refusal.specs.declared.Refusal.the-variants.{OtherKind, OutputTooSmall, OtherChecksum}
 use Rattle.placing.specs.Placed.{placed}
 use Rattle.placing.proofs.Placing.{placed-start}
@@ -22,7 +23,7 @@ use Rattle.framing.proofs.Printing.{printed-length}
 use Rattle.framing.proofs.RoundTrip.{good-exactly}
 use Rattle.cutting.proofs.Sections.{cut-writes, cut-reads, cut-joined}
 use Rattle.formats.specs.Reading.{Reading, found, refused}
-use Rattle.formats.specs.Format.{Format}
+use Rattle.formats.specs.Format.{Format, every}
 use Rattle.formats.specs.Answers.{stepOf}
 use Rattle.formats.specs.Body.{longest, reading, bodyRead, writing, bodyWritten, output, laying, bodyLaid, laidTape}
 use Rattle.formats.specs.declared.Step.the-variants.{At}
@@ -38,13 +39,14 @@ use Rattle.messages.proofs.Asked.{index-asked}
 use Rattle.records.proofs.Laid.{records-are}
 use Rattle.content.specs.Content.{Content, contentKind, content, extensionOf, readingOf, contentRead}
 use Rattle.content.proofs.RoundTrips.{content-trips}
+use Rattle.content.proofs.Smallest.{content-takes, smallestBody, smallest-accepted}
 use Rattle.languages.proofs.Asked.{content-asked}
 use Rattle.contentwriter.specs.Written.{writtenOf, contentWritten}
 use Rattle.contentwriter.specs.declared.Written.the-variants.{Of}
 use Rattle.configuration.specs.Configuration.{configurationKind, configuration}
 use Rattle.configuration.proofs.RoundTrips.{configuration-trips}
 use Rattle.commands.proofs.Asked.{configuration-asked}
-use Rattle.promises.specs.Demand2.{WellFormed, Holds, WrittenAndRead, HoldsContent, Extended, SectionsRead, Times, Days, Demand2}
+use Rattle.promises.specs.Demand2.{WellFormed, Holds, WrittenAndRead, HoldsContent, Extended, Smallest, SectionsRead, Times, Days, Demand2}
 use Rattle.promises.proofs.LocalTimes.{local-times}
 
 -- ---- tables
@@ -194,6 +196,36 @@ extended =
       written-with = written-with;
     }
 
+-- ---- the smallest content body
+
+module _ (kind extension : ℕ) (body : List ℕ) where
+  content-least : (n : ℕ) → AreBytes body → contentRead 3 kind extension body ≡ At n → 33 ≤ length body
+  unfolding contentRead readingOf
+  content-least n b e =
+      let x = step-found (readingOf 3 kind extension body) n e in
+      let i = andThen-found (reading (content 3) contentKind kind body) _ (x .0) n (x .1) in
+      let h = read-holds (content 3) contentKind (content-trips 3) kind body (i .0) (i .1) b (i .2) .0 in
+      subst (λ (s : List ℕ). 33 ≤ length s) (sym (h .body-is)) (content-takes 3 (i .0) (h .formed .right))
+
+all-bytes : (s : List ℕ) → every (λ x. ltb x 256) s ≡ true → (i : ℕ) → getD s i 0 < 256
+unfolding every
+all-bytes [] e i = omega arith
+all-bytes (x ∷ xs) e zero = ltb-true x 256 (both (ltb x 256) _ e .0)
+all-bytes (x ∷ xs) e (suc i) = all-bytes xs (both (ltb x 256) _ e .1) i
+
+smallest-read : (t : Content) × (reading (content 3) contentKind contentKind smallestBody ≡ found t 33)
+unfolding bodyRead
+smallest-read = step-found (reading (content 3) contentKind contentKind smallestBody) 33 smallest-accepted
+
+smallest : Smallest
+unfolding contentRead readingOf every smallestBody
+smallest =
+    let given = extensionOf (smallest-read .0 .identifier) in
+    record {
+      least = content-least;
+      reached = (given, smallestBody, record { byte = all-bytes smallestBody refl }, refl, rw (smallest-read .1, eq-eqb given given refl));
+    }
+
 -- ---- sections
 
 is-cut : (body : List ℕ) (kind extension version number : ℕ) → Askable (length body) kind extension version number
@@ -240,6 +272,7 @@ demand2 =
       contents = round-trips (content 3) contentKind (content-trips 3);
       configurations = round-trips configuration configurationKind configuration-trips;
       extended = extended;
+      smallest-content = smallest;
       certificates-asked = λ kind body t b h.
           certificate-asked kind body (b .byte) t (length body) (held-reads certificate certificateKind certificate-trips kind body t h);
       indexes-asked = λ kind body t b h.

@@ -1,5 +1,6 @@
 -- The proofs of the promises, most by citing what the crates prove.
 pub mod Lists
+pub mod Places
 pub mod Demand1
 pub mod LocalTimes
 pub mod Demand2

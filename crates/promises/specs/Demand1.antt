@@ -24,6 +24,7 @@ use Rattle.contentwriter.specs.declared.Written.the-variants.{Refused as NotWri
 use Rattle.records.specs.Records.{bodyRecorded, recorded}
 use Rattle.records.specs.declared.Record.{Record}
 use Rattle.promises.specs.Lists.{GivenExactly}
+use Rattle.promises.specs.Places.{Places}
 
 -- "Every input of every length is taken without a fault, and every call finishes." This is the language's to say, and no theorem: a function
 -- is built only once it is proved that it never indexes past an end, wraps a sum, loses bits or divides by 0, and that it ends. No offered
@@ -63,5 +64,7 @@ pub record OnlySpoils : Type 0 where
 pub record Demand1 : Type 1 where
   pub numbered : Numbered
   pub given-exactly : GivenExactly
+  -- "A refusal returns its number and a place"
+  pub places : Places
   pub writes-nothing : WritesNothing
   pub only-spoils : OnlySpoils

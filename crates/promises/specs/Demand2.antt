@@ -91,6 +91,11 @@ pub record Extended : Type 0 where
   pub written-with : (pool tape out : List ℕ) (n extension : ℕ) → contentWritten pool tape (length out) ≡ Of n extension
       → (t : Content) × (output (content 3) pool tape out ≡ placed out 0 (content 3 .print t)) × (readingOf 3 contentKind extension (content 3 .print t) ≡ found t n)
 
+-- "The smallest body is 33 bytes": no accepted one is shorter, and one has as many
+pub record Smallest : Type 0 where
+  pub least : (kind extension : ℕ) (body : List ℕ) (n : ℕ) → AreBytes body → contentRead 3 kind extension body ≡ At n → 33 ≤ length body
+  pub reached : (extension : ℕ) × (body : List ℕ) × AreBytes body × (length body ≡ 33) × (contentRead 3 contentKind extension body ≡ At 33)
+
 -- ---- sections
 
 pub record SectionsRead : Type 0 where
@@ -134,6 +139,7 @@ pub record Demand2 : Type 0 where
   pub contents : WrittenAndRead (content 3) contentKind
   pub configurations : WrittenAndRead configuration configurationKind
   pub extended : Extended
+  pub smallest-content : Smallest
   -- "Every field of an accepted table can be asked for, opaque bytes as the part of the body they fill; one that isn't there is 19, place 0"
   pub certificates-asked : (kind : ℕ) (body : List ℕ) (t : Certificates) → AreBytes body → Holds certificate certificateKind kind body t
       → CertificateAsked body t

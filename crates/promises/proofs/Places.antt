@@ -1,0 +1,208 @@
+-- The places of refusals: for every table from its format's laws, for the others because each names the refusals that it gives.
+use Prim.Native.Nat.{ℕ, _+_, _-_, _≤_, zero-le}
+use mathlib.Core.Path.{_≡_, refl, ap, subst}
+use mathlib.Core.Bool.{Bool, true, false, not, _&&_}
+use mathlib.Core.List.{List}
+use native.Mathlib.Omega.{arith}
+use lib.ListN.{length, getD, length-take}
+use lib.Dec.{eqb, leb, ltb}
+use borrow.Author.Tests.{leb-true, ltb-true}
+use Rattle.choices.specs.Choice.{if_then_else_}
+use Rattle.refusal.specs.Numbers.{placeOf}
+use Rattle.refusal.specs.declared.Refusal.{Refusal}
+use Rattle.refusal.specs.declared.Refusal.the-variants.{SectionTooShort, OtherKind, FixedBitZero, SectionLengthOutside, OtherLength, NumberAboveLast, CheckNotZero, NotCurrent, OtherHeading, StoreTooShort, Contradiction, ImpossibleState, Missing, PastBody, OutsideSet, OutputTooSmall, TooLarge, BodyTooLong}
+use Rattle.crc.specs.Crc.{crc32Of}
+use Rattle.framing.specs.Section.{isKind, sectionLength, fixedBits, headingOf, payloadOf, readSection}
+use Rattle.framing.specs.declared.Heading.{Heading}
+use Rattle.framing.specs.declared.Sectioned.{Sectioned}
+use Rattle.framing.specs.declared.Sectioned.the-variants.{Good, Refused as NotGood}
+use Rattle.cutting.specs.Cutting as cutter
+use Rattle.cutting.specs.declared.Cut.the-variants.{Refused as NotCut}
+use Rattle.holding.specs.Lists.{smallestMissing}
+use Rattle.holding.specs.State.{possibleOf, nothingBegun, hasRoom, lengths}
+use Rattle.holding.specs.declared.Gathering.{Gathering}
+use Rattle.feeding.specs.Feeding as feeding
+use Rattle.feeding.specs.declared.Verdict.{Verdict}
+use Rattle.feeding.specs.declared.Verdict.the-variants.{Refuse}
+use Rattle.feeding.specs.declared.Answer.the-variants.{Refused as NotFed}
+use Rattle.feeding.proofs.Verdicts.{verdict-impossible, verdict-bad, verdict-good, Decided, old, other, short, spoiled, new, again, clash, decided}
+use Rattle.handing.specs.Handing as handing
+use Rattle.handing.specs.declared.Completeness.{Completeness}
+use Rattle.handing.specs.declared.Completeness.the-variants.{Complete, Refused as NotComplete}
+use Rattle.handing.specs.declared.Handed.the-variants.{Body, Refused as NotHanded}
+use Rattle.formats.specs.Reading.{Reading, found, refused}
+use Rattle.formats.specs.Format.{Format}
+use Rattle.formats.specs.Body.{reading, writing}
+use Rattle.formats.specs.declared.Step.the-variants.{Refused as NoStep}
+use Rattle.formats.proofs.Places.{Until, ends, stands, then-until, need-until, Placed, step-place, reading-until, read-place, laid-place, writing-until, written-place}
+use Rattle.certificate.specs.Certificate.{certificateKind, certificate}
+use Rattle.certificate.proofs.Places.{certificate-placed}
+use Rattle.index.specs.Index.{indexKind, index}
+use Rattle.index.proofs.Places.{index-placed}
+use Rattle.records.specs.Records.{recording, bodyRecorded}
+use Rattle.content.specs.Content.{Content, contentKind, content}
+use Rattle.content.proofs.Places.{content-placed, extended-place}
+use Rattle.contentwriter.specs.Written.{writtenOf, contentWritten}
+use Rattle.contentwriter.specs.declared.Written.the-variants.{Refused as NotWritten}
+use Rattle.configuration.specs.Configuration.{configurationKind, configuration}
+use Rattle.configuration.proofs.Places.{configuration-placed}
+use Rattle.promises.specs.Places.{PlacesOf, Places}
+
+-- no answer both refuses and does not
+pub absurd-answer : {A : Type 0} → _≡_ {A = ℕ} 0 1 → A
+absurd-answer z = absurd (omega arith)
+
+-- ---- tables
+
+of-table : {A : Type 0} (F : Format A) (own : ℕ) → Placed F → PlacesOf F own
+of-table F own f = record { read = read-place F f own; laid = laid-place F f own; written = written-place F f }
+
+recorded : (kind : ℕ) (body : List ℕ) (room : ℕ) (r : Refusal) → bodyRecorded kind body room ≡ NoStep r → placeOf r ≤ length body
+unfolding bodyRecorded recording
+recorded kind body room =
+    step-place (recording kind body room)
+    (then-until {last′ = room} (reading index indexKind kind body) _ (reading-until index index-placed indexKind kind body) (λ t q m.
+    need-until (leb (length (t .messages)) room) _ zero-le (λ u. ends (leb-true _ _ u))))
+
+content-written : (pool tape : List ℕ) (room : ℕ) (r : Refusal) → contentWritten pool tape room ≡ NotWritten r → placeOf r ≡ 0
+unfolding contentWritten
+content-written pool tape room r e = go (writing (content 3) pool tape room) (writing-until (content 3) (content-placed 3) pool tape room) e
+  where
+    go : (x : Reading Content) → Until 0 room x → writtenOf x ≡ NotWritten r → placeOf r ≡ 0
+    go (found t n) h e = absurd-answer (cc)
+    go (refused r′) (stands h) e =
+        let same : r′ ≡ r = cc in
+        omega (arith, subst (λ (q : Refusal). placeOf q ≤ 0) same h)
+
+-- ---- what names its refusals one after the other: each of them has Q
+
+module _ {X : Type 0} (no : Refusal → X) (same : (r r′ : Refusal) → no r ≡ no r′ → r ≡ r′) (Q : Refusal → Type 0) where
+  or-else : (b : Bool) (r′ : Refusal) (x : X) → (b ≡ true → Q r′) → ((r : Refusal) → x ≡ no r → Q r) → (r : Refusal) → (if b then no r′ else x) ≡ no r → Q r
+  or-else true r′ x q f r e = subst Q (same r′ r e) (q refl)
+  or-else false r′ x q f r e = f r e
+
+-- a section is refused for seven reasons
+pub section-refusals : (Q : Refusal → Type 0)
+    → Q SectionTooShort → Q OtherKind → Q FixedBitZero → Q SectionLengthOutside → Q OtherLength → Q NumberAboveLast → Q CheckNotZero
+    → (s : List ℕ) (r : Refusal) → readSection s ≡ NotGood r → Q r
+unfolding readSection
+section-refusals Q q1 q2 q3 q4 q5 q6 q7 s =
+    let next = or-else NotGood (λ r r′ (e : NotGood r ≡ NotGood r′). cc) Q in
+    next (ltb (length s) 12) SectionTooShort _ (λ t. q1)
+    (next (not (isKind (getD s 0 0))) OtherKind _ (λ t. q2)
+    (next (not (fixedBits s)) FixedBitZero _ (λ t. q3)
+    (next (not (leb 9 (sectionLength s) && leb (sectionLength s) 4093)) SectionLengthOutside _ (λ t. q4)
+    (next (not (eqb (length s) (sectionLength s + 3))) OtherLength _ (λ t. q5)
+    (next (ltb (getD s 7 0) (getD s 6 0)) NumberAboveLast _ (λ t. q6)
+    (next (not (eqb (crc32Of s) 0)) CheckNotZero _ (λ t. q7) (λ r (e : Good (headingOf s) (length s - 12) ≡ NotGood r). absurd-answer (cc))))))))
+
+section-place : (s : List ℕ) (r : Refusal) → readSection s ≡ NotGood r → placeOf r ≡ 0
+section-place = section-refusals (λ r. placeOf r ≡ 0) refl refl refl refl refl refl refl
+
+-- ---- feeding
+
+module _ (g : Gathering) (store s : List ℕ) where
+  -- a refusal by this verdict stands at 0
+  abbrev Nowhere : Verdict → Type 0
+  Nowhere v = (r : Refusal) → feeding.answerBy v ≡ NotFed r → placeOf r ≡ 0
+
+  refuse-nowhere : (r′ : Refusal) → placeOf r′ ≡ 0 → Nowhere (Refuse r′)
+  unfolding feeding.answerBy
+  refuse-nowhere r′ h r e = let same : r′ ≡ r = cc in subst (λ (q : Refusal). placeOf q ≡ 0) same h
+
+  good-nowhere : (h : Heading) {v : Verdict} → Decided g store h (payloadOf s) v → Nowhere v
+  unfolding feeding.answerBy
+  good-nowhere h (old c) r e = refuse-nowhere NotCurrent refl r e
+  good-nowhere h (other c a) r e = refuse-nowhere OtherHeading refl r e
+  good-nowhere h (short c a m) r e = refuse-nowhere StoreTooShort refl r e
+  good-nowhere h (spoiled c a m z) r e = refuse-nowhere Contradiction refl r e
+  good-nowhere h (new d z) r e = absurd-answer (cc)
+  good-nowhere h (again d z q) r e = absurd-answer (cc)
+  good-nowhere h (clash d z q) r e = refuse-nowhere Contradiction refl r e
+
+  verdict-nowhere : Nowhere (feeding.verdictOf g store s)
+  verdict-nowhere = go (possibleOf g) refl (readSection s) refl
+    where
+      go : (b : Bool) → possibleOf g ≡ b → (x : Sectioned) → readSection s ≡ x → Nowhere (feeding.verdictOf g store s)
+      go false p x e = rw (verdict-impossible g store s p) (refuse-nowhere ImpossibleState refl)
+      go true p (NotGood r) e = rw (verdict-bad g store s p r e) (refuse-nowhere r (section-place s r e))
+      go true p (Good h n) e = rw (verdict-good g store s p h n e) (good-nowhere h (decided g store h (payloadOf s)))
+
+-- ---- the cutter
+
+module _ (body : List ℕ) (kind extension version number : ℕ) where
+  cutting-place : (room : ℕ) (r : Refusal) → cutter.cutting body kind extension version number room ≡ cutter.refuses r → placeOf r ≡ 0
+  unfolding cutter.cutting cutter.fitting
+  cutting-place room =
+      let next = or-else cutter.refuses (λ r r′ (e : cutter.refuses r ≡ cutter.refuses r′). cc) (λ r. placeOf r ≡ 0) in
+      next (not (isKind kind)) OtherKind _ (λ t. refl)
+      (next (not (leb version 31 && leb extension 0xFFFF)) (OutsideSet 0) _ (λ t. refl)
+      (next (eqb (length body) 0) (PastBody 0) _ (λ t. refl)
+      (next (ltb 1045504 (length body)) TooLarge _ (λ t. refl)
+      (next (leb (cutter.sectionCount (length body)) number) NumberAboveLast _ (λ t. refl)
+      (next (ltb room (length (cutter.sectionOf body kind extension version number))) OutputTooSmall _ (λ t. refl)
+      (λ r (e : cutter.writes (cutter.sectionOf body kind extension version number) ≡ cutter.refuses r). absurd-answer (cc)))))))
+
+  cut-place : (out : List ℕ) (r : Refusal) → cutter.cutAnswer body kind extension version number out ≡ NotCut r → placeOf r ≡ 0
+  unfolding cutter.answerBy
+  cut-place out r e = go (cutter.cutting body kind extension version number (length out)) (cutting-place (length out)) e
+    where
+      go : (v : cutter.Verdict) → ((r : Refusal) → v ≡ cutter.refuses r → placeOf r ≡ 0) → cutter.answerBy v ≡ NotCut r → placeOf r ≡ 0
+      go (cutter.refuses r′) h e = let same : r′ ≡ r = cc in h r (ap cutter.refuses same)
+      go (cutter.writes bytes) h e = absurd-answer (cc)
+
+-- ---- handing out
+
+module _ (g : Gathering) where
+  -- the missing number is one of the table's
+  missing-place : (r : Refusal) → handing.missingOf (lengths g) ≡ NotComplete r → placeOf r ≤ g .last
+  unfolding handing.missingOf lengths
+  missing-place =
+      or-else NotComplete (λ r r′ (e : NotComplete r ≡ NotComplete r′). cc) (λ r. placeOf r ≤ g .last)
+      (ltb (smallestMissing (lengths g)) (length (lengths g))) (Missing (smallestMissing (lengths g))) Complete
+      (λ t. let below = simp length-take at (ltb-true (smallestMissing (lengths g)) (length (lengths g)) t) in omega arith)
+      (λ r (e : Complete ≡ NotComplete r). absurd-answer (cc))
+
+  complete-place : (bytes : ℕ) (r : Refusal) → handing.completeOf g bytes ≡ NotComplete r → placeOf r ≤ g .last
+  unfolding handing.completeOf
+  complete-place bytes =
+      let next = or-else NotComplete (λ r r′ (e : NotComplete r ≡ NotComplete r′). cc) (λ r. placeOf r ≤ g .last) in
+      next (not (possibleOf g)) ImpossibleState _ (λ t. zero-le)
+      (next (nothingBegun g) (Missing 0) _ (λ t. zero-le)
+      (next (not (hasRoom bytes (g .last))) StoreTooShort _ (λ t. zero-le)
+      (next (not (eqb (g .spoiled) 0)) Contradiction _ (λ t. zero-le) missing-place)))
+
+  fitting-place : (n room : ℕ) (r : Refusal) → handing.fitting n room ≡ NotHanded r → placeOf r ≤ g .last
+  unfolding handing.fitting
+  fitting-place n room =
+      let next = or-else NotHanded (λ r r′ (e : NotHanded r ≡ NotHanded r′). cc) (λ r. placeOf r ≤ g .last) in
+      next (ltb 1045504 n) BodyTooLong _ (λ t. zero-le)
+      (next (ltb room n) OutputTooSmall (Body n) (λ t. zero-le) (λ r (e : Body n ≡ NotHanded r). absurd-answer (cc)))
+
+  handed-place : (store out : List ℕ) (r : Refusal) → handing.handedOf g store out ≡ NotHanded r → placeOf r ≤ g .last
+  unfolding handing.handedOf handing.handedBy
+  handed-place store out r e = go (handing.completeOf g (length store)) (complete-place (length store)) e
+    where
+      go : (c : Completeness) → ((r : Refusal) → c ≡ NotComplete r → placeOf r ≤ g .last)
+          → handing.handedBy c (length (handing.bodyOf g store)) (length out) ≡ NotHanded r → placeOf r ≤ g .last
+      go (NotComplete r′) h e = let same : r′ ≡ r = cc in h r (ap NotComplete same)
+      go Complete h e = fitting-place (length (handing.bodyOf g store)) (length out) r e
+
+-- ---- all of them
+
+pub places : Places
+unfolding feeding.fedOf
+places =
+    record {
+      certificates = of-table certificate certificateKind certificate-placed;
+      indexes = of-table index indexKind index-placed;
+      contents = of-table (content 3) contentKind (content-placed 3);
+      configurations = of-table configuration configurationKind configuration-placed;
+      recorded = recorded;
+      extended = extended-place 3;
+      content-written = content-written;
+      section = section-place;
+      fed = verdict-nowhere;
+      cut = cut-place;
+      handed = handed-place;
+    }
