@@ -429,8 +429,9 @@ nw_answer nw_message_descriptors(const uint8_t *body, size_t n, size_t at, size_
 nw_answer nw_message_streams(const uint8_t *body, size_t n, size_t at, size_t length);
 
 /* The local date and time of a message's start or end. Value: as of nw_time_unpack, whose macros take
- * it apart. Refusals, in this order: those of nw_message_start or nw_message_end, with their places;
- * those of nw_time_unpack (place 0), for which a live end is 18. */
+ * it apart. Refusals, in this order: 19, the offset is outside its range (place 0); those of
+ * nw_message_start or nw_message_end, with their places; 18, a live end, which has no local time, or
+ * 20, the local day lies outside the range of days (place 0). */
 nw_answer nw_message_local_start(const uint8_t *body, size_t n, size_t at, size_t length,
                                  int32_t offset);
 nw_answer nw_message_local_end(const uint8_t *body, size_t n, size_t at, size_t length,

@@ -55,6 +55,8 @@ BODIES = [
     (body(message(rest=CHANNEL + 'f000')), (15, 51))]
 
 ONE = bytes.fromhex(body(message()))
+BAD_TIMES = bytes.fromhex(body(message(start='ecc907450a', end='ecc9240000')))
+LAST_DAY = bytes.fromhex(body(message(start='ffff230000')))
 RECORD = [3, 38, 0xECC9074500, 2**40 - 1, 1, 1]
 FULL = bytes.fromhex(body(message(rest=CHANNEL + 'f003' '0901aa' '0008' '1bffeef003' '0a01bb'), '0001cc'))
 LONG = bytes(1045505)
@@ -91,7 +93,14 @@ CALLS = [
     (('stream_fields', FULL, len(FULL) + 1, 56), '19 0 19 0 19 0'),
     # 3 November 2024 07:45:00 at +480; a live end is 18, after the offset's 19.
     (('message_local_times', ONE, 3, 38, 480), '0 %d 18 0' % int('7E80B030F2D00', 16)),
-    (('message_local_times', ONE, 3, 38, 841), '19 0 19 0')]
+    (('message_local_times', ONE, 3, 38, 841), '19 0 19 0'),
+    # The offset's 19 comes before a message that is not in the body, a start that passes it, and a digit above 9.
+    (('message_local_times', ONE, 3, 41, 480), '19 0 19 0'), (('message_local_times', ONE, 3, 41, -721), '19 0 19 0'),
+    (('message_local_times', ONE, 3, 20, 480), '15 23 15 28'), (('message_local_times', ONE, 3, 20, 841), '19 0 19 0'),
+    (('message_local_times', BAD_TIMES, 3, 38, 480), '18 23 20 28'),
+    (('message_local_times', BAD_TIMES, 3, 38, 841), '19 0 19 0'),
+    # The last day of the range has no local time east of its end.
+    (('message_local_times', LAST_DAY, 3, 38, 60), '20 0 18 0')]
 
 
 # ---- every refusal that can be met

@@ -512,6 +512,7 @@ nw_answer plain_stream_descriptors(const uint8_t *body, size_t n, size_t end, si
 // ---- local times
 
 static nw_answer local_time(nw_answer field, int32_t offset) {
+    if (!plain_is_offset(offset)) return OUTSIDE;
     return NW_REFUSAL(field) ? field : plain_time_unpack(NW_VALUE(field), offset);
 }
 

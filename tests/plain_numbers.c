@@ -95,13 +95,13 @@ nw_answer plain_weekday(uint32_t day) { return is_in_range(day) ? value((day + 2
 
 enum { MINUTES = 1440, LEAST_OFFSET = -720, MOST_OFFSET = 840 };
 
-static int is_offset(int32_t offset) { return offset >= LEAST_OFFSET && offset <= MOST_OFFSET; }
+int plain_is_offset(int32_t offset) { return offset >= LEAST_OFFSET && offset <= MOST_OFFSET; }
 static uint64_t two_digits(uint64_t x) { return x / 10 << 4 | x % 10; }
 static uint64_t decimal(uint64_t digits) { return (digits >> 4 & 15) * 10 + (digits & 15); }
 
 nw_answer plain_time_pack(uint32_t year, uint32_t month, uint32_t day, uint32_t hour, uint32_t minute, uint32_t second,
                           int32_t offset) {
-    if (!is_offset(offset)) return OUTSIDE;
+    if (!plain_is_offset(offset)) return OUTSIDE;
     nw_answer local = plain_day_of(year, month, day);
     if (NW_REFUSAL(local) || !is_time(hour, minute, second)) return IMPOSSIBLE;
     uint64_t at = NW_VALUE(local) * MINUTES + hour * 60 + minute - (uint64_t)(int64_t)offset;
@@ -113,7 +113,7 @@ nw_answer plain_time_pack(uint32_t year, uint32_t month, uint32_t day, uint32_t 
 static unsigned field_fault(uint64_t field) { return field >> 40 ? OUTSIDE : time_fault(field); }
 
 nw_answer plain_time_unpack(uint64_t field, int32_t offset) {
-    if (!is_offset(offset)) return OUTSIDE;
+    if (!plain_is_offset(offset)) return OUTSIDE;
     unsigned no = field_fault(field);
     if (no) return no;
     uint64_t at = (field >> 24) * MINUTES + decimal(field >> 16) * 60 + decimal(field >> 8) + (uint64_t)(int64_t)offset;
@@ -126,7 +126,7 @@ nw_answer plain_time_read_text(const uint8_t *text, size_t n, int32_t offset) {
     static const char form[] = "dd/mm/yyyy hh:mm:ss";
     uint32_t numbers[6] = {0};
     size_t k = 0;
-    if (!is_offset(offset)) return OUTSIDE;
+    if (!plain_is_offset(offset)) return OUTSIDE;
     if (n != sizeof form - 1) return NW_NOT_OF_THE_FORM;
     for (size_t i = 0; i < n; i++) {
         if (form[i] < 'a') {

@@ -20,6 +20,9 @@ nw_answer plain_day_of(uint32_t year, uint32_t month, uint32_t day);
 nw_answer plain_date_of(uint32_t day);
 nw_answer plain_weekday(uint32_t day);
 
+// Whether an offset is one of -720 to 840 minutes.
+int plain_is_offset(int32_t offset);
+
 nw_answer plain_time_pack(uint32_t year, uint32_t month, uint32_t day, uint32_t hour, uint32_t minute, uint32_t second,
                           int32_t offset);
 nw_answer plain_time_unpack(uint64_t field, int32_t offset);

@@ -177,6 +177,7 @@ def message_fields(*message):
 
 def message_local_times(body, at, length, offset):
     def local_time(place, live):
+        second_times.seconds_of(offset)
         field = inside(body, at, length, place).time('time', live)
         return second_times.time_unpack(field, offset)[0]
     return joined((answered(local_time, 20, False), answered(local_time, 25, True)))

@@ -1,6 +1,5 @@
 // The fields of an index table for C, asked for one by one.
 ghost use mathlib.Core.Path.{_≡_};
-ghost use Rattle.local.specs.Clock.{unpackOf};
 ghost use Rattle.messages.specs.Asked.{messageCount, messagePart, signaturePart, identifierPart, identifierDigit, network, start, end, typePart, class, level, resourceCount, resourcePart, resourceDigit, flag, channelNetwork, channelStream, channelProgram, pcrPid, descriptorsPart, streamsPart, descriptorTag, descriptorPart, streamType, streamPid, streamDescriptors};
 ghost use Rattle.telling.specs.Answers.{numberAnswer, partAnswer, localFieldAnswer};
 
@@ -194,14 +193,14 @@ pub extern "C" fn nw_stream_descriptors(body: &[u8], end: usize, p: usize) -> u6
 
 #[no_mangle]
 pub extern "C" fn nw_message_local_start(body: &[u8], at: usize, length: usize, offset: i32) -> u64
-    ensures { λ r. ⌜ r ≡ localFieldAnswer (λ f. unpackOf f offset) (start (now (body .entry)) at length) ⌝ }
+    ensures { λ r. ⌜ r ≡ localFieldAnswer offset (start (now (body .entry)) at length) ⌝ }
 {
     telling::local_field_answer(messages::start(body, at, length), offset)
 }
 
 #[no_mangle]
 pub extern "C" fn nw_message_local_end(body: &[u8], at: usize, length: usize, offset: i32) -> u64
-    ensures { λ r. ⌜ r ≡ localFieldAnswer (λ f. unpackOf f offset) (end (now (body .entry)) at length) ⌝ }
+    ensures { λ r. ⌜ r ≡ localFieldAnswer offset (end (now (body .entry)) at length) ⌝ }
 {
     telling::local_field_answer(messages::end(body, at, length), offset)
 }

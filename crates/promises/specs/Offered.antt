@@ -95,8 +95,8 @@ pub record Offered : Type 0 where
   pub nw-stream-type : (body : List ℕ) (end p : ℕ) → Determined (λ r. r ≡ numberAnswer (streamType body end p))
   pub nw-stream-pid : (body : List ℕ) (end p : ℕ) → Determined (λ r. r ≡ numberAnswer (streamPid body end p))
   pub nw-stream-descriptors : (body : List ℕ) (end p : ℕ) → Determined (λ r. r ≡ partAnswer (streamDescriptors body end p))
-  pub nw-message-local-start : (body : List ℕ) (at length : ℕ) (offset : ℤ) → Determined (λ r. r ≡ localFieldAnswer (λ f. unpackOf f offset) (start body at length))
-  pub nw-message-local-end : (body : List ℕ) (at length : ℕ) (offset : ℤ) → Determined (λ r. r ≡ localFieldAnswer (λ f. unpackOf f offset) (end body at length))
+  pub nw-message-local-start : (body : List ℕ) (at length : ℕ) (offset : ℤ) → Determined (λ r. r ≡ localFieldAnswer offset (start body at length))
+  pub nw-message-local-end : (body : List ℕ) (at length : ℕ) (offset : ℤ) → Determined (λ r. r ≡ localFieldAnswer offset (end body at length))
   -- the content table
   pub nw-content-read : (kind extension : ℕ) (body : List ℕ) → Determined (λ r. r ≡ readAnswer (contentRead 3 kind extension body))
   pub nw-content-lay : (kind : ℕ) (body tape : List ℕ) → Determined₂ (λ r tape′. (r ≡ writtenAnswer (bodyLaid (content 3) contentKind kind body (length tape))) × (tape′ ≡ laidTape (content 3) contentKind kind body tape))

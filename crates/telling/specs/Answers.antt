@@ -1,6 +1,9 @@
 -- What a reader has to believe of the answers to C: which value each answer of the library becomes; a refusal is always `refusedOf`.
+use mathlib.Core.Bool.{cond}
 use Prim.Native.Nat.{ℕ, _+_, _*_, _%_, _^_}
+use lib.IntN.{ℤ}
 use Rattle.refusal.specs.Answers.{answerOf, refusedOf}
+use Rattle.refusal.specs.declared.Refusal.the-variants.{OutsideSet}
 use Rattle.crc.specs.Crc.{digit}
 use Rattle.days.specs.declared.DayAnswer.{DayAnswer}
 use Rattle.days.specs.declared.DayAnswer.the-variants as day
@@ -12,6 +15,8 @@ use Rattle.times.specs.declared.Fielded.{Fielded}
 use Rattle.times.specs.declared.Fielded.the-variants as fielded
 use Rattle.times.specs.declared.Showing.{Showing}
 use Rattle.times.specs.declared.Showing.the-variants as showing
+use Rattle.offset.specs.Offset.{isOffset}
+use Rattle.local.specs.Clock.{unpackOf}
 use Rattle.local.specs.declared.LocalTime.{LocalTime}
 use Rattle.local.specs.declared.Unpacked.{Unpacked}
 use Rattle.local.specs.declared.Unpacked.the-variants as unpacked
@@ -139,7 +144,11 @@ abbrev pub contentAnswer : Written → ℕ
 contentAnswer (written.Of length extension) = answerOf 0 (extension % 2 ^ 16 * 2 ^ 24 + length % 2 ^ 24)
 contentAnswer (written.Refused why) = refusedOf why
 
--- the local time of a time field that was asked for
-abbrev pub localFieldAnswer : (ℕ → Unpacked) → Number → ℕ
-localFieldAnswer local (number.Is field after) = localAnswer (local field)
-localFieldAnswer local (number.Refused why) = refusedOf why
+-- the local time of a time field, or the field's refusal
+abbrev pub localOrRefused : ℤ → Number → ℕ
+localOrRefused offset (number.Is field after) = localAnswer (unpackOf field offset)
+localOrRefused offset (number.Refused why) = refusedOf why
+
+-- "Local from UTC adds it (order 19, 18, 20)": of a time field that was asked for, 19 for the offset, then the field's own refusal, then its local time's
+unfoldable pub localFieldAnswer : ℤ → Number → ℕ
+localFieldAnswer offset field = cond (isOffset offset) (localOrRefused offset field) (refusedOf (OutsideSet 0))

@@ -14,12 +14,12 @@ use framing::Sectioned;
 use handing::Handed;
 use local::LocalTime;
 use local::Unpacked;
+use refusal::Refusal;
 use times::Fielded;
 use times::Showing;
 ghost use mathlib.Core.Path.{_≡_};
 ghost use Prim.Native.Nat.{_≤_};
 ghost use Rattle.crc.specs.Crc.{digit};
-ghost use Rattle.local.specs.Clock.{unpackOf};
 ghost use Rattle.telling.specs.Answers.{dayAnswer, dateAnswer, weekdayAnswer, fieldAnswer, packedTime, localAnswer, showingAnswer, headingPacked, sectionAnswer, countAnswer, lengthAnswer, feedAnswer, handAnswer, readAnswer, numberAnswer, partAnswer, writtenAnswer, contentAnswer, localFieldAnswer};
 
 pub fn day_answer(a: DayAnswer) -> u64
@@ -214,10 +214,13 @@ pub fn content_answer(a: Written) -> u64
     }
 }
 
-// The local time of a time field that was asked for.
+// The local time of a time field that was asked for: the offset is judged before the field's own refusal is told.
 pub fn local_field_answer(field: Number, offset: i32) -> u64
-    ensures { λ r. ⌜ r ≡ localFieldAnswer (λ f. unpackOf f offset) field ⌝ }
+    ensures { λ r. ⌜ r ≡ localFieldAnswer offset field ⌝ }
 {
+    if !offset::permitted(offset) {
+        return refusal::refused(Refusal::OutsideSet(0));
+    }
     match field {
         Number::Is(f, _after) => local_answer(local::unpack(f, offset)),
         Number::Refused(why) => refusal::refused(why),

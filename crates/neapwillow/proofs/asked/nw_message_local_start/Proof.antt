@@ -1,8 +1,7 @@
--- `neapwillow::nw_message_local_start` meets its contract: the field asked for, and its local time.
+-- `neapwillow::nw_message_local_start` meets its contract: the field asked for, and its local time at the offset.
 use mathlib.Core.Path.{ap₂, _∙_}
 use mir.Facts.{toZ-ofZ}
 use borrow.Author.Needs.{needs}
-use Rattle.local.specs.Clock.{unpackOf}
 use Rattle.telling.specs.Answers.{localFieldAnswer}
 use Rattle.neapwillow.proofs.asked.nw_message_local_start.Statement.{statement}
 use Rattle.neapwillow.proofs.asked.nw_message_local_start.Tie as tie
@@ -13,4 +12,4 @@ nw-message-local-start-spec =
     (tie.spec
     (λ c κs. search needs)
     (λ c κs. search needs)
-    (λ c. c .local-field-answer .ensures ∙ ap₂ (λ z n. localFieldAnswer (λ f. unpackOf f z) n) (toZ-ofZ (c .before .before .before .fits .offset)) (c .before .start .ensures)))
+    (λ c. c .local-field-answer .ensures ∙ ap₂ localFieldAnswer (toZ-ofZ (c .before .before .before .fits .offset)) (c .before .start .ensures)))
