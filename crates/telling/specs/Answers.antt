@@ -1,10 +1,12 @@
 -- What a reader has to believe of the answers to C: which value each answer of the library becomes; a refusal is always `refusedOf`.
 use mathlib.Core.Bool.{cond}
-use Prim.Native.Nat.{ℕ, _+_, _*_, _%_, _^_}
+use mathlib.Core.List.{List, [], _∷_}
+use Prim.Native.Nat.{ℕ}
 use lib.IntN.{ℤ}
 use Rattle.refusal.specs.Answers.{answerOf, refusedOf}
 use Rattle.refusal.specs.declared.Refusal.the-variants.{OutsideSet}
 use Rattle.crc.specs.Crc.{digit}
+use Rattle.days.specs.declared.Date.{Date}
 use Rattle.days.specs.declared.DayAnswer.{DayAnswer}
 use Rattle.days.specs.declared.DayAnswer.the-variants as day
 use Rattle.days.specs.declared.DateAnswer.{DateAnswer}
@@ -39,6 +41,7 @@ use Rattle.feeding.specs.declared.Answer.{Answer}
 use Rattle.feeding.specs.declared.Answer.the-variants as fed
 use Rattle.handing.specs.declared.Handed.{Handed}
 use Rattle.handing.specs.declared.Handed.the-variants as handed
+use Rattle.telling.specs.Packing.{packed}
 
 -- ---- days
 
@@ -46,9 +49,12 @@ abbrev pub dayAnswer : DayAnswer → ℕ
 dayAnswer (day.Day n) = answerOf 0 n
 dayAnswer (day.Refused why) = refusedOf why
 
--- the year above 16 bits, the month above 8, the day in the lowest
+-- a byte for each part of a date but two for the year, which is at most 2038
+unfoldable pub dateFields : Date → List (ℕ × ℕ)
+dateFields d = (16, d .year) ∷ (8, d .month) ∷ (8, d .day) ∷ []
+
 abbrev pub dateAnswer : DateAnswer → ℕ
-dateAnswer (date.On d) = answerOf 0 (d .year * 65536 + d .month * 256 + d .day)
+dateAnswer (date.On d) = answerOf 0 (packed (dateFields d))
 dateAnswer (date.Refused why) = refusedOf why
 
 abbrev pub weekdayAnswer : WeekdayAnswer → ℕ
@@ -61,18 +67,13 @@ abbrev pub fieldAnswer : Fielded → ℕ
 fieldAnswer (fielded.Field f) = answerOf 0 f
 fieldAnswer (fielded.Refused why) = refusedOf why
 
--- a byte for each part of a local time but two for the year, which is at most 2038
-unfoldable pub packedTime : LocalTime → ℕ
-packedTime t =
-    t .year % 65536 * 2 ^ 40
-    + t .month % 256 * 2 ^ 32
-    + t .day % 256 * 2 ^ 24
-    + t .hour % 256 * 2 ^ 16
-    + t .minute % 256 * 2 ^ 8
-    + t .second % 256
+-- a byte for each part of a local time but two for the year
+unfoldable pub timeFields : LocalTime → List (ℕ × ℕ)
+timeFields t =
+    (16, t .year) ∷ (8, t .month) ∷ (8, t .day) ∷ (8, t .hour) ∷ (8, t .minute) ∷ (8, t .second) ∷ []
 
 abbrev pub localAnswer : Unpacked → ℕ
-localAnswer (unpacked.At t) = answerOf 0 (packedTime t)
+localAnswer (unpacked.At t) = answerOf 0 (packed (timeFields t))
 localAnswer (unpacked.Refused why) = refusedOf why
 
 abbrev pub showingAnswer : Showing → ℕ
@@ -84,17 +85,12 @@ showingAnswer (showing.Refused why) = refusedOf why
 -- ---- sections
 
 -- a byte for each field of a heading but two for the extension
-unfoldable pub headingPacked : Heading → ℕ
-headingPacked h =
-    h .kind * 2 ^ 48
-    + h .extension * 2 ^ 32
-    + h .version * 2 ^ 24
-    + digit (h .current) * 2 ^ 16
-    + h .number * 2 ^ 8
-    + h .last
+unfoldable pub headingFields : Heading → List (ℕ × ℕ)
+headingFields h =
+    (8, h .kind) ∷ (16, h .extension) ∷ (8, h .version) ∷ (8, digit (h .current)) ∷ (8, h .number) ∷ (8, h .last) ∷ []
 
 abbrev pub sectionAnswer : Sectioned → ℕ
-sectionAnswer (section.Good h n) = answerOf 0 (headingPacked h)
+sectionAnswer (section.Good h n) = answerOf 0 (packed (headingFields h))
 sectionAnswer (section.Refused why) = refusedOf why
 
 abbrev pub countAnswer : Counted → ℕ
@@ -129,9 +125,9 @@ abbrev pub numberAnswer : Number → ℕ
 numberAnswer (number.Is x after) = answerOf 0 x
 numberAnswer (number.Refused why) = refusedOf why
 
--- opaque bytes by the part of the body that they fill: the start above 24 bits of length. An accepted body is shorter than both fields allow.
+-- "opaque bytes as the part of the body they fill": an accepted body is shorter than either field allows
 abbrev pub partAnswer : Part → ℕ
-partAnswer (part.Of start length) = answerOf 0 (start % 2 ^ 32 * 2 ^ 24 + length % 2 ^ 24)
+partAnswer (part.Of start length) = answerOf 0 (packed ((32, start) ∷ (24, length) ∷ []))
 partAnswer (part.Refused why) = refusedOf why
 
 -- the length of the body written, or of the tape laid
@@ -139,9 +135,9 @@ abbrev pub writtenAnswer : Step → ℕ
 writtenAnswer (step.At end) = answerOf 0 end
 writtenAnswer (step.Refused why) = refusedOf why
 
--- the extension above 24 bits of length: a body is shorter than that field allows
+-- "the content writer also gives the extension": a body is shorter than the field of its length allows
 abbrev pub contentAnswer : Written → ℕ
-contentAnswer (written.Of length extension) = answerOf 0 (extension % 2 ^ 16 * 2 ^ 24 + length % 2 ^ 24)
+contentAnswer (written.Of length extension) = answerOf 0 (packed ((16, extension) ∷ (24, length) ∷ []))
 contentAnswer (written.Refused why) = refusedOf why
 
 -- the local time of a time field, or the field's refusal

@@ -2,6 +2,7 @@
 use contentwriter::Written;
 use cutting::Counted;
 use cutting::Cut;
+use days::Date;
 use days::DateAnswer;
 use days::DayAnswer;
 use days::WeekdayAnswer;
@@ -20,7 +21,8 @@ use times::Showing;
 ghost use mathlib.Core.Path.{_≡_};
 ghost use Prim.Native.Nat.{_≤_};
 ghost use Rattle.crc.specs.Crc.{digit};
-ghost use Rattle.telling.specs.Answers.{dayAnswer, dateAnswer, weekdayAnswer, fieldAnswer, packedTime, localAnswer, showingAnswer, headingPacked, sectionAnswer, countAnswer, lengthAnswer, feedAnswer, handAnswer, readAnswer, numberAnswer, partAnswer, writtenAnswer, contentAnswer, localFieldAnswer};
+ghost use Rattle.telling.specs.Packing.{packed};
+ghost use Rattle.telling.specs.Answers.{dayAnswer, dateFields, dateAnswer, weekdayAnswer, fieldAnswer, timeFields, localAnswer, showingAnswer, headingFields, sectionAnswer, countAnswer, lengthAnswer, feedAnswer, handAnswer, readAnswer, numberAnswer, partAnswer, writtenAnswer, contentAnswer, localFieldAnswer};
 
 pub fn day_answer(a: DayAnswer) -> u64
     ensures { λ r. ⌜ r ≡ dayAnswer a ⌝ }
@@ -31,14 +33,18 @@ pub fn day_answer(a: DayAnswer) -> u64
     }
 }
 
-// The year above 16 bits, the month above 8, the day in the lowest.
+// A date as one number, a byte for each part but two for the year.
+fn packed_date(d: Date) -> u64
+    ensures { λ r. ⌜ r ≡ packed (dateFields d) ⌝ }
+{
+    (d.year % 65536) as u64 * 0x1_0000 + (d.month % 256) as u64 * 0x100 + (d.day % 256) as u64
+}
+
 pub fn date_answer(a: DateAnswer) -> u64
     ensures { λ r. ⌜ r ≡ dateAnswer a ⌝ }
 {
     match a {
-        DateAnswer::On(d) => {
-            refusal::answered((d.year as u64) * 65536 + (d.month as u64) * 256 + (d.day as u64))
-        }
+        DateAnswer::On(d) => refusal::answered(packed_date(d)),
         DateAnswer::Refused(why) => refusal::refused(why),
     }
 }
@@ -63,7 +69,7 @@ pub fn field_answer(f: Fielded) -> u64
 
 // A local time as one number, a byte for each part but two for the year.
 fn packed_time(t: LocalTime) -> u64
-    ensures { λ r. ⌜ r ≡ packedTime t ⌝ }
+    ensures { λ r. ⌜ r ≡ packed (timeFields t) ⌝ }
 {
     (t.year % 65536) as u64 * 0x100_0000_0000
         + (t.month % 256) as u64 * 0x1_0000_0000
@@ -100,12 +106,12 @@ fn bit(b: bool) -> u64
 }
 
 // A heading as one number, a byte for each field but two for the extension.
-fn heading_packed(h: Heading) -> u64
-    ensures { λ r. ⌜ r ≡ headingPacked h ⌝ }
+fn packed_heading(h: Heading) -> u64
+    ensures { λ r. ⌜ r ≡ packed (headingFields h) ⌝ }
 {
     (h.kind as u64) * 0x1_0000_0000_0000
         + (h.extension as u64) * 0x1_0000_0000
-        + (h.version as u64) * 0x100_0000
+        + (h.version % 256) as u64 * 0x100_0000
         + bit(h.current) * 0x1_0000
         + (h.number as u64) * 0x100
         + (h.last as u64)
@@ -115,7 +121,7 @@ pub fn section_answer(a: Sectioned) -> u64
     ensures { λ r. ⌜ r ≡ sectionAnswer a ⌝ }
 {
     match a {
-        Sectioned::Good(h, _length) => refusal::answered(heading_packed(h)),
+        Sectioned::Good(h, _length) => refusal::answered(packed_heading(h)),
         Sectioned::Refused(why) => refusal::refused(why),
     }
 }

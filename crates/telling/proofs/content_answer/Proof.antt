@@ -1,7 +1,9 @@
 -- `telling::content_answer` meets its contract: in either arm the answer is the arm's case, and is packed as that case is.
 use mathlib.Core.Path.{sym, ap, _∙_}
 use borrow.Author.Needs.{needs}
+use Rattle.refusal.specs.Answers.{answerOf}
 use Rattle.telling.specs.Answers.{contentAnswer}
+use Rattle.telling.proofs.Packing.{packed-two}
 use Rattle.telling.proofs.content_answer.Statement.{statement}
 use Rattle.telling.proofs.content_answer.Tie as tie
 
@@ -16,5 +18,5 @@ content-answer-spec =
     (λ c κs. search needs)
     (λ c. search needs)
     (λ c κs. search needs)
-    (λ c. c .answered .ensures ∙ ap contentAnswer (sym (c .before .before .a .given .1)))
+    (λ c. c .answered .ensures ∙ ap (answerOf 0) (sym (packed-two 16 _ 24 _)) ∙ ap contentAnswer (sym (c .before .before .a .given .1)))
     (λ c. c .refused .ensures ∙ ap contentAnswer (sym (c .before .before .a2 .given .1))))

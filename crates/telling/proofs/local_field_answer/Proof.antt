@@ -1,7 +1,6 @@
 -- `telling::local_field_answer` meets its contract: it tests the offset, and in either arm the answer is the arm's case.
 use mathlib.Core.Path.{_≡_, sym, ap, _∙_}
 use mathlib.Core.Bool.{Bool, true, cond}
-use Prim.Native.Nat.{ℕ}
 use lib.IntN.{ℤ}
 use mir.Facts.{toZ-ofZ}
 use borrow.Author.Needs.{needs}
@@ -16,7 +15,8 @@ use Rattle.telling.specs.Answers.{localAnswer, localOrRefused, localFiel
 use Rattle.telling.proofs.local_field_answer.Statement.{statement}
 use Rattle.telling.proofs.local_field_answer.Tie as tie
 
-local-by : (offset : ℤ) (field : Number) {b : Bool} → isOffset offset ≡ b → localFieldAnswer offset field ≡ cond b (localOrRefused offset field) (refusedOf (OutsideSet 0))
+local-by : (offset : ℤ) (field : Number) {b : Bool} → isOffset offset ≡ b
+    → localFieldAnswer offset field ≡ cond b (localOrRefused offset field) (refusedOf (OutsideSet 0))
 unfolding localFieldAnswer
 local-by offset field e = ap (λ (u : Bool). cond u (localOrRefused offset field) (refusedOf (OutsideSet 0))) e
 

@@ -1,13 +1,14 @@
 -- `telling::packed_time` meets its contract: it is the definition's sum.
-use mathlib.Core.Path.{refl}
+use native.Mathlib.Omega.{arith}
 use borrow.Author.Needs.{needs}
-use Rattle.telling.specs.Answers.{packedTime}
+use Rattle.telling.specs.Packing.{widths, packed}
+use Rattle.telling.specs.Answers.{timeFields}
 use Rattle.telling.proofs.packed_time.Statement.{statement}
 use Rattle.telling.proofs.packed_time.Tie as tie
 
 returns : tie.Need-returns
-unfolding packedTime
-returns c = refl
+unfolding packed widths timeFields
+returns c = omega arith
 
 pub packed-time-spec : {M : Type 1} → statement M
 packed-time-spec =

@@ -1,7 +1,9 @@
 -- `telling::part_answer` meets its contract: in either arm the answer is the arm's case, and is packed as that case is.
 use mathlib.Core.Path.{sym, ap, _∙_}
 use borrow.Author.Needs.{needs}
+use Rattle.refusal.specs.Answers.{answerOf}
 use Rattle.telling.specs.Answers.{partAnswer}
+use Rattle.telling.proofs.Packing.{packed-two}
 use Rattle.telling.proofs.part_answer.Statement.{statement}
 use Rattle.telling.proofs.part_answer.Tie as tie
 
@@ -15,5 +17,5 @@ part-answer-spec =
     (λ c κs. search needs)
     (λ c. search needs)
     (λ c κs. search needs)
-    (λ c. c .answered .ensures ∙ ap partAnswer (sym (c .before .before .p .given .1)))
+    (λ c. c .answered .ensures ∙ ap (answerOf 0) (sym (packed-two 32 _ 24 _)) ∙ ap partAnswer (sym (c .before .before .p .given .1)))
     (λ c. c .refused .ensures ∙ ap partAnswer (sym (c .before .before .p2 .given .1))))

@@ -15,5 +15,5 @@ section-answer-spec =
     (λ c κs. search needs)
     (λ c. search needs)
     (λ c κs. search needs)
-    (λ c. c .answered .ensures ∙ ap (answerOf 0) (c .before .heading-packed .ensures) ∙ ap sectionAnswer (sym (c .before .before .before .a .given .1)))
+    (λ c. c .answered .ensures ∙ ap (answerOf 0) (c .before .packed-heading .ensures) ∙ ap sectionAnswer (sym (c .before .before .before .a .given .1)))
     (λ c. c .refused .ensures ∙ ap sectionAnswer (sym (c .before .before .a2 .given .1))))

@@ -1,16 +1,17 @@
--- `telling::heading_packed` meets its contract: it is the definition's sum.
+-- `telling::packed_heading` meets its contract: it is the definition's sum.
 use native.Mathlib.Omega.{arith}
 use borrow.Author.Needs.{needs}
-use Rattle.telling.specs.Answers.{headingPacked}
-use Rattle.telling.proofs.heading_packed.Statement.{statement}
-use Rattle.telling.proofs.heading_packed.Tie as tie
+use Rattle.telling.specs.Packing.{widths, packed}
+use Rattle.telling.specs.Answers.{headingFields}
+use Rattle.telling.proofs.packed_heading.Statement.{statement}
+use Rattle.telling.proofs.packed_heading.Tie as tie
 
 returns : tie.Need-returns
-unfolding headingPacked
+unfolding packed widths headingFields
 returns c = omega (arith, c .before .before .bit .ensures)
 
-pub heading-packed-spec : {M : Type 1} → statement M
-heading-packed-spec =
+pub packed-heading-spec : {M : Type 1} → statement M
+packed-heading-spec =
     tie.close
     (tie.spec
     (λ c. search needs)
