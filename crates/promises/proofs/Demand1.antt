@@ -39,6 +39,7 @@ use Rattle.contentwriter.specs.declared.Written.the-variants.{Refused as NotWri
 use Rattle.records.specs.Records.{recording, bodyRecorded, recordedOver, recorded}
 use Rattle.records.specs.declared.Record.{Record}
 use Rattle.promises.proofs.Places.{absurd-answer, section-refusals, places}
+use Rattle.promises.proofs.Told.{told}
 use Rattle.promises.specs.Demand1.{Numbered, WritesNothing, OnlySpoils, Demand1}
 use Rattle.promises.proofs.Lists.{given-exactly}
 
@@ -92,8 +93,6 @@ numbered =
     record {
       in-the-list = λ r. (listed r .from, listed r .until);
       one-refusal = λ r r′ n p. sym (listed r .is) ∙ ap₂ refusalOf n p ∙ listed r′ .is;
-      told = λ r. let u = listed r .until in omega arith;
-      not-told = λ value. omega arith;
     }
 
 -- ---- what refuses writes nothing
@@ -221,6 +220,7 @@ demand1 =
       numbered = numbered;
       given-exactly = given-exactly;
       places = places;
+      told = told;
       writes-nothing = writes-nothing;
       only-spoils = only-spoils;
     }

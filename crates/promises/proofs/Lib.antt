@@ -1,6 +1,7 @@
 -- The proofs of the promises, most by citing what the crates prove.
 pub mod Lists
 pub mod Places
+pub mod Told
 pub mod Demand1
 pub mod LocalTimes
 pub mod Demand2

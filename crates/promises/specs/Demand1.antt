@@ -1,10 +1,9 @@
 -- Demand 1, sentence by sentence: nothing faults, each refusal has one number, and a refused call writes nothing.
-use Prim.Native.Nat.{ℕ, _%_, _≤_}
+use Prim.Native.Nat.{ℕ, _≤_}
 use mathlib.Core.Path.{_≡_}
 use mathlib.Core.List.{List}
 use lib.ListN.{length}
 use Rattle.refusal.specs.Numbers.{numberOf, placeOf}
-use Rattle.refusal.specs.Answers.{answerOf, refusedOf}
 use Rattle.refusal.specs.declared.Refusal.{Refusal}
 use Rattle.refusal.specs.declared.Refusal.the-variants.{Contradiction}
 use Rattle.cutting.specs.Cutting.{cutAnswer, cutOutput}
@@ -25,6 +24,7 @@ use Rattle.records.specs.Records.{bodyRecorded, recorded}
 use Rattle.records.specs.declared.Record.{Record}
 use Rattle.promises.specs.Lists.{GivenExactly}
 use Rattle.promises.specs.Places.{Places}
+use Rattle.promises.specs.Told.{Told}
 
 -- "Every input of every length is taken without a fault, and every call finishes." This is the language's to say, and no theorem: a function
 -- is built only once it is proved that it never indexes past an end, wraps a sum, loses bits or divides by 0, and that it ends. No offered
@@ -35,9 +35,6 @@ pub record Numbered : Type 0 where
   pub in-the-list : (r : Refusal) → (1 ≤ numberOf r) × (numberOf r ≤ 25)
   -- a number and a place say which refusal it is
   pub one-refusal : (r r′ : Refusal) → numberOf r ≡ numberOf r′ → placeOf r ≡ placeOf r′ → r ≡ r′
-  -- C finds the number in the low byte of an answer, and 0 there if nothing was refused
-  pub told : (r : Refusal) → refusedOf r % 256 ≡ numberOf r
-  pub not-told : (value : ℕ) → answerOf 0 value % 256 ≡ 0
 
 -- "[..] given exactly when the list says": for sections, the gathering, the cutter, local times and text `Lists` states it, list by list. For
 -- bodies and writers the order is that of the fields, and the list is the definition that the answer is equal to (`Offered`): `reading` and the
@@ -66,5 +63,7 @@ pub record Demand1 : Type 1 where
   pub given-exactly : GivenExactly
   -- "A refusal returns its number and a place"
   pub places : Places
+  -- and C is told it, with its place, or the value in full
+  pub told : Told
   pub writes-nothing : WritesNothing
   pub only-spoils : OnlySpoils

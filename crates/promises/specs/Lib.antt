@@ -1,6 +1,7 @@
 -- The promises: three demands, the values of document 01, each offered function's results, and the useless versions that they shut out.
 pub mod Lists
 pub mod Places
+pub mod Told
 pub mod Demand1
 pub mod LocalTimes
 pub mod Demand2

@@ -1,0 +1,287 @@
+-- What C is told comes back: every value that is answered fits the bits that it is told in, and telling's laws say the rest.
+use Prim.Native.Nat.{ℕ, _+_, _^_, _≤_, _<_}
+use mathlib.Core.Path.{_≡_, refl, sym, ap, _∙_}
+use mathlib.Core.Bool.{Bool, true, false, not}
+use mathlib.Core.List.{List}
+use native.Mathlib.Omega.{arith}
+use native.Mathlib.Nat.{pow-le-pow-right, lt-of-lt-of-le}
+use lib.ListN.{length}
+use lib.Dec.{leb, ltb}
+use lib.IntN.{ℤ}
+use borrow.Author.Tests.{leb-true, ltb-false}
+use Rattle.choices.specs.Choice.{if_then_else_}
+use Rattle.refusal.specs.Answers.{answerOf}
+use Rattle.refusal.specs.declared.Refusal.{Refusal}
+use Rattle.refusal.specs.declared.Refusal.the-variants.{OutsideSet, OutputTooSmall, TooLarge, BodyTooLong}
+use Rattle.register.proofs.Laws.{crc-lt}
+use Rattle.crc.specs.Crc.{AreBytes, crc16Of}
+use Rattle.days.specs.Calendar.{dayOf}
+use Rattle.days.specs.declared.DayAnswer.{DayAnswer}
+use Rattle.days.specs.declared.DayAnswer.the-variants.{Day, Refused as NoDay}
+use Rattle.days.proofs.Answers.{weekday-accepted}
+use Rattle.days.proofs.Theorems.{date-of-day, day-within, date-within, DateWithin}
+use Rattle.times.specs.Field.{readTime}
+use Rattle.times.specs.declared.Timed.{Timed}
+use Rattle.times.specs.declared.Timed.the-variants.{At as TimedAt, Refused as NotTimed}
+use Rattle.times.specs.declared.Fielded.the-variants.{Field, Refused as NotFielded}
+use Rattle.times.proofs.Reading.{accepted-only}
+use Rattle.offset.specs.Offset.{isOffset}
+use Rattle.local.specs.Clock.{isClock, packedAt, packOf, unpackedAt, unpackOf}
+use Rattle.local.specs.declared.LocalTime.{LocalTime}
+use Rattle.local.specs.declared.Unpacked.the-variants.{At as LocalAt, Refused as NotUnpacked}
+use Rattle.local.proofs.Clocks.{ClockWithin, clock-within, no-day, on-day, pack-by, unpack-by}
+use Rattle.local.proofs.RoundTrip.{unpack-packed, pack-unpacked}
+use Rattle.local.proofs.Characters.{text-accepted}
+use Rattle.framing.specs.Section.{readSection}
+use Rattle.framing.specs.declared.Heading.{Heading}
+use Rattle.framing.specs.declared.Sectioned.the-variants.{Good}
+use Rattle.framing.proofs.Printing.{printed-length}
+use Rattle.framing.proofs.RoundTrip.{good-printed}
+use Rattle.cutting.specs.Cutting.{countedOf, partOf, sectionOf, Verdict, refuses, writes, cutting, answerBy, cutAnswer}
+use Rattle.cutting.specs.declared.Counted.the-variants.{Sections}
+use Rattle.cutting.specs.declared.Cut.the-variants.{Written}
+use Rattle.cutting.proofs.Counting.{counted-some, count-most, part-length}
+use Rattle.cutting.proofs.Sections.{cut-written}
+use Rattle.holding.specs.declared.Gathering.{Gathering}
+use Rattle.handing.specs.Handing.{bodyOf, completeOf, fitting, handedBy, handedOf}
+use Rattle.handing.specs.declared.Completeness.{Completeness}
+use Rattle.handing.specs.declared.Completeness.the-variants.{Complete, Refused as NotComplete}
+use Rattle.handing.specs.declared.Handed.{Handed}
+use Rattle.handing.specs.declared.Handed.the-variants.{Body, Refused as NotHanded}
+use Rattle.formats.specs.Reading.{Reading, found, refused}
+use Rattle.formats.specs.Format.{Format, count}
+use Rattle.formats.specs.Answers.{stepOf, numberOf, numberRead}
+use Rattle.formats.specs.Body.{longest, reading, writing, bodyWritten, laying, bodyLaid}
+use Rattle.formats.specs.declared.Step.the-variants.{At}
+use Rattle.formats.specs.declared.Number.the-variants.{Is}
+use Rattle.formats.proofs.Outcomes.{found-inj, andThen-found, need-found, within-found}
+use Rattle.formats.proofs.Leaves.{number-below}
+use Rattle.index.specs.Index.{Index, indexKind, index}
+use Rattle.records.specs.Records.{recording, bodyRecorded}
+use Rattle.content.specs.Content.{Content, content, extensionOf}
+use Rattle.contentwriter.specs.Written.{writtenOf, contentWritten}
+use Rattle.contentwriter.specs.declared.Written.the-variants.{Of as WrittenOf}
+use Rattle.telling.specs.Answers.{localAnswer, sectionAnswer, contentAnswer, localFieldAnswer}
+use Rattle.telling.specs.Taking.{TellsValue, TellsTime, TellsHeading, TellsContent}
+use Rattle.telling.proofs.Taking.{refusal-told, value-told, date-told, time-told, heading-told, part-told, content-told}
+use Rattle.promises.specs.Told.{RefusalsTold, Told}
+
+no-field : {A : Type 0} (r : Refusal) (f : ℕ) → NotFielded r ≡ Field f → A
+no-field r f e = let z : _≡_ {A = ℕ} 0 1 = cc in absurd (omega arith)
+
+-- ---- times
+
+record TimeWithin (t : LocalTime) : Type 0 where
+  date : DateWithin (record { year = t .year; month = t .month; day = t .day })
+  clock : ClockWithin t
+
+time-within : (t : LocalTime) (offset : ℤ) (f : ℕ) → packOf t offset ≡ Field f → TimeWithin t
+unfolding packedAt
+time-within t offset f e = by (isOffset offset) refl (dayOf (t .year) (t .month) (t .day)) refl (isClock t) refl
+  where
+    by : (b : Bool) → isOffset offset ≡ b → (a : DayAnswer) → dayOf (t .year) (t .month) (t .day) ≡ a → (c : Bool) → isClock t ≡ c → TimeWithin t
+    by true o (Day n) d true c =
+        record { date = date-within n _ (date-of-day (t .year) (t .month) (t .day) n d); clock = clock-within t c }
+    by true o (Day n) d false c = no-field _ f (sym (ap (packedAt offset) (on-day t d c)) ∙ sym (pack-by t offset o) ∙ e)
+    by true o (NoDay r) d c i = no-field r f (sym (ap (packedAt offset) (no-day t d)) ∙ sym (pack-by t offset o) ∙ e)
+    by false o a d c i = no-field _ f (sym (pack-by t offset o) ∙ e)
+
+no-time : {A : Type 0} (r : Refusal) (t : LocalTime) → NotUnpacked r ≡ LocalAt t → A
+no-time r t e = let z : _≡_ {A = ℕ} 0 1 = cc in absurd (omega arith)
+
+-- what is unpacked is a field of 40 bits, at an offset
+record Unpacks (f : ℕ) (offset : ℤ) : Type 0 where
+  offset-is : isOffset offset ≡ true
+  fits : f < 2 ^ 40
+
+unpacks : (f : ℕ) (offset : ℤ) (t : LocalTime) → unpackOf f offset ≡ LocalAt t → Unpacks f offset
+unfolding unpackedAt
+unpacks f offset t e = by (isOffset offset) refl (readTime f 0) refl
+  where
+    by : (b : Bool) → isOffset offset ≡ b → (x : Timed) → readTime f 0 ≡ x → Unpacks f offset
+    by true o (TimedAt m) r = record { offset-is = o; fits = accepted-only f 0 r .fits }
+    by true o (NotTimed why) r = no-time why t (sym (ap (unpackedAt offset) r) ∙ sym (unpack-by f offset o) ∙ e)
+    by false o x r = no-time _ t (sym (unpack-by f offset o) ∙ e)
+
+field-told : (t : LocalTime) (offset : ℤ) (f : ℕ) → packOf t offset ≡ Field f → TellsValue (answerOf 0 f) f
+field-told t offset f e = let u = unpacks f offset t (unpack-packed t offset f e) in value-told f (omega arith)
+
+local-told : (f : ℕ) (offset : ℤ) (t : LocalTime) → unpackOf f offset ≡ LocalAt t → TellsTime (localAnswer (LocalAt t)) t
+local-told f offset t e = let w = time-within t offset f (pack-unpacked t offset f e) in time-told t (w .date) (w .clock)
+
+local-field-told : (f after : ℕ) (offset : ℤ) (t : LocalTime) → unpackOf f offset ≡ LocalAt t → TellsTime (localFieldAnswer offset (Is f after)) t
+unfolding localFieldAnswer
+local-field-told f after offset t e = rw (unpacks f offset t e .offset-is, e) (local-told f offset t e)
+
+-- ---- sections and the gathering
+
+heading-back : (s : List ℕ) (h : Heading) (n : ℕ) → AreBytes s → readSection s ≡ Good h n → TellsHeading (sectionAnswer (Good h n)) h
+heading-back s h n b e = heading-told h (good-printed s h n b e .formed)
+
+count-told : (bytes n : ℕ) → countedOf bytes ≡ Sections n → TellsValue (answerOf 0 n) n
+count-told bytes n e =
+    let c = counted-some bytes n e in
+    let m = count-most bytes (c .2) in
+    value-told n (rw (c .0) (omega arith))
+
+cut-told : (body : List ℕ) (kind extension version number : ℕ) (out : List ℕ) (n : ℕ) → cutAnswer body kind extension version number out ≡ Written n
+    → TellsValue (answerOf 0 n) n
+unfolding answerBy sectionOf
+cut-told body kind extension version number out n e = go (cutting body kind extension version number (length out)) refl e
+  where
+    go : (v : Verdict) → cutting body kind extension version number (length out) ≡ v → answerBy v ≡ Written n → TellsValue (answerOf 0 n) n
+    go (refuses r) f e = let z : _≡_ {A = ℕ} 0 1 = cc in absurd (omega arith)
+    go (writes s) f e =
+        let long = ap length (cut-written body kind extension version number (length out) s f .1) ∙ printed-length _ (partOf body number) in
+        let short = part-length body number in
+        let z : length s ≡ n = cc in
+        value-told n (omega arith)
+
+past : {x : Handed} (b : Bool) (r : Refusal) (n : ℕ) → (if b then NotHanded r else x) ≡ Body n → (b ≡ false) × (x ≡ Body n)
+past true r n e = let z : _≡_ {A = ℕ} 0 1 = cc in absurd (omega arith)
+past false r n e = (refl, e)
+
+fitting-told : (size room n : ℕ) → fitting size room ≡ Body n → n ≤ 1045504
+unfolding fitting
+fitting-told size room n e =
+    let a = past (ltb 1045504 size) BodyTooLong n e in
+    let b = past (ltb room size) OutputTooSmall n (a .1) in
+    let m = ltb-false 1045504 size (a .0) in
+    let c : size ≡ n = (let f = b .1 in cc) in
+    omega arith
+
+handed-told : (g : Gathering) (store out : List ℕ) (n : ℕ) → handedOf g store out ≡ Body n → TellsValue (answerOf 0 n) n
+unfolding handedOf handedBy
+handed-told g store out n e = go (completeOf g (length store)) e
+  where
+    go : (c : Completeness) → handedBy c (length (bodyOf g store)) (length out) ≡ Body n → TellsValue (answerOf 0 n) n
+    go (NotComplete r) e = let z : _≡_ {A = ℕ} 0 1 = cc in absurd (omega arith)
+    go Complete e = let m = fitting-told (length (bodyOf g store)) (length out) n e in value-told n (omega arith)
+
+-- ---- tables
+
+-- a step that answers where a reading ends
+found-of : {A : Type 0} (x : Reading A) (n : ℕ) → stepOf x ≡ At n → (a : A) × (x ≡ found a n)
+found-of (found a q) n e = let z : q ≡ n = cc in (a, ap (found a) z)
+found-of (refused r) n e = let z : _≡_ {A = ℕ} 0 1 = cc in absurd (omega arith)
+
+number-of : (x : Reading ℕ) (v q : ℕ) → numberOf x ≡ Is v q → x ≡ found v q
+number-of (found a r) v q e = let y : a ≡ v = cc in let z : r ≡ q = cc in cc
+number-of (refused r) v q e = let z : _≡_ {A = ℕ} 0 1 = cc in absurd (omega arith)
+
+number-back : (w : ℕ) → w ≤ 7 → (s : List ℕ) → AreBytes s → (l p x q : ℕ) → numberRead w s l p ≡ Is x q → TellsValue (answerOf 0 x) x
+unfolding numberRead count
+number-back w h s b l p x q e =
+    let f = within-found s l p (p + w) _ x q (number-of _ x q e) in
+    let m = lt-of-lt-of-le (number-below s p w (b .byte)) (pow-le-pow-right {n = 256} (omega arith) h) in
+    value-told x (rw (← found-inj (f .2) .0) m)
+
+-- a body that is written is no longer than the longest
+written-most : {A : Type 0} (F : Format A) (pool tape : List ℕ) (room : ℕ) (a : A) (n : ℕ) → writing F pool tape room ≡ found a n → n ≤ longest
+unfolding writing
+written-most F pool tape room a n e =
+    let i = andThen-found (F .form pool tape 0) _ a n e in
+    let t = need-found (leb (length tape) (i .1)) (OutsideSet 0) _ a n (i .3) in
+    let o = need-found (not (F .over (i .0))) TooLarge _ a n (t .1) in
+    let s = need-found (leb (length (F .print (i .0))) longest) TooLarge _ a n (o .1) in
+    let r = need-found (leb (length (F .print (i .0))) room) OutputTooSmall _ a n (s .1) in
+    let m = leb-true (length (F .print (i .0))) longest (s .0) in
+    let q = found-inj (r .1) .1 in
+    omega arith
+
+-- no more entries are laid than the tape has, and no more records than the list
+laid-most : {A : Type 0} (F : Format A) (own kind : ℕ) (body : List ℕ) (room : ℕ) (a : A) (n : ℕ) → laying F own kind body room ≡ found a n → n ≤ room
+unfolding laying
+laid-most F own kind body room a n e =
+    let i = andThen-found (reading F own kind body) _ a n e in
+    let t = need-found (leb (length (F .tape (i .0) 0)) room) OutputTooSmall _ a n (i .3) in
+    let m = leb-true (length (F .tape (i .0) 0)) room (t .0) in
+    let q = found-inj (t .1) .1 in
+    omega arith
+
+recorded-most : (kind : ℕ) (body : List ℕ) (room : ℕ) (t : Index) (n : ℕ) → recording kind body room ≡ found t n → n ≤ room
+unfolding recording
+recorded-most kind body room t n e =
+    let i = andThen-found (reading index indexKind kind body) _ t n e in
+    let u = need-found (leb (length (i .0 .messages)) room) OutputTooSmall _ t n (i .3) in
+    let m = leb-true (length (i .0 .messages)) room (u .0) in
+    let q = found-inj (u .1) .1 in
+    omega arith
+
+extension-fits : (ds : List ℕ) → extensionOf ds < 2 ^ 16
+unfolding extensionOf crc16Of
+extension-fits ds = crc-lt 16 _ _ _
+
+content-back : (pool tape : List ℕ) (room n extension : ℕ) → contentWritten pool tape room ≡ WrittenOf n extension
+    → TellsContent (contentAnswer (WrittenOf n extension)) extension n
+unfolding contentWritten
+content-back pool tape room n extension e = go (writing (content 3) pool tape room) refl e
+  where
+    go : (x : Reading Content) → writing (content 3) pool tape room ≡ x → writtenOf x ≡ WrittenOf n extension
+        → TellsContent (contentAnswer (WrittenOf n extension)) extension n
+    go (found c q) w e =
+        let z : extensionOf (c .identifier) ≡ extension = cc in
+        let y : q ≡ n = cc in
+        content-told extension n (rw (← z) (extension-fits (c .identifier))) (rw (← y) (written-most (content 3) pool tape room c q w))
+    go (refused r) w e = let z : _≡_ {A = ℕ} 0 1 = cc in absurd (omega arith)
+
+-- ---- refusals
+
+refusals-told : RefusalsTold
+unfolding localFieldAnswer
+refusals-told =
+    record {
+      day = refusal-told;
+      date = refusal-told;
+      weekday = refusal-told;
+      field = refusal-told;
+      local = refusal-told;
+      showing = refusal-told;
+      section = refusal-told;
+      section-count = refusal-told;
+      cut = refusal-told;
+      fed = refusal-told;
+      handed-out = refusal-told;
+      read = refusal-told;
+      written = refusal-told;
+      content-written = refusal-told;
+      number = refusal-told;
+      part = refusal-told;
+      local-offset = λ offset field o. rw o (refusal-told (OutsideSet 0));
+      local-field = λ offset o r. rw o (refusal-told r);
+      local-time = λ offset f after r o e. rw (o, e) (refusal-told r);
+    }
+
+-- ---- the statement
+
+pub told : Told
+unfolding bodyWritten bodyLaid bodyRecorded
+told =
+    record {
+      refusals = refusals-told;
+      no-refusal = λ value. omega arith;
+      day = λ y m d n e. let w = day-within y m d n e in value-told n (omega arith);
+      date = λ n d e. date-told d (date-within n d e);
+      weekday = λ n w e. let a = weekday-accepted n w e in value-told w (omega arith);
+      packed = field-told;
+      text = λ s offset f e. let a = text-accepted s offset f e in field-told (a .time) offset f (a .packs);
+      local = local-told;
+      local-field = local-field-told;
+      before = value-told 0 (omega arith);
+      on = value-told 1 (omega arith);
+      ended = value-told 2 (omega arith);
+      heading = heading-back;
+      section-count = count-told;
+      cut = cut-told;
+      taken = value-told 0 (omega arith);
+      held-already = value-told 1 (omega arith);
+      handed-out = handed-told;
+      accepted = λ end. value-told 0 (omega arith);
+      written = λ F pool tape room n e. let x = found-of _ n e in let m = written-most F pool tape room (x .0) n (x .1) in value-told n (omega arith);
+      content-written = content-back;
+      laid = λ F own kind body room n l e. let x = found-of _ n e in let m = laid-most F own kind body room (x .0) n (x .1) in value-told n (omega arith);
+      recorded = λ kind body room n l e. let x = found-of _ n e in let m = recorded-most kind body room (x .0) n (x .1) in value-told n (omega arith);
+      number = λ x after. value-told x;
+      number-read = number-back;
+      part = λ body start n l m. part-told start n (omega arith);
+    }

@@ -1,0 +1,109 @@
+-- What C takes from an answer is what went in: by the header's macros (telling's `Taking`), of everything that the library answers.
+use Prim.Native.Nat.{ℕ, _+_, _^_, _≤_, _<_}
+use mathlib.Core.Path.{_≡_}
+use mathlib.Core.Bool.{true, false}
+use mathlib.Core.List.{List}
+use lib.ListN.{length}
+use lib.IntN.{ℤ}
+use Rattle.refusal.specs.Answers.{answerOf}
+use Rattle.refusal.specs.declared.Refusal.{Refusal}
+use Rattle.refusal.specs.declared.Refusal.the-variants.{OutsideSet}
+use Rattle.crc.specs.Crc.{AreBytes}
+use Rattle.days.specs.Calendar.{dayOf, dateOf, weekdayOf}
+use Rattle.days.specs.declared.Date.{Date}
+use Rattle.days.specs.declared.DayAnswer.the-variants.{Day, Refused as NoDay}
+use Rattle.days.specs.declared.DateAnswer.the-variants.{On, Refused as NoDate}
+use Rattle.days.specs.declared.WeekdayAnswer.the-variants.{Weekday, Refused as NoWeekday}
+use Rattle.times.specs.declared.Fielded.the-variants.{Field, Refused as NotFielded}
+use Rattle.times.specs.declared.Showing.the-variants as showing
+use Rattle.offset.specs.Offset.{isOffset}
+use Rattle.local.specs.Clock.{packOf, unpackOf}
+use Rattle.local.specs.Text.{readText}
+use Rattle.local.specs.declared.LocalTime.{LocalTime}
+use Rattle.local.specs.declared.Unpacked.the-variants.{At as LocalAt, Refused as NotUnpacked}
+use Rattle.framing.specs.Section.{readSection}
+use Rattle.framing.specs.declared.Heading.{Heading}
+use Rattle.framing.specs.declared.Sectioned.the-variants.{Good, Refused as NotGood}
+use Rattle.cutting.specs.Cutting.{countedOf, cutAnswer}
+use Rattle.cutting.specs.declared.Counted.the-variants.{Sections, Refused as NotCounted}
+use Rattle.cutting.specs.declared.Cut.the-variants.{Written, Refused as NotCut}
+use Rattle.holding.specs.declared.Gathering.{Gathering}
+use Rattle.feeding.specs.declared.Answer.the-variants as fed
+use Rattle.handing.specs.Handing.{handedOf}
+use Rattle.handing.specs.declared.Handed.the-variants.{Body, Refused as NotHanded}
+use Rattle.formats.specs.Format.{Format}
+use Rattle.formats.specs.Answers.{numberRead}
+use Rattle.formats.specs.Body.{longest, bodyWritten, bodyLaid}
+use Rattle.formats.specs.declared.Step.the-variants.{At, Refused as NoStep}
+use Rattle.formats.specs.declared.Number.{Number}
+use Rattle.formats.specs.declared.Number.the-variants.{Is, Refused as NoNumber}
+use Rattle.formats.specs.declared.Part.the-variants.{Of, Refused as NoPart}
+use Rattle.records.specs.Records.{bodyRecorded}
+use Rattle.contentwriter.specs.Written.{contentWritten}
+use Rattle.contentwriter.specs.declared.Written.the-variants.{Of as WrittenOf, Refused as NotWritten}
+use Rattle.telling.specs.Answers.{dayAnswer, dateAnswer, weekdayAnswer, fieldAnswer, localAnswer, showingAnswer, sectionAnswer, countAnswer, lengthAnswer, feedAnswer, handAnswer, readAnswer, numberAnswer, partAnswer, writtenAnswer, contentAnswer, localFieldAnswer}
+use Rattle.telling.specs.Taking.{refusalTold, TellsRefusal, TellsValue, TellsDate, TellsTime, TellsHeading, TellsPart, TellsContent}
+
+-- "A refusal returns its number and a place": any refusal, as this kind of answer tells it
+abbrev pub Refuses : {A : Type 0} → (A → ℕ) → (Refusal → A) → Type 0
+Refuses tell refused = (r : Refusal) → TellsRefusal (tell (refused r)) r
+
+pub record RefusalsTold : Type 0 where
+  pub day : Refuses dayAnswer NoDay
+  pub date : Refuses dateAnswer NoDate
+  pub weekday : Refuses weekdayAnswer NoWeekday
+  pub field : Refuses fieldAnswer NotFielded
+  pub local : Refuses localAnswer NotUnpacked
+  pub showing : Refuses showingAnswer showing.Refused
+  pub section : Refuses sectionAnswer NotGood
+  pub section-count : Refuses countAnswer NotCounted
+  pub cut : Refuses lengthAnswer NotCut
+  pub fed : Refuses feedAnswer fed.Refused
+  pub handed-out : Refuses handAnswer NotHanded
+  pub read : Refuses readAnswer NoStep
+  pub written : Refuses writtenAnswer NoStep
+  pub content-written : Refuses contentAnswer NotWritten
+  pub number : Refuses numberAnswer NoNumber
+  pub part : Refuses partAnswer NoPart
+  -- "order 19, 18, 20": of a time field that was asked for, 19 for the offset, then the field's refusal, then its local time's
+  pub local-offset : (offset : ℤ) (field : Number) → isOffset offset ≡ false → TellsRefusal (localFieldAnswer offset field) (OutsideSet 0)
+  pub local-field : (offset : ℤ) → isOffset offset ≡ true → Refuses (localFieldAnswer offset) NoNumber
+  pub local-time : (offset : ℤ) (f after : ℕ) (r : Refusal) → isOffset offset ≡ true → unpackOf f offset ≡ NotUnpacked r
+      → TellsRefusal (localFieldAnswer offset (Is f after)) r
+
+pub record Told : Type 1 where
+  pub refusals : RefusalsTold
+  -- no value is taken for a refusal, whose number is 1 to 25
+  pub no-refusal : (value : ℕ) → refusalTold (answerOf 0 value) ≡ 0
+  -- days and times: whatever is answered comes back
+  pub day : (y m d n : ℕ) → dayOf y m d ≡ Day n → TellsValue (dayAnswer (Day n)) n
+  pub date : (n : ℕ) (d : Date) → dateOf n ≡ On d → TellsDate (dateAnswer (On d)) d
+  pub weekday : (n w : ℕ) → weekdayOf n ≡ Weekday w → TellsValue (weekdayAnswer (Weekday w)) w
+  pub packed : (t : LocalTime) (offset : ℤ) (f : ℕ) → packOf t offset ≡ Field f → TellsValue (fieldAnswer (Field f)) f
+  pub text : (s : List ℕ) (offset : ℤ) (f : ℕ) → readText s offset ≡ Field f → TellsValue (fieldAnswer (Field f)) f
+  pub local : (f : ℕ) (offset : ℤ) (t : LocalTime) → unpackOf f offset ≡ LocalAt t → TellsTime (localAnswer (LocalAt t)) t
+  pub local-field : (f after : ℕ) (offset : ℤ) (t : LocalTime) → unpackOf f offset ≡ LocalAt t → TellsTime (localFieldAnswer offset (Is f after)) t
+  pub before : TellsValue (showingAnswer showing.Before) 0
+  pub on : TellsValue (showingAnswer showing.On) 1
+  pub ended : TellsValue (showingAnswer showing.Ended) 2
+  -- sections and the gathering
+  pub heading : (s : List ℕ) (h : Heading) (n : ℕ) → AreBytes s → readSection s ≡ Good h n → TellsHeading (sectionAnswer (Good h n)) h
+  pub section-count : (bytes n : ℕ) → countedOf bytes ≡ Sections n → TellsValue (countAnswer (Sections n)) n
+  pub cut : (body : List ℕ) (kind extension version number : ℕ) (out : List ℕ) (n : ℕ) → cutAnswer body kind extension version number out ≡ Written n
+      → TellsValue (lengthAnswer (Written n)) n
+  pub taken : TellsValue (feedAnswer fed.Taken) 0
+  pub held-already : TellsValue (feedAnswer fed.HeldAlready) 1
+  pub handed-out : (g : Gathering) (store out : List ℕ) (n : ℕ) → handedOf g store out ≡ Body n → TellsValue (handAnswer (Body n)) n
+  -- tables: 0 for an accepted body; the length of a body written; so many entries or records as the tape or the list had room for
+  pub accepted : (end : ℕ) → TellsValue (readAnswer (At end)) 0
+  pub written : {A : Type 0} (F : Format A) (pool tape : List ℕ) (room n : ℕ) → bodyWritten F pool tape room ≡ At n → TellsValue (writtenAnswer (At n)) n
+  pub content-written : (pool tape : List ℕ) (room n extension : ℕ) → contentWritten pool tape room ≡ WrittenOf n extension
+      → TellsContent (contentAnswer (WrittenOf n extension)) extension n
+  pub laid : {A : Type 0} (F : Format A) (own kind : ℕ) (body : List ℕ) (room n : ℕ) → room < 2 ^ 56 → bodyLaid F own kind body room ≡ At n
+      → TellsValue (writtenAnswer (At n)) n
+  pub recorded : (kind : ℕ) (body : List ℕ) (room n : ℕ) → room < 2 ^ 56 → bodyRecorded kind body room ≡ At n → TellsValue (writtenAnswer (At n)) n
+  -- "Every field of an accepted table can be asked for": a number below 2 ^ 56, so any of seven bytes, and the widest field has five
+  pub number : (x after : ℕ) → x < 2 ^ 56 → TellsValue (numberAnswer (Is x after)) x
+  pub number-read : (w : ℕ) → w ≤ 7 → (s : List ℕ) → AreBytes s → (l p x q : ℕ) → numberRead w s l p ≡ Is x q → TellsValue (numberAnswer (Is x q)) x
+  -- "opaque bytes as the part of the body they fill": any part of a body that can be accepted
+  pub part : (body : List ℕ) (start n : ℕ) → length body ≤ longest → start + n ≤ length body → TellsPart (partAnswer (Of start n)) start n
