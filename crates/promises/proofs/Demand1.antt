@@ -22,7 +22,7 @@ use Rattle.holding.proofs.State.{possible-fresh, possible-begun}
 use Rattle.feeding.specs.Feeding as feeding
 use Rattle.feeding.specs.declared.Verdict.{Verdict}
 use Rattle.feeding.specs.declared.Verdict.the-variants.{Refuse, Repeat, Contradict, Take}
-use Rattle.feeding.specs.declared.Answer.the-variants.{Refused as NotFed}
+use Rattle.feeding.specs.declared.Answer.the-variants.{HeldAlready, Refused as NotFed}
 use Rattle.feeding.proofs.Verdicts.{verdict-impossible, verdict-bad, verdict-good, Decided, old, other, short, spoiled, new, again, clash, decided}
 use Rattle.handing.specs.Handing.{bodyOf, handedOf, outBy, outAfter}
 use Rattle.handing.specs.declared.Handed.{Handed}
@@ -152,6 +152,14 @@ state-keeps g payload Repeat r e n = refl
 state-keeps g payload Contradict r e n = absurd (n (cc))
 state-keeps g payload (Take h) r e n = absurd-answer (cc)
 
+repeat-keeps : (g : Gathering) (store payload : List ℕ) (v : Verdict) → feeding.answerBy v ≡ HeldAlready
+    → (feeding.stateBy g payload v ≡ g) × (feeding.storeBy store payload v ≡ store)
+unfolding feeding.answerBy feeding.stateBy feeding.storeBy
+repeat-keeps g store payload (Refuse r) e = absurd-answer (cc)
+repeat-keeps g store payload Repeat e = (refl, refl)
+repeat-keeps g store payload Contradict e = absurd-answer (cc)
+repeat-keeps g store payload (Take h) e = absurd-answer (cc)
+
 -- a state that is spoiled already stays as it is
 spoiled-stays : (g : Gathering) → possibleOf g ≡ true → (g .spoiled ≡ 0 → ⊥) → g ≡ spoiledState g
 unfolding spoiledState
@@ -205,11 +213,12 @@ module _ (g : Gathering) (store s : List ℕ) where
       go true p (Good h n) e = rw (verdict-good g store s p h n e) (good-spoils p h (decided g store h (payloadOf s)))
 
 only-spoils : OnlySpoils
-unfolding feeding.fedOf
+unfolding feeding.fedOf feeding.storeAfter
 only-spoils =
     record {
       state-stays = λ g store s. state-keeps g (payloadOf s) (feeding.verdictOf g store s);
       spoiled = verdict-spoils;
+      repeat-stays = λ g store s. repeat-keeps g store (payloadOf s) (feeding.verdictOf g store s);
     }
 
 -- ---- the demand

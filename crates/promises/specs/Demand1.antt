@@ -11,7 +11,7 @@ use Rattle.cutting.specs.declared.Cut.the-variants.{Refused as NotCut}
 use Rattle.holding.specs.State.{spoiledState}
 use Rattle.holding.specs.declared.Gathering.{Gathering}
 use Rattle.feeding.specs.Feeding.{fedOf, storeAfter}
-use Rattle.feeding.specs.declared.Answer.the-variants.{Refused as NotFed}
+use Rattle.feeding.specs.declared.Answer.the-variants.{HeldAlready, Refused as NotFed}
 use Rattle.handing.specs.Handing.{handedOf, outAfter}
 use Rattle.handing.specs.declared.Handed.the-variants.{Refused as NotHanded}
 use Rattle.formats.specs.Format.{Format}
@@ -57,6 +57,8 @@ pub record WritesNothing : Type 1 where
 pub record OnlySpoils : Type 0 where
   pub state-stays : (g : Gathering) (store s : List ℕ) (r : Refusal) → fedOf g store s .answer ≡ NotFed r → (r ≡ Contradiction → ⊥) → fedOf g store s .state ≡ g
   pub spoiled : (g : Gathering) (store s : List ℕ) → fedOf g store s .answer ≡ NotFed Contradiction → fedOf g store s .state ≡ spoiledState g
+  -- "A repeat with the same payload is answered "held already" and changes nothing"
+  pub repeat-stays : (g : Gathering) (store s : List ℕ) → fedOf g store s .answer ≡ HeldAlready → (fedOf g store s .state ≡ g) × (storeAfter g store s ≡ store)
 
 pub record Demand1 : Type 1 where
   pub numbered : Numbered
