@@ -1,5 +1,26 @@
 // adapter FILE: a drill, typed day first in lines on standard input, becomes an index table and a content table, cut
-// into sections in FILE. drill.txt is such input: a line is a word and its value; a # begins a remark.
+// into sections in FILE. drill.txt is such a form.
+//
+// A line is a word, a space or tab, and its value; a line that begins with # is a remark. The words are
+//   identifier  35 digits
+//   offset      minutes by which local time is east of UTC, -720 to 840
+//   start       dd/mm/yyyy hh:mm:ss, local and day first, from 01/03/1900 to 22/04/2038, in UTC too
+//   end         the same, after the start; or the word live, until it is called off
+//   type        five ASCII characters, none of them a space
+//   class       1, drill of the sender; 2, simulated drill; 3, drill; 4, emergency: this one is remarked on
+//   level       1, very grave, to 4, ordinary
+//   network     0 to 65535
+//   version     0 to 31
+//   resource    23 digits; 1 to 255 lines of them
+//   language    three letters a to z and a character set: 0 GB/T 2312 (as EUC-CN), 1 GB/T 18030, 2 GB/T 13000 (as UTF-8),
+//               3 GB/T 21669, 4 GB 16959; 1 to 5 lines of them
+//   text        a line of text of the language above it, in that character set; up to 65,535 bytes together
+// and all of them have to be there, the first nine once, no resource and no language twice. Text goes out as it is typed;
+// whether it is of its character set is looked at for 0, 1 and 2. A form has at most 1 MiB.
+//
+// Exit status: 0, FILE is written. 1, the form is refused: each fault is told, and FILE stays as it was. 2, wrong usage, a
+// form that can't be read, or a FILE that can't be written.
+#include <errno.h>
 #include <neapwillow.h>
 #include <stdarg.h>
 #include <stdbool.h>
@@ -7,22 +28,38 @@
 #include <stdlib.h>
 #include <string.h>
 
-enum { LINE = 1024, RESOURCES = 255, LANGUAGES = 5, TEXT = 65535, POOL = 400000, ENTRIES = 600 };
-enum { IDENTIFIER = 18, RESOURCE = 12 }; // bytes
+enum { FORM = 1 << 20, RESOURCES = 255, LANGUAGES = 5, TEXT = 65535, POOL = 400000, ENTRIES = 600 };
+enum { ID_BYTES = 18, RESOURCE_BYTES = 12, TYPE_BYTES = 5 };
+enum { MADE = 0, REFUSED = 1, UNUSABLE = 2 }; // exit statuses
+
+enum word { IDENTIFIER, OFFSET, START, END, TYPE, CLASS, LEVEL, NETWORK, VERSION, RESOURCE, LANGUAGE, WORD_TEXT, WORDS };
+static const char *const names[WORDS] = {"identifier", "offset",  "start",   "end",      "type",     "class",
+                                         "level",      "network", "version", "resource", "language", "text"};
+
+// A line of the form, taken apart; both strings stand in the form.
+struct line {
+    unsigned number;
+    const char *word, *value;
+};
 
 struct language {
+    struct line line;
     char letters[4];
-    unsigned set;
+    int set;
     uint8_t text[TEXT];
     size_t bytes;
 };
 
 struct drill {
-    uint8_t identifier[IDENTIFIER];
-    char start[LINE], end[LINE], type[LINE];
-    int offset;
-    unsigned class_, level, network, version;
-    uint8_t resources[RESOURCES][RESOURCE];
+    char form[FORM + 1];
+    size_t form_bytes;
+    struct line first[WORDS]; // where each word stands first; number 0 where it doesn't
+    unsigned faults;
+    int offset, class_, level, network, version;
+    uint64_t start, end;
+    uint8_t identifier[ID_BYTES];
+    uint8_t resources[RESOURCES][RESOURCE_BYTES];
+    unsigned resource_lines[RESOURCES];
     size_t resource_count;
     struct language languages[LANGUAGES];
     size_t language_count;
@@ -37,139 +74,344 @@ struct desk {
     size_t bytes;
 };
 
-static bool complain(const char *form, ...) {
+// ---- what is said
+
+static void complain(const char *form, ...) {
     va_list words;
     va_start(words, form);
     fputs("adapter: ", stderr);
     vfprintf(stderr, form, words);
     fputc('\n', stderr);
     va_end(words);
-    return false;
 }
 
-static bool refused(const char *what, const char *value, nw_answer answer) {
-    unsigned number = NW_REFUSAL(answer);
-    if (number == NW_TAKEN) return false;
-    complain("%s%s: refusal %u, %s (place %llu)", what, value, number, nw_refusal_text(number),
-             (unsigned long long)NW_PLACE(answer));
+// Shows bytes so that each can be seen: those that aren't printed ASCII as \xNN. Of many, the first.
+static void show_bytes(const char *s, size_t n) {
+    enum { MOST = 80 };
+    for (size_t i = 0; i < n && i < MOST; i++) {
+        unsigned char c = (unsigned char)s[i];
+        fprintf(stderr, c < 0x20 || c > 0x7E ? "\\x%02X" : "%c", c);
+    }
+    if (n > MOST) fprintf(stderr, ".. (%zu bytes)", n);
+}
+
+// A fault of a line: its number, what was typed, and why it isn't taken.
+static void fault(struct drill *d, const struct line *l, const char *form, ...) {
+    va_list words;
+    va_start(words, form);
+    fprintf(stderr, "adapter: line %u, ", l->number);
+    show_bytes(l->word, strlen(l->word));
+    if (*l->value != '\0') fputc(' ', stderr);
+    show_bytes(l->value, strlen(l->value));
+    fputs(": ", stderr);
+    vfprintf(stderr, form, words);
+    fputc('\n', stderr);
+    va_end(words);
+    d->faults++;
+}
+
+// ---- one value
+
+// A whole decimal number from least to most and nothing else; a sign only where there are numbers below 0.
+static bool read_number(const char *s, int least, int most, int *out) {
+    bool negative = least < 0 && *s == '-';
+    if (least < 0 && (*s == '-' || *s == '+')) s++;
+    size_t digits = strspn(s, "0123456789");
+    int x = 0;
+    for (size_t i = 0; i < digits && x <= 100000; i++) x = 10 * x + (s[i] - '0'); // a larger one is out of any range
+    *out = negative ? -x : x;
+    return digits != 0 && s[digits] == '\0' && least <= *out && *out <= most;
+}
+
+static void take_number(struct drill *d, const struct line *l, int least, int most, int *out) {
+    if (!read_number(l->value, least, most, out)) fault(d, l, "it has to be a whole number from %d to %d", least, most);
+}
+
+// Decimal digits, two to a byte, after four reserved one bits: 35 in an identifier's bytes, 23 in a resource's.
+static void take_digits(struct drill *d, const struct line *l, uint8_t *out, size_t bytes) {
+    const char *s = l->value;
+    size_t wanted = 2 * bytes - 1, digits = strspn(s, "0123456789");
+    if (digits != wanted || s[digits] != '\0') {
+        if (s[digits] == '\0') fault(d, l, "it has to be %zu digits, and has %zu", wanted, digits);
+        else fault(d, l, "it has to be %zu digits, and byte %zu of it is none", wanted, digits + 1);
+        return;
+    }
+    out[0] = (uint8_t)(0xF0 | (s[0] - '0'));
+    for (size_t i = 1; i < bytes; i++) out[i] = (uint8_t)((s[2 * i - 1] - '0') << 4 | (s[2 * i] - '0'));
+}
+
+static void take_type(struct drill *d, const struct line *l) {
+    bool good = strlen(l->value) == TYPE_BYTES;
+    for (const char *c = l->value; *c != '\0'; c++) good = good && *c > ' ' && *c <= '~';
+    if (!good) fault(d, l, "it has to be %d ASCII characters, none of them a space", TYPE_BYTES);
+}
+
+static void take_resource(struct drill *d, const struct line *l) {
+    if (d->resource_count == RESOURCES) {
+        fault(d, l, "there are %d resources already, the most a message can have", RESOURCES);
+        return;
+    }
+    unsigned faults = d->faults;
+    uint8_t *mine = d->resources[d->resource_count];
+    take_digits(d, l, mine, RESOURCE_BYTES);
+    for (size_t i = 0; i < d->resource_count && d->faults == faults; i++)
+        if (memcmp(d->resources[i], mine, RESOURCE_BYTES) == 0)
+            fault(d, l, "the same resource stands at line %u already", d->resource_lines[i]);
+    if (d->faults == faults) d->resource_lines[d->resource_count++] = l->number;
+}
+
+// ---- languages and text
+
+static bool is_letter(char c) { return c >= 'a' && c <= 'z'; }
+
+// A language that isn't taken is counted all the same: the text after it is no second fault.
+static void take_language(struct drill *d, const struct line *l) {
+    const char *s = l->value;
+    if (d->language_count == LANGUAGES) {
+        fault(d, l, "there are %d languages already, the most a message can have", LANGUAGES);
+        return;
+    }
+    struct language *mine = &d->languages[d->language_count++];
+    mine->line = *l;
+    mine->set = 4; // any text
+    if (!is_letter(s[0]) || !is_letter(s[1]) || !is_letter(s[2]) || (s[3] != ' ' && s[3] != '\t')) {
+        fault(d, l, "it has to be three letters a to z, a space and the number of a character set");
+        return;
+    }
+    memcpy(mine->letters, s, 3);
+    s += 3 + strspn(s + 3, " \t");
+    int set;
+    if (read_number(s, 0, 4, &set)) mine->set = set;
+    else fault(d, l, "the character set has to be a whole number from 0 to 4");
+    for (const struct language *other = d->languages; other < mine; other++)
+        if (strcmp(other->letters, mine->letters) == 0)
+            fault(d, l, "the same language stands at line %u already", other->line.number);
+}
+
+static bool within(uint8_t c, unsigned least, unsigned most) { return least <= c && c <= most; }
+
+// The bytes of the character of UTF-8 that begins at s, or 0 if none does. At the end of s stands a 0.
+static size_t utf8_bytes(const uint8_t *s) {
+    if (s[0] < 0x80) return 1;
+    if (within(s[0], 0xC2, 0xDF)) return within(s[1], 0x80, 0xBF) ? 2 : 0;
+    if (within(s[0], 0xE0, 0xEF)) {
+        bool second = within(s[1], s[0] == 0xE0 ? 0xA0 : 0x80, s[0] == 0xED ? 0x9F : 0xBF);
+        return second && within(s[2], 0x80, 0xBF) ? 3 : 0;
+    }
+    bool second = within(s[1], s[0] == 0xF0 ? 0x90 : 0x80, s[0] == 0xF4 ? 0x8F : 0xBF);
+    return within(s[0], 0xF0, 0xF4) && second && within(s[2], 0x80, 0xBF) && within(s[3], 0x80, 0xBF) ? 4 : 0;
+}
+
+// The same for each character set; of 3 and 4 any byte is taken.
+static size_t character_bytes(int set, const uint8_t *s) {
+    if (set == 2) return utf8_bytes(s);
+    if (set > 2 || s[0] < 0x80) return 1;
+    if (set == 0) return within(s[0], 0xA1, 0xF7) && within(s[1], 0xA1, 0xFE) ? 2 : 0;
+    if (!within(s[0], 0x81, 0xFE)) return 0;
+    if (within(s[1], 0x40, 0xFE)) return s[1] != 0x7F ? 2 : 0;
+    return within(s[1], 0x30, 0x39) && within(s[2], 0x81, 0xFE) && within(s[3], 0x30, 0x39) ? 4 : 0;
+}
+
+// Whether a text is of its character set, without a tab.
+static bool judge_text(struct drill *d, const struct line *l, int set) {
+    const uint8_t *s = (const uint8_t *)l->value;
+    while (*s != 0) {
+        size_t n = character_bytes(set, s);
+        if (n == 0) {
+            fault(d, l, "\\x%02X begins no character of character set %d", *s, set);
+            return false;
+        }
+        if (*s == '\t') {
+            fault(d, l, "a tab (\\x09) can't stand inside a text");
+            return false;
+        }
+        s += n;
+    }
     return true;
+}
+
+static void take_text(struct drill *d, const struct line *l) {
+    size_t n = strlen(l->value);
+    if (d->language_count == 0) {
+        fault(d, l, "a text has to come after its language");
+        return;
+    }
+    struct language *mine = &d->languages[d->language_count - 1];
+    if (!judge_text(d, l, mine->set)) return;
+    if (TEXT - mine->bytes < n + 1) {
+        fault(d, l, "with it the text of the language at line %u is longer than %d bytes", mine->line.number, TEXT);
+        return;
+    }
+    memcpy(mine->text + mine->bytes, l->value, n);
+    mine->text[mine->bytes + n] = '\n';
+    mine->bytes += n + 1;
 }
 
 // ---- the lines
 
-// Decimal digits, two to a byte, after four reserved one bits: 35 in an identifier's bytes, 23 in a resource's.
-static bool take_digits(const char *value, uint8_t *out, size_t bytes) {
-    if (strlen(value) != 2 * bytes - 1 || strspn(value, "0123456789") != 2 * bytes - 1)
-        return complain("%s: it has to be %zu digits", value, 2 * bytes - 1);
-    out[0] = (uint8_t)(0xF0 | (value[0] - '0'));
-    for (size_t i = 1; i < bytes; i++) out[i] = (uint8_t)((value[2 * i - 1] - '0') << 4 | (value[2 * i] - '0'));
-    return true;
-}
-
-static bool take_number(const char *value, unsigned *out) {
-    char after;
-    return sscanf(value, "%u%c", out, &after) == 1 || complain("%s: it has to be a number", value);
-}
-
-static bool take_offset(const char *value, int *out) {
-    char after;
-    return sscanf(value, "%d%c", out, &after) == 1 || complain("%s: it has to be minutes, east positive", value);
-}
-
-static bool take_resource(struct drill *d, const char *value) {
-    if (d->resource_count == RESOURCES) return complain("there are more than %d resources", RESOURCES);
-    return take_digits(value, d->resources[d->resource_count++], RESOURCE);
-}
-
-static bool take_language(struct drill *d, const char *value) {
-    if (d->language_count == LANGUAGES) return complain("there are more than %d languages", LANGUAGES);
-    struct language *l = &d->languages[d->language_count++];
-    char after;
-    return sscanf(value, "%3[a-z] %u%c", l->letters, &l->set, &after) == 2
-        || complain("%s: it has to be three letters and a character set's number", value);
-}
-
-// A line of text belongs to the language named last.
-static bool take_text(struct drill *d, const char *value) {
-    size_t n = strlen(value);
-    if (d->language_count == 0) return complain("a text comes before its language");
-    struct language *l = &d->languages[d->language_count - 1];
-    if (TEXT - l->bytes < n + 1) return complain("a text is longer than %d bytes", TEXT);
-    memcpy(l->text + l->bytes, value, n);
-    l->text[l->bytes + n] = '\n';
-    l->bytes += n + 1;
-    return true;
-}
-
-static bool take_words(const char *value, char *out) {
-    strcpy(out, value); // both have room for a line
-    return true;
-}
-
-static bool take(struct drill *d, const char *word, const char *value) {
-    if (strcmp(word, "identifier") == 0) return take_digits(value, d->identifier, IDENTIFIER);
-    if (strcmp(word, "offset") == 0) return take_offset(value, &d->offset);
-    if (strcmp(word, "start") == 0) return take_words(value, d->start);
-    if (strcmp(word, "end") == 0) return take_words(value, d->end);
-    if (strcmp(word, "type") == 0) return take_words(value, d->type);
-    if (strcmp(word, "class") == 0) return take_number(value, &d->class_);
-    if (strcmp(word, "level") == 0) return take_number(value, &d->level);
-    if (strcmp(word, "network") == 0) return take_number(value, &d->network);
-    if (strcmp(word, "version") == 0) return take_number(value, &d->version);
-    if (strcmp(word, "resource") == 0) return take_resource(d, value);
-    if (strcmp(word, "language") == 0) return take_language(d, value);
-    if (strcmp(word, "text") == 0) return take_text(d, value);
-    return complain("%s: no such word", word);
-}
-
-static bool read_drill(struct drill *d) {
-    char line[LINE];
-    for (unsigned number = 1; fgets(line, LINE, stdin) != NULL; number++) {
-        size_t n = strcspn(line, "\n");
-        if (n == LINE - 1) return complain("line %u is longer than %d bytes", number, LINE - 2);
-        line[n] = '\0';
-        if (n == 0 || line[0] == '#') continue;
-        char *value = strchr(line, ' ');
-        if (value != NULL) *value++ = '\0';
-        if (!take(d, line, value != NULL ? value : "")) return complain("line %u is not taken", number);
+static void take(struct drill *d, const struct line *l, enum word w) {
+    switch (w) {
+    case IDENTIFIER: take_digits(d, l, d->identifier, ID_BYTES); break;
+    case OFFSET: take_number(d, l, -720, 840, &d->offset); break;
+    case TYPE: take_type(d, l); break;
+    case CLASS: take_number(d, l, 1, 4, &d->class_); break;
+    case LEVEL: take_number(d, l, 1, 4, &d->level); break;
+    case NETWORK: take_number(d, l, 0, 65535, &d->network); break;
+    case VERSION: take_number(d, l, 0, 31, &d->version); break;
+    case RESOURCE: take_resource(d, l); break;
+    case LANGUAGE: take_language(d, l); break;
+    case WORD_TEXT: take_text(d, l); break;
+    default: break; // the times are read when the offset is known
     }
-    if (d->identifier[0] == 0) return complain("there is no identifier");
-    return !ferror(stdin) || complain("the input can't be read");
+}
+
+// The first nine words stand once.
+static void take_line(struct drill *d, const struct line *l) {
+    enum word w = IDENTIFIER;
+    while (w < WORDS && strcmp(names[w], l->word) != 0) w++;
+    unsigned before = w < RESOURCE ? d->first[w].number : 0;
+    if (w == WORDS) fault(d, l, "there is no such word");
+    else if (before != 0) fault(d, l, "%s stands at line %u already", names[w], before);
+    else if (*l->value == '\0') fault(d, l, "nothing stands after the word");
+    else take(d, l, w);
+    if (w < WORDS && d->first[w].number == 0) d->first[w] = *l;
+}
+
+// Whether a line of n bytes has a control character other than a tab.
+static bool has_control(struct drill *d, unsigned number, const char *s, size_t n) {
+    for (size_t i = 0; i < n; i++) {
+        unsigned char c = (unsigned char)s[i];
+        if ((c >= 0x20 && c != 0x7F) || c == '\t') continue;
+        fprintf(stderr, "adapter: line %u, ", number);
+        show_bytes(s, n);
+        fprintf(stderr, ": the control character \\x%02X can't stand in a form\n", c);
+        d->faults++;
+        return true;
+    }
+    return false;
+}
+
+// Takes a line of n bytes, which a NUL may follow: without spaces, tabs and a CR at its end, and spaces and tabs before it.
+static void split_line(struct drill *d, unsigned number, char *s, size_t n) {
+    while (n > 0 && strchr(" \t\r", s[n - 1]) != NULL && s[n - 1] != '\0') n--;
+    if (has_control(d, number, s, n)) return;
+    s[n] = '\0';
+    s += strspn(s, " \t");
+    if (*s == '\0' || *s == '#') return;
+    char *value = s + strcspn(s, " \t");
+    if (*value != '\0') *value++ = '\0';
+    value += strspn(value, " \t");
+    take_line(d, &(struct line){number, s, value});
+}
+
+static void read_lines(struct drill *d) {
+    bool marked = d->form_bytes >= 3 && memcmp(d->form, "\xEF\xBB\xBF", 3) == 0; // a byte order mark
+    char *s = d->form + (marked ? 3 : 0), *end = d->form + d->form_bytes;
+    for (unsigned number = 1; s < end; number++) {
+        char *after = memchr(s, '\n', (size_t)(end - s));
+        if (after == NULL) after = end;
+        split_line(d, number, s, (size_t)(after - s));
+        s = after + 1;
+    }
+}
+
+// ---- the whole form
+
+static unsigned days_of(unsigned month, unsigned year) {
+    bool leap = year % 4 == 0 && (year % 100 != 0 || year % 400 == 0);
+    if (month == 2) return leap ? 29 : 28;
+    return month == 4 || month == 6 || month == 9 || month == 11 ? 30 : 31;
+}
+
+// Why the library refuses a time that is of the form, in words.
+static const char *why_impossible(const char *text) {
+    unsigned day, month, year, hour, minute, second;
+    int got = sscanf(text, "%2u/%2u/%4u %2u:%2u:%2u", &day, &month, &year, &hour, &minute, &second);
+    if (got != 6) return "it can't be read";
+    if (month < 1 || month > 12) return "there is no such month (the day comes first, then the month)";
+    if (day < 1 || day > days_of(month, year)) return "there is no such day in the calendar";
+    if (hour > 23 || minute > 59 || second > 59) return "there is no such time of day";
+    if (NW_REFUSAL(nw_day_of(year, month, day)) != NW_TAKEN) return "the day is out of the range 01/03/1900 to 22/04/2038";
+    return "in UTC, less the offset, the day is out of the range 01/03/1900 to 22/04/2038";
+}
+
+static bool read_time(struct drill *d, enum word w, uint64_t *field) {
+    const struct line *l = &d->first[w];
+    nw_answer answer = nw_time_read_text((const uint8_t *)l->value, strlen(l->value), d->offset);
+    *field = NW_VALUE(answer);
+    if (NW_REFUSAL(answer) == NW_TAKEN) return true;
+    const char *more = w == END ? ", or the word live" : "";
+    if (NW_REFUSAL(answer) == NW_IMPOSSIBLE_DAY) fault(d, l, "%s", why_impossible(l->value));
+    else fault(d, l, "it has to be dd/mm/yyyy hh:mm:ss, day first, 19 characters%s", more);
+    return false;
+}
+
+static void read_times(struct drill *d) {
+    const struct line *start = &d->first[START], *end = &d->first[END];
+    bool started = start->number != 0 && *start->value != '\0' && read_time(d, START, &d->start);
+    if (end->number == 0 || *end->value == '\0') return;
+    d->end = NW_LIVE;
+    if (strcmp(end->value, "live") == 0 || !read_time(d, END, &d->end) || !started) return;
+    if (d->end < d->start) fault(d, end, "it is before the start, %s", start->value);
+    if (d->end == d->start) fault(d, end, "it is the start itself, so the message would never be shown");
+}
+
+static void judge_whole(struct drill *d) {
+    for (enum word w = IDENTIFIER; w < WORDS; w++)
+        if (d->first[w].number == 0) {
+            complain("the form has no line that begins with %s", names[w]);
+            d->faults++;
+        }
+    int offset; // a wrong one is a fault already, and the times can't be judged with it
+    if (d->first[OFFSET].number != 0 && read_number(d->first[OFFSET].value, -720, 840, &offset)) read_times(d);
+    for (const struct language *l = d->languages; l < d->languages + d->language_count; l++)
+        if (l->bytes == 0) fault(d, &l->line, "no text that is taken comes after it");
+}
+
+static int read_drill(struct drill *d) {
+    d->form_bytes = fread(d->form, 1, FORM + 1, stdin);
+    if (ferror(stdin)) return complain("the form can't be read: %s", strerror(errno)), UNUSABLE;
+    if (d->form_bytes > FORM) return complain("the form is longer than %d bytes", FORM), REFUSED;
+    if (d->form_bytes == 0) return complain("the form is empty"), REFUSED;
+    if (d->form_bytes >= 2 && (memcmp(d->form, "\xFF\xFE", 2) == 0 || memcmp(d->form, "\xFE\xFF", 2) == 0))
+        return complain("the form is in UTF-16: it has to be saved as UTF-8 or plain text"), REFUSED;
+    read_lines(d);
+    judge_whole(d);
+    if (d->faults != 0) return complain("%u fault%s: nothing is written", d->faults, d->faults == 1 ? "" : "s"), REFUSED;
+    if (d->class_ == 4) complain("line %u, class 4: this is an emergency and no drill", d->first[CLASS].number);
+    return MADE;
 }
 
 // ---- the tables
 
-static bool read_time(const char *what, const char *text, int offset, uint64_t *field) {
-    nw_answer answer = nw_time_read_text((const uint8_t *)text, strlen(text), offset);
-    *field = NW_VALUE(answer);
-    return !refused(what, text, answer);
+// Each field was judged by its name, so that no writer should refuse one.
+static bool refused(const char *what, nw_answer answer) {
+    unsigned number = NW_REFUSAL(answer);
+    if (number != NW_TAKEN) complain("%s can't be made: %s (refusal %u)", what, nw_refusal_text(number), number);
+    return number != NW_TAKEN;
 }
 
-static bool index_form(const struct drill *d, nw_form *f) {
-    uint64_t start, end = NW_LIVE;
-    if (!read_time("start ", d->start, d->offset, &start)) return false;
-    if (strcmp(d->end, "live") != 0 && !read_time("end ", d->end, d->offset, &end)) return false;
+static void index_form(const struct drill *d, nw_form *f) {
     nw_form_number(f, 1); // message
-    nw_form_bytes(f, d->identifier, IDENTIFIER);
-    nw_form_number(f, d->network);
-    nw_form_number(f, start);
-    nw_form_number(f, end);
-    nw_form_bytes(f, (const uint8_t *)d->type, strlen(d->type));
-    nw_form_number(f, d->class_);
-    nw_form_number(f, d->level);
+    nw_form_bytes(f, d->identifier, ID_BYTES);
+    nw_form_number(f, (uint64_t)d->network);
+    nw_form_number(f, d->start);
+    nw_form_number(f, d->end);
+    nw_form_bytes(f, (const uint8_t *)d->first[TYPE].value, TYPE_BYTES);
+    nw_form_number(f, (uint64_t)d->class_);
+    nw_form_number(f, (uint64_t)d->level);
     nw_form_number(f, d->resource_count);
-    for (size_t i = 0; i < d->resource_count; i++) nw_form_bytes(f, d->resources[i], RESOURCE);
+    for (size_t i = 0; i < d->resource_count; i++) nw_form_bytes(f, d->resources[i], RESOURCE_BYTES);
     nw_form_number(f, 0); // no channel
     nw_form_bytes(f, NULL, 0); // no signature
-    return true;
 }
 
 static void content_form(const struct drill *d, nw_form *f) {
-    nw_form_bytes(f, d->identifier, IDENTIFIER);
+    nw_form_bytes(f, d->identifier, ID_BYTES);
     nw_form_number(f, d->language_count);
     for (const struct language *l = d->languages; l < d->languages + d->language_count; l++) {
         nw_form_bytes(f, (const uint8_t *)l->letters, 3);
-        nw_form_number(f, l->set);
+        nw_form_number(f, (uint64_t)l->set);
         nw_form_bytes(f, l->text, l->bytes);
         nw_form_bytes(f, NULL, 0); // no agency
         nw_form_number(f, 0); // no auxiliary files
@@ -178,13 +420,13 @@ static void content_form(const struct drill *d, nw_form *f) {
 }
 
 // Cuts the n bytes of the desk's body into sections, each right after the one before.
-static bool cut(struct desk *k, size_t n, unsigned kind, unsigned extension, unsigned version) {
+static bool cut(struct desk *k, size_t n, unsigned kind, unsigned extension, int version) {
     nw_answer count = nw_section_count(n), made;
-    if (refused("the sections", "", count)) return false;
+    if (refused("the sections", count)) return false;
     for (uint32_t number = 0; number < NW_VALUE(count); number++) {
-        made = nw_section_cut(k->body, n, kind, extension, version, number, k->sections + k->bytes,
+        made = nw_section_cut(k->body, n, kind, extension, (uint32_t)version, number, k->sections + k->bytes,
                               sizeof k->sections - k->bytes);
-        if (refused("a section", "", made)) return false;
+        if (refused("a section", made)) return false;
         k->bytes += NW_VALUE(made);
     }
     return true;
@@ -192,9 +434,9 @@ static bool cut(struct desk *k, size_t n, unsigned kind, unsigned extension, uns
 
 static bool write_index(const struct drill *d, struct desk *k) {
     nw_form f = nw_form_start(k->pool, POOL, k->tape, ENTRIES);
-    if (!index_form(d, &f)) return false;
+    index_form(d, &f);
     nw_answer made = nw_index_write(f.pool, f.pool_bytes, f.tape, f.entries, k->body, sizeof k->body);
-    return !refused("the index table", "", made) && cut(k, NW_VALUE(made), NW_INDEX, 0, d->version);
+    return !refused("the index table", made) && cut(k, NW_VALUE(made), NW_INDEX, 0, d->version);
 }
 
 // The content table's extension is how a box finds it: the CRC-16 of the message's identifier.
@@ -202,28 +444,39 @@ static bool write_content(const struct drill *d, struct desk *k) {
     nw_form f = nw_form_start(k->pool, POOL, k->tape, ENTRIES);
     content_form(d, &f);
     nw_answer made = nw_content_write(f.pool, f.pool_bytes, f.tape, f.entries, k->body, sizeof k->body);
-    return !refused("the content table", "", made)
+    return !refused("the content table", made)
         && cut(k, NW_CONTENT_LENGTH(made), NW_CONTENT, NW_CONTENT_EXTENSION(made), d->version);
 }
 
-static bool write_file(const struct desk *k, const char *name) {
+static int write_file(const struct desk *k, const char *name) {
     FILE *out = fopen(name, "wb");
-    if (out == NULL) return complain("%s can't be opened", name);
+    if (out == NULL) return complain("%s can't be opened: %s", name, strerror(errno)), UNUSABLE;
     bool good = fwrite(k->sections, 1, k->bytes, out) == k->bytes;
-    return (fclose(out) == 0 && good) || complain("%s can't be written", name);
+    if (fclose(out) == 0 && good) return MADE;
+    return complain("%s is not whole, it can't be written: %s", name, strerror(errno)), UNUSABLE;
 }
 
-static bool run(struct drill *d, struct desk *k, const char *name) {
-    if (d == NULL || k == NULL) return complain("out of memory");
-    return read_drill(d) && write_index(d, k) && write_content(d, k) && write_file(k, name);
+static int run(struct drill *d, struct desk *k, const char *name) {
+    if (d == NULL || k == NULL) return complain("there is no memory left"), UNUSABLE;
+    int status = read_drill(d);
+    if (status != MADE) return status;
+    return write_index(d, k) && write_content(d, k) ? write_file(k, name) : REFUSED;
 }
 
 int main(int words, char **word) {
-    if (words != 2) return complain("usage: adapter FILE, with the drill on standard input"), 2;
+    static const char usage[] = "usage: adapter FILE, with the form on standard input";
+    if (words == 2 && strcmp(word[1], "--help") == 0) {
+        printf("%s\nExit status: 0, FILE is written; 1, the form is refused and nothing is written;\n"
+               "2, wrong usage, a form that can't be read or a FILE that can't be written.\n", usage);
+        return fflush(stdout) == 0 ? MADE : UNUSABLE;
+    }
+    if (words != 2) return complain("%d words are given, and one is wanted\n%s", words - 1, usage), UNUSABLE;
+    if (word[1][0] == '-' || word[1][0] == '\0')
+        return complain("'%s' is taken for no file's name\n%s", word[1], usage), UNUSABLE;
     struct drill *d = calloc(1, sizeof *d);
     struct desk *k = calloc(1, sizeof *k);
-    bool good = run(d, k, word[1]);
+    int status = run(d, k, word[1]);
     free(d);
     free(k);
-    return good ? EXIT_SUCCESS : EXIT_FAILURE;
+    return status;
 }

@@ -1,132 +1,389 @@
-// box FILE [MINUTES]: the sections in a file, one after the other in any order, repeats and damage among them, are
-// gathered into tables, and the messages are shown: local times at the offset of MINUTES, east positive, day first.
+// box [--whole] FILE [MINUTES]: the sections in a file, one after the other in any order, repeats and damage among them, are
+// gathered into tables, and the messages are shown with their texts: times day first and local, at MINUTES east of UTC, -720
+// to 840, or without them in UTC. Of a text the first lines are shown, with --whole all.
 //
-// A section tells its own length. Where none that is good begins, the next good one is looked for byte by byte.
+// Exit status: 0, every table that was begun is whole and accepted, each message has its text and each text its message, and
+// where bytes were damaged, the section they were came whole elsewhere. 1, something of that is not so, and it is said what,
+// or no table came at all. 2, wrong usage, a file that can't be read or is a transport stream, or output that can't be
+// written. The status says nothing about a text's characters.
+//
+// A section tells its own length. Where none that is good begins, the next good one is looked for byte by byte: the library
+// looks at the heading first, and few bytes look like one. Where one does, its check is computed over up to 4 KiB; so that
+// junk of false headings, each inside the one before, can't make this long, a file has a purse of 64 times its bytes for
+// false headings. When that is spent, which is said, the search goes on after a false section and no longer inside it. With
+// one look at a good section for each table it may belong to, no more than 90 times the file's bytes are ever looked at.
+//
+// Limits: 16 tables, files of 64 MiB, no signature is checked, and of certificate and configuration tables nothing is shown.
+#include <errno.h>
+#include <iconv.h>
+#include <langinfo.h>
+#include <limits.h>
+#include <locale.h>
 #include <neapwillow.h>
+#include <stdarg.h>
 #include <stdbool.h>
 #include <stdio.h>
 #include <stdlib.h>
+#include <string.h>
+#include <wchar.h>
+#include <wctype.h>
 
-enum { TABLES = 16 };
+enum { TABLES = 16, MOST_FILE = 1 << 26, PURSE = 64, LINES = 4, PACKET = 188, SYNC = 0x47 };
+enum { WHOLE = 0, FAULTY = 1, UNUSABLE = 2 }; // exit statuses
 
 // A table that is being gathered, and its body once it is whole.
 struct table {
     nw_gathering state;
     uint8_t *store, *body;
     size_t store_bytes, n;
+    bool accepted, named; // named: a message has it as its text
+};
+
+// Bytes that are no good section, and the refusal of what begins where they do.
+struct stretch {
+    size_t at, end;
+    unsigned refusal;
 };
 
 struct box {
+    uint8_t *s; // the file
+    size_t n, purse;
     struct table tables[TABLES];
     size_t count;
-    unsigned taken, held, refused;
+    struct stretch *stretches;
+    size_t stretch_count, stretch_room;
+    unsigned taken, held, refused, faults;
     int offset;
+    bool whole;
 };
 
-static bool say(const char *what) {
-    fprintf(stderr, "box: %s\n", what);
-    return false;
+static int unusable(const char *form, ...) {
+    va_list words;
+    va_start(words, form);
+    fputs("box: ", stderr);
+    vfprintf(stderr, form, words);
+    fputc('\n', stderr);
+    va_end(words);
+    return UNUSABLE;
 }
 
-static void show_refusal(nw_answer answer) {
-    printf("refusal %u, %s (place %llu)\n", NW_REFUSAL(answer), nw_refusal_text(NW_REFUSAL(answer)),
-           (unsigned long long)NW_PLACE(answer));
+// Something that makes the exit status 1.
+static void fault(struct box *b, const char *form, ...) {
+    va_list words;
+    va_start(words, form);
+    vprintf(form, words);
+    putchar('\n');
+    va_end(words);
+    b->faults++;
 }
 
 // ---- gathering
 
-// Judges the section that begins at s: its length by its own heading, but no more than the n bytes that there are.
-static nw_answer judge(const uint8_t *s, size_t n, size_t *length) {
+// The length of the section that begins at s, by its own heading, but no more than the n bytes that there are.
+static size_t length_of(const uint8_t *s, size_t n) {
     size_t stated = n < 3 ? n : ((size_t)s[1] << 8 & 0xF00) + s[2] + 3;
-    *length = stated < n ? stated : n;
-    return nw_section_read(s, *length);
+    return stated < n ? stated : n;
 }
 
-// Feeds a good section to the table it belongs to, and begins one where it belongs to none.
-static nw_answer feed(struct box *b, const uint8_t *s, size_t n, nw_answer heading) {
-    nw_answer fed = NW_OTHER_HEADING;
-    for (struct table *t = b->tables; t < b->tables + b->count && NW_REFUSAL(fed) == NW_OTHER_HEADING; t++)
-        fed = nw_gathering_feed(&t->state, t->store, t->store_bytes, s, n);
-    if (NW_REFUSAL(fed) != NW_OTHER_HEADING || b->count == TABLES) return fed;
+static nw_answer judge(const uint8_t *s, size_t n, size_t *length) {
+    return nw_section_read(s, *length = length_of(s, n));
+}
+
+// Begins a table with a good section that belongs to none so far.
+static nw_answer begin(struct box *b, const uint8_t *s, size_t n, nw_answer heading) {
     struct table *t = &b->tables[b->count];
     t->store_bytes = NW_STORE_BYTES(NW_SECTION_LAST(heading));
     t->store = malloc(t->store_bytes);
     if (t->store == NULL) return NW_STORE_TOO_SHORT;
-    fed = nw_gathering_feed(&t->state, t->store, t->store_bytes, s, n);
+    nw_answer fed = nw_gathering_feed(&t->state, t->store, t->store_bytes, s, n);
     if (NW_REFUSAL(fed) == NW_TAKEN) b->count++;
     else free(t->store);
     return fed;
 }
 
-static void count_section(struct box *b, nw_answer fed, size_t at) {
-    if (NW_REFUSAL(fed) != NW_TAKEN) {
-        b->refused++;
-        printf("section at byte %zu: ", at);
-        show_refusal(fed);
-    } else if (NW_VALUE(fed) == NW_FED_TAKEN) b->taken++;
-    else b->held++;
+// Feeds the good section at a byte of the file to the table it belongs to.
+static void feed(struct box *b, size_t at, size_t n, nw_answer heading) {
+    const uint8_t *s = b->s + at;
+    nw_answer fed = NW_OTHER_HEADING;
+    for (struct table *t = b->tables; t < b->tables + b->count && NW_REFUSAL(fed) == NW_OTHER_HEADING; t++)
+        fed = nw_gathering_feed(&t->state, t->store, t->store_bytes, s, n);
+    if (NW_REFUSAL(fed) == NW_OTHER_HEADING && b->count < TABLES) fed = begin(b, s, n, heading);
+    unsigned number = NW_REFUSAL(fed);
+    if (number == NW_TAKEN) {
+        if (NW_VALUE(fed) == NW_FED_TAKEN) b->taken++;
+        else b->held++;
+        return;
+    }
+    b->refused++;
+    if (number == NW_OTHER_HEADING)
+        fault(b, "section at byte %zu: left out, it belongs to one more table than the %d that this box can hold", at, TABLES);
+    else if (number == NW_STORE_TOO_SHORT) fault(b, "section at byte %zu: left out, there is no memory for its table", at);
+    else printf("section at byte %zu: not taken, %s (refusal %u)\n", at, nw_refusal_text(number), number);
 }
 
-static void gather(struct box *b, const uint8_t *s, size_t n) {
-    size_t at = 0, length, next;
-    while (at < n) {
-        nw_answer got = judge(s + at, n - at, &length);
-        if (NW_REFUSAL(got) == NW_TAKEN) {
-            count_section(b, feed(b, s + at, length, got), at);
-            at += length;
-            continue;
-        }
-        for (next = at + 1; next < n && NW_REFUSAL(judge(s + next, n - next, &length)) != NW_TAKEN; next++) {}
-        printf("bytes %zu to %zu are no good section: ", at, next - 1);
-        show_refusal(got);
-        b->refused++;
-        at = next;
+static bool note_stretch(struct box *b, struct stretch bad) {
+    if (b->stretch_count == b->stretch_room) {
+        size_t room = 2 * b->stretch_room + 16;
+        struct stretch *more = realloc(b->stretches, room * sizeof *more);
+        if (more == NULL) return false;
+        b->stretches = more;
+        b->stretch_room = room;
     }
-    printf("sections: %u taken, %u held already, %u refused\n", b->taken, b->held, b->refused);
+    b->stretches[b->stretch_count++] = bad;
+    return true;
+}
+
+// How far the search goes on from where no good section begins: a byte, but past a false section that the purse can't pay.
+static size_t step(struct box *b, nw_answer got, size_t length, size_t at) {
+    if (NW_REFUSAL(got) != NW_CHECK_NOT_ZERO) return 1;
+    if (length <= b->purse) {
+        b->purse -= length;
+        return 1;
+    }
+    if (b->purse != 0)
+        fault(b, "from byte %zu on, sections inside false sections are not looked for: there are too many false headings", at);
+    b->purse = 0;
+    return length;
+}
+
+// Passes over what begins no good section, to the next that does. A section that only fails its check is passed over by
+// itself, unless a good one begins inside. Answers where to go on.
+static size_t pass_over(struct box *b, size_t at, nw_answer got, size_t length) {
+    unsigned number = NW_REFUSAL(got);
+    size_t end = number == NW_CHECK_NOT_ZERO ? at + length : b->n, next = at + step(b, got, length, at);
+    while (next < end) {
+        got = judge(b->s + next, b->n - next, &length);
+        if (NW_REFUSAL(got) == NW_TAKEN) break;
+        next += step(b, got, length, next);
+    }
+    b->refused++;
+    if (!note_stretch(b, (struct stretch){at, next, number}))
+        fault(b, "bytes %zu to %zu are no good section, and there is no memory to note them", at, next - 1);
+    return next;
+}
+
+static void gather(struct box *b) {
+    b->purse = PURSE * b->n;
+    for (size_t at = 0; at < b->n;) {
+        size_t length;
+        nw_answer got = judge(b->s + at, b->n - at, &length);
+        if (NW_REFUSAL(got) == NW_TAKEN) {
+            feed(b, at, length, got);
+            at += length;
+        } else at = pass_over(b, at, got, length);
+    }
+}
+
+// ---- what is whole, and what is not
+
+static const char *kind_name(unsigned kind) {
+    static const char *const names[] = {"configuration", "certificate", "index", "content"};
+    return names[kind - NW_CONFIGURATION];
+}
+
+static void name_table(const struct table *t) {
+    printf("%s table, extension %04X, version %u: ", kind_name(t->state.kind), t->state.extension, t->state.version);
+}
+
+static nw_answer read_table(const struct table *t) {
+    switch (t->state.kind) {
+    case NW_CONFIGURATION: return nw_configuration_read(t->state.kind, t->body, t->n);
+    case NW_CERTIFICATE: return nw_certificate_read(t->state.kind, t->body, t->n);
+    case NW_INDEX: return nw_index_read(t->state.kind, t->body, t->n);
+    default: return nw_content_read(t->state.kind, t->state.extension, t->body, t->n);
+    }
+}
+
+static void tell_missing(struct box *b, const struct table *t, uint64_t first) {
+    unsigned missing = 0;
+    for (unsigned i = 0; i <= t->state.last; i++) missing += t->state.held[i] == 0;
+    name_table(t);
+    fault(b, "not whole, %u of its %u sections %s missing, the first of them number %u", missing, t->state.last + 1u,
+          missing == 1 ? "is" : "are", (unsigned)first);
+}
+
+// Hands out a table and judges it. A body is never longer than its store.
+static void hand_out(struct box *b, struct table *t) {
+    t->body = malloc(t->store_bytes);
+    nw_answer got = nw_gathering_hand_out(&t->state, t->store, t->store_bytes, t->body, t->body ? t->store_bytes : 0);
+    unsigned number = NW_REFUSAL(got);
+    if (number == NW_MISSING) {
+        tell_missing(b, t, NW_PLACE(got));
+        return;
+    }
+    if (number != NW_TAKEN) {
+        name_table(t);
+        fault(b, "not whole, %s (refusal %u)", t->body ? nw_refusal_text(number) : "there is no memory for it", number);
+        return;
+    }
+    t->n = NW_VALUE(got);
+    got = read_table(t);
+    number = NW_REFUSAL(got);
+    t->accepted = number == NW_TAKEN;
+    if (t->accepted) return;
+    name_table(t);
+    fault(b, "whole but refused, %s (refusal %u at byte %u of its body)", nw_refusal_text(number), number,
+          (unsigned)NW_PLACE(got));
+}
+
+// Whether the section that bytes were before their damage came whole elsewhere, by what their heading says: the bytes are as
+// many as it says, or the file ends among them.
+static bool came_elsewhere(const struct box *b, const struct stretch *bad) {
+    const uint8_t *s = b->s + bad->at;
+    if (bad->refusal != NW_CHECK_NOT_ZERO && bad->refusal != NW_OTHER_LENGTH) return false;
+    if (bad->at + length_of(s, b->n - bad->at) != bad->end) return false;
+    for (const struct table *t = b->tables; t < b->tables + b->count; t++) {
+        const nw_gathering *g = &t->state;
+        bool mine = g->kind == s[0] && g->extension == (s[3] << 8 | s[4]) && g->version == (s[5] >> 1 & 0x1F);
+        if (t->accepted && mine && g->last == s[7] && g->held[s[6]] != 0) return true;
+    }
+    return false;
+}
+
+static void show_stretch(struct box *b, const struct stretch *bad) {
+    printf("bytes %zu to %zu are no good section: %s (refusal %u)", bad->at, bad->end - 1, nw_refusal_text(bad->refusal),
+           bad->refusal);
+    if (came_elsewhere(b, bad)) puts("; it came whole elsewhere");
+    else fault(b, "; what was lost there is not known");
+}
+
+// ---- text
+
+struct set {
+    const char *standard, *conversion;
+};
+static const struct set sets[] = {{"GB/T 2312-1980", "GB2312"},
+                                  {"GB/T 18030-2005", "GB18030"},
+                                  {"GB/T 13000-2010, read as UTF-8", "UTF-8"},
+                                  {"GB/T 21669-2008", NULL},
+                                  {"GB 16959-1997", NULL}};
+#define BYTE UINT32_C(0x80000000) // marks a byte that is no character
+
+// Decodes a character at a time, for room for one is lent; what is none is a byte. Answers how many there are, at most n.
+static size_t decode(iconv_t way, const uint8_t *s, size_t n, uint32_t *out) {
+    char *in = (char *)s;
+    size_t count = 0;
+    while (n > 0) {
+        wchar_t c = 0;
+        char *to = (char *)&c;
+        size_t room = sizeof c;
+        iconv(way, &in, &n, &to, &room);
+        if (room == 0) out[count++] = (uint32_t)c;
+        else {
+            out[count++] = BYTE | (uint8_t)*in++;
+            n--;
+            iconv(way, NULL, NULL, NULL, NULL);
+        }
+    }
+    return count;
+}
+
+// The bytes themselves, for a character set that the C library doesn't know.
+static size_t undecoded(const uint8_t *s, size_t n, uint32_t *out) {
+    for (size_t i = 0; i < n; i++) out[i] = s[i] < 0x80 ? s[i] : BYTE | s[i];
+    return n;
+}
+
+// Shows a character, or how it is written where the terminal hasn't it or would be steered by it: control characters, and
+// those that turn the direction of writing round. Answers whether a character was shown so.
+static bool show_character(uint32_t c) {
+    char bytes[MB_LEN_MAX];
+    mbstate_t fresh = {0};
+    bool steers = (c >= 0x202A && c <= 0x202E) || (c >= 0x2066 && c <= 0x2069);
+    if ((c & BYTE) != 0) return printf("\\x%02X", (unsigned)(c & 0xFF)), false;
+    size_t n = steers || !iswprint((wint_t)c) ? (size_t)-1 : wcrtomb(bytes, (wchar_t)c, &fresh);
+    if (n == (size_t)-1) return printf("\\u{%X}", (unsigned)c), true;
+    fwrite(bytes, 1, n, stdout);
+    return false;
+}
+
+// Answers whether a character was shown as \u{..}.
+static bool show_lines(const struct box *b, const uint32_t *c, size_t n) {
+    size_t lines = 0;
+    bool hidden = false;
+    for (size_t i = 0; i < n; i++, lines++) {
+        bool shown = b->whole || lines < LINES;
+        if (shown) fputs("    | ", stdout);
+        for (; i < n && c[i] != '\n'; i++)
+            if (shown && show_character(c[i])) hidden = true;
+        if (shown) putchar('\n');
+    }
+    if (!b->whole && lines > LINES) printf("    (%zu more lines, which box --whole shows)\n", lines - LINES);
+    return hidden;
+}
+
+static void show_text(const struct box *b, unsigned set, const uint8_t *s, size_t n) {
+    uint32_t *c = malloc((n + 1) * sizeof *c);
+    if (c == NULL) {
+        puts("    (not shown: there is no memory for it)");
+        return;
+    }
+    iconv_t none = (iconv_t)-1, way = sets[set].conversion ? iconv_open("WCHAR_T", sets[set].conversion) : none;
+    size_t count = way != none ? decode(way, s, n, c) : undecoded(s, n, c), bytes = 0;
+    for (size_t i = 0; i < count; i++) bytes += (c[i] & BYTE) != 0;
+    bool hidden = show_lines(b, c, count);
+    if (way == none && (bytes > 0 || set > 2))
+        puts("    (the C library has no conversion from this character set: of its bytes ASCII is shown, others as \\xNN)");
+    else if (bytes > 0) printf("    (bytes that are no character of this set: %zu, written as \\xNN)\n", bytes);
+    if (hidden)
+        printf("    (characters that steer a terminal, or that this one's set, %s, has not, are written as \\u{..})\n",
+               nl_langinfo(CODESET));
+    if (way != none) iconv_close(way);
+    free(c);
 }
 
 // ---- showing
 
-static void show_time(nw_answer t) {
-    if (NW_REFUSAL(t) != NW_TAKEN) {
-        show_refusal(t);
-        return;
-    }
-    printf("%02u/%02u/%04u %02u:%02u:%02u\n", NW_TIME_DAY(t), NW_TIME_MONTH(t), NW_TIME_YEAR(t), NW_TIME_HOUR(t),
-           NW_TIME_MINUTE(t), NW_TIME_SECOND(t));
-}
-
-static void show_language(const struct table *t, nw_answer part) {
+static void show_language(const struct box *b, const struct table *t, nw_answer part) {
     size_t at = NW_PART_START(part), length = NW_PART_LENGTH(part);
     nw_answer letters = nw_language_letters(t->body, t->n, at, length);
-    nw_answer set = nw_language_character_set(t->body, t->n, at, length);
-    nw_answer text = nw_language_text(t->body, t->n, at, length);
-    printf("  text        %.3s, character set %u, %zu bytes\n", (const char *)t->body + NW_PART_START(letters),
-           (unsigned)NW_VALUE(set), NW_PART_LENGTH(text));
-}
-
-static void show_content(const struct table *t) {
-    nw_answer read = nw_content_read(t->state.kind, t->state.extension, t->body, t->n);
-    if (NW_REFUSAL(read) != NW_TAKEN) {
-        printf("  text        ");
-        show_refusal(read);
-        return;
+    unsigned set = (unsigned)NW_VALUE(nw_language_character_set(t->body, t->n, at, length));
+    nw_answer text = nw_language_text(t->body, t->n, at, length), agency = nw_language_agency(t->body, t->n, at, length);
+    printf("  text        %.3s, version %u, character set %u (%s), %zu bytes\n", (const char *)t->body + NW_PART_START(letters),
+           t->state.version, set, sets[set].standard, NW_PART_LENGTH(text));
+    show_text(b, set, t->body + NW_PART_START(text), NW_PART_LENGTH(text));
+    if (NW_PART_LENGTH(agency) != 0) {
+        puts("  agency");
+        show_text(b, set, t->body + NW_PART_START(agency), NW_PART_LENGTH(agency));
     }
-    uint64_t count = NW_VALUE(nw_content_language_count(t->body, t->n));
-    for (uint64_t i = 0; i < count; i++) show_language(t, nw_content_language(t->body, t->n, i));
+    uint64_t files = NW_VALUE(nw_language_auxiliary_count(t->body, t->n, at, length));
+    for (uint64_t i = 0; i < files; i++) {
+        unsigned type = (unsigned)NW_VALUE(nw_language_auxiliary_type(t->body, t->n, at, length, i));
+        nw_answer file = nw_language_auxiliary(t->body, t->n, at, length, i);
+        printf("  file        type %u, %zu bytes, not shown\n", type, NW_PART_LENGTH(file));
+    }
 }
 
-// The content table of a message is the one whose extension is the CRC-16 of the message's identifier.
-static void find_content(const struct box *b, const struct table *index, size_t at, size_t length) {
-    nw_answer part = nw_message_identifier(index->body, index->n, at, length);
-    uint16_t extension = nw_crc16(index->body + NW_PART_START(part), NW_PART_LENGTH(part));
+static void show_languages(const struct box *b, const struct table *t) {
+    uint64_t count = NW_VALUE(nw_content_language_count(t->body, t->n));
+    for (uint64_t i = 0; i < count; i++) show_language(b, t, nw_content_language(t->body, t->n, i));
+}
+
+// The text of a message is the content table with its identifier; the extension is only that one's checksum.
+static void find_text(struct box *b, const uint8_t *identifier, size_t n) {
     bool found = false;
-    for (const struct table *t = b->tables; t < b->tables + b->count; t++)
-        if (t->body != NULL && t->state.kind == NW_CONTENT && t->state.extension == extension) {
-            show_content(t);
-            found = true;
-        }
-    if (!found) puts("  text        none has come");
+    for (struct table *t = b->tables; t < b->tables + b->count; t++) {
+        if (!t->accepted || t->state.kind != NW_CONTENT) continue;
+        nw_answer its = nw_content_identifier(t->body, t->n);
+        if (NW_PART_LENGTH(its) != n || memcmp(t->body + NW_PART_START(its), identifier, n) != 0) continue;
+        show_languages(b, t);
+        t->named = found = true;
+    }
+    if (!found) fault(b, "  text        none has come whole");
+}
+
+// A time field at the offset; in UTC where the local day would be out of the range of days.
+static void show_time(const char *what, uint64_t field, int offset) {
+    static const char *const days[] = {"Monday", "Tuesday", "Wednesday", "Thursday", "Friday", "Saturday", "Sunday"};
+    nw_answer t = nw_time_unpack(field, offset);
+    bool outside = NW_REFUSAL(t) != NW_TAKEN;
+    if (outside) t = nw_time_unpack(field, offset = 0);
+    nw_answer day = nw_day_of(NW_TIME_YEAR(t), NW_TIME_MONTH(t), NW_TIME_DAY(t));
+    printf("  %s%02u/%02u/%04u %02u:%02u:%02u", what, NW_TIME_DAY(t), NW_TIME_MONTH(t), NW_TIME_YEAR(t), NW_TIME_HOUR(t),
+           NW_TIME_MINUTE(t), NW_TIME_SECOND(t));
+    printf(" %s, UTC", days[NW_VALUE(nw_weekday((uint32_t)NW_VALUE(day))) - 1]);
+    if (offset != 0) printf("%c%02d:%02d", offset < 0 ? '-' : '+', abs(offset) / 60, abs(offset) % 60);
+    puts(outside ? ": its local day is out of the range 01/03/1900 to 22/04/2038" : "");
 }
 
 static void show_resources(const struct table *t, size_t at, size_t length) {
@@ -137,99 +394,169 @@ static void show_resources(const struct table *t, size_t at, size_t length) {
             printf("%u", (unsigned)NW_VALUE(nw_message_resource_digit(t->body, t->n, at, length, i, j)));
         putchar('\n');
     }
+    if (count == 0) puts("  resource    none");
 }
 
-static void show_message(const struct box *b, const struct table *t, const nw_record *r) {
+static void show_type(const struct table *t, nw_answer part) {
+    printf("  type        ");
+    for (size_t i = 0; i < NW_PART_LENGTH(part); i++) show_character(t->body[NW_PART_START(part) + i]);
+    putchar('\n');
+}
+
+static void show_message(struct box *b, const struct table *t, const nw_record *r) {
     static const char *const classes[] = {"", "drill of the sender", "simulated drill", "drill", "emergency"};
     static const char *const levels[] = {"", "very grave", "grave", "serious", "ordinary"};
     printf("message ");
     for (uint64_t i = 0; i < 35; i++)
         printf("%u", (unsigned)NW_VALUE(nw_message_identifier_digit(t->body, t->n, r->at, r->length, i)));
-    printf("\n  start       ");
-    show_time(nw_message_local_start(t->body, t->n, r->at, r->length, b->offset));
-    printf("  end         ");
-    if (r->end == NW_LIVE) puts("live, until it is called off");
-    else show_time(nw_message_local_end(t->body, t->n, r->at, r->length, b->offset));
+    putchar('\n');
+    show_time("start       ", r->start, b->offset);
+    if (r->end == NW_LIVE) puts("  end         live, until it is called off");
+    else show_time("end         ", r->end, b->offset);
+    if (r->end <= r->start) puts("  (its end is not after its start: it is never shown)");
     printf("  class       %u, %s\n", (unsigned)r->class_, classes[r->class_]);
     printf("  level       %u, %s\n", (unsigned)r->level, levels[r->level]);
+    show_type(t, nw_message_type(t->body, t->n, r->at, r->length));
+    printf("  network     %u\n", (unsigned)NW_VALUE(nw_message_network(t->body, t->n, r->at, r->length)));
+    printf("  version     %u\n", t->state.version);
     show_resources(t, r->at, r->length);
-    find_content(b, t, r->at, r->length);
+    if (NW_VALUE(nw_message_channel_flag(t->body, t->n, r->at, r->length)) != 0) puts("  channel     given, and not shown");
+    nw_answer identifier = nw_message_identifier(t->body, t->n, r->at, r->length);
+    find_text(b, t->body + NW_PART_START(identifier), NW_PART_LENGTH(identifier));
 }
 
-static void show_index(const struct box *b, const struct table *t) {
+static void show_index(struct box *b, const struct table *t) {
     nw_record list[NW_MOST_MESSAGES];
-    nw_answer count = nw_index_records(t->state.kind, t->body, t->n, list, NW_MOST_MESSAGES);
-    if (NW_REFUSAL(count) != NW_TAKEN) {
-        printf("the index table is not shown: ");
-        show_refusal(count);
+    uint64_t count = NW_VALUE(nw_index_records(t->state.kind, t->body, t->n, list, NW_MOST_MESSAGES));
+    if (count == 0) {
+        name_table(t);
+        puts("it has no message");
+    }
+    for (const nw_record *r = list; r < list + count; r++) show_message(b, t, r);
+}
+
+// A table that no message showed.
+static void show_rest(struct box *b, const struct table *t) {
+    if (t->state.kind == NW_INDEX || t->named) return;
+    name_table(t);
+    if (t->state.kind != NW_CONTENT) {
+        printf("whole and accepted, %zu bytes, not shown\n", t->n);
         return;
     }
-    for (const nw_record *r = list; r < list + NW_VALUE(count); r++) show_message(b, t, r);
+    char digits[36] = "";
+    for (size_t i = 0; i < 35; i++) digits[i] = (char)('0' + NW_VALUE(nw_content_identifier_digit(t->body, t->n, i)));
+    fault(b, "no message %s has come that it would be the text of", digits);
+    show_languages(b, t);
 }
 
-// Hands out each table that is whole. A body is never longer than its store.
-static void hand_out(struct box *b) {
-    for (struct table *t = b->tables; t < b->tables + b->count; t++) {
-        uint8_t *body = malloc(t->store_bytes);
-        nw_answer got = nw_gathering_hand_out(&t->state, t->store, t->store_bytes, body, body ? t->store_bytes : 0);
-        if (NW_REFUSAL(got) == NW_TAKEN) {
-            t->body = body;
-            t->n = NW_VALUE(got);
-            continue;
-        }
-        printf("table %02X, extension %04X: ", t->state.kind, t->state.extension);
-        show_refusal(got);
-        free(body);
-    }
+static void tell_nothing(struct box *b) {
+    if (b->n == 0) fault(b, "no table has come: the file is empty");
+    else if (b->refused == b->stretch_count) fault(b, "no table has come: no good section begins anywhere in the file");
+    else fault(b, "no table has come: no section in the file is taken");
 }
 
-static void show(const struct box *b) {
-    for (const struct table *t = b->tables; t < b->tables + b->count; t++)
-        if (t->body != NULL && t->state.kind == NW_INDEX) show_index(b, t);
+static void show(struct box *b) {
+    for (struct table *t = b->tables; t < b->tables + b->count; t++) hand_out(b, t);
+    for (const struct stretch *bad = b->stretches; bad < b->stretches + b->stretch_count; bad++) show_stretch(b, bad);
+    printf("sections: %u taken, %u held already, %u refused\n", b->taken, b->held, b->refused);
+    if (b->count == 0) tell_nothing(b);
+    for (struct table *t = b->tables; t < b->tables + b->count; t++)
+        if (t->accepted && t->state.kind == NW_INDEX) show_index(b, t);
+    for (struct table *t = b->tables; t < b->tables + b->count; t++)
+        if (t->accepted) show_rest(b, t);
+    if (b->faults != 0) printf("faults: %u, each of them named above\n", b->faults);
 }
 
 // ---- the file
 
-static uint8_t *read_file(FILE *in, size_t *n) {
+// Reads a file of at most MOST_FILE bytes, or says why not.
+static int read_file(struct box *b, FILE *in, const char *name) {
     size_t room = 0, got = 1;
-    uint8_t *s = NULL;
-    for (*n = 0; got != 0; *n += got) {
-        if (*n == room) {
-            uint8_t *more = realloc(s, room = 2 * room + 65536);
-            if (more == NULL) break;
-            s = more;
+    for (; got != 0 && b->n <= MOST_FILE; b->n += got) {
+        if (b->n == room) {
+            uint8_t *more = realloc(b->s, room = 2 * room + 65536);
+            if (more == NULL) return unusable("there is no memory for %s", name);
+            b->s = more;
         }
-        got = fread(s + *n, 1, room - *n, in);
+        got = fread(b->s + b->n, 1, room - b->n, in);
     }
-    if (got == 0 && !ferror(in)) return s;
-    free(s);
-    return NULL;
+    if (ferror(in)) return unusable("%s can't be read: %s", name, strerror(errno));
+    return b->n > MOST_FILE ? unusable("%s has more than %d bytes, the most that this box takes", name, MOST_FILE) : WHOLE;
 }
 
-static bool run(struct box *b, const char *name) {
+// Whether nine packets in ten have the sync byte at one place, or all of less than five packets at their beginning; never
+// where the file begins with a good section.
+static bool is_transport_stream(const uint8_t *s, size_t n) {
+    size_t length;
+    if (NW_REFUSAL(judge(s, n, &length)) == NW_TAKEN) return false;
+    for (size_t start = 0; start < PACKET && start < n; start++) {
+        size_t packets = 0, synced = 0;
+        for (size_t p = start; p < n; p += PACKET, packets++) synced += s[p] == SYNC;
+        if (packets >= 5 ? synced * 10 >= packets * 9 : start == 0 && n % PACKET == 0 && synced == packets) return true;
+    }
+    return false;
+}
+
+static int run(struct box *b, const char *name) {
     FILE *in = fopen(name, "rb");
-    if (in == NULL) return say("the file can't be opened");
-    size_t n;
-    uint8_t *s = read_file(in, &n);
+    if (in == NULL) return unusable("%s can't be opened: %s", name, strerror(errno));
+    int status = read_file(b, in, name);
     fclose(in);
-    if (s == NULL) return say("the file can't be read");
-    gather(b, s, n);
-    free(s);
-    hand_out(b);
+    if (status != WHOLE) return status;
+    if (is_transport_stream(b->s, b->n))
+        return unusable("%s is a transport stream (0x47 every 188 bytes): this box reads the sections alone", name);
+    gather(b);
     show(b);
-    return true;
+    if (fflush(stdout) != 0 || ferror(stdout)) return unusable("what is shown can't be written: %s", strerror(errno));
+    return b->faults == 0 ? WHOLE : FAULTY;
 }
 
-int main(int words, char **word) {
-    char after;
-    struct box *b = calloc(1, sizeof *b);
-    if (b == NULL) return say("out of memory"), 2;
-    bool good = words == 2 || (words == 3 && sscanf(word[2], "%d%c", &b->offset, &after) == 1);
-    good = good ? run(b, word[1]) : say("usage: box FILE [MINUTES], the minutes of local time east of UTC");
+static void clear(struct box *b) {
     for (struct table *t = b->tables; t < b->tables + b->count; t++) {
         free(t->store);
         free(t->body);
     }
+    free(b->stretches);
+    free(b->s);
     free(b);
-    return good ? EXIT_SUCCESS : EXIT_FAILURE;
+}
+
+// ---- the words of the command
+
+// A whole decimal number from -720 to 840 and nothing else.
+static bool read_minutes(const char *s, int *out) {
+    bool negative = *s == '-';
+    if (*s == '-' || *s == '+') s++;
+    size_t digits = strspn(s, "0123456789");
+    int x = 0;
+    for (size_t i = 0; i < digits && x <= 1000; i++) x = 10 * x + (s[i] - '0'); // a larger one is out of the range
+    *out = negative ? -x : x;
+    return digits != 0 && s[digits] == '\0' && -720 <= *out && *out <= 840;
+}
+
+static int help(void) {
+    puts("usage: box [--whole] FILE [MINUTES]\n"
+         "Shows the messages of the sections in FILE, in local time at MINUTES east of UTC, -720 to 840, or else in UTC.\n"
+         "Exit status: 0, every table is whole and accepted, and messages and texts belong together; 1, something is damaged,\n"
+         "missing or refused, or no table came; 2, wrong usage, a FILE that can't be read or is a transport stream, or output\n"
+         "that can't be written. Of a text the first lines are shown, with --whole all.");
+    return fflush(stdout) == 0 ? WHOLE : UNUSABLE;
+}
+
+int main(int words, char **word) {
+    static const char usage[] = "usage: box [--whole] FILE [MINUTES]; box --help says more";
+    setlocale(LC_CTYPE, "");
+    if (words == 2 && strcmp(word[1], "--help") == 0) return help();
+    struct box *b = calloc(1, sizeof *b);
+    if (b == NULL) return unusable("there is no memory");
+    b->whole = words > 1 && strcmp(word[1], "--whole") == 0;
+    int status, at = b->whole ? 2 : 1, given = words - at;
+    if (given > 0 && strncmp(word[at], "--", 2) == 0) status = unusable("there is no word %s\n%s", word[at], usage);
+    else if (given < 1 || given > 2)
+        status = unusable("a FILE is wanted, and perhaps MINUTES; words given: %d\n%s", given, usage);
+    else if (given == 2 && !read_minutes(word[at + 1], &b->offset))
+        status = unusable("MINUTES %s: they have to be a whole number from -720 to 840\n%s", word[at + 1], usage);
+    else status = run(b, word[at]);
+    clear(b);
+    return status;
 }
