@@ -272,7 +272,7 @@ static void take_line(struct drill *d, const struct line *l) {
     unsigned before = w < RESOURCE ? d->first[w].number : 0;
     if (w == WORDS) fault(d, l, "there is no such word");
     else if (before != 0) fault(d, l, "%s stands at line %u already", names[w], before);
-    else if (*l->value == '\0') fault(d, l, "nothing stands after the word");
+    else if (*l->value == '\0' && w != LANGUAGE) fault(d, l, "nothing stands after the word");
     else take(d, l, w);
     if (w < WORDS && d->first[w].number == 0) d->first[w] = *l;
 }

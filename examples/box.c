@@ -79,9 +79,11 @@ static void fault(struct box *b, const char *form, ...) {
 
 // ---- gathering
 
-// The length of the section that begins at s, by its own heading, but no more than the n bytes that there are.
+// The length of the section that begins at s, by its own heading: at least 12 bytes, so that its kind is looked at first,
+// but no more than the n that there are.
 static size_t length_of(const uint8_t *s, size_t n) {
     size_t stated = n < 3 ? n : ((size_t)s[1] << 8 & 0xF00) + s[2] + 3;
+    if (stated < 12) stated = 12;
     return stated < n ? stated : n;
 }
 
@@ -308,7 +310,7 @@ static bool show_lines(const struct box *b, const uint32_t *c, size_t n) {
             if (shown && show_character(c[i])) hidden = true;
         if (shown) putchar('\n');
     }
-    if (!b->whole && lines > LINES) printf("    (%zu more lines, which box --whole shows)\n", lines - LINES);
+    if (!b->whole && lines > LINES) printf("    (more lines: %zu, which box --whole shows)\n", lines - LINES);
     return hidden;
 }
 
@@ -457,7 +459,7 @@ static void tell_nothing(struct box *b) {
 
 static void show(struct box *b) {
     for (struct table *t = b->tables; t < b->tables + b->count; t++) hand_out(b, t);
-    for (const struct stretch *bad = b->stretches; bad < b->stretches + b->stretch_count; bad++) show_stretch(b, bad);
+    for (size_t i = 0; i < b->stretch_count; i++) show_stretch(b, &b->stretches[i]);
     printf("sections: %u taken, %u held already, %u refused\n", b->taken, b->held, b->refused);
     if (b->count == 0) tell_nothing(b);
     for (struct table *t = b->tables; t < b->tables + b->count; t++)

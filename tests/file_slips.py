@@ -1,0 +1,214 @@
+"""Slips in a file of sections and in the box's call, with the sentences and the status that have to come: by hand, from the rules."""
+import random
+import re
+
+from second_content import extension
+from second_sections import cut, printed
+
+INDEX, CONTENT, CERTIFICATE, CONFIGURATION = 0xFD, 0xFE, 0xFC, 0xFB
+DIGITS = '36543200000000303010103202411030001'
+OTHER_DIGITS = DIGITS[:-1] + '2'
+START, END, LIVE = 'ECC8234500', 'ECC9001500', 'FFFFFFFFFF'  # 2 November 2024 23:45:00, and half an hour later
+chance = random.Random(86)
+
+
+def message(digits=DIGITS, start=START, end=END, kind=b'11A01', class_level=0x34, tail=b'\xFE'):
+    """A message of an index table, with its length before it."""
+    data = bytes.fromhex('F' + digits + '0001' + start + end) + kind + bytes([class_level, 1])
+    data += bytes.fromhex('F' + DIGITS[:23]) + tail
+    return len(data).to_bytes(2, 'big') + data
+
+
+def language(text=b'This is a drill.\n', letters=b'eng', number=0, agency=b'', files=b'\xF0'):
+    """A language of a content table, with its length before it."""
+    data = letters + bytes([0xF8 | number]) + len(text).to_bytes(2, 'big') + text + bytes([len(agency)]) + agency + files
+    return len(data).to_bytes(4, 'big') + data
+
+
+def table(kind, body, its_extension=0, version=0):
+    """The sections of a table."""
+    return [cut(body, kind, its_extension, version, number, 4096) for number in range(-(-len(body) // 4084))]
+
+
+def index(*messages, version=0):
+    return table(INDEX, bytes([len(messages)]) + b''.join(messages) + b'\0\0', version=version)
+
+
+def content(*languages, digits=DIGITS, version=0):
+    identifier = bytes.fromhex('F' + digits)
+    body = identifier + bytes([0xF0 | len(languages)]) + b''.join(languages) + b'\0\0'
+    return table(CONTENT, body, extension(identifier), version)
+
+
+EXTENSION = '%04X' % extension(bytes.fromhex('F' + DIGITS))
+(ONE,) = index(message())
+(TWO,) = content(language())
+LONG = content(language(b'Go on foot.\n' * 1000))
+DRILL = ONE + TWO
+HEAD = ['message ' + DIGITS, '  start       02/11/2024 23:45:00 Saturday, UTC', '  end         03/11/2024 00:15:00 Sunday, UTC']
+SHOWN = [*HEAD, '    | This is a drill.']
+NO_TEXT = '  text        none has come whole'
+UNKNOWN = '; what was lost there is not known'
+ELSEWHERE = '; it came whole elsewhere'
+CHECK = ' are no good section: the section\'s CRC_32 is wrong (refusal 7)'
+KIND = ' are no good section: the table is of another kind (refusal 2)'
+SHORT = ' are no good section: the section is shorter than 12 bytes (refusal 1)'
+CUT_OFF = ' are no good section: the section is not as long as its section_length says (refusal 5)'
+BAD_STREAM = 'box: received is a transport stream (0x47 every 188 bytes): this box reads the sections alone'
+NO_CONVERSION = '    (the C library has no conversion from this character set: of its bytes ASCII is shown, others as \\xNN)'
+NO_CHARACTER = '    (bytes that are no character of this set: %d, written as \\xNN)'
+STEERS = "    (characters that steer a terminal, or that this one's set, UTF-8, has not, are written as \\u{..})"
+
+
+def faults(count):
+    return 'faults: %d, each of them named above' % count
+
+
+def changed(section, at):
+    """A section with a bit changed at a byte."""
+    return section[:at] + bytes([section[at] ^ 1]) + section[at + 1:]
+
+
+def packets(data, count):
+    """A transport stream: what there is of the data in each packet, and stuffing."""
+    return b''.join(b'\x47\x40\x21' + bytes([0x10 | n % 16]) + (b'\0' + data[n * 183:][:183]).ljust(184, b'\xFF')
+                    for n in range(count))
+
+
+def whole():
+    """Files with status 0: the file, and lines that are shown, in their order."""
+    yield DRILL, ['sections: 2 taken, 0 held already, 0 refused', *SHOWN]
+    yield TWO + ONE + TWO, ['sections: 2 taken, 1 held already, 0 refused', *SHOWN]
+    yield (ONE + b''.join(LONG[::-1]), ['sections: 4 taken, 0 held already, 0 refused', '    | Go on foot.',
+                                        '    (more lines: 996, which box --whole shows)'])
+    last = len(TWO) - 1
+    yield changed(TWO, last) + DRILL, ['bytes 0 to %d' % last + CHECK + ELSEWHERE, *SHOWN]
+    yield (changed(TWO, 30) + changed(ONE, 30) + DRILL,
+           ['bytes 0 to %d' % last + CHECK + ELSEWHERE, 'bytes %d to %d' % (len(TWO), len(DRILL) - 1) + CHECK + ELSEWHERE, *SHOWN])
+    yield DRILL + ONE[:40], ['bytes %d to %d' % (len(DRILL), len(DRILL) + 39) + CUT_OFF + ELSEWHERE, *SHOWN]
+    later = printed(INDEX, 0, 1, 0, 0, 0, b'\0\0\0')
+    yield DRILL + later, ['section at byte %d: not taken, the section is not current (refusal 8)' % len(DRILL), *SHOWN]
+    (newer,) = index(message(class_level=0x24), version=1)
+    yield ONE + newer + TWO, ['  class       3, drill', '  version     0', '  class       2, simulated drill', '  version     1']
+    yield index()[0], ['index table, extension 0000, version 0: it has no message']
+    certificate, = table(CERTIFICATE, b'\0\0\0\0')
+    setting, = table(CONFIGURATION, b'\x01\x06\0\x02\x64\0\0\0', 0xBEEF, 3)
+    yield (DRILL + certificate + setting, [
+        *SHOWN, 'certificate table, extension 0000, version 0: whole and accepted, 4 bytes, not shown',
+        'configuration table, extension BEEF, version 3: whole and accepted, 8 bytes, not shown'])
+    yield index(message(end=LIVE))[0] + TWO, [HEAD[0], HEAD[1], '  end         live, until it is called off']
+    yield index(message(end='ECC8234459'))[0] + TWO, ['  (its end is not after its start: it is never shown)']
+    yield (index(message(), message(OTHER_DIGITS))[0] + content(language(b'Two.\n'), digits=OTHER_DIGITS)[0] + TWO,
+           [*SHOWN, 'message ' + OTHER_DIGITS, '    | Two.'])
+    g = b'G' * 60000
+    yield b''.join(content(language(g))) + ONE, ['    | ' + g.decode()]  # 0x47 nearly everywhere, and no transport stream
+
+
+def texts():
+    """Texts, the character set of each, and the lines that show them; a set of lines where the C library decides."""
+    yield b'\x1B[2J\x07\r\0\x7F\t!', 0, ['    | \\u{1B}[2J\\u{7}\\u{D}\\u{0}\\u{7F}\\u{9}!', STEERS]
+    yield ('\u0085\u009b31m\u202edrill\u2066\u2028'.encode(), 2,
+           ['    | \\u{85}\\u{9B}31m\\u{202E}drill\\u{2066}\\u{2028}', STEERS])
+    yield '演练 ok é'.encode(), 2, ['    | 演练 ok é']
+    yield b'a\xFFb\xE6\xBC', 2, ['    | a\\xFFb\\xE6\\xBC', NO_CHARACTER % 3]
+    yield '演练'.encode('gb2312'), 0, [{'    | 演练', '    | \\xD1\\xDD\\xC1\\xB7'}]
+    yield '演练'.encode('gb18030'), 1, [{'    | 演练', '    | \\xD1\\xDD\\xC1\\xB7'}]
+    yield b'\xA1', 0, ['    | \\xA1', {NO_CONVERSION, NO_CHARACTER % 1}]
+    yield b'ab\x81', 3, ['    | ab\\x81', NO_CONVERSION]
+    yield b'ab', 4, ['    | ab', NO_CONVERSION]
+    yield b'', 0, ['  text        eng, version 0, character set 0 (GB/T 2312-1980), 0 bytes']
+    yield b'1\n2\n3\n4', 0, ['    | 1', '    | 2', '    | 3', '    | 4']
+    yield b'1\n\n3\n4\n5', 0, ['    | 1', '    | ', '    | 3', '    | 4', '    (more lines: 1, which box --whole shows)']
+
+
+def faulty():
+    """Files with status 1: the file, and lines that are shown, in their order."""
+    nowhere = 'no table has come: no good section begins anywhere in the file'
+    yield b'', ['sections: 0 taken, 0 held already, 0 refused', 'no table has come: the file is empty', faults(1)]
+    yield b'noise', ['bytes 0 to 4' + SHORT + UNKNOWN, nowhere, faults(2)]
+    yield b'This is a text and no section at all.\n', ['bytes 0 to 37' + KIND + UNKNOWN, nowhere]
+    yield bytes(100000), ['bytes 0 to 99999' + KIND + UNKNOWN, nowhere]
+    yield (b'\xFE\xF0\x08' + bytes(20),
+           ['bytes 0 to 22 are no good section: a fixed bit of the heading is 0 (refusal 3)' + UNKNOWN, nowhere])
+    yield (b'\xFE\xF0\x08\0\0\xC1' + bytes(20),
+           ['bytes 0 to 25 are no good section: section_length is below 9 or above 4,093 (refusal 4)' + UNKNOWN, nowhere])
+    yield ONE[:-1], ['bytes 0 to %d' % (len(ONE) - 2) + CUT_OFF + UNKNOWN, nowhere]
+    yield (b'noise' + DRILL,
+           ['bytes 0 to 4' + KIND + UNKNOWN, 'sections: 2 taken, 0 held already, 1 refused', *SHOWN, faults(1)])
+    yield DRILL + b'!', ['bytes %d to %d' % (len(DRILL), len(DRILL)) + SHORT + UNKNOWN, *SHOWN]
+    alone = 'content table, extension %s, version 0: no message %s has come that it would be the text of' % (EXTENSION, DIGITS)
+    yield ONE, [*HEAD, NO_TEXT, faults(1)]
+    yield TWO, [alone, '    | This is a drill.', faults(1)]
+    yield index(message(OTHER_DIGITS))[0] + TWO, ['message ' + OTHER_DIGITS, NO_TEXT, alone, '    | This is a drill.', faults(2)]
+    yield ONE + changed(TWO, 30), ['bytes %d to %d' % (len(ONE), len(DRILL) - 1) + CHECK + UNKNOWN, NO_TEXT, faults(2)]
+    yield changed(TWO, 3) + DRILL, ['bytes 0 to %d' % (len(TWO) - 1) + CHECK + UNKNOWN, *SHOWN, faults(1)]
+    lost = 'content table, extension %s, version 0: not whole, ' % EXTENSION
+    yield ONE + LONG[0] + LONG[2], [lost + '1 of its 3 sections is missing, the first of them number 1', NO_TEXT, faults(2)]
+    yield ONE + LONG[2] + LONG[2], [lost + '2 of its 3 sections are missing, the first of them number 0']
+    yield (ONE + printed(CONTENT, 7, 0, 1, 0, 255, b''), [
+        'content table, extension 0007, version 0: not whole, 255 of its 256 sections are missing, the first of them number 1'])
+    (against,) = content(language(b'That is a drill.\n'))
+    contradict = 'two payloads contradict each other under one section number (refusal 11)'
+    yield DRILL + against, ['section at byte %d: not taken, %s' % (len(DRILL), contradict), lost + contradict, faults(2)]
+    yield from refused_bodies()
+    yield from long_files()
+
+
+def refused_bodies():
+    """Whole tables whose body is refused: by which rule, and at which byte."""
+    outside = 'a value is outside its set (refusal 19 at byte %d of its body)'
+    early = 'the body ends too early (refusal 14 at byte 1 of its body)'
+    impossible = 'the day or the time is impossible or out of range (refusal 20 at byte 23 of its body)'
+    other = 'the extension is not the CRC-16 of the identifier (refusal 23 at byte 0 of its body)'
+    for (section,), name, why in (
+            (index(message(class_level=0x54)), 'index table, extension 0000', outside % 38),
+            (index(message(start='ECC8240000')), 'index table, extension 0000', impossible),
+            (table(INDEX, b'\0\0'), 'index table, extension 0000', early),
+            (table(CONTENT, TWO[8:-4], 0x1234), 'content table, extension 1234', other),
+            (content(language(letters=b'Eng')), 'content table, extension ' + EXTENSION, outside % 23),
+            (table(CERTIFICATE, b'\x01'), 'certificate table, extension 0000', early),
+            (table(CONFIGURATION, b'\x01\x06\0\x02\x65\0\0\0'), 'configuration table, extension 0000', outside % 4)):
+        yield section, ['%s, version 0: whole but refused, %s' % (name, why), faults(1)]
+    later = printed(INDEX, 0, 0, 0, 0, 0, b'\0\0\0')
+    yield (later, ['section at byte 0: not taken, the section is not current (refusal 8)',
+                   'no table has come: no section in the file is taken', faults(1)])
+
+
+def long_files():
+    """More tables than the box holds; good sections in junk, and in junk of false headings."""
+    many = b''.join(printed(CERTIFICATE, n, 0, 1, 0, 0, b'\0\0\0\0') for n in range(17))
+    yield many, ['section at byte 256: left out, it belongs to one more table than the 16 that this box can hold',
+                 'sections: 16 taken, 0 held already, 1 refused', faults(1)]
+    junk = chance.randbytes(500000)
+    found = re.compile(r'sections: 2 taken, 0 held already, \d+ refused')
+    yield junk + DRILL, [found, *SHOWN]
+    # Each 0xFE but the last begins a heading of 3,841 bytes that fails its check. The purse of 64 times 200,000 and some bytes
+    # pays for 3,332 of them; then the search goes by 3,841 bytes at a time.
+    false = b'\xFE' * 200000
+    yield false, ['from byte 3332 on, sections inside false sections are not looked for: there are too many false headings']
+    yield (DRILL + false + DRILL, [
+        re.compile(r'from byte \d+ on, .*'), re.compile(r'sections: 2 taken, 2 held already, \d+ refused'), *SHOWN])
+
+
+def streams():
+    """Transport streams: status 2, and what is said."""
+    yield from (packets(DRILL, count) for count in (1, 2, 5, 100))
+    yield packets(b''.join(LONG), 70)[100:]
+    yield packets(DRILL, 20)[:-100]
+    yield packets(DRILL, 20).replace(b'\x47\x40\x21\x13', b'\x00\x40\x21\x13', 1)
+    yield b''.join(b'\x47\x40\x21\x10\0' + TWO.ljust(183, b'\xFF') for _ in range(9))  # a section in each packet
+
+
+# The words of a call, and what is said: status 2.
+USAGE = 'usage: box [--whole] FILE [MINUTES]; box --help says more'
+RANGE = 'MINUTES %s: they have to be a whole number from -720 to 840'
+WANTED = 'a FILE is wanted, and perhaps MINUTES; words given: %d'
+CALLS = [([], WANTED % 0), (['--whole'], WANTED % 0), (['received', '480', 'more'], WANTED % 3),
+         (['--hole', 'received'], 'there is no word --hole'), (['--whole', '--help'], 'there is no word --help'),
+         *((['received', minutes], RANGE % minutes) for minutes in (
+             '841', '-721', '4294967776', '-4294966816', '8.5', '+08:00', '480x', '', 'x', '+', '0x10', '18446744073709552096'))]
+
+# Minutes that are taken, and the start at them.
+MINUTES = [('480', '03/11/2024 07:45:00 Sunday, UTC+08:00'), ('+480', '03/11/2024 07:45:00 Sunday, UTC+08:00'),
+           ('-720', '02/11/2024 11:45:00 Saturday, UTC-12:00'), ('840', '03/11/2024 13:45:00 Sunday, UTC+14:00'),
+           ('0', '02/11/2024 23:45:00 Saturday, UTC'), ('-30', '02/11/2024 23:15:00 Saturday, UTC-00:30')]

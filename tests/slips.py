@@ -1,0 +1,189 @@
+"""What adapter, box and cable say of slips in forms, files and calls, and their status: slips.py CABLE HOW FOLDER RUNNER.."""
+import os
+import subprocess
+import sys
+import tempfile
+import unicodedata
+
+import file_slips as files
+import form_slips as forms
+
+CABLE, HOW, FOLDER = sys.argv[1:4]
+RUNNER = sys.argv[4:]
+STEERING = {chr(c) for c in (*range(0x202A, 0x202F), *range(0x2066, 0x206A), 0x2028, 0x2029)}
+SECONDS = 300
+wrong, tried = [], 0
+
+
+def run(program, words, data=b'', terminal='C.UTF-8', **more):
+    """Runs a program in the scratch folder. Answers its status, its output and what it says on standard error."""
+    command = [sys.executable, '-B', CABLE] if program == 'cable' else [*RUNNER, os.path.join(FOLDER, program), *words]
+    given = {'input': data} if 'stdin' not in more else {}
+    more.setdefault('stdout', subprocess.PIPE)
+    done = subprocess.run(command, stderr=subprocess.PIPE, env={**os.environ, 'LC_ALL': terminal}, timeout=SECONDS, check=False,
+                          **given, **more)
+    return done.returncode, done.stdout or b'', done.stderr
+
+
+def steers(text):
+    """Whether a character of a text would steer a terminal."""
+    return any(c in STEERING or (c != '\n' and unicodedata.category(c) == 'Cc') for c in text)
+
+
+def in_order(wanted, lines):
+    """The first wanted line that does not stand after the others; None if all do. One may be several, of which one stands."""
+    lines = iter(lines)
+    for want in wanted:
+        ways = want if isinstance(want, set) else {want}
+        if not any(line in ways or (hasattr(want, 'fullmatch') and want.fullmatch(line)) for line in lines):
+            return want
+    return None
+
+
+def expect(what, got, status, wanted=(), exactly=None):
+    """Notes a fault unless the status is this one, the lines stand in the output or are the whole of it, and none steers."""
+    global tried
+    tried += 1
+    text = (got[1] + got[2]).decode(errors='surrogateescape')
+    lines = text.split('\n')[:-1]
+    missing = in_order(wanted, lines)
+    if got[0] != status:
+        wrong.append('%s: status %d and not %d: %s' % (what, got[0], status, text[-600:]))
+    elif missing is not None:
+        wrong.append('%s: %r is not said, but %s' % (what, missing, text[-600:]))
+    elif exactly is not None and lines != exactly:
+        wrong.append('%s: it says %r and not %r' % (what, lines, exactly))
+    elif steers(text) or not text.isprintable() and any('\udc80' <= c <= '\udcff' for c in text):
+        wrong.append('%s: bytes reach the terminal raw: %r' % (what, text))
+
+
+def write(name, data):
+    with open(name, 'wb') as file:
+        file.write(data)
+
+
+def read(name):
+    with open(name, 'rb') as file:
+        return file.read()
+
+
+def said(sentences):
+    return ['adapter: ' + sentence for sentence in sentences]
+
+
+# ---- the adapter
+
+
+def try_forms():
+    good = forms.form(*forms.LINES)
+    expect('the good form', run('adapter', ['sent'], good), 0, exactly=[])
+    sent = read('sent')
+    for form, sentences in forms.refused():
+        write('kept', b'as it was')
+        expect('the form %.300r' % form, run('adapter', ['kept'], form), 1, exactly=said(sentences))
+        if read('kept') != b'as it was':
+            wrong.append('the form %.300r: it is refused and a file is written' % form)
+    for form in forms.SAME:
+        write('same', b'')
+        expect('the form %.300r' % form, run('adapter', ['same'], form), 0, exactly=[])
+        if read('same') != sent:
+            wrong.append('the form %.300r: its sections are others' % form)
+    for changes, shown, remarks in forms.OTHERS:
+        lines = (changes.get(number, line) for number, line in enumerate(forms.LINES, 1))
+        expect('the form with %.300r' % changes, run('adapter', ['other'], forms.form(*lines)), 0, exactly=said(remarks))
+        expect('the sections of %.300r' % changes, run('box', ['other', '480']), 0, shown)
+
+
+def try_adapter_calls():
+    good = forms.form(*forms.LINES)
+    for words, sentence in forms.CALLS:
+        expect('adapter %r' % words, run('adapter', words, good), 2, exactly=['adapter: ' + sentence, forms.USAGE])
+    expect('adapter --help', run('adapter', ['--help']), 0, [forms.USAGE])
+    for name, why in (('none/sent', 'No such file or directory'), ('folder', 'Is a directory')):
+        expect('adapter ' + name, run('adapter', [name], good), 2, exactly=["adapter: %s can't be opened: %s" % (name, why)])
+    expect('adapter /dev/full', run('adapter', ['/dev/full'], good), 2,
+           exactly=["adapter: /dev/full is not whole, it can't be written: No space left on device"])
+    folder = os.open('folder', os.O_RDONLY)
+    expect('adapter with a folder as its form', run('adapter', ['kept'], stdin=folder), 2,
+           exactly=["adapter: the form can't be read: Is a directory"])
+    os.close(folder)
+
+
+# ---- the box
+
+
+def try_file(data, status, wanted, words=(), **more):
+    write('received', data)
+    expect('box on %d bytes, %.60r %r' % (len(data), data, words), run('box', [*words, 'received'], **more), status, wanted)
+
+
+def try_files():
+    for data, shown in files.whole():
+        try_file(data, 0, shown)
+    for data, shown in files.faulty():
+        try_file(data, 1, shown)
+    for data in files.streams():
+        try_file(data, 2, [files.BAD_STREAM])
+    for text, number, shown in files.texts():
+        try_file(files.ONE + files.content(files.language(text, number=number))[0], 0, shown)
+        in_agency = ['  agency', *shown] if text else []
+        try_file(files.ONE + files.content(files.language(agency=text, number=number))[0], 0, in_agency)
+    try_file(files.ONE + b''.join(files.LONG), 0, ['    | Go on foot.'] * 1000, ['--whole'])
+    two = files.content(files.language(files=b'\xF2\x03\0\0\x02xy\x04\0\0\0'))[0]
+    try_file(files.ONE + two, 0, ['  file        type 3, 2 bytes, not shown', '  file        type 4, 0 bytes, not shown'])
+    (chinese,) = files.content(files.language('演练'.encode(), number=2))
+    in_ascii = files.STEERS.replace('UTF-8', 'ANSI_X3.4-1968')
+    try_file(files.ONE + chinese, 0, ['    | \\u{6F14}\\u{7EC3}', in_ascii], terminal='C')
+    (steering,) = files.index(files.message(kind=b'\x1B[2J\x7F'))
+    try_file(steering + files.TWO, 0, ['  type        \\u{1B}[2J\\u{7F}'])
+
+
+def try_box_calls():
+    write('received', files.DRILL)
+    for words, sentence in files.CALLS:
+        expect('box %r' % words, run('box', words), 2, exactly=['box: ' + sentence, files.USAGE])
+    for minutes, start in files.MINUTES:
+        expect('box at ' + minutes, run('box', ['received', minutes]), 0, ['  start       ' + start])
+    late = files.index(files.message(end='FFFF235959'))[0] + files.TWO
+    write('received', late)
+    expect('box out of the range', run('box', ['received', '1']), 0, [
+        '  end         22/04/2038 23:59:59 Thursday, UTC: its local day is out of the range 01/03/1900 to 22/04/2038'])
+    expect('box --help', run('box', ['--help']), 0, ['usage: box [--whole] FILE [MINUTES]'])
+    expect('box none', run('box', ['none']), 2, exactly=["box: none can't be opened: No such file or directory"])
+    expect('box folder', run('box', ['folder']), 2, exactly=["box: folder can't be read: Is a directory"])
+    with open('/dev/full', 'wb') as full:
+        expect('box on a full disk', run('box', ['received'], stdout=full), 2,
+               exactly=["box: what is shown can't be written: No space left on device"])
+    with open('large', 'wb') as large:
+        large.truncate(2**26 + 1)
+    expect('box large', run('box', ['large']), 2, exactly=['box: large has more than 67108864 bytes, the most that this box takes'])
+    os.remove('large')
+
+
+# ---- the cable
+
+
+def try_cable():
+    """Any drill, and then the box: 0 exactly for what was made of whole tables."""
+    one, two = files.ONE, files.TWO
+    changed = two[:-1] + bytes([two[-1] ^ 1])
+    for data, passed, status in (
+            (b'', b'', 1), (b'x', b'yxx', 1), (b'xy', b'xxxyxy', 1), (one + two, changed + two + one + one + two, 0),
+            (files.index()[0], files.changed(files.index()[0], 14) + files.index()[0] * 2, 0)):
+        got = run('cable', [], data)
+        expect('the cable on %.60r' % data, (got[0], b'', got[2]), 0, exactly=[])
+        if got[1] != passed:
+            wrong.append('the cable on %.60r passes on %.200r' % (data, got[1]))
+        write('received', got[1])
+        expect('the box after the cable on %.60r' % data, run('box', ['received']), status)
+
+
+with tempfile.TemporaryDirectory() as scratch:
+    os.chdir(scratch)
+    os.mkdir('folder')
+    for part in try_forms, try_adapter_calls, try_files, try_box_calls, try_cable:
+        part()
+    os.chdir('/')
+if wrong or tried < 200:
+    sys.exit('%s\n%s: %d of %d answers are not what they should be' % ('\n'.join(wrong), HOW, len(wrong), tried))
+print('%s: %d answers, each with its sentence and its status' % (HOW, tried))
