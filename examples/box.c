@@ -13,7 +13,8 @@
 // false headings. When that is spent, which is said, the search goes on after a false section and no longer inside it. With
 // one look at a good section for each table it may belong to, no more than 90 times the file's bytes are ever looked at.
 //
-// Limits: 16 tables, files of 64 MiB, no signature is checked, and of certificate and configuration tables nothing is shown.
+// Limits: 16 tables, files of 64 MiB, no signature is checked, of certificate and configuration tables nothing is shown, and
+// sections that are not current are left out, which is said.
 #include <errno.h>
 #include <iconv.h>
 #include <langinfo.h>
@@ -237,7 +238,7 @@ static bool came_elsewhere(const struct box *b, const struct stretch *bad) {
     for (const struct table *t = b->tables; t < b->tables + b->count; t++) {
         const nw_gathering *g = &t->state;
         bool mine = g->kind == s[0] && g->extension == (s[3] << 8 | s[4]) && g->version == (s[5] >> 1 & 0x1F);
-        if (t->accepted && mine && g->last == s[7] && g->held[s[6]] != 0) return true;
+        if (mine && g->last == s[7] && g->held[s[6]] != 0) return true;
     }
     return false;
 }

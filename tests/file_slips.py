@@ -144,6 +144,9 @@ def faulty():
     yield changed(TWO, 3) + DRILL, ['bytes 0 to %d' % (len(TWO) - 1) + CHECK + UNKNOWN, *SHOWN, faults(1)]
     lost = 'content table, extension %s, version 0: not whole, ' % EXTENSION
     yield ONE + LONG[0] + LONG[2], [lost + '1 of its 3 sections is missing, the first of them number 1', NO_TEXT, faults(2)]
+    yield (ONE + changed(LONG[0], 99) + LONG[0] + LONG[2],
+           ['bytes %d to %d' % (len(ONE), len(ONE) + 4095) + CHECK + ELSEWHERE, NO_TEXT, faults(2)])
+    yield DRILL + TWO[:30] + TWO, ['bytes %d to %d' % (len(DRILL), len(DRILL) + 29) + CHECK + UNKNOWN, *SHOWN, faults(1)]
     yield ONE + LONG[2] + LONG[2], [lost + '2 of its 3 sections are missing, the first of them number 0']
     yield (ONE + printed(CONTENT, 7, 0, 1, 0, 255, b''), [
         'content table, extension 0007, version 0: not whole, 255 of its 256 sections are missing, the first of them number 1'])

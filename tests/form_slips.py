@@ -156,9 +156,13 @@ def refused_bytes():
     yield (form(*LINES, b'language zho 2', b'text ' + SIRENS[:-1]), told(
         'line 14, text %s: \\xE7 begins no character of character set 2' % shown[:-4],
         'line 13, language zho 2: no text that is taken comes after it'))
-    yield (form(*LINES, b'language zho 1', b'text a\x81'), told(
-        'line 14, text a\\x81: \\x81 begins no character of character set 1',
-        'line 13, language zho 1: no text that is taken comes after it'))
+    for number, text in ((0, 'A1'), (0, 'F8A1'), (0, 'A1A0'), (1, '81'), (1, '81FF'), (1, '813081'), (2, '80'), (2, 'C080'),
+                         (2, 'E08080'), (2, 'EDA080'), (2, 'F0808080'), (2, 'F4908080'), (2, 'F8888080')):
+        data = bytes.fromhex(text)
+        shown = ''.join(chr(byte) if byte < 0x80 else '\\x%02X' % byte for byte in data)
+        yield (form(*LINES, b'language zho %d' % number, b'text ' + data), told(
+            'line 14, text %s: %s begins no character of character set %d' % (shown, shown[:4], number),
+            'line 13, language zho %d: no text that is taken comes after it' % number))
     yield (form(b'class 9', b'level 9', b'text x', b'colour 1'), told(
         'line 1, class 9: ' + FOUR, 'line 2, level 9: ' + FOUR, 'line 3, text x: a text has to come after its language',
         'line 4, colour 1: there is no such word', *(absent(word) for word in WORDS if word not in ('class', 'level', 'text'))))

@@ -53,7 +53,7 @@ def expect(what, got, status, wanted=(), exactly=None):
         wrong.append('%s: %r is not said, but %s' % (what, missing, text[-600:]))
     elif exactly is not None and lines != exactly:
         wrong.append('%s: it says %r and not %r' % (what, lines, exactly))
-    elif steers(text) or not text.isprintable() and any('\udc80' <= c <= '\udcff' for c in text):
+    elif steers(text) or any('\udc80' <= c <= '\udcff' for c in text):
         wrong.append('%s: bytes reach the terminal raw: %r' % (what, text))
 
 
@@ -176,6 +176,10 @@ def try_cable():
             wrong.append('the cable on %.60r passes on %.200r' % (data, got[1]))
         write('received', got[1])
         expect('the box after the cable on %.60r' % data, run('box', ['received']), status)
+    for name, shown in (('drill.txt', '  class       3, drill'), ('short.txt', '  end         live, until it is called off')):
+        expect(name, run('adapter', ['sent'], read(os.path.join(os.path.dirname(CABLE), name))), 0, exactly=[])
+        write('received', run('cable', [], read('sent'))[1])
+        expect('the box on ' + name, run('box', ['received']), 0, [shown])
 
 
 with tempfile.TemporaryDirectory() as scratch:
