@@ -2,8 +2,8 @@
 //
 // A request is the name of a call and its arguments, one space before each: numbers in decimal, byte strings in
 // hexadecimal, tapes as numbers with a comma between two, lists of records so too, with six numbers for each, `-` for
-// what is empty. So are answers. In a request `5a*20` is 5a twenty times over. A new call is a function and its line in
-// `calls`.
+// what is empty. So are answers. In a request `005a*20` is 00 and then 5a twenty times over. A new call is a function and
+// its line in `calls`.
 #define _POSIX_C_SOURCE 200809L
 #include <errno.h>
 #include <inttypes.h>
@@ -704,12 +704,12 @@ static struct argument block_of(size_t length, size_t each, size_t guard) {
 }
 
 static struct argument byte_string(const char *word, size_t guard) {
-    size_t digits = strcmp(word, "-") == 0 ? 0 : strcspn(word, "*"), unit = digits / 2;
+    size_t digits = strcmp(word, "-") == 0 ? 0 : strcspn(word, "*"), given = digits / 2;
     size_t times = word[digits] == '*' ? (size_t)number(word + digits + 1, 1, INT32_MAX).number : 1;
-    if (digits % 2 != 0) stop("half a byte");
-    struct argument a = block_of(unit * times, 1, guard);
+    if (digits % 2 != 0 || (given == 0 && times > 1)) stop("half a byte, or none to repeat");
+    struct argument a = block_of(given + times - 1, 1, guard);
     for (size_t i = 0; i < a.length; i++)
-        a.bytes[i] = i < unit ? (uint8_t)(digit(word[2 * i]) * 16 + digit(word[2 * i + 1])) : a.bytes[i - unit];
+        a.bytes[i] = i < given ? (uint8_t)(digit(word[2 * i]) * 16 + digit(word[2 * i + 1])) : a.bytes[i - 1];
     return a;
 }
 

@@ -11,9 +11,10 @@ ECHOES = ['- 0 0 0 - -', '00ff0a 4294967295 -2147483648 18446744073709551615 7f8
 
 
 def hexadecimal(data):
-    """A byte string as a request has it."""
-    if len(data) > 100 and data == data[:1] * len(data):
-        return '%s*%d' % (data[:1].hex(), len(data))
+    """A byte string as a request has it: a last byte that stands there often is given once."""
+    before = len(data.rstrip(data[-1:]))
+    if len(data) - before > 100:
+        return '%s*%d' % (data[:before + 1].hex(), len(data) - before)
     return data.hex() or '-'
 
 
