@@ -118,6 +118,7 @@ def main():
     checks.fields_met(told, 'language_fields', opaque, shared, opaque, opaque, shared)
     checks.fields_met(told, 'auxiliary_fields', shared, shared)
     assert len(cases) > COUNT
+    checks.days_made()
 
 
 main()

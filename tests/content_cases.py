@@ -1,10 +1,12 @@
 """Content bodies and calls made by hand, with what document 01's words say of them; every refusal that can be met."""
+from make_fields import checked, pool_of
 from table_checks import on_tape, pairs
 
 KIND = 0xFE
 
-# An identifier, and its CRC-16 by Python's own binascii.crc_hqx.
-IDENTIFIER, EXTENSION = 'f0' + '00' * 17, 0x5E0B
+# An identifier, whose day is 3 November 2024, and its CRC-16 by Python's own binascii.crc_hqx.
+DIGITS = checked('0' * 23 + '20241103' + '0' * 4)
+IDENTIFIER, EXTENSION = 'f' + DIGITS, 0xDEF2
 # The standard writes `zho` as 0111 1010 0110 1000 0110 1111.
 ZHO = '%06x' % 0b011110100110100001101111
 
@@ -56,7 +58,8 @@ LEAST = bytes.fromhex(SMALLEST)
 # Letters at 23, text at 29, agency at 32, the file's type at 34 and its data at 38, the signature at 43.
 FULL = bytes.fromhex(body(language('f9' '0002' '6162' '01' '63' 'f1' '07' '000003' '646566'), more='000167'))
 LONG = bytes(1045505)
-# In a pool of an identifier and letters.
+# In a pool of the identifier and letters.
+SMALLEST_POOL = bytes.fromhex('0' + DIGITS) + b'zho'
 SMALLEST_TAPE = [0, 18, 1, 18, 3, 0, 0, 0, 0, 0, 0, 0, 0]
 
 
@@ -72,22 +75,22 @@ CALLS = [
     (('content_read', KIND, EXTENSION + 65536, LEAST), '23 0'), (('content_read', KIND, 0, LEAST + b'\0'), '16 33'),
     (('content_read', KIND, 0, LEAST[:-1]), '14 31'), (('content_read', 0xFD, 0, LEAST), '2 0'),
     (('content_read', KIND, EXTENSION, FULL),
-     ' '.join(('0 0', part(0, 18), '0 %d' % EXTENSION, '0 1', part(43, 1), '0' * 35, part(23, 18), part(23, 3), '0 1',
+     ' '.join(('0 0', part(0, 18), '0 %d' % EXTENSION, '0 1', part(43, 1), DIGITS, part(23, 18), part(23, 3), '0 1',
                part(29, 2), part(32, 1), '0 1', '0 7', part(38, 3)))),
     # The tape last, and no extension.
     (('content_lay', KIND, FULL, [9] * 17), '0 16 0,18,1,23,3,1,29,2,32,1,1,7,38,3,43,1,9'),
     (('content_lay', KIND, FULL, [9] * 15), '21 0 ' + ','.join('9' * 15)),
     (('content_lay', KIND, FULL + b'\0', [9]), '16 44 9'), (('content_lay', 0xFD, FULL, []), '2 0 -'),
     # A writer gives the extension, above the length and by itself; its 22 comes before its 21, both after the fields.
-    (('content_write', bytes(18) + b'zho', SMALLEST_TAPE, b'\xE5' * 34),
+    (('content_write', SMALLEST_POOL, SMALLEST_TAPE, b'\xE5' * 34),
      '%s %d 33 %se5' % (part(EXTENSION, 33), EXTENSION, SMALLEST)),
-    (('content_write', bytes(18) + b'zho', SMALLEST_TAPE, b'\xE5' * 32), '21 0 ' + 'e5' * 32),
-    (('content_write', b'a' * 256, [0, 18, 1, 0, 3, 0, 0, 0, 0, 256, 0, 0, 0], b''), '22 0 -'),
-    (('content_write', b'a' * 256, [0, 18, 1, 0, 3, 0, 0, 0, 0, 255, 0, 0, 0], b''), '21 0 -'),
-    (('content_write', b'a' * 256, [0, 18, 1, 0, 3, 0, 0, 0, 0, 256, 3, 0, 0], b''), '19 0 -'),
-    (('content_write', b'a' * 99, [0, 18, 2**64 - 1], b''), '19 0 -'),
-    (('content_write', b'a' * 99, [0, 18, 6], b''), '19 0 -'),
-    (('content_write', b'A' * 99, [0, 18, 1, 0, 3], b''), '19 0 -'),
+    (('content_write', SMALLEST_POOL, SMALLEST_TAPE, b'\xE5' * 32), '21 0 ' + 'e5' * 32),
+    (('content_write', pool_of(b'a', 256), [0, 18, 1, 0, 3, 0, 0, 0, 0, 256, 0, 0, 0], b''), '22 0 -'),
+    (('content_write', pool_of(b'a', 256), [0, 18, 1, 0, 3, 0, 0, 0, 0, 255, 0, 0, 0], b''), '21 0 -'),
+    (('content_write', pool_of(b'a', 256), [0, 18, 1, 0, 3, 0, 0, 0, 0, 256, 3, 0, 0], b''), '19 0 -'),
+    (('content_write', pool_of(b'a', 99), [0, 18, 2**64 - 1], b''), '19 0 -'),
+    (('content_write', pool_of(b'a', 99), [0, 18, 6], b''), '19 0 -'),
+    (('content_write', pool_of(b'A', 99), [0, 18, 1, 0, 3], b''), '19 0 -'),
     (('content_write', b'\xAA' * 99, [0, 18, 0], b''), '18 0 -'),
     # Fields asked for, in bodies of which little is good: the language count is at 18 whatever stands before it.
     (('content_fields', b''), '14 0 14 0 14 18 14 18'),

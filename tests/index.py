@@ -187,6 +187,7 @@ def main():
     assert told['message_fields'] == told['message_resource'] == told['message_resource_digit'] == digits
     assert told['message_local_times'] == {0, 14, 15, 18, 19, 20}
     assert len(cases) > COUNT
+    checks.days_made()
 
 
 main()

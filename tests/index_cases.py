@@ -1,12 +1,15 @@
 """Index bodies and calls made by hand, with what document 01's words say of them; every refusal that can be met."""
+from make_fields import checked
 from table_checks import on_tape, pairs
 
 KIND = 0xFD
+# Its day is 3 November 2024.
+IDENTIFIER = 'f' + checked('1' + '23' * 11 + '20241103' + '23' * 2)
 
 
 def message(start='ecc9074500', end='ffffffffff', rest='11' '00' 'fe'):
     """A message: identifier at 3, network at 21, start at 23, end at 28, type at 33, class and level at 38."""
-    return 'f1' + '23' * 17 + '0007' + start + end + '3131413031' + rest
+    return IDENTIFIER + '0007' + start + end + '3131413031' + rest
 
 
 def body(message, more='0000'):

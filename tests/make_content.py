@@ -22,7 +22,7 @@ def table(chance):
 
 
 def table_of(chance, languages, signature=None):
-    return {'identifier': make.digits(chance, 35), 'languages': languages,
+    return {'identifier': make.identifier(chance), 'languages': languages,
             'signature': make.data(chance, 70) if signature is None else signature}
 
 
@@ -68,7 +68,7 @@ def sample_table(chance):
 
 
 def smallest():
-    return {'identifier': '0' * 35, 'languages': [
+    return {'identifier': '0' * 23 + '19000301' + '0' * 4, 'languages': [
         {'letters': b'zho', 'character set': 0, 'text': b'', 'agency': b'', 'files': []}], 'signature': b''}
 
 
@@ -76,7 +76,7 @@ def smallest():
 
 
 def items(table):
-    return [('identifier', make.digit_bytes(table['identifier'])),
+    return [('identifier', make.digit_bytes(make.checked(table['identifier']))),
             ('language count', bytes([0xF0 + len(table['languages'])])),
             *(item for language in table['languages'] for item in language_items(language)),
             ('signature length', 2), ('signature', table['signature']), END]
@@ -142,7 +142,7 @@ def readings(seed, count):
 
 def form_of(chance, table):
     made = make.Form()
-    made.digits('identifier', table['identifier'], chance)
+    made.digits('identifier', make.checked(table['identifier']), chance)
     made.count('language count', table['languages'])
     for language in table['languages']:
         made.span('letters', language['letters'])
@@ -199,6 +199,6 @@ def around_most_body():
 def forms_always():
     """Forms around the most of each count and length."""
     for one in too_large():
-        yield from make.with_faults(b'a' * 65537, one, sum(one) + 100)
+        yield from make.with_faults(make.pool_of(b'a', 65537), one, sum(one) + 100)
     for one in around_most_body():
-        yield from make.in_large_rooms(b'a' * max(65535, *one), one)
+        yield from make.in_large_rooms(make.pool_of(b'a', max(65535, *one)), one)

@@ -1,4 +1,6 @@
 """What the generators of tables share: parts by chance, damage to bodies and forms, whole readings and writings."""
+import collections
+import datetime
 import itertools
 import random
 
@@ -34,6 +36,37 @@ def digits(chance, count):
     return ''.join(chance.choices('0123456789', k=count))
 
 
+# The days that an identifier may have, in Python's count, and those among them at which a calendar goes wrong.
+DAYS = range(datetime.date(1900, 3, 1).toordinal(), datetime.date(2038, 4, 22).toordinal() + 1)
+ENDS = DAYS[0], DAYS[-1]
+MONTH_ENDS = [day for day in DAYS if datetime.date.fromordinal(day + 1).day == 1]
+LEAP_DAYS = [day for day in MONTH_ENDS if datetime.date.fromordinal(day).day == 29]
+
+
+def real_day(x):
+    """A day as YYYYMMDD, by any number: every second one any day, the others an end, a 29 February, a month's last."""
+    days = (DAYS, DAYS, DAYS, ENDS, LEAP_DAYS, MONTH_ENDS)[x % 6]
+    return datetime.date.fromordinal(days[x // 6 % len(days)]).strftime('%Y%m%d')
+
+
+def identifier(chance):
+    """The 35 digits of a good identifier: the real day is worked out from the digits drawn in its place."""
+    text = digits(chance, 35)
+    return text[:23] + real_day(int(text[23:31])) + text[31:]
+
+
+# How often each day is that of an identifier made as good.
+days_made = collections.Counter()
+
+
+def checked(text):
+    """The digits of an identifier made as good: its day, read anew, is held to Python's calendar and counted."""
+    day = datetime.date(int(text[23:27]), int(text[27:29]), int(text[29:31])).toordinal()
+    assert len(text) == 35 and text.isdecimal() and day in DAYS, text
+    days_made[day] += 1
+    return text
+
+
 def time(chance):
     """A good time: 16 bits of day, six digits."""
     day = chance.choice((15079, 65535, chance.randint(15079, 65535)))
@@ -62,6 +95,13 @@ def bad_time(chance):
 def digit_bytes(text):
     """Four reserved bits and the digits."""
     return bytes.fromhex('F' + text)
+
+
+def pool_of(letter, size):
+    """A pool of one letter whose two digits are good, but for the day of the identifier with which it begins."""
+    pool = letter * 12 + bytes.fromhex('20240229') + letter * (size - 16)
+    checked(pool[:18].hex()[1:])
+    return pool
 
 
 # ---- bodies

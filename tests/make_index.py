@@ -15,7 +15,7 @@ def table(chance):
 def message(chance, resources=None, channel=True):
     resources = make.some(chance, 5) if resources is None else resources
     return {
-        'identifier': make.digits(chance, 35),
+        'identifier': make.identifier(chance),
         'network': make.number(chance, 0xFFFF),
         'start': make.time(chance),
         'end': LIVE if chance.random() < 0.25 else make.time(chance),
@@ -116,7 +116,7 @@ def message_items(message):
     channel = message['channel']
     return [
         ('EBM_length', 2),
-        ('identifier', make.digit_bytes(message['identifier'])),
+        ('identifier', make.digit_bytes(make.checked(message['identifier']))),
         ('network', message['network'].to_bytes(2, 'big')),
         ('start', message['start'].to_bytes(5, 'big')),
         ('end', message['end'].to_bytes(5, 'big')),
@@ -189,7 +189,7 @@ def form_of(chance, table):
 
 
 def form_message(chance, made, message):
-    made.digits('identifier', message['identifier'], chance)
+    made.digits('identifier', make.checked(message['identifier']), chance)
     for name in 'network', 'start', 'end':
         made.number(name, message[name])
     made.span('type', message['type'])
@@ -241,7 +241,7 @@ BAD_ENTRIES = {
     'ES descriptor tag': lambda chance: 256 + make.number(chance, 255)}
 COUNTS = ('message count', 'resource count', 'program descriptor count', 'stream count', 'ES descriptor count')
 
-# In a pool of the letter a, digits are 6 and 1, and every span of right length is good.
+# In a pool of the letter a, digits are 6 and 1, and every span of right length from 0 on is good.
 HEAD = [0, 18, 7, 0xECC9074500, LIVE, 0, 5, 4, 1]
 
 
@@ -283,6 +283,6 @@ def around_most_body():
 def forms_always():
     """Forms around the most of each count and length."""
     for tape in too_large():
-        yield from make.with_faults(b'a' * 65537, tape, 66000)
+        yield from make.with_faults(make.pool_of(b'a', 65537), tape, 66000)
     for tape in around_most_body():
-        yield from make.in_large_rooms(b'a' * 65535, tape)
+        yield from make.in_large_rooms(make.pool_of(b'a', 65535), tape)

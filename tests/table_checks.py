@@ -92,6 +92,16 @@ def there_and_back(chance, read, write, make):
     print('%d tables are read and written by the second program as they were made' % len(tables))
 
 
+def days_made():
+    """Says how many identifiers make_fields.checked found good; both ends and every 29 February were among their days."""
+    made = make_fields.days_made
+    ends, leap, others = (sum(made[day] for day in days) for days in (
+        make_fields.ENDS, make_fields.LEAP_DAYS, {*make_fields.MONTH_ENDS} - {*make_fields.LEAP_DAYS}))
+    assert {*made} >= {*make_fields.ENDS, *make_fields.LEAP_DAYS}
+    print('%d identifiers made as good have a real day, of %d days: %d times the first or last, %d a 29 February, %d '
+          "another month's end" % (made.total(), len(made), ends, leap, others))
+
+
 def tables_of(table_of, bodies):
     """The tables of those bodies, each with its kind, that are accepted."""
     found = {}
