@@ -1,6 +1,9 @@
 // whole_tables: the part of `whole` that makes forms and bodies of the four tables by chance, damages and tries them.
+#include <inttypes.h>
+#include <stdio.h>
 #include <string.h>
 
+#include "real_day.h"
 #include "whole.h"
 
 enum { MOST_POOL = 2000000, MOST_ENTRIES = 180000, MOST_TRIED = NW_MOST_BODY + 4096 };
@@ -41,12 +44,42 @@ static void opaque_of(nw_form *f, size_t length) {
 
 static void opaque(nw_form *f, uint64_t most) { opaque_of(f, some(20, most)); }
 
-static void digits(nw_form *f, size_t width) {
-    uint8_t s[18];
+static void draw_digits(uint8_t *s, size_t width) {
     for (size_t i = 0; i < width; i++) s[i] = (uint8_t)(below(10) << 4 | below(10));
     s[0] |= (uint8_t)(below(16) << 4);
+}
+
+static void put_digits(nw_form *f, uint8_t *s, size_t width) {
     if (at_fault(100)) s[below(width)] |= one_in(2) ? 0x0A : 0xA0;
     nw_form_bytes(f, s, width);
+}
+
+static void resource(nw_form *f) {
+    uint8_t s[12];
+    draw_digits(s, sizeof s);
+    put_digits(f, s, sizeof s);
+}
+
+// The identifiers made as good, and how many of them had a day at which a calendar goes wrong.
+static uint64_t identifiers, at_an_end, on_leap_day, at_month_end;
+
+// Counts an identifier made as good, whose day plain C's calendar must have.
+static void hold_real_day(const uint8_t *s) {
+    struct real_day d = day_in(s);
+    nw_answer day = plain_day_of(d.year, d.month, d.day), next = plain_date_of((uint32_t)NW_VALUE(day) + 1);
+    if (NW_REFUSAL(day)) wrong("an identifier made as good has no real day");
+    identifiers++;
+    at_an_end += NW_VALUE(day) == 15079 || NW_VALUE(day) == 65535;
+    if (d.month == 2 && d.day == 29) on_leap_day++;
+    else at_month_end += NW_REFUSAL(next) == 0 && NW_DATE_DAY(next) == 1;
+}
+
+static void identifier(nw_form *f) {
+    uint8_t s[18];
+    draw_digits(s, sizeof s);
+    put_real_day(s);
+    hold_real_day(s);
+    put_digits(f, s, sizeof s);
 }
 
 static void time_field(nw_form *f, int is_end) {
@@ -94,7 +127,7 @@ static void channel(nw_form *f) {
 static void message_head(nw_form *f) {
     uint8_t type[5];
     for (size_t i = 0; i < 5; i++) type[i] = (uint8_t)below(at_fault(200) ? 256 : 128);
-    digits(f, 18);
+    identifier(f);
     nw_form_number(f, below(65536));
     time_field(f, 0);
     time_field(f, 1);
@@ -103,8 +136,8 @@ static void message_head(nw_form *f) {
     nw_form_number(f, 1 + below(4));
 }
 
-static void list_of_digits(nw_form *f, size_t left) {
-    for (nw_form_number(f, left); left > 0; left--) digits(f, 12);
+static void list_of_resources(nw_form *f, size_t left) {
+    for (nw_form_number(f, left); left > 0; left--) resource(f);
 }
 
 // What follows in a message of about the 65,535 bytes that its length can count: a descriptor, and streams of 5 bytes.
@@ -123,7 +156,7 @@ static void message(nw_form *f) {
         long_message(f);
         return;
     }
-    list_of_digits(f, some(3, 255));
+    list_of_resources(f, some(3, 255));
     nw_form_number(f, has_channel);
     if (has_channel) channel(f);
 }
@@ -149,7 +182,7 @@ static void language(nw_form *f) {
 }
 
 static void content_form(nw_form *f) {
-    digits(f, 18);
+    identifier(f);
     uint64_t left = 1 + below(5);
     for (nw_form_number(f, left); left > 0; left--) language(f);
     opaque(f, 65535);
@@ -190,7 +223,7 @@ static void command(nw_form *f) {
     nw_form_number(f, tag);
     switch (tag) {
     case NW_CLOCK: clock_fields(f); return;
-    case NW_CODE: opaque(f, 255); digits(f, 12); return;
+    case NW_CODE: opaque(f, 255); resource(f); return;
     case NW_FREQUENCY:
         nw_form_number(f, chance() & UINT32_MAX);
         nw_form_number(f, chance() & UINT32_MAX);
@@ -204,7 +237,7 @@ static void command(nw_form *f) {
         break;
     default: opaque(f, 65535); return;
     }
-    list_of_digits(f, some(3, 255));
+    list_of_resources(f, some(3, 255));
 }
 
 static void configuration_form(nw_form *f) {
@@ -227,7 +260,7 @@ static void index_longest(nw_form *f, size_t more) {
     nw_form_number(f, 255);
     for (int i = 0; i < 255; i++) {
         message_head(f);
-        list_of_digits(f, 255);
+        list_of_resources(f, 255);
         for (int k = 0; k < 5; k++) nw_form_number(f, 1); // flag, network, stream, program, PCR PID
         nw_form_number(f, 4);
         for (int k = 0; k < 4; k++) {
@@ -240,7 +273,7 @@ static void index_longest(nw_form *f, size_t more) {
 }
 
 static void content_longest(nw_form *f, size_t more) {
-    digits(f, 18);
+    identifier(f);
     nw_form_number(f, 1);
     nw_form_bytes(f, (const uint8_t *)"zho", 3);
     nw_form_number(f, 4);
@@ -590,4 +623,8 @@ void try_tables(void) {
         try_longest_of(tables + i);
         try_noise(tables + i);
     }
+    if (!at_an_end || !on_leap_day || !at_month_end) wrong("no identifier has a day at which a calendar goes wrong");
+    printf("whole: %" PRIu64 " identifiers made as good have a real day, %" PRIu64 " times the first or last, %" PRIu64
+           " a 29 February, %" PRIu64 " another month's end\n",
+           identifiers, at_an_end, on_leap_day, at_month_end);
 }
