@@ -2,7 +2,7 @@
 #include "table.h"
 
 static void put_terminals(struct input *in, nw_form *f) {
-    for (size_t count = put_count(in, f, 3); count > 0; count--) put_digits(in, f, 12);
+    for (size_t count = put_count(in, f, 3); count > 0; count--) put_resource(in, f);
 }
 
 static void put_clock(struct input *in, nw_form *f) {
@@ -37,7 +37,7 @@ static void make(struct input *in, nw_form *f) {
         nw_form_number(f, tag);
         if (tag == 1) put_clock(in, f);
         if (tag == 2 || tag == 0 || tag > 7) put_some(in, f);
-        if (tag == 2) put_digits(in, f, 12);
+        if (tag == 2) put_resource(in, f);
         put_fields(in, f, tag);
         if (tag >= 3 && tag <= 7) put_terminals(in, f);
     }

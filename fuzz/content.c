@@ -8,7 +8,7 @@ static void put_letters(struct input *in, nw_form *f) {
 }
 
 static void make(struct input *in, nw_form *f) {
-    put_digits(in, f, 18);
+    put_identifier(in, f);
     size_t languages = 1 + upto(in, 4);
     nw_form_number(f, now_and_then(in, 64) ? take(in, 1) : languages);
     for (; languages > 0; languages--) {

@@ -31,7 +31,7 @@ static void put_channel(struct input *in, nw_form *f) {
 
 static void make(struct input *in, nw_form *f) {
     for (size_t count = put_count(in, f, 3); count > 0; count--) {
-        put_digits(in, f, 18);
+        put_identifier(in, f);
         put_number(in, f, 0, 0xFFFF);
         put_time(in, f, false);
         put_time(in, f, true);
@@ -40,7 +40,7 @@ static void make(struct input *in, nw_form *f) {
         nw_form_bytes(f, type, 5);
         put_number(in, f, 1, 4);
         put_number(in, f, 1, 4);
-        for (size_t resources = put_count(in, f, 3); resources > 0; resources--) put_digits(in, f, 12);
+        for (size_t resources = put_count(in, f, 3); resources > 0; resources--) put_resource(in, f);
         bool channel = now_and_then(in, 2);
         nw_form_number(f, channel);
         if (channel) put_channel(in, f);

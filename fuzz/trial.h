@@ -12,6 +12,7 @@
 #include <stdlib.h>
 #include <string.h>
 
+#include "../tests/real_day.h"
 #include "neapwillow.h"
 
 int LLVMFuzzerTestOneInput(const uint8_t *data, size_t size);
@@ -129,15 +130,31 @@ static inline void put_bytes(struct input *in, nw_form *f, size_t n) {
 
 static inline void put_some(struct input *in, nw_form *f) { put_bytes(in, f, upto(in, 255) % 20); }
 
-// Decimal digits, two to a byte; now and then others.
-static inline void put_digits(struct input *in, nw_form *f, size_t n) {
-    uint8_t bytes[32];
+// Decimal digits, two to a byte; now and then others. Whether they are digits.
+static inline bool take_digits(struct input *in, uint8_t *bytes, size_t n) {
     bool good = !now_and_then(in, 32);
     for (size_t i = 0; i < n; i++) {
         unsigned x = (unsigned)take(in, 1);
         bytes[i] = (uint8_t)(good ? x % 100 / 10 << 4 | x % 10 : x);
     }
-    nw_form_bytes(f, bytes, n);
+    return good;
+}
+
+static inline void put_resource(struct input *in, nw_form *f) {
+    uint8_t bytes[12];
+    take_digits(in, bytes, sizeof bytes);
+    nw_form_bytes(f, bytes, sizeof bytes);
+}
+
+// An identifier; one of digits has a real day.
+static inline void put_identifier(struct input *in, nw_form *f) {
+    uint8_t bytes[18];
+    if (take_digits(in, bytes, sizeof bytes)) {
+        put_real_day(bytes);
+        struct real_day d = day_in(bytes);
+        must(taken(nw_day_of(d.year, d.month, d.day)));
+    }
+    nw_form_bytes(f, bytes, sizeof bytes);
 }
 
 // A number up to `most`; now and then any of 64 bits.
