@@ -16,6 +16,7 @@
 #include "plain_index.h"
 #include "plain_numbers.h"
 #include "plain_sections.h"
+#include "real_day.h"
 
 enum { MOST_CONTENDERS = 4, MOST_SIZES = 8, ROUNDS = 75 };
 
@@ -470,6 +471,12 @@ static uint8_t *put_digits(uint8_t *to, size_t width) {
     return to + width;
 }
 
+static uint8_t *put_identifier(uint8_t *to) {
+    put_digits(to, 18);
+    put_real_day(to);
+    return to + 18;
+}
+
 // Two descriptors of so many bytes each.
 static uint8_t *put_descriptors(uint8_t *to, size_t first, size_t second) {
     to = put_two(to, 0xF000 | (2 + first + 2 + second));
@@ -489,7 +496,7 @@ static uint8_t *put_message(uint8_t *to, size_t streams) {
     static const uint8_t middle[17] = {0xEC, 0xC9, 0x07, 0x45, 0x00, 0xEC, 0xC9, 0x09, 0x00,
                                        0x00, '1',  '1',  'A',  '0',  '1',  0x42, RESOURCES};
     to = put_two(to, MESSAGE_BYTES + STREAM_BYTES * streams);
-    to = put_digits(to, 18) + 2;
+    to = put_identifier(to) + 2;
     memcpy(to, middle, sizeof middle);
     to += sizeof middle;
     for (size_t i = 0; i < RESOURCES; i++) to = put_digits(to, 12);
@@ -540,7 +547,7 @@ static uint8_t *put_language(uint8_t *to, size_t bytes) {
 // A content body of n bytes, the signature having what the languages leave, and its form.
 static void fill_content(size_t n) {
     fill_bytes(n);
-    uint8_t *to = put_digits(input, 18);
+    uint8_t *to = put_identifier(input);
     *to++ = 0xF0 | LANGUAGES;
     for (int i = 0; i < LANGUAGES; i++) to = put_language(to, (n - 100) / LANGUAGES - 4);
     put_opaque(to, 2, n - 2 - (size_t)(to - input));
