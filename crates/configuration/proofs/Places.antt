@@ -11,7 +11,7 @@ use Rattle.days.specs.Calendar.{dayOf}
 use Rattle.days.specs.declared.DayAnswer.{DayAnswer}
 use Rattle.days.specs.declared.DayAnswer.the-variants.{Day, Refused}
 use Rattle.formats.specs.Reading.{faulty}
-use Rattle.formats.specs.Format.{_▷_, outside, count, number, rest}
+use Rattle.formats.specs.Format.{outside, count, number, rest}
 use Rattle.formats.proofs.Places.{FaultUntil, none, stands, unless-until, outside-until, Placed, count-placed, only-placed, number-placed, among-placed, digits-placed, followed-placed, view-placed, list-placed, rest-placed, exact-placed, counted-placed, least-placed, opaque-placed, resources-placed}
 use Rattle.configuration.specs.Address.{lengthFits, isAddress}
 use Rattle.configuration.specs.Configuration.{terminals, dayFault, plain, date, clock, addressFault, fitting, address, Order, setClock, setCode, tune, setReturn, setPeriod, setVolume, query, other, orderOf, said, least, command, fields, configuration}

@@ -1,17 +1,15 @@
 -- The check of a string, walked some bytes a turn: what a loop knows of its register, where it starts, its turns, and where it ends.
-use mathlib.Core.Bool.{Bool, false}
+use mathlib.Core.Bool.{Bool}
 use mathlib.Core.List.{List, [], _∷_, _++_, append-nil}
-use mathlib.Core.Path.{_≡_, refl, sym, ap, ap₂, _∙_, subst}
+use mathlib.Core.Path.{_≡_, sym, ap, ap₂, _∙_}
 use Prim.Native.Nat.{ℕ, suc, _+_, _-_, _*_, _/_, _^_, _<_, _≤_}
-use native.Mathlib.Nat.{add-assoc}
 use native.Mathlib.Numerals.{add-one}
 use native.Mathlib.Omega.{arith}
-use lib.Bits.{bitXor, xor-comm}
-use lib.ListN.{length, getD, take, drop, replicate, take-append-drop, length-drop}
+use lib.ListN.{length, getD, take, drop, take-append-drop, length-drop}
 use lib.Seq.{drop-cons, take-add, take-all}
 use Rattle.register.specs.Register.{bitsOf, bytesBits, crc}
-use Rattle.register.proofs.Bits.{length-bits, bits-above, bits-append}
-use Rattle.register.proofs.Laws.{crc-none, crc-append, crc-bytes-append, crc-apart, crc-whole}
+use Rattle.register.proofs.Bits.{bits-above, bits-append}
+use Rattle.register.proofs.Laws.{crc-none, crc-append, crc-bytes-append}
 
 -- r is the check of the first i bytes of xs
 pub record Walk (w p s : ℕ) (xs : List ℕ) (i r : ℕ) : Type 0 where

@@ -4,7 +4,7 @@ use mathlib.Core.Path.{_≡_, refl, sym, ap, ap₂, _∙_}
 use mathlib.Core.List.{List}
 use mathlib.Core.Bool.{Bool, true, false, not, _&&_}
 use native.Mathlib.Omega.{arith}
-use native.Mathlib.Nat.{pow-suc, pow-le-pow-right, mul-sub, mul-comm, mul-one, zero-mul, zero-add, one-le-pow}
+use native.Mathlib.Nat.{pow-suc, pow-le-pow-right, mul-sub, mul-comm, mul-one, zero-mul, zero-add}
 use native.Mathlib.Numerals.{add-one}
 use lib.ListN.{length, getD}
 use lib.Dec.{leb, ltb}
@@ -148,19 +148,6 @@ number-below w pool tape k a j e =
     let f = andThen-found (count w .form pool tape k) _ a j e in
     let g = judged-found (unless (ltb (f .0) (256 ^ w)) (OutsideSet 0)) _ a j (f .3) in
     rw (← found-inj (g .1) .0) (ltb-true (f .0) (256 ^ w) (fine-test _ _ (g .0)))
-
-value-below : (w : ℕ) (pool tape : List ℕ) (x : Pen) → valueAt (number w) pool tape x < 256 ^ w
-unfolding valueAt
-value-below w pool tape (At size k) = go (number w .form pool tape k) refl
-  where
-    go : (y : Reading ℕ) → number w .form pool tape k ≡ y → valueOf y < 256 ^ w
-    go (found n j) e = number-below w pool tape k n j e
-    go (refused r) e = one-le-pow w 256 (omega arith)
-value-below w pool tape (Refused r) = one-le-pow w 256 (omega arith)
-
--- a number that is told fits its bytes, where the pen stopped too
-pub told-below : (w : ℕ) {pool tape : List ℕ} {x : Pen} {wet : Bool} {out : List ℕ} {c : Count} {out′ : List ℕ} → Counted (number w) pool tape x wet out c out′ → c .n < 256 ^ w
-told-below w {pool} {tape} {x} p = rw (p .value) (value-below w pool tape x)
 
 pub only-below : (fault : ℕ → ℕ → Fault) (w : ℕ) (pool tape : List ℕ) (k a j : ℕ) → only fault (number w) .form pool tape k ≡ found a j → a < 256 ^ w
 unfolding only

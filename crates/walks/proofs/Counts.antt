@@ -1,18 +1,18 @@
 -- Walks that a number decides: what depends on it, what a flag says is there, a part by its length, and things after their count.
-use Prim.Native.Nat.{ℕ, zero, suc, _+_, _-_, _%_, _^_, _≤_, _<_}
+use Prim.Native.Nat.{ℕ, zero, suc, _+_, _-_, _%_, _≤_, _<_}
 use mathlib.Core.Path.{_≡_, refl, sym, ap, ap₂, _∙_, subst}
 use mathlib.Core.List.{List, [], _∷_, _++_}
 use mathlib.Core.Bool.{Bool, true, false}
 use native.Mathlib.Omega.{arith}
-use native.Mathlib.Nat.{add-sub-cancel-left, one-le-pow}
+use native.Mathlib.Nat.{add-sub-cancel-left}
 use lib.ListN.{length, take, drop, length-append, length-drop}
 use lib.Seq.{length-take-le}
-use lib.Dec.{ltb, leb}
-use borrow.Author.Tests.{ltb-true, leb-true, le-leb}
+use lib.Dec.{leb}
+use borrow.Author.Tests.{leb-true, le-leb}
 use Rattle.placing.specs.Placed.{placed}
-use Rattle.refusal.specs.declared.Refusal.the-variants.{PastBody, PastPart, OutsideSet}
-use Rattle.formats.specs.Reading.{Reading, found, refused, andThen, need, Fault, fine, faulty, unless, judged, within, valueOf}
-use Rattle.formats.specs.Format.{Format, count, only, number, followed, _▷_, nothing, under, repeat, times, tapeAll, listOf, rest, Length, counted}
+use Rattle.refusal.specs.declared.Refusal.the-variants.{PastBody, PastPart}
+use Rattle.formats.specs.Reading.{Reading, found, refused, andThen, need, Fault, fine, faulty, judged, within, valueOf}
+use Rattle.formats.specs.Format.{Format, followed, _▷_, nothing, under, repeat, times, tapeAll, listOf, rest, Length, counted}
 use Rattle.formats.specs.Answers.{partOf}
 use Rattle.formats.proofs.Outcomes.{found-inj, andThen-found, judged-found, within-found}
 use Rattle.formats.proofs.Classes.{Formal, Lawful, Filling}
@@ -31,26 +31,6 @@ pub value-found : {C : Format ℕ} {s : List ℕ} {l : ℕ} {x : Walk} {wet : Bo
     → Counted C s l x wet t c t₁ → (n p q room : ℕ) → x ≡ At p room → C .parse s l p ≡ found n q → c .n ≡ n
 unfolding valueAt
 value-found {C} {s} {l} w n p q room e h = w .value ∙ ap (valueAt C s l) e ∙ ap valueOf h
-
--- a number of w bytes is told as one of w bytes
-pub told-below : (w : ℕ) {s : List ℕ} {l : ℕ} {x : Walk} {wet : Bool} {t : List ℕ} {c : Count} {t₁ : List ℕ} → Counted (number w) s l x wet t c t₁ → c .n < 256 ^ w
-unfolding number only valueAt
-told-below w {s} {l} {x} k = rw (k .value) (go x)
-  where
-    none : 0 < 256 ^ w
-    none = one-le-pow w 256 (omega arith)
-
-    test : (v q p : ℕ) (b : Bool) → ltb v (256 ^ w) ≡ b → valueOf (judged (unless b (OutsideSet p)) (found v q)) < 256 ^ w
-    test v q p true e = ltb-true v (256 ^ w) e
-    test v q p false e = none
-
-    read : (p : ℕ) (y : Reading ℕ) → valueOf (andThen y (λ v q. judged (unless (ltb v (256 ^ w)) (OutsideSet p)) (found v q))) < 256 ^ w
-    read p (refused e) = none
-    read p (found v q) = test v q p (ltb v (256 ^ w)) refl
-
-    go : (x : Walk) → valueAt (number w) s l x < 256 ^ w
-    go (Refused e) = none
-    go (At p room) = read p (count w .parse s l p)
 
 -- what depends on a number that was told
 pub told-walk : {B : ℕ → Type 0} {C : Format ℕ} {G : (n : ℕ) → Format (B n)} {s : List ℕ} {l : ℕ} {x : Walk} {wet : Bool} {t : List ℕ} {c : Count} {t₁ : List ℕ} {r : Walk} {t₂ : List ℕ}
