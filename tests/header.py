@@ -1,4 +1,4 @@
-"""The C header against the source: each export's parameters in number, order and width, lent structs, the refusals."""
+"""The C header against the source: exports' parameters in number, order and width, lent structs, refusals, macros of answers."""
 import glob
 import os
 import re
@@ -18,6 +18,11 @@ IN_C = {
     '&Gathering': ['const nw_gathering *'], '&mut Gathering': ['nw_gathering *'],
     '&mut [Record]': ['nw_record *', 'size_t'],
 }
+
+
+# The macros that take a value apart, by the record of telling's Taking that says what each finds; and what a cast leaves.
+MACROS = {'TellsDate': 'NW_DATE_', 'TellsTime': 'NW_TIME_', 'TellsHeading': 'NW_SECTION_', 'TellsPart': 'NW_PART_', 'TellsContent': 'NW_CONTENT_'}
+CAST = {'unsigned': 32, 'size_t': 64}
 
 
 def read(*path):
@@ -81,11 +86,28 @@ def header_refusals(header):
     return {name: int(number) for name, number in re.findall(r'(NW_\w+) = (\d+)', body) if number != '0'}
 
 
+def source_macros():
+    """Each field of a value that the definitions name: how many bits stand below it, and how many it has."""
+    found = {}
+    for record, prefix in MACROS.items():
+        body = re.search(r'pub record %s .*?(?=\npub |\Z)' % record, read('crates', 'telling', 'specs', 'Taking.antt'), re.S).group(0)
+        for field, below, width in re.findall(r'pub (\S+) : fieldTold (\d+) (\d+) a', body):
+            found[prefix + field.removesuffix('-is').upper()] = int(below), int(width)
+    return found
+
+
+def header_macros(header):
+    """The same of the header's macros: a mask says the width, or the type that the value is cast to."""
+    form = r'#define (NW_\w+)\(answer\) \(\((\w+)\)\(NW_VALUE\(answer\)(?: >> (\d+))?(?: & 0x(F+)u)?\)\)'
+    return {name: (int(below or 0), 4 * len(mask) if mask else CAST[cast]) for name, cast, below, mask in re.findall(form, header)}
+
+
 def main():
     header = without_comments(read('include', 'neapwillow.h'))
     pairs = [('function', exports(), declarations(header)), ('refusal', source_refusals(), header_refusals(header)),
              ('struct', {lent: source_fields(path, name) for lent, path, name in STRUCTS},
-              {lent: header_fields(header, lent) for lent, _, _ in STRUCTS})]
+              {lent: header_fields(header, lent) for lent, _, _ in STRUCTS}),
+             ('macro', source_macros(), header_macros(header))]
     wrong = 0
     for what, source, declared in pairs:
         for name in sorted(source.keys() | declared.keys()):
@@ -93,7 +115,7 @@ def main():
                 wrong += 1
                 print('%s %s: the source has %s, the header %s' % (what, name, source.get(name), declared.get(name)))
         print('%d of kind %s in the source' % (len(source), what))
-    if wrong or len(pairs[0][1]) < 14 or len(pairs[1][1]) != 25:
+    if wrong or len(pairs[0][1]) < 14 or len(pairs[1][1]) != 25 or not pairs[3][1]:
         sys.exit('%d differ' % wrong)
     print('the header declares them as they are')
 
