@@ -1,4 +1,4 @@
-# make proves and builds the library and its two programs; `make help` lists what else it can do.
+# make proves and builds the library and its two commands; `make help` lists what else it can do.
 # What is built is for x86-64. Elsewhere it is cross-built, and what is run runs under the kit's emulator.
 VERSION := $(shell cat VERSION)
 PREFIX ?= /usr/local
@@ -10,8 +10,9 @@ MANDIR = $(PREFIX)/share/man
 INSTALL ?= install
 
 ARCHIVE = target/staticlib/libneapwillow.a
-PROGRAMS = dates section
-BUILT = $(ARCHIVE) $(PROGRAMS:%=target/bin/%)
+ARCHIVES = $(ARCHIVE) target/staticlib/libcommandlines.a
+PROGRAMS = nw-dates nw-section
+COMMANDS = $(PROGRAMS:%=target/bin/%)
 SOURCES := crates.txt $(shell find crates -type f)
 
 # Below the prefix a folder is told by it, so that the installed tree can be moved as a whole.
@@ -21,14 +22,17 @@ FILL = sed -e 's|@VERSION@|$(VERSION)|g' -e 's|@PREFIX@|$(PREFIX)|g' \
 
 .PHONY: all help check drill install uninstall clean
 
-all: $(BUILT)
+all: $(ARCHIVES) $(COMMANDS)
 
 # Only what is older than a source: once it is built, `make install` needs neither the prover nor a tree that can be written.
-$(BUILT) &: $(SOURCES)
+$(ARCHIVES) &: $(SOURCES)
+	tools/build
+
+$(COMMANDS) &: $(ARCHIVES) $(wildcard programs/* include/*)
 	tools/build
 
 help:
-	@echo 'make            proves and builds the library and the programs $(PROGRAMS)'
+	@echo 'make            proves and builds the library and the commands $(PROGRAMS)'
 	@echo 'make install    puts them down below PREFIX ($(PREFIX)), with header, man pages and pkg-config file; DESTDIR stages'
 	@echo 'make uninstall  removes them again'
 	@echo 'make check      runs the tests through C, without the proofs; ./test is the whole gate'
