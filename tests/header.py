@@ -1,4 +1,4 @@
-"""The C header against the source: exports' parameters in number, order and width, lent structs, refusals, macros of answers."""
+"""The C headers against the source: exports' parameters in number, order and width, lent structs, refusals, macros of answers."""
 import glob
 import os
 import re
@@ -6,6 +6,12 @@ import sys
 
 ROOT = os.path.join(os.path.dirname(os.path.abspath(__file__)), os.pardir)
 RECORDS = 'crates/records/src/lib.rt'
+
+# The crates that C is offered, and the header of each.
+HEADERS = {'neapwillow': 'include/neapwillow.h', 'commandlines': 'programs/commandlines.h'}
+
+# What the commands' header calls a constant of the source.
+CONSTANTS = {'NW_MOST_INPUT': 'printing::MOST_INPUT', 'NW_MOST_REPORT': 'datelines::MOST_OUTPUT', 'NW_MOST_LINE': 'sectionline::MOST_OUTPUT'}
 
 # What C lends as a struct: its name there, and where the source has it under which name.
 STRUCTS = [('nw_gathering', 'crates/holding/src/lib.rt', 'Gathering'), ('nw_record', RECORDS, 'Record')]
@@ -34,19 +40,28 @@ def without_comments(text):
     return re.sub(r'/\*.*?\*/|//[^\n]*', '', text, flags=re.S)
 
 
-def exports():
-    """Each exported function of the source: its result and its parameters, as C has them."""
+def parameter_in_c(kind):
+    """What a parameter of the source is in C: a lent array is a pointer that the header writes with the array's length."""
+    array = re.fullmatch(r'&mut \[u8; (\S+)\]', kind)
+    return ['uint8_t [%s]' % array[1]] if array else IN_C[kind]
+
+
+def exports(crate):
+    """Each exported function of a crate: its result and its parameters, as C has them."""
     found = {}
-    for path in sorted(glob.glob(os.path.join(ROOT, 'crates', 'neapwillow', 'src', '*.rt'))):
+    for path in sorted(glob.glob(os.path.join(ROOT, 'crates', crate, 'src', '*.rt'))):
         for name, parameters, result in re.findall(
                 r'pub extern "C" fn (\w+)\(([^)]*)\)\s*->\s*(\w+)', without_comments(read(path))):
             types = [p.split(':', 1)[1].strip() for p in parameters.split(',') if p.strip()]
-            found[name] = IN_C[result], [c for t in types for c in IN_C[t]]
+            found[name] = IN_C[result], [c for t in types for c in parameter_in_c(t)]
     return found
 
 
 def in_c(declared):
-    """A parameter's type without its name, one space before a star."""
+    """A parameter's type without its name, one space before a star; an array with the source's name for its length."""
+    array = re.fullmatch(r'(\w+) \w+\[(\w+)\]', declared.strip())
+    if array:
+        return '%s [%s]' % (array[1], CONSTANTS.get(array[2]))
     kind = re.sub(r'\s*\*\s*', ' * ', declared.strip())
     kind = kind if kind.endswith('* ') else re.sub(r'\w+$', '', kind)
     return kind.strip()
@@ -59,6 +74,19 @@ def declarations(header):
         result = 'uint64_t' if result == 'nw_answer' else result
         found[name] = [result], [in_c(p) for p in re.sub(r'\s+', ' ', parameters).split(',')]
     return found
+
+
+def source_constants():
+    found = {}
+    for name, constant in CONSTANTS.items():
+        crate, _, word = constant.partition('::')
+        value = re.search(r'pub const %s: \w+ = ([\d_]+);' % word, read('crates', crate, 'src', 'lib.rt'))[1]
+        found[name] = int(value.replace('_', ''))
+    return found
+
+
+def header_constants(header):
+    return {name: int(value) for name, value in re.findall(r'#define (NW_\w+) (\d+)u', header)}
 
 
 def source_fields(path, name):
@@ -103,11 +131,13 @@ def header_macros(header):
 
 
 def main():
-    header = without_comments(read('include', 'neapwillow.h'))
-    pairs = [('function', exports(), declarations(header)), ('refusal', source_refusals(), header_refusals(header)),
+    header, commands = (without_comments(read(path)) for path in HEADERS.values())
+    functions = [('function of ' + crate, exports(crate), declarations(text)) for crate, text in zip(HEADERS, (header, commands))]
+    pairs = [functions[0], ('refusal', source_refusals(), header_refusals(header)),
              ('struct', {lent: source_fields(path, name) for lent, path, name in STRUCTS},
               {lent: header_fields(header, lent) for lent, _, _ in STRUCTS}),
-             ('macro', source_macros(), header_macros(header))]
+             ('macro', source_macros(), header_macros(header)),
+             functions[1], ('constant', source_constants(), header_constants(commands))]
     wrong = 0
     for what, source, declared in pairs:
         for name in sorted(source.keys() | declared.keys()):
@@ -115,9 +145,9 @@ def main():
                 wrong += 1
                 print('%s %s: the source has %s, the header %s' % (what, name, source.get(name), declared.get(name)))
         print('%d of kind %s in the source' % (len(source), what))
-    if wrong or len(pairs[0][1]) < 14 or len(pairs[1][1]) != 25 or not pairs[3][1]:
+    if wrong or len(pairs[0][1]) < 14 or len(pairs[1][1]) != 25 or not all(source for _, source, _ in pairs):
         sys.exit('%d differ' % wrong)
-    print('the header declares them as they are')
+    print('the headers declare them as they are')
 
 
 main()

@@ -9,6 +9,7 @@ import sys
 
 ROOT = os.path.join(os.path.dirname(os.path.abspath(__file__)), os.pardir)
 LIST = os.path.join('crates', 'promises', 'specs', 'Offered.antt')
+EXPORTS = os.path.join('crates', 'neapwillow', 'src', '*.rt')
 
 # What a parameter's type is in a contract.
 IN_SPECS = {
@@ -86,7 +87,7 @@ def stated(parameters, clauses):
 def exports():
     """Each exported function of the source: its promise, the same with modules, and whether it asks for something."""
     found, marks = {}, 0
-    for path in sorted(glob.glob(os.path.join(ROOT, 'crates', 'neapwillow', 'src', '*.rt'))):
+    for path in sorted(glob.glob(os.path.join(ROOT, EXPORTS))):
         text = re.sub(r'//[^\n]*', '', read(path))
         marks += text.count('#[no_mangle]')
         for name, parameters, contract in re.findall(
@@ -109,6 +110,18 @@ def listed():
     return {name.replace('-', '_'): (' '.join(promise.split()), resolved(promise, names, modules)) for name, promise in fields}
 
 
+def asking_others():
+    """The functions that C is offered by another crate, for the commands, and that ask for something; and how many there are."""
+    asking, count = [], 0
+    for path in sorted(set(glob.glob(os.path.join(ROOT, 'crates', '*', 'src', '*.rt'))) - set(glob.glob(os.path.join(ROOT, EXPORTS)))):
+        for contract in re.sub(r'//[^\n]*', '', read(path)).split('#[no_mangle]')[1:]:
+            name, until_body = re.search(r'extern "C" fn (\w+)(.*?)^\{', contract, flags=re.M | re.S).groups()
+            count += 1
+            if not re.search(r'^\s+ensures\b', until_body, flags=re.M) or re.search(r'^\s+requires\b', until_body, flags=re.M):
+                asking.append(name)
+    return asking, count
+
+
 def main():
     offered, promised, wrong = exports(), listed(), 0
     for name in sorted(offered.keys() | promised.keys()):
@@ -126,9 +139,13 @@ def main():
             print('%s: the list has %s, the source says\n  pub %s : %s' % (name, text, name.replace('_', '-'), promise))
             for here, there in [pair for pair in zip(listed_words, words) if pair[0] != pair[1]][:1]:
                 print('  first differs: %s, for %s' % (here, there))
-    if wrong or not offered:
+    asking, others = asking_others()
+    for name in asking:
+        wrong += 1
+        print('%s: promises nothing, or asks for something' % name)
+    if wrong or not offered or not others:
         sys.exit('%d differ' % wrong)
-    print('%d functions are offered, each with its promise' % len(offered))
+    print('%d functions are offered, each with its promise, and %d for the commands, which ask for nothing' % (len(offered), others))
 
 
 if __name__ == '__main__':
