@@ -61,12 +61,13 @@ static unsigned put_field(struct report *r, const uint8_t *s, size_t n, int offs
 static bool read_field(const uint8_t *s, size_t n, uint64_t *field) {
     static const char digits[] = "0123456789ABCDEF0123456789abcdef";
     *field = 0;
-    for (size_t i = 0; i < n && n == 10; i++) {
+    if (n != 10) return false;
+    for (size_t i = 0; i < n; i++) {
         const char *digit = memchr(digits, s[i], sizeof digits - 1);
         if (digit == NULL) return false;
         *field = *field << 4 | ((uint64_t)(digit - digits) & 0xF);
     }
-    return n == 10;
+    return true;
 }
 
 // The local time of a field, with its weekday.
