@@ -10,7 +10,7 @@ MANDIR = $(PREFIX)/share/man
 INSTALL ?= install
 
 ARCHIVE = target/staticlib/libneapwillow.a
-ARCHIVES = $(ARCHIVE) target/staticlib/libcommandlines.a
+ARCHIVES = $(ARCHIVE) target/staticlib/libc_commands.a
 PROGRAMS = nw-dates nw-section
 COMMANDS = $(PROGRAMS:%=target/bin/%)
 SOURCES := crates.txt $(shell find crates -type f)

@@ -2,7 +2,7 @@
 #ifndef COMMAND_H
 #define COMMAND_H
 
-#include "commandlines.h"
+#include "c_commands.h"
 #include <stdbool.h>
 
 enum { TAKEN = 0, REFUSED = 1, UNUSABLE = 2 }; /* exit statuses */

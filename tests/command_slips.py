@@ -219,7 +219,7 @@ def try_help():
 
 
 def try_proved():
-    for command, crate in (('nw-dates', 'dates'), ('nw-section', 'section')):
+    for command, crate in (('nw-dates', 'program_dates'), ('nw-section', 'program_section')):
         data, output = (open(os.path.join(CRATES, crate, name), 'rb').read() for name in ('stdin', 'stdout'))
         expect(command + ' on the file of ' + crate, run(command, [], data), int(b'refused' in output), output.decode(), [])
 

@@ -5,16 +5,16 @@ import re
 import sys
 
 ROOT = os.path.join(os.path.dirname(os.path.abspath(__file__)), os.pardir)
-RECORDS = 'crates/records/src/lib.rt'
+RECORDS = 'crates/index_records/src/lib.rt'
 
 # The crates that C is offered, and the header of each.
-HEADERS = {'neapwillow': 'include/neapwillow.h', 'commandlines': 'programs/commandlines.h'}
+HEADERS = {'neapwillow': 'include/neapwillow.h', 'c_commands': 'programs/c_commands.h'}
 
 # What the commands' header calls a constant of the source.
-CONSTANTS = {'NW_MOST_INPUT': 'printing::MOST_INPUT', 'NW_MOST_REPORT': 'datelines::MOST_OUTPUT', 'NW_MOST_LINE': 'sectionline::MOST_OUTPUT'}
+CONSTANTS = {'NW_MOST_INPUT': 'program_printing::MOST_INPUT', 'NW_MOST_REPORT': 'program_date_lines::MOST_OUTPUT', 'NW_MOST_LINE': 'program_section_line::MOST_OUTPUT'}
 
 # What C lends as a struct: its name there, and where the source has it under which name.
-STRUCTS = [('nw_gathering', 'crates/holding/src/lib.rt', 'Gathering'), ('nw_record', RECORDS, 'Record')]
+STRUCTS = [('nw_gathering', 'crates/gathering_state/src/lib.rt', 'Gathering'), ('nw_record', RECORDS, 'Record')]
 
 # What a type of the source is in C: a slice is a pointer and a length.
 IN_C = {
@@ -104,7 +104,7 @@ def header_fields(header, name):
 
 def source_refusals():
     """Each case of the enum and its number, the name as the header writes it."""
-    source = read('crates', 'refusal', 'src', 'lib.rt')
+    source = read('crates', 'ground_refusal', 'src', 'lib.rt')
     arms = re.findall(r'Refusal::(\w+)(?:\(\w+\))? => (\d+),', source[source.index('fn number('):source.index('fn place(')])
     return {'NW' + re.sub(r'([A-Z])', r'_\1', case).upper(): int(number) for case, number in arms}
 
@@ -118,7 +118,7 @@ def source_macros():
     """Each field of a value that the definitions name: how many bits stand below it, and how many it has."""
     found = {}
     for record, prefix in MACROS.items():
-        body = re.search(r'pub record %s .*?(?=\npub |\Z)' % record, read('crates', 'telling', 'specs', 'Taking.antt'), re.S).group(0)
+        body = re.search(r'pub record %s .*?(?=\npub |\Z)' % record, read('crates', 'c_answers', 'specs', 'Taking.antt'), re.S).group(0)
         for field, below, width in re.findall(r'pub (\S+) : fieldTold (\d+) (\d+) a', body):
             found[prefix + field.removesuffix('-is').upper()] = int(below), int(width)
     return found

@@ -21,7 +21,7 @@ IN_SPECS = {
 # The names that the list has beside those of the contracts, and where they come from.
 OWN = {
     'ℕ': 'Prim.Native.Nat.ℕ', 'ℤ': 'lib.IntN.ℤ', 'List': 'mathlib.Core.List.List',
-    'Gathering': 'Rattle.holding.specs.declared.Gathering.Gathering', 'Record': 'Rattle.records.specs.declared.Record.Record',
+    'Gathering': 'Rattle.gathering_state.specs.declared.Gathering.Gathering', 'Record': 'Rattle.index_records.specs.declared.Record.Record',
     **{name: 'Rattle.promises.specs.Determined.' + name for name in ['Determined', 'Determined₂', 'Determined₃']},
 }
 LANGUAGE = set('( ) { } : ; = × → λ record'.split())

@@ -149,10 +149,10 @@ def rules():
 
 def each_refusal(refusals):
     """Each of the 25 has one row, and its first name is the case that has this number."""
-    numbers = dict(re.findall(r'^numberOf \(?(\w+).* = (\d+)$', read('crates/refusal/specs/Numbers.antt'), flags=re.M))
+    numbers = dict(re.findall(r'^refusalNumber \(?(\w+).* = (\d+)$', read('crates/ground_refusal/specs/Numbers.antt'), flags=re.M))
     for case, number in numbers.items():
-        if refusals.pop(int(number), None) != [['refusal.Refusal.' + case]]:
-            faults.append('refusal %s has not one row that begins with refusal.Refusal.%s' % (number, case))
+        if refusals.pop(int(number), None) != [['ground_refusal.Refusal.' + case]]:
+            faults.append('refusal %s has not one row that begins with ground_refusal.Refusal.%s' % (number, case))
     faults.extend('there is no refusal %d' % number for number in refusals)
     if len(numbers) != 25:
         faults.append('%d refusals are numbered, and not 25' % len(numbers))
@@ -176,7 +176,7 @@ def edits_of_promises():
 
 
 def names_of(path):
-    """Each name alone in parentheses, as in (`formats`, `index`), or in a column of names, there without its arguments: the tree has it."""
+    """Each name alone in parentheses, as in (`body_formats`, `index`), or in a column of names, there without its arguments: the tree has it."""
     cells = re.findall(r'\((`[\w/-]+`(?:,? (?:and )?`[\w/-]+`)*)[);]', read(path))
     cells += [cell for _, columns, row in tables(path) for column, cell in zip(columns, row) if column in NAMING]
     found = [name.split()[0].replace('::', '.') for cell in cells for name in quoted(cell) if '..' not in name]

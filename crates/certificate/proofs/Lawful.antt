@@ -1,14 +1,13 @@
 -- The certificate table's formats keep the laws of formats, from a list of parts up to the table.
 use Prim.Native.Nat.{ℕ}
 use mathlib.Core.Path.{refl}
-use Rattle.refusal.specs.declared.Refusal.the-variants.{LeftOver}
-use Rattle.formats.proofs.Classes.{Lawful, Filling}
-use Rattle.formats.proofs.Leaves.{count-lawful}
-use Rattle.formats.proofs.Parts.{followed-lawful, view-lawful, exact-filling, opaque-lawful}
-use Rattle.formats.proofs.Lists.{list-lawful}
-use Rattle.formats.specs.Format.{count, opaque}
-use Rattle.certificate.specs.Certificate.{named, unnamed, fields, certificate}
-use Rattle.certificate.specs.Asked.{parts}
+use Rattle.ground_refusal.specs.declared.Refusal.the-variants.{LeftOver}
+use Rattle.body_formats.proofs.Classes.{Lawful, Filling}
+use Rattle.body_formats.proofs.Leaves.{count-lawful}
+use Rattle.body_formats.proofs.Parts.{followed-lawful, view-lawful, exact-filling, opaque-lawful}
+use Rattle.body_formats.proofs.Lists.{list-lawful}
+use Rattle.body_formats.specs.Format.{count, opaque}
+use Rattle.certificate.specs.Certificate.{parts, named, unnamed, fields, certificate}
 
 pub parts-lawful : (w : ℕ) → Lawful (parts w)
 parts-lawful w = list-lawful (opaque w) (opaque-lawful w) (count 1) (count-lawful 1)

@@ -2,5 +2,3 @@
 pub mod Lawful
 pub mod RoundTrips
 pub mod Places
-pub mod Answers
-pub mod Table

@@ -1,11 +1,10 @@
 -- Where the certificate table's refusals stand: the laws of formats at this format.
 use Prim.Native.Nat.{ℕ}
 use native.Mathlib.Nat.{le-refl}
-use Rattle.refusal.specs.declared.Refusal.the-variants.{LeftOver}
-use Rattle.formats.specs.Format.{count, opaque}
-use Rattle.formats.proofs.Places.{Placed, count-placed, followed-placed, view-placed, list-placed, exact-placed, opaque-placed}
-use Rattle.certificate.specs.Certificate.{named, unnamed, fields, certificate}
-use Rattle.certificate.specs.Asked.{parts}
+use Rattle.ground_refusal.specs.declared.Refusal.the-variants.{LeftOver}
+use Rattle.body_formats.specs.Format.{count, opaque}
+use Rattle.body_formats.proofs.Places.{Placed, count-placed, followed-placed, view-placed, list-placed, exact-placed, opaque-placed}
+use Rattle.certificate.specs.Certificate.{parts, named, unnamed, fields, certificate}
 
 parts-placed : (w : ℕ) → Placed (parts w)
 parts-placed w = list-placed (opaque w) (opaque-placed w) (count 1) (count-placed 1)

@@ -1,5 +1,5 @@
 -- The certificate table's round trips: the laws of formats at this format.
-use Rattle.formats.proofs.RoundTrips as trips
+use Rattle.body_formats.proofs.RoundTrips as trips
 use Rattle.certificate.specs.Certificate.{certificateKind, certificate}
 use Rattle.certificate.proofs.Lawful.{certificate-filling}
 

@@ -1,8 +1,8 @@
 -- What a reader has to believe of the certificate table: its fields in wire order.
 use Prim.Native.Nat.{ℕ}
 use mathlib.Core.List.{List}
-use Rattle.refusal.specs.declared.Refusal.the-variants.{LeftOver}
-use Rattle.formats.specs.Format.{Format, _▷_, count, listOf, opaque, exact, view}
+use Rattle.ground_refusal.specs.declared.Refusal.the-variants.{LeftOver}
+use Rattle.body_formats.specs.Format.{Format, _▷_, count, listOf, opaque, exact, view}
 
 -- "FC certificate"
 abbrev pub certificateKind : ℕ
@@ -12,6 +12,10 @@ pub record Certificates : Type 0 where
   pub authorizations : List (List ℕ)
   pub certificates : List (List ℕ)
   pub signature : List ℕ
+
+-- a list of parts: its 8-bit count, and each with a length of w bytes
+abbrev pub parts : ℕ → Format (List (List ℕ))
+parts w = listOf (count 1) (opaque w)
 
 abbrev pub Fields : Type 0
 Fields = List (List ℕ) × (List (List ℕ) × List ℕ)
@@ -24,7 +28,7 @@ unnamed c = (c .authorizations, (c .certificates, c .signature))
 
 -- "8-bit count, each with 16-bit length and data; 8-bit count, each with 8-bit length and data; signature"
 unfoldable pub fields : Format Fields
-fields = listOf (count 1) (opaque 2) ▷ (listOf (count 1) (opaque 1) ▷ opaque 2)
+fields = parts 2 ▷ (parts 1 ▷ opaque 2)
 
 unfoldable pub certificate : Format Certificates
 certificate = exact LeftOver (view named unnamed fields)

@@ -1,4 +1,2 @@
 -- The definitions that other crates cite.
 pub mod Certificate
-pub mod Asked
-pub mod Agreement

@@ -5,15 +5,15 @@ use mathlib.Core.Bool.{Bool, true, false, cond, _&&_}
 use native.Mathlib.Omega.{arith}
 use lib.Dec.{leb}
 use borrow.Author.Tests.{leb-true, lt-ltb}
-use Rattle.choices.proofs.Tests.{both}
-use Rattle.refusal.specs.declared.Refusal.{Refusal}
-use Rattle.refusal.specs.declared.Refusal.the-variants.{ImpossibleDay}
-use Rattle.days.specs.Calendar.{dayNumber, hasDay, dayOf}
-use Rattle.days.specs.declared.DayAnswer.the-variants.{Day, Refused as NoDay}
-use Rattle.days.proofs.Months.{length-within}
-use Rattle.days.proofs.Answers.{day-accepted, day-month-until}
-use Rattle.formats.specs.Reading.{unless, isFine}
-use Rattle.formats.specs.Format.{only, followed, count}
+use Rattle.ground_choices.proofs.Tests.{both}
+use Rattle.ground_refusal.specs.declared.Refusal.{Refusal}
+use Rattle.ground_refusal.specs.declared.Refusal.the-variants.{ImpossibleDay}
+use Rattle.time_days.specs.Calendar.{dayNumber, hasDay, dayOf}
+use Rattle.time_days.specs.declared.DayAnswer.the-variants.{Day, Refused as NoDay}
+use Rattle.time_days.proofs.Months.{length-within}
+use Rattle.time_days.proofs.Answers.{day-accepted, day-month-until}
+use Rattle.body_formats.specs.Reading.{unless, isFine}
+use Rattle.body_formats.specs.Format.{only, followed, count}
 use Rattle.configuration.specs.Configuration.{dayFault, date, clock}
 
 module _ (y m d : ℕ) where
@@ -45,13 +45,13 @@ fine-test : (t : Bool) (r : Refusal) → isFine (unless t r) ≡ true → t ≡ 
 fine-test true r e = refl
 fine-test false r e = e
 
-pub date-not-over : (x : ℕ × (ℕ × ℕ)) → date .right x ≡ true → date .over x ≡ false
+pub date-not-over : (x : ℕ × (ℕ × ℕ)) → date .writable x ≡ true → date .tooLarge x ≡ false
 unfolding date only followed count
 date-not-over x r =
     let f = day-fits (x .0) (x .1 .0) (x .1 .1) (fine-test _ _ (ap isFine (sym (day-fault (x .0) (x .1 .0) (x .1 .1) 0)) ∙ r)) in
     rw (lt-ltb (x .0) 65536 (f .0), lt-ltb (x .1 .0) 256 (f .1), lt-ltb (x .1 .1) 256 (f .2))
 
-pub clock-not-over : (x : ℕ × (ℕ × ℕ)) → clock .right x ≡ true → clock .over x ≡ false
+pub clock-not-over : (x : ℕ × (ℕ × ℕ)) → clock .writable x ≡ true → clock .tooLarge x ≡ false
 unfolding clock only followed count
 clock-not-over x r =
     let f = time-fits (x .0) (x .1 .0) (x .1 .1) (fine-test _ _ r) in

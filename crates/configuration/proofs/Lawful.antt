@@ -5,22 +5,22 @@ use mathlib.Core.List.{List}
 use mathlib.Core.Bool.{Bool, true, false, _&&_, false≢true}
 use lib.ListN.{length}
 use lib.Dec.{leb}
-use Rattle.choices.specs.Choice.{if_then_else_}
-use Rattle.refusal.specs.declared.Refusal.{Refusal}
-use Rattle.refusal.specs.declared.Refusal.the-variants.{LeftOver, PastPart, ImpossibleDay}
-use Rattle.days.specs.Calendar.{dayOf}
-use Rattle.days.specs.declared.DayAnswer.{DayAnswer}
-use Rattle.days.specs.declared.DayAnswer.the-variants.{Day, Refused}
-use Rattle.formats.specs.Reading.{Fault, fine, faulty, isFine}
-use Rattle.formats.specs.Format.{only, outside, count, number, rest, leastOf, counted}
-use Rattle.formats.proofs.Classes.{Lawful, Filling}
-use Rattle.formats.proofs.Leaves.{count-lawful, count-small, small-count, digits-lawful}
-use Rattle.formats.proofs.Bits.{among-lawful}
-use Rattle.formats.proofs.Parts.{only-ok, only-lawful, only-filling, unless-even, outside-even, number-lawful, followed-lawful, view-lawful, rest-filling, exact-filling, Counts, counted-lawful, least-counts, opaque-lawful}
-use Rattle.formats.proofs.Lists.{list-lawful}
-use Rattle.formats.proofs.Resources.{resources-lawful}
-use Rattle.configuration.specs.Address.{lengthFits, isAddress}
-use Rattle.configuration.specs.Configuration.{terminals, dayFault, plain, date, clock, addressFault, fitting, address, Order, setClock, setCode, tune, setReturn, setPeriod, setVolume, query, other, orderOf, said, least, command, fields, configuration}
+use Rattle.ground_choices.specs.Choice.{if_then_else_}
+use Rattle.ground_refusal.specs.declared.Refusal.{Refusal}
+use Rattle.ground_refusal.specs.declared.Refusal.the-variants.{LeftOver, PastPart, ImpossibleDay}
+use Rattle.time_days.specs.Calendar.{dayOf}
+use Rattle.time_days.specs.declared.DayAnswer.{DayAnswer}
+use Rattle.time_days.specs.declared.DayAnswer.the-variants.{Day, Refused}
+use Rattle.body_formats.specs.Reading.{Fault, fine, faulty, isFine}
+use Rattle.body_formats.specs.Format.{only, outside, count, number, rest, leastOf, counted}
+use Rattle.body_formats.proofs.Classes.{Lawful, Filling}
+use Rattle.body_formats.proofs.Leaves.{count-lawful, count-small, small-count, digits-lawful}
+use Rattle.body_formats.proofs.Bits.{among-lawful}
+use Rattle.body_formats.proofs.Parts.{only-ok, only-lawful, only-filling, unless-even, outside-even, number-lawful, followed-lawful, view-lawful, rest-filling, exact-filling, Counts, counted-lawful, least-counts, opaque-lawful}
+use Rattle.body_formats.proofs.Lists.{list-lawful}
+use Rattle.body_formats.proofs.Resources.{resources-lawful}
+use Rattle.configuration_addresses.specs.Address.{lengthFits, isAddress}
+use Rattle.configuration.specs.Configuration.{terminals, dayFault, plain, date, clock, addressFault, addressLength, address, Order, setClock, setCode, tune, setReturn, setPeriod, setVolume, query, other, orderOf, said, least, command, fields, configuration}
 use Rattle.configuration.proofs.Least.{enough}
 
 pub terminals-lawful : Lawful terminals
@@ -55,14 +55,14 @@ module _ (kind : ℕ) where
       go false = refl
 
   -- a well-formed address has a length that fits its kind
-  fitting-counts : Counts (fitting kind) (only (addressFault kind) rest)
-  unfolding fitting only rest
+  fitting-counts : Counts (addressLength kind) (only (addressFault kind) rest)
+  unfolding addressLength only rest
   fitting-counts =
       record {
         lawful = count-lawful 1;
         holds = count-small 1;
         accepts = λ cs p o h.
-            let fits = fits-where-fine (lengthFits kind (length cs)) _ _ (only-ok (addressFault kind) rest address-even cs record { right = o .right; small = o .small } .1) in
+            let fits = fits-where-fine (lengthFits kind (length cs)) _ _ (only-ok (addressFault kind) rest address-even cs record { writable = o .writable; small = o .small } .1) in
             rw fits;
         limits = λ n p o h. small-count 1 n o;
       }
@@ -73,7 +73,7 @@ module _ (kind : ℕ) where
 
   pub address-lawful : Lawful (address kind)
   unfolding address
-  address-lawful = counted-lawful (fitting kind) _ fitting-counts (only-filling (addressFault kind) rest address-even rest-filling)
+  address-lawful = counted-lawful (addressLength kind) _ fitting-counts (only-filling (addressFault kind) rest address-even rest-filling)
 
 -- ---- commands
 

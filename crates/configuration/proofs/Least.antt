@@ -5,13 +5,13 @@ use mathlib.Core.List.{List}
 use mathlib.Core.Bool.{true}
 use native.Mathlib.Omega.{arith}
 use lib.ListN.{length, length-append}
-use Rattle.choices.proofs.Tests.{both}
-use Rattle.formats.specs.Format.{Format, Length, _▷_, followed, only, count, number, digits, listOf, opaque, lengthOf, rest, exact, counted}
-use Rattle.formats.proofs.Classes.{Ok}
-use Rattle.formats.proofs.Leaves.{length-bytes}
-use Rattle.formats.proofs.Strings.{digits-take}
-use Rattle.formats.specs.Resource.{resource}
-use Rattle.configuration.specs.Configuration.{terminals, plain, date, clock, fitting, address, Said, said, orderOf, least}
+use Rattle.ground_choices.proofs.Tests.{both}
+use Rattle.body_formats.specs.Format.{Format, Length, _▷_, followed, only, count, number, digits, listOf, opaque, lengthOf, rest, exact, counted}
+use Rattle.body_formats.proofs.Classes.{Ok}
+use Rattle.body_formats.proofs.Leaves.{length-bytes}
+use Rattle.body_formats.proofs.Strings.{digits-take}
+use Rattle.body_formats.specs.Resource.{resource}
+use Rattle.configuration.specs.Configuration.{terminals, plain, date, clock, addressLength, address, Said, said, orderOf, least}
 
 -- each value takes n bytes at least
 abbrev Takes : {A : Type 0} → ℕ → Format A → Type 0
@@ -49,13 +49,13 @@ unfolding lengthOf
 opaque-takes w = counted-takes w (lengthOf w) rest (count-takes w)
 
 address-takes : (kind : ℕ) → Takes 1 (address kind)
-unfolding address fitting
-address-takes kind = counted-takes 1 (fitting kind) _ (count-takes 1)
+unfolding address addressLength
+address-takes kind = counted-takes 1 (addressLength kind) _ (count-takes 1)
 
-code-takes : (x : List ℕ × List ℕ) → (opaque 1 ▷ resource) .right x ≡ true → 13 ≤ length ((opaque 1 ▷ resource) .print x)
+code-takes : (x : List ℕ × List ℕ) → (opaque 1 ▷ resource) .writable x ≡ true → 13 ≤ length ((opaque 1 ▷ resource) .print x)
 unfolding followed digits
 code-takes x r =
-    let o : Ok resource (x .1) = record { right = both (opaque 1 .right (x .0)) (resource .right (x .1)) r .1; small = refl } in
+    let o : Ok resource (x .1) = record { writable = both (opaque 1 .writable (x .0)) (resource .writable (x .1)) r .1; small = refl } in
     simp length-append (omega (arith, opaque-takes 1 (x .0), digits-take 11 (x .1) o))
 
 -- tag by tag: 0, the standard's 1 to 7 in order, and all others
@@ -63,7 +63,7 @@ pub enough : (tag : ℕ) (x : Said (orderOf tag)) → Ok (said (orderOf tag)) x 
 unfolding least orderOf said exact date clock only
 enough zero x o = zero-le
 enough (suc zero) x o = followed-takes 4 3 date (λ a. clock) (plain-takes 2) (λ a. plain-takes 1) x
-enough (suc (suc zero)) x o = code-takes x (o .right)
+enough (suc (suc zero)) x o = code-takes x (o .writable)
 enough (suc (suc (suc zero))) x o =
     followed-takes 4 6 _ _ (number-takes 4) (λ a. followed-takes 4 2 _ _ (number-takes 4) (λ b. followed-takes 1 1 _ _ (number-takes 1) (λ c. terminals-take))) x
 enough (suc (suc (suc (suc zero)))) x o =

@@ -5,16 +5,16 @@ use mathlib.Core.Bool.{Bool, true, false, _&&_}
 use native.Mathlib.Nat.{le-refl}
 use lib.ListN.{length}
 use lib.Dec.{leb}
-use Rattle.choices.specs.Choice.{if_then_else_}
-use Rattle.refusal.specs.declared.Refusal.the-variants.{LeftOver, PastPart, ImpossibleDay}
-use Rattle.days.specs.Calendar.{dayOf}
-use Rattle.days.specs.declared.DayAnswer.{DayAnswer}
-use Rattle.days.specs.declared.DayAnswer.the-variants.{Day, Refused}
-use Rattle.formats.specs.Reading.{faulty}
-use Rattle.formats.specs.Format.{outside, count, number, rest}
-use Rattle.formats.proofs.Places.{FaultUntil, none, stands, unless-until, outside-until, Placed, count-placed, only-placed, number-placed, among-placed, digits-placed, followed-placed, view-placed, list-placed, rest-placed, exact-placed, counted-placed, least-placed, opaque-placed, resources-placed}
-use Rattle.configuration.specs.Address.{lengthFits, isAddress}
-use Rattle.configuration.specs.Configuration.{terminals, dayFault, plain, date, clock, addressFault, fitting, address, Order, setClock, setCode, tune, setReturn, setPeriod, setVolume, query, other, orderOf, said, least, command, fields, configuration}
+use Rattle.ground_choices.specs.Choice.{if_then_else_}
+use Rattle.ground_refusal.specs.declared.Refusal.the-variants.{LeftOver, PastPart, ImpossibleDay}
+use Rattle.time_days.specs.Calendar.{dayOf}
+use Rattle.time_days.specs.declared.DayAnswer.{DayAnswer}
+use Rattle.time_days.specs.declared.DayAnswer.the-variants.{Day, Refused}
+use Rattle.body_formats.specs.Reading.{faulty}
+use Rattle.body_formats.specs.Format.{outside, count, number, rest}
+use Rattle.body_formats.proofs.Places.{FaultUntil, none, stands, unless-until, outside-until, Placed, count-placed, only-placed, number-placed, among-placed, digits-placed, followed-placed, view-placed, list-placed, rest-placed, exact-placed, counted-placed, least-placed, opaque-placed, resources-placed}
+use Rattle.configuration_addresses.specs.Address.{lengthFits, isAddress}
+use Rattle.configuration.specs.Configuration.{terminals, dayFault, plain, date, clock, addressFault, addressLength, address, Order, setClock, setCode, tune, setReturn, setPeriod, setVolume, query, other, orderOf, said, least, command, fields, configuration}
 
 terminals-placed : Placed terminals
 unfolding terminals
@@ -49,9 +49,9 @@ module _ (kind : ℕ) where
       go false = stands (le-refl at)
 
   address-placed : Placed (address kind)
-  unfolding address fitting
+  unfolding address addressLength
   address-placed =
-      counted-placed (fitting kind) _ (count-placed 1) (λ n at. unless-until (lengthFits kind n) (PastPart at) (le-refl at))
+      counted-placed (addressLength kind) _ (count-placed 1) (λ n at. unless-until (lengthFits kind n) (PastPart at) (le-refl at))
       (only-placed (addressFault kind) rest address-until rest-placed)
 
 -- ---- commands

@@ -1,5 +1,5 @@
 -- The configuration table's round trips: the laws of formats at this format.
-use Rattle.formats.proofs.RoundTrips as trips
+use Rattle.body_formats.proofs.RoundTrips as trips
 use Rattle.configuration.specs.Configuration.{configurationKind, configuration}
 use Rattle.configuration.proofs.Lawful.{configuration-filling}
 

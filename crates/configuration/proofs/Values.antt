@@ -1,18 +1,18 @@
--- Values of the configuration table, computed: contents of commands, and the standard's return address with several ports.
+-- Values of the configuration table, computed: contents of commands, and numbers too large for a clock.
 use Prim.Native.Nat.{ℕ}
 use mathlib.Core.Path.{_≡_, refl}
 use mathlib.Core.List.{List, [], _∷_, _++_}
 use mathlib.Core.Bool.{Bool, true, false}
 use lib.ListN.{length}
-use Rattle.refusal.specs.declared.Refusal.the-variants.{PastPart, OutsideSet, ImpossibleDay}
-use Rattle.days.specs.Calendar.{leap, monthLength, isDate, monthsFrom, yearOf, monthOf, daysOf, monthStart, dayNumber, inRange, hasDay, dayOf}
-use Rattle.formats.specs.Reading.{found, refused}
-use Rattle.formats.specs.Format.{entry, numberAt, count, only, number, followed, every, repeat, listOf, rest, exact, view, lengthOf, leastOf, counted}
-use Rattle.formats.specs.Body.{reading, bodyRead}
-use Rattle.formats.specs.declared.Step.{Step}
-use Rattle.formats.specs.declared.Step.the-variants.{At, Refused}
-use Rattle.configuration.specs.Address.{colon, worth, isPort, named, hostAndPort, lengthFits, isAddress}
-use Rattle.configuration.specs.Configuration.{configurationKind, terminals, date, clock, fitting, address, orderOf, said, least, command, fields, configuration}
+use Rattle.ground_refusal.specs.declared.Refusal.the-variants.{PastPart, OutsideSet, ImpossibleDay}
+use Rattle.time_days.specs.Calendar.{leap, monthLength, isDate, monthsFrom, yearOf, monthOf, daysOf, monthStart, dayNumber, inRange, hasDay, dayOf}
+use Rattle.body_formats.specs.Reading.{found, refused}
+use Rattle.body_formats.specs.Format.{tapeEntry, numberAt, count, only, number, followed, repeat, listOf, rest, exact, view, lengthOf, leastOf, counted}
+use Rattle.body_formats.specs.Body.{reading, bodyRead}
+use Rattle.body_formats.specs.declared.Step.{Step}
+use Rattle.body_formats.specs.declared.Step.the-variants.{At, Refused}
+use Rattle.configuration_addresses.specs.Address.{hostAndPort, lengthFits, isAddress}
+use Rattle.configuration.specs.Configuration.{configurationKind, terminals, date, clock, addressLength, address, orderOf, said, least, command, fields, configuration}
 
 -- a body of one command, its content from byte 4 on, and an empty signature
 abbrev commandRead : ℕ → List ℕ → Step
@@ -32,7 +32,7 @@ pub contents :
     × (commandRead 1 (0x07 ∷ 0xDE ∷ 2 ∷ 28 ∷ 23 ∷ 59 ∷ 59 ∷ []) ≡ At 13)
     × (commandRead 1 (0x07 ∷ 0xDE ∷ 2 ∷ 30 ∷ 23 ∷ 59 ∷ 59 ∷ []) ≡ Refused (ImpossibleDay 4))
     × (commandRead 1 (0x07 ∷ 0xDE ∷ 2 ∷ 28 ∷ 23 ∷ 59 ∷ 60 ∷ []) ≡ Refused (ImpossibleDay 8))
-unfolding bodyRead reading configuration exact view fields followed listOf repeat count numberAt command number only counted leastOf least said orderOf terminals lengthOf rest address fitting lengthFits isAddress hostAndPort date clock dayOf hasDay isDate monthLength leap inRange dayNumber monthStart monthsFrom daysOf yearOf monthOf
+unfolding bodyRead reading configuration exact view fields followed listOf repeat count numberAt command number only counted leastOf least said orderOf terminals lengthOf rest address addressLength lengthFits isAddress hostAndPort date clock dayOf hasDay isDate monthLength leap inRange dayNumber monthStart monthsFrom daysOf yearOf monthOf
 contents = (refl, refl, refl, refl, refl, refl, refl, refl, refl)
 
 -- numbers of a form that are too large for their fields: month 257, minute 256; and a tape that ends inside the clock
@@ -40,30 +40,10 @@ pub clocks-too-large :
     (date .form [] (2024 ∷ 257 ∷ 1 ∷ []) 0 ≡ refused (ImpossibleDay 0))
     × (clock .form [] (0 ∷ 256 ∷ 0 ∷ []) 0 ≡ refused (ImpossibleDay 0))
     × (date .form [] (2024 ∷ 257 ∷ []) 0 ≡ refused (OutsideSet 0))
-unfolding date clock only followed count entry dayOf hasDay isDate
+unfolding date clock only followed count tapeEntry dayOf hasDay isDate
 clocks-too-large = (refl, refl, refl)
 
 -- the standard's year: "2014: 0x7de"
 pub year-2014 : number 2 .parse (0x07 ∷ 0xDE ∷ []) 2 0 ≡ found 2014 2
 unfolding number only count numberAt
 year-2014 = refl
-
--- the standard's www.chinaeb-lab.org with a port
-abbrev withPort : List ℕ → Bool
-withPort port = hostAndPort (0x77 ∷ 0x77 ∷ 0x77 ∷ 0x2E ∷ 0x63 ∷ 0x68 ∷ 0x69 ∷ 0x6E ∷ 0x61 ∷ 0x65 ∷ 0x62 ∷ 0x2D ∷ 0x6C ∷ 0x61 ∷ 0x62 ∷ 0x2E ∷ 0x6F ∷ 0x72 ∷ 0x67 ∷ colon ∷ port)
-
-pub addresses :
-    -- 8080, and with a space: "no space, though the standard's example has one"
-    (withPort (0x38 ∷ 0x30 ∷ 0x38 ∷ 0x30 ∷ []) ≡ true)
-    × (withPort (0x20 ∷ 0x38 ∷ 0x30 ∷ 0x38 ∷ 0x30 ∷ []) ≡ false)
-    -- 65535, 65536
-    × (withPort (0x36 ∷ 0x35 ∷ 0x35 ∷ 0x33 ∷ 0x35 ∷ []) ≡ true)
-    × (withPort (0x36 ∷ 0x35 ∷ 0x35 ∷ 0x33 ∷ 0x36 ∷ []) ≡ false)
-    -- 0, 00080, 008080
-    × (withPort (0x30 ∷ []) ≡ true)
-    × (withPort (0x30 ∷ 0x30 ∷ 0x30 ∷ 0x38 ∷ 0x30 ∷ []) ≡ true)
-    × (withPort (0x30 ∷ 0x30 ∷ 0x38 ∷ 0x30 ∷ 0x38 ∷ 0x30 ∷ []) ≡ false)
-    -- no name, a colon and 8080
-    × (hostAndPort (colon ∷ 0x38 ∷ 0x30 ∷ 0x38 ∷ 0x30 ∷ []) ≡ false)
-unfolding hostAndPort named isPort every worth
-addresses = (refl, refl, refl, refl, refl, refl, refl, refl)

@@ -4,15 +4,15 @@ use mathlib.Core.List.{List, [], _∷_}
 use mathlib.Core.Bool.{_&&_}
 use lib.ListN.{length, getD}
 use lib.Dec.{leb, eqb}
-use Rattle.choices.specs.Choice.{if_then_else_}
-use Rattle.refusal.specs.declared.Refusal.the-variants.{LeftOver, PastPart, ImpossibleDay}
-use Rattle.days.specs.Calendar.{dayOf}
-use Rattle.days.specs.declared.DayAnswer.{DayAnswer}
-use Rattle.days.specs.declared.DayAnswer.the-variants.{Day, Refused}
-use Rattle.formats.specs.Reading.{Fault, fine, faulty, unless}
-use Rattle.formats.specs.Format.{Format, Length, _▷_, followed, only, outside, count, number, among, listOf, opaque, rest, exact, view, counted, leastOf}
-use Rattle.formats.specs.Resource.{resource, resources}
-use Rattle.configuration.specs.Address.{lengthFits, isAddress}
+use Rattle.ground_choices.specs.Choice.{if_then_else_}
+use Rattle.ground_refusal.specs.declared.Refusal.the-variants.{LeftOver, PastPart, ImpossibleDay}
+use Rattle.time_days.specs.Calendar.{dayOf}
+use Rattle.time_days.specs.declared.DayAnswer.{DayAnswer}
+use Rattle.time_days.specs.declared.DayAnswer.the-variants.{Day, Refused}
+use Rattle.body_formats.specs.Reading.{Fault, fine, faulty, unless}
+use Rattle.body_formats.specs.Format.{Format, Length, _▷_, followed, only, outside, count, number, among, listOf, opaque, rest, exact, view, counted, leastOf}
+use Rattle.body_formats.specs.Resource.{resource, resources}
+use Rattle.configuration_addresses.specs.Address.{lengthFits, isAddress}
 
 -- "FB configuration"
 abbrev pub configurationKind : ℕ
@@ -47,12 +47,12 @@ clock = only (λ x at. unless (leb (x .0) 23 && (leb (x .1 .0) 59 && leb (x .1 .
 abbrev pub addressFault : ℕ → List ℕ → ℕ → Fault
 addressFault kind cs at = if lengthFits kind (length cs) then outside (isAddress kind) cs at else faulty (PastPart at)
 
-unfoldable pub fitting : ℕ → Length
-fitting kind = record { field = count 1; limit = 256; fault = λ n at. unless (lengthFits kind n) (PastPart at) }
+unfoldable pub addressLength : ℕ → Length
+addressLength kind = record { field = count 1; limit = 256; fault = λ n at. unless (lengthFits kind n) (PastPart at) }
 
 -- "kind 1 to 3, address length, address"
 unfoldable pub address : ℕ → Format (List ℕ)
-address kind = counted (fitting kind) (only (addressFault kind) rest)
+address kind = counted (addressLength kind) (only (addressFault kind) rest)
 
 -- ---- commands
 

@@ -1,3 +1,2 @@
 -- The definitions that other crates cite.
-pub mod Address
 pub mod Configuration

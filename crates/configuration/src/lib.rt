@@ -1,1 +1,1 @@
-// No code: what a configuration table is. `configurationreader` reads it, `configurationwriter` writes it, `commands` tells its fields.
+// No code: what a configuration table is. `configuration_reader` reads it, `configuration_writer` writes it, `configuration_fields` tells its fields.

@@ -7,20 +7,20 @@ use lib.ListN.{length, take, length-append}
 use lib.Seq.{length-take-le, take-at}
 use lib.Dec.{leb, eqb}
 use borrow.Author.Tests.{eq-eqb, ne-eqb}
-use Rattle.choices.proofs.Tests.{both}
-use Rattle.refusal.specs.declared.Refusal.{Refusal}
-use Rattle.refusal.specs.declared.Refusal.the-variants.{OtherKind, LeftOver, OtherChecksum, TooLarge}
+use Rattle.ground_choices.proofs.Tests.{both}
+use Rattle.ground_refusal.specs.declared.Refusal.{Refusal}
+use Rattle.ground_refusal.specs.declared.Refusal.the-variants.{OtherKind, LeftOver, OtherChecksum, TooLarge}
 use Rattle.crc.specs.Crc.{crc16Of}
-use Rattle.formats.specs.Reading.{Reading, found, refused, andThen, need}
-use Rattle.formats.specs.Format.{followed, digits, exact, view}
-use Rattle.formats.specs.Answers.{stepOf}
-use Rattle.formats.specs.Body.{longest, reading, bodyRead}
-use Rattle.formats.specs.declared.Step.the-variants.{At, Refused as NoStep}
-use Rattle.formats.proofs.Outcomes.{found-inj, need-found}
-use Rattle.formats.proofs.Classes.{Bytes, Ok}
-use Rattle.formats.proofs.Elements.{exact-found, view-found, followed-found}
-use Rattle.formats.proofs.Laying.{table}
-use Rattle.formats.proofs.Strings.{digits-part, digits-take, digits-fill}
+use Rattle.body_formats.specs.Reading.{Reading, found, refused, andThen, need}
+use Rattle.body_formats.specs.Format.{followed, digits, exact, view}
+use Rattle.body_formats.specs.Answers.{stepOf}
+use Rattle.body_formats.specs.Body.{longest, reading, bodyRead}
+use Rattle.body_formats.specs.declared.Step.the-variants.{At, Refused as NoStep}
+use Rattle.body_formats.proofs.Outcomes.{found-inj, need-found}
+use Rattle.body_formats.proofs.Classes.{Bytes, Ok}
+use Rattle.body_formats.proofs.Elements.{exact-found, view-found, followed-found}
+use Rattle.body_formats.proofs.Laying.{table}
+use Rattle.body_formats.proofs.Strings.{digits-part, digits-take, digits-fill}
 use Rattle.content.specs.Content.{contentKind, identifier, Content, fields, content, extensionOf, readingOf, contentRead}
 
 -- an accepted body begins with its identifier
@@ -39,8 +39,8 @@ module _ (w : ℕ) (s : List ℕ) (b : Bytes s) where
 pub printed-identifier : (w : ℕ) (c : Content) → Ok (content w) c → (18 ≤ length (content w .print c)) × (take 18 (content w .print c) ≡ identifier .print (c .identifier))
 unfolding content fields exact view followed digits
 printed-identifier w c o =
-    let right = both (identifier .right (c .identifier)) _ (o .right) .0 in
-    let long = digits-take 17 (c .identifier) (record { right = right; small = refl }) in
+    let writable = both (identifier .writable (c .identifier)) _ (o .writable) .0 in
+    let long = digits-take 17 (c .identifier) (record { writable = writable; small = refl }) in
     (simp length-append (omega (arith, long)), take-at (identifier .print (c .identifier)) _ 18 (sym long))
 
 module _ (w kind : ℕ) (s : List ℕ) where

@@ -2,13 +2,13 @@
 use Prim.Native.Nat.{ℕ}
 use mathlib.Core.Path.{refl}
 use native.Mathlib.Omega.{arith}
-use Rattle.refusal.specs.declared.Refusal.the-variants.{LeftOver, PastPart}
-use Rattle.formats.specs.Format.{reserved, lengthOf}
-use Rattle.formats.proofs.Classes.{Lawful, Filling}
-use Rattle.formats.proofs.Leaves.{reserved-lawful, digits-lawful}
-use Rattle.formats.proofs.Bits.{among-lawful, bytes-among-lawful}
-use Rattle.formats.proofs.Parts.{number-lawful, followed-lawful, view-lawful, exact-filling, counted-lawful, length-counts, opaque-lawful}
-use Rattle.formats.proofs.Lists.{list-lawful}
+use Rattle.ground_refusal.specs.declared.Refusal.the-variants.{LeftOver, PastPart}
+use Rattle.body_formats.specs.Format.{reserved, lengthOf}
+use Rattle.body_formats.proofs.Classes.{Lawful, Filling}
+use Rattle.body_formats.proofs.Leaves.{reserved-lawful, digits-lawful}
+use Rattle.body_formats.proofs.Bits.{among-lawful, bytes-among-lawful}
+use Rattle.body_formats.proofs.Parts.{number-lawful, followed-lawful, view-lawful, exact-filling, counted-lawful, length-counts, opaque-lawful}
+use Rattle.body_formats.proofs.Lists.{list-lawful}
 use Rattle.content.specs.Content.{auxiliary, auxiliaries, languageFields, language, fields, content}
 
 -- one law over the width of an auxiliary file's length

@@ -5,13 +5,13 @@ use mathlib.Core.List.{List}
 use native.Mathlib.Nat.{le-refl}
 use lib.ListN.{length}
 use lib.Dec.{eqb}
-use Rattle.refusal.specs.Numbers.{placeOf}
-use Rattle.refusal.specs.declared.Refusal.{Refusal}
-use Rattle.refusal.specs.declared.Refusal.the-variants.{LeftOver, PastPart}
-use Rattle.formats.specs.Format.{reserved}
-use Rattle.formats.specs.Body.{reading}
-use Rattle.formats.specs.declared.Step.the-variants.{Refused as NoStep}
-use Rattle.formats.proofs.Places.{ends, then-until, need-until, Placed, number-placed, reserved-placed, among-placed, bytes-among-placed, digits-placed, followed-placed, view-placed, list-placed, exact-placed, length-placed, opaque-placed, step-place, reading-until}
+use Rattle.ground_refusal.specs.Numbers.{refusalPlace}
+use Rattle.ground_refusal.specs.declared.Refusal.{Refusal}
+use Rattle.ground_refusal.specs.declared.Refusal.the-variants.{LeftOver, PastPart}
+use Rattle.body_formats.specs.Format.{reserved}
+use Rattle.body_formats.specs.Body.{reading}
+use Rattle.body_formats.specs.declared.Step.the-variants.{Refused as NoStep}
+use Rattle.body_formats.proofs.Places.{ends, then-until, need-until, Placed, number-placed, reserved-placed, among-placed, bytes-among-placed, digits-placed, followed-placed, view-placed, list-placed, exact-placed, length-placed, opaque-placed, step-place, reading-until}
 use Rattle.content.specs.Content.{contentKind, auxiliary, auxiliaries, languageFields, language, fields, content, extensionOf, readingOf, contentRead}
 
 module _ (w : ℕ) where
@@ -35,7 +35,7 @@ module _ (w : ℕ) where
       (followed-placed _ _ (digits-placed 17) (λ a.
       followed-placed _ _ (list-placed (language w) language-placed _ (among-placed 1 5 (reserved 4 0) (reserved-placed 4 0))) (λ b. opaque-placed 2))))
 
-  pub extended-place : (kind extension : ℕ) (s : List ℕ) (r : Refusal) → contentRead w kind extension s ≡ NoStep r → placeOf r ≤ length s
+  pub extended-place : (kind extension : ℕ) (s : List ℕ) (r : Refusal) → contentRead w kind extension s ≡ NoStep r → refusalPlace r ≤ length s
   unfolding contentRead readingOf
   extended-place kind extension s =
       step-place (readingOf w kind extension s)

@@ -7,15 +7,15 @@ use native.Mathlib.Omega.{arith}
 use lib.ListN.{length, length-append}
 use lib.Dec.{leb}
 use borrow.Author.Tests.{leb-true, eqb-true}
-use Rattle.choices.proofs.Tests.{both}
-use Rattle.refusal.specs.declared.Refusal.{Refusal}
-use Rattle.refusal.specs.declared.Refusal.the-variants.{OutsideSet}
-use Rattle.formats.specs.Reading.{isFine, unless}
-use Rattle.formats.specs.Format.{numberAt, count, only, among, reserved, bytes, halves, decimal, digits, followed, view, repeat, printAll, every, listOf, rest, exact, lengthOf, counted}
-use Rattle.formats.specs.Body.{reading, bodyRead}
-use Rattle.formats.specs.declared.Step.the-variants.{At}
-use Rattle.formats.proofs.Leaves.{length-bytes}
-use Rattle.formats.proofs.Strings.{digits-take}
+use Rattle.ground_choices.proofs.Tests.{both}
+use Rattle.ground_refusal.specs.declared.Refusal.{Refusal}
+use Rattle.ground_refusal.specs.declared.Refusal.the-variants.{OutsideSet}
+use Rattle.body_formats.specs.Reading.{isFine, unless}
+use Rattle.body_formats.specs.Format.{numberAt, count, only, among, reserved, bytes, halves, decimal, digits, followed, view, repeat, printAll, every, listOf, rest, exact, lengthOf, counted}
+use Rattle.body_formats.specs.Body.{reading, bodyRead}
+use Rattle.body_formats.specs.declared.Step.the-variants.{At}
+use Rattle.body_formats.proofs.Leaves.{length-bytes}
+use Rattle.body_formats.proofs.Strings.{digits-take}
 use Rattle.content.specs.Content.{contentKind, identifier, Language, languageFields, language, auxiliaries, Content, fields, content}
 
 tested : (t : Bool) (r : Refusal) → isFine (unless t r) ≡ true → t ≡ true
@@ -24,26 +24,26 @@ tested false r h = h
 
 module _ (w : ℕ) where
   -- its length, letters, character set, two more lengths and the auxiliary count
-  language-takes : (v : Language) → language w .right v ≡ true → 12 ≤ length (language w .print v)
+  language-takes : (v : Language) → language w .writable v ≡ true → 12 ≤ length (language w .print v)
   unfolding language languageFields auxiliaries counted lengthOf exact view followed listOf only bytes reserved count rest
   language-takes v r =
       let three = eqb-true (length (v .letters)) 3 (both _ _ (both _ _ r .0) .0) in
       simp (length-append, length-bytes) (omega (arith, three))
 
-  languages-take : (vs : List Language) → 1 ≤ length vs → every (language w .right) vs ≡ true → 12 ≤ length (printAll (language w .print) vs)
+  languages-take : (vs : List Language) → 1 ≤ length vs → every (language w .writable) vs ≡ true → 12 ≤ length (printAll (language w .print) vs)
   unfolding printAll every
   languages-take [] h r = absurd (omega arith)
   languages-take (v ∷ vs) h r = simp length-append (omega (arith, language-takes v (both _ _ r .0)))
 
-  pub content-takes : (c : Content) → content w .right c ≡ true → 33 ≤ length (content w .print c)
+  pub content-takes : (c : Content) → content w .writable c ≡ true → 33 ≤ length (content w .print c)
   unfolding content fields digits counted lengthOf exact view followed listOf only reserved count rest
   content-takes c r =
       let n = length (c .languages) in
       let C = among 1 5 (reserved 4 0) in
-      let parts = both (identifier .right (c .identifier)) _ r in
-      let languages = both (C .right n) _ (both (listOf C (language w) .right (c .languages)) _ (parts .1) .0) in
-      let some = both (leb 1 n) _ (tested (leb 1 n && leb n 5) (OutsideSet 0) (both (reserved 4 0 .right n) _ (languages .0) .1)) .0 in
-      let eighteen = digits-take 17 (c .identifier) (record { right = parts .0; small = refl }) in
+      let parts = both (identifier .writable (c .identifier)) _ r in
+      let languages = both (C .writable n) _ (both (listOf C (language w) .writable (c .languages)) _ (parts .1) .0) in
+      let some = both (leb 1 n) _ (tested (leb 1 n && leb n 5) (OutsideSet 0) (both (reserved 4 0 .writable n) _ (languages .0) .1)) .0 in
+      let eighteen = digits-take 17 (c .identifier) (record { writable = parts .0; small = refl }) in
       let twelve = languages-take (c .languages) (leb-true 1 n some) (languages .1) in
       simp (length-append, length-bytes) (omega (arith, eighteen, twelve))
 

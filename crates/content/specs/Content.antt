@@ -2,13 +2,13 @@
 use Prim.Native.Nat.{ℕ}
 use mathlib.Core.List.{List}
 use lib.Dec.{eqb}
-use Rattle.refusal.specs.declared.Refusal.the-variants.{LeftOver, PastPart, OtherChecksum}
+use Rattle.ground_refusal.specs.declared.Refusal.the-variants.{LeftOver, PastPart, OtherChecksum}
 use Rattle.crc.specs.Crc.{crc16Of}
-use Rattle.formats.specs.Reading.{Reading, found, andThen, need}
-use Rattle.formats.specs.Format.{Format, _▷_, number, among, bytesAmong, reserved, digits, listOf, opaque, exact, view, lengthOf, counted}
-use Rattle.formats.specs.Answers.{stepOf}
-use Rattle.formats.specs.Body.{reading}
-use Rattle.formats.specs.declared.Step.{Step}
+use Rattle.body_formats.specs.Reading.{Reading, found, andThen, need}
+use Rattle.body_formats.specs.Format.{Format, _▷_, number, among, bytesAmong, reserved, digits, listOf, opaque, exact, view, lengthOf, counted}
+use Rattle.body_formats.specs.Answers.{stepOf}
+use Rattle.body_formats.specs.Body.{reading}
+use Rattle.body_formats.specs.declared.Step.{Step}
 
 -- "FE content"
 abbrev pub contentKind : ℕ

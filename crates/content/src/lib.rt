@@ -1,1 +1,1 @@
-// No code: what a content table is. `contentreader` reads it, `contentwriter` writes it, `languages` tells its fields.
+// No code: what a content table is. `content_reader` reads it, `content_writer` writes it, `content_fields` tells its fields.

@@ -8,11 +8,11 @@ use native.Mathlib.Nat.{add-assoc}
 use lib.Bits.{bitXor, xor-comm}
 use lib.ListN.{length, length-append, length-replicate, take, drop, replicate}
 use lib.Seq.{take-add}
-use Rattle.register.specs.Register.{bitsOf, bytesBits, crc}
-use Rattle.register.specs.Lanes.{Lanes}
-use Rattle.register.proofs.Bits.{length-bits}
-use Rattle.register.proofs.Laws.{crc-append, crc-whole, bytes-append}
-use Rattle.register.proofs.Lanes.{lanes-start, lanes-near, lanes-far, two-words}
+use Rattle.crc_register.specs.Register.{bitsOf, bytesBits, crc}
+use Rattle.crc_register.specs.Lanes.{Lanes}
+use Rattle.crc_register.proofs.Bits.{length-bits}
+use Rattle.crc_register.proofs.Laws.{crc-append, crc-whole, bytes-append}
+use Rattle.crc_register.proofs.Lanes.{lanes-start, lanes-near, lanes-far, two-words}
 use Rattle.crc.specs.Lanes.{Read, apart, close, joined}
 use Rattle.crc.proofs.Walk.{Walk, walk-start, walk-more}
 

@@ -12,11 +12,11 @@ use lib.ListN.{length, replicate, length-append, length-replicate, replicate-app
 use lib.Pow.{pow-pos, pow-lt}
 use lib.Dec.{lit<}
 use lib.Seq.{set-split, split-at, take-at, drop-at}
-use Rattle.register.specs.Register.{odd, bitsOf, bytesBits, value, plus, fed, step, run, crc}
+use Rattle.crc_register.specs.Register.{odd, bitsOf, bytesBits, value, plus, fed, step, run, crc}
 use Rattle.crc.specs.Crc.{bigEndian, bitChanged, crc32Of, AreBytes}
-use Rattle.register.proofs.Linear.{xor-comm, xor-false, plus-comm, plus-assoc, plus-self, plus-zeros, plus-append, length-plus, length-step, length-run, run-append, run-plus, enter, zeros-snoc, fed-false, length-fed}
-use Rattle.register.proofs.Bits.{length-bits, bits-append, bits-xor, bits-zero, value-bits}
-use Rattle.register.proofs.Laws.{crc-bits, bytes-append}
+use Rattle.crc_register.proofs.Linear.{xor-comm, xor-false, plus-comm, plus-assoc, plus-self, plus-zeros, plus-append, length-plus, length-step, length-run, run-append, run-plus, enter, zeros-snoc, fed-false, length-fed}
+use Rattle.crc_register.proofs.Bits.{length-bits, bits-append, bits-xor, bits-zero, value-bits}
+use Rattle.crc_register.proofs.Laws.{crc-bits, bytes-append}
 use Rattle.crc.proofs.Laws.{crc-closed}
 
 -- ---- a zero bit moves no two registers to one

@@ -3,9 +3,9 @@ use mathlib.Core.Path.{_≡_, refl, sym, ap, ap₂, _∙_}
 use mathlib.Core.List.{List, _++_}
 use Prim.Native.Nat.{ℕ, zero, suc, _+_, _*_, _/_, _^_}
 use native.Mathlib.Omega.{arith}
-use Rattle.register.specs.Register.{bitsOf, bytesBits, crc}
-use Rattle.register.proofs.Bits.{bits-append, bits-mod}
-use Rattle.register.proofs.Laws.{crc-bytes-append, crc-own}
+use Rattle.crc_register.specs.Register.{bitsOf, bytesBits, crc}
+use Rattle.crc_register.proofs.Bits.{bits-append, bits-mod}
+use Rattle.crc_register.proofs.Laws.{crc-bytes-append, crc-own}
 use Rattle.crc.specs.Crc.{bigEndian, crc32Of}
 
 pub bits-of-bytes : (k n : ℕ) → bytesBits (bigEndian k n) ≡ bitsOf (8 * k) n

@@ -3,7 +3,7 @@ use mathlib.Core.Bool.{xor}
 use mathlib.Core.List.{List, [], _∷_}
 use mathlib.Core.Path.{_≡_, refl}
 use Prim.Native.Nat.{ℕ}
-use Rattle.register.specs.Register.{odd, bitsOf, digit, value, bytesBits, plus, fed, step, run, crc}
+use Rattle.crc_register.specs.Register.{odd, bitsOf, digit, value, bytesBits, plus, fed, step, run, crc}
 use Rattle.crc.specs.Crc.{crc16Of, crc32Of}
 
 abbrev pub digits : List ℕ

@@ -7,9 +7,9 @@ use native.Mathlib.Numerals.{add-one}
 use native.Mathlib.Omega.{arith}
 use lib.ListN.{length, getD, take, drop, take-append-drop, length-drop}
 use lib.Seq.{drop-cons, take-add, take-all}
-use Rattle.register.specs.Register.{bitsOf, bytesBits, crc}
-use Rattle.register.proofs.Bits.{bits-above, bits-append}
-use Rattle.register.proofs.Laws.{crc-none, crc-append, crc-bytes-append}
+use Rattle.crc_register.specs.Register.{bitsOf, bytesBits, crc}
+use Rattle.crc_register.proofs.Bits.{bits-above, bits-append}
+use Rattle.crc_register.proofs.Laws.{crc-none, crc-append, crc-bytes-append}
 
 -- r is the check of the first i bytes of xs
 pub record Walk (w p s : ℕ) (xs : List ℕ) (i r : ℕ) : Type 0 where

@@ -3,9 +3,9 @@ use mathlib.Core.List.{List, [], _∷_}
 use Prim.Native.Nat.{ℕ, zero, suc, _*_, _/_, _%_, _^_, _<_}
 use lib.Bits.{bitXor}
 use lib.ListN.{getD, set}
-use Rattle.register.specs.Register.{bytesBits, crc}
+use Rattle.crc_register.specs.Register.{bytesBits, crc}
 -- callers write a bit as a number too
-unfoldable pub use Rattle.register.specs.Register.{digit}
+unfoldable pub use Rattle.crc_register.specs.Register.{digit}
 
 -- ---- strings of bytes
 

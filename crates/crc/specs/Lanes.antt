@@ -3,8 +3,8 @@ use mathlib.Core.Path.{_≡_}
 use mathlib.Core.List.{List}
 use Prim.Native.Nat.{ℕ, _+_, _≤_}
 use lib.ListN.{length, take}
-use Rattle.register.specs.Register.{bytesBits, crc}
-use Rattle.register.specs.Lanes.{Lanes}
+use Rattle.crc_register.specs.Register.{bytesBits, crc}
+use Rattle.crc_register.specs.Lanes.{Lanes}
 
 -- The first i bytes of xs are read: q0 goes in with the next word of four bytes, q1 is added after it, and q2 after two words. Either two
 -- lanes are two words apart, and so many bytes are left; or they are one word apart, and that is left; or there is one lane, the register.

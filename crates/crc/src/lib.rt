@@ -9,7 +9,7 @@ ghost use mathlib.Core.List.{[], _∷_, _++_};
 ghost use mathlib.Core.Path.{_≡_};
 ghost use lib.ListN.{length, replicate};
 ghost use Prim.Native.Nat.{_≤_};
-ghost use Rattle.register.specs.Register.{bitsOf, bytesBits, crc};
+ghost use Rattle.crc_register.specs.Register.{bitsOf, bytesBits, crc};
 ghost use Rattle.crc.specs.Crc.{crc16Of, crc32Of};
 ghost use Rattle.crc.specs.Lanes.{Read};
 
@@ -32,7 +32,7 @@ fn word(s: &[u8]) -> u32
 fn byte32(reg: u32, b: u8) -> u32
     ensures { λ r. ⌜ r ≡ crc 32 0x04C11DB7 reg (bitsOf 8 b) ⌝ }
 {
-    lastbytes::last_table((reg >> 24) ^ (b as u32)) ^ (reg << 8)
+    crc_table_last_bytes::last_table((reg >> 24) ^ (b as u32)) ^ (reg << 8)
 }
 
 // The register after the bytes of s, one a turn.
@@ -52,24 +52,27 @@ fn by_bytes(reg: u32, s: &[u8]) -> u32
 fn first_far(x: u32) -> u32
     ensures { λ r. ⌜ r ≡ crc 32 0x04C11DB7 0 (bitsOf 32 x ++ replicate 96 false) ⌝ }
 {
-    firstfar::table15(x / 16777216)
-        ^ (firstfar::table14(x / 65536) ^ (firstfar::table13(x / 256) ^ firstfar::table12(x)))
+    crc_table_first_far::table15(x / 16777216)
+        ^ (crc_table_first_far::table14(x / 65536)
+            ^ (crc_table_first_far::table13(x / 256) ^ crc_table_first_far::table12(x)))
 }
 
 // The register, from zero, after the 32 bits of x and 64 zeros.
 fn second_far(x: u32) -> u32
     ensures { λ r. ⌜ r ≡ crc 32 0x04C11DB7 0 (bitsOf 32 x ++ replicate 64 false) ⌝ }
 {
-    secondfar::table11(x / 16777216)
-        ^ (secondfar::table10(x / 65536) ^ (secondfar::table9(x / 256) ^ secondfar::table8(x)))
+    crc_table_second_far::table11(x / 16777216)
+        ^ (crc_table_second_far::table10(x / 65536)
+            ^ (crc_table_second_far::table9(x / 256) ^ crc_table_second_far::table8(x)))
 }
 
 // The register, from zero, after the 32 bits of x.
 fn near(x: u32) -> u32
     ensures { λ r. ⌜ r ≡ crc 32 0x04C11DB7 0 (bitsOf 32 x) ⌝ }
 {
-    secondword::table3(x / 16777216)
-        ^ (secondword::table2(x / 65536) ^ (secondword::table1(x / 256) ^ secondword::table0(x)))
+    crc_table_second_word::table3(x / 16777216)
+        ^ (crc_table_second_word::table2(x / 65536)
+            ^ (crc_table_second_word::table1(x / 256) ^ crc_table_second_word::table0(x)))
 }
 
 // What two lanes leave: the place that they have come to, what goes in with the next word, and what is added two words on.

@@ -1,9 +1,9 @@
 // The table of CRC-16 at a nibble, the low one of x. A key has a fifth bit, as those of `firstword` have a ninth.
 ghost use mathlib.Core.Path.{_≡_};
-ghost use Rattle.register.specs.Register.{entry};
+ghost use Rattle.crc_register.specs.Register.{tableEntry};
 
 pub fn table0(x: u16) -> u16
-    ensures { λ r. ⌜ r ≡ entry 4 16 0x1021 0 x ⌝ }
+    ensures { λ r. ⌜ r ≡ tableEntry 4 16 0x1021 0 x ⌝ }
 {
     let k = 16 + x % 16;
     match k {

@@ -3,15 +3,15 @@ use Prim.Native.Nat.{ℕ, _<_}
 use mathlib.Core.Path.{refl}
 use native.Mathlib.Omega.{arith}
 use lib.ListN.{length, length-append}
-use Rattle.refusal.specs.declared.Refusal.the-variants.{LeftOver, PastPart}
-use Rattle.formats.specs.Format.{Format, _▷_, followed, count, number, only, reserved, many, opaque, lengthOf, length12, exact, view}
-use Rattle.formats.proofs.Classes.{Lawful, Filling}
-use Rattle.formats.proofs.Leaves.{count-lawful, reserved-lawful, digits-lawful, length-bytes}
-use Rattle.formats.proofs.Bits.{nibbles-among-lawful, bytes-among-lawful}
-use Rattle.formats.proofs.Parts.{number-lawful, followed-lawful, under-lawful, view-lawful, exact-filling, counted-lawful, length-counts, length12-counts, opaque-lawful}
-use Rattle.formats.proofs.Lists.{list-lawful, many-filling}
-use Rattle.formats.proofs.Resources.{resources-lawful}
-use Rattle.formats.proofs.Times.{time-lawful, end-lawful}
+use Rattle.ground_refusal.specs.declared.Refusal.the-variants.{LeftOver, PastPart}
+use Rattle.body_formats.specs.Format.{Format, _▷_, followed, count, number, only, reserved, many, opaque, lengthOf, length12, exact, view}
+use Rattle.body_formats.proofs.Classes.{Lawful, Filling}
+use Rattle.body_formats.proofs.Leaves.{count-lawful, reserved-lawful, digits-lawful, length-bytes}
+use Rattle.body_formats.proofs.Bits.{nibbles-among-lawful, bytes-among-lawful}
+use Rattle.body_formats.proofs.Parts.{number-lawful, followed-lawful, under-lawful, view-lawful, exact-filling, counted-lawful, length-counts, length12-counts, opaque-lawful}
+use Rattle.body_formats.proofs.Lists.{list-lawful, many-filling}
+use Rattle.body_formats.proofs.Resources.{resources-lawful}
+use Rattle.body_formats.proofs.Times.{time-lawful, end-lawful}
 use Rattle.index.specs.Index.{Descriptor, descriptor, descriptors, Stream, streamFields, stream, streams, channelFields, channel, flagged, head, named, unnamed, messageFields, message, fields, index}
 
 -- each takes a byte at least

@@ -1,8 +1,8 @@
 -- Where the index table's refusals stand: the laws of formats, from the descriptors up to the table.
 use native.Mathlib.Nat.{le-refl}
-use Rattle.refusal.specs.declared.Refusal.the-variants.{LeftOver, PastPart}
-use Rattle.formats.specs.Format.{count, many}
-use Rattle.formats.proofs.Places.{Placed, count-placed, number-placed, nibbles-among-placed, reserved-placed, bytes-among-placed, digits-placed, followed-placed, under-placed, view-placed, list-placed, many-placed, exact-placed, length-placed, length12-placed, opaque-placed, time-placed, end-placed, resources-placed}
+use Rattle.ground_refusal.specs.declared.Refusal.the-variants.{LeftOver, PastPart}
+use Rattle.body_formats.specs.Format.{count, many}
+use Rattle.body_formats.proofs.Places.{Placed, count-placed, number-placed, nibbles-among-placed, reserved-placed, bytes-among-placed, digits-placed, followed-placed, under-placed, view-placed, list-placed, many-placed, exact-placed, length-placed, length12-placed, opaque-placed, time-placed, end-placed, resources-placed}
 use Rattle.index.specs.Index.{descriptor, descriptors, streamFields, stream, streams, channelFields, channel, flagged, head, messageFields, message, fields, index}
 
 descriptors-placed : Placed descriptors

@@ -1,5 +1,5 @@
 -- The index table's round trips: the laws of formats at this format.
-use Rattle.formats.proofs.RoundTrips as trips
+use Rattle.body_formats.proofs.RoundTrips as trips
 use Rattle.index.specs.Index.{indexKind, index}
 use Rattle.index.proofs.Lawful.{index-filling}
 

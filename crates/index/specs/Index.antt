@@ -1,10 +1,10 @@
 -- What a reader has to believe of the index table: its fields in wire order.
 use Prim.Native.Nat.{ℕ}
 use mathlib.Core.List.{List}
-use Rattle.refusal.specs.declared.Refusal.the-variants.{LeftOver, PastPart}
-use Rattle.formats.specs.Format.{Format, _▷_, followed, Under, under, count, number, nibblesAmong, bytesAmong, reserved, digits, listOf, many, opaque, exact, view, lengthOf, length12, counted}
-use Rattle.formats.specs.Time.{time, endTime}
-use Rattle.formats.specs.Resource.{resources}
+use Rattle.ground_refusal.specs.declared.Refusal.the-variants.{LeftOver, PastPart}
+use Rattle.body_formats.specs.Format.{Format, _▷_, followed, Under, under, count, number, nibblesAmong, bytesAmong, reserved, digits, listOf, many, opaque, exact, view, lengthOf, length12, counted}
+use Rattle.body_formats.specs.Time.{time, endTime}
+use Rattle.body_formats.specs.Resource.{resources}
 
 -- "FD index"
 abbrev pub indexKind : ℕ

@@ -7,37 +7,37 @@ use native.Mathlib.Omega.{arith}
 use lib.ListN.{length, getD}
 use lib.Dec.{eqb}
 use borrow.Author.Tests.{eqb-false}
-use Rattle.refusal.specs.Numbers.{numberOf, placeOf}
-use Rattle.refusal.specs.declared.Refusal.{Refusal}
-use Rattle.refusal.specs.declared.Refusal.the-variants.{SectionTooShort, OtherKind, FixedBitZero, SectionLengthOutside, OtherLength, NumberAboveLast, CheckNotZero, NotCurrent, OtherHeading, StoreTooShort, Contradiction, ImpossibleState, Missing, PastBody, PastPart, LeftOver, ReservedBitZero, DigitAboveNine, OutsideSet, ImpossibleDay, OutputTooSmall, TooLarge, OtherChecksum, NotOfTheForm, BodyTooLong}
-use Rattle.framing.specs.Section.{payloadOf, readSection}
-use Rattle.cutting.specs.Cutting as cutter
-use Rattle.cutting.specs.declared.Cut.the-variants.{Refused as NotCut}
-use Rattle.framing.specs.declared.Heading.{Heading}
-use Rattle.framing.specs.declared.Sectioned.{Sectioned}
-use Rattle.framing.specs.declared.Sectioned.the-variants.{Good, Refused as NotGood}
-use Rattle.holding.specs.State.{possibleOf, nothingBegun, spoiledState}
-use Rattle.holding.specs.declared.Gathering.{Gathering}
-use Rattle.holding.proofs.State.{possible-fresh, possible-begun}
-use Rattle.feeding.specs.Feeding as feeding
-use Rattle.feeding.specs.declared.Verdict.{Verdict}
-use Rattle.feeding.specs.declared.Verdict.the-variants.{Refuse, Repeat, Contradict, Take}
-use Rattle.feeding.specs.declared.Answer.the-variants.{HeldAlready, Refused as NotFed}
-use Rattle.feeding.proofs.Verdicts.{verdict-impossible, verdict-bad, verdict-good, Decided, old, other, short, spoiled, new, again, clash, decided}
-use Rattle.handing.specs.Handing.{bodyOf, handedOf, outBy, outAfter}
-use Rattle.handing.specs.declared.Handed.{Handed}
-use Rattle.handing.specs.declared.Handed.the-variants.{Body, Refused as NotHanded}
-use Rattle.formats.specs.Reading.{Reading, found, refused}
-use Rattle.formats.specs.Format.{Format}
-use Rattle.formats.specs.Answers.{stepOf}
-use Rattle.formats.specs.Body.{writing, writtenOver, bodyWritten, output, laying, laidOver, bodyLaid, laidTape}
-use Rattle.formats.specs.declared.Step.the-variants.{Refused as NoStep}
+use Rattle.ground_refusal.specs.Numbers.{refusalNumber, refusalPlace}
+use Rattle.ground_refusal.specs.declared.Refusal.{Refusal}
+use Rattle.ground_refusal.specs.declared.Refusal.the-variants.{SectionTooShort, OtherKind, FixedBitZero, SectionLengthOutside, OtherLength, NumberAboveLast, CheckNotZero, NotCurrent, OtherHeading, StoreTooShort, Contradiction, ImpossibleState, Missing, PastBody, PastPart, LeftOver, ReservedBitZero, DigitAboveNine, OutsideSet, ImpossibleDay, OutputTooSmall, TooLarge, OtherChecksum, NotOfTheForm, BodyTooLong}
+use Rattle.section_reader.specs.Section.{payloadOf, readSection}
+use Rattle.section_cutter.specs.Cutting as cutter
+use Rattle.section_cutter.specs.declared.Cut.the-variants.{Refused as NotCut}
+use Rattle.section_reader.specs.declared.Heading.{Heading}
+use Rattle.section_reader.specs.declared.Sectioned.{Sectioned}
+use Rattle.section_reader.specs.declared.Sectioned.the-variants.{Good, Refused as NotGood}
+use Rattle.gathering_state.specs.State.{possibleOf, nothingBegun, spoiledState}
+use Rattle.gathering_state.specs.declared.Gathering.{Gathering}
+use Rattle.gathering_state.proofs.State.{possible-fresh, possible-begun}
+use Rattle.gathering_feed.specs.Feeding as feeding
+use Rattle.gathering_feed.specs.declared.Verdict.{Verdict}
+use Rattle.gathering_feed.specs.declared.Verdict.the-variants.{Refuse, Repeat, Contradict, Take}
+use Rattle.gathering_feed.specs.declared.Answer.the-variants.{HeldAlready, Refused as NotFed}
+use Rattle.gathering_feed.proofs.Verdicts.{verdict-impossible, verdict-bad, verdict-good, Decided, old, other, short, spoiled, new, again, clash, decided}
+use Rattle.gathering_hand_out.specs.Handing.{bodyHeld, handedOf, outBy, outAfter}
+use Rattle.gathering_hand_out.specs.declared.Handed.{Handed}
+use Rattle.gathering_hand_out.specs.declared.Handed.the-variants.{Body, Refused as NotHanded}
+use Rattle.body_formats.specs.Reading.{Reading, found, refused}
+use Rattle.body_formats.specs.Format.{Format}
+use Rattle.body_formats.specs.Answers.{stepOf}
+use Rattle.body_formats.specs.Body.{writing, writtenOver, bodyWritten, outputWritten, laying, laidOver, bodyLaid, laidTape}
+use Rattle.body_formats.specs.declared.Step.the-variants.{Refused as NoStep}
 use Rattle.index.specs.Index.{Index}
 use Rattle.content.specs.Content.{Content, content}
-use Rattle.contentwriter.specs.Written.{writtenOf, contentWritten}
-use Rattle.contentwriter.specs.declared.Written.the-variants.{Refused as NotWritten}
-use Rattle.records.specs.Records.{recording, bodyRecorded, recordedOver, recorded}
-use Rattle.records.specs.declared.Record.{Record}
+use Rattle.content_writer.specs.Written.{writtenOf, contentWritten}
+use Rattle.content_writer.specs.declared.Written.the-variants.{Refused as NotWritten}
+use Rattle.index_records.specs.Records.{recording, bodyRecorded, recordedOver, recorded}
+use Rattle.index_records.specs.declared.Record.{Record}
 use Rattle.promises.proofs.Places.{absurd-answer, section-refusals, places}
 use Rattle.promises.proofs.Told.{told}
 use Rattle.promises.specs.Demand1.{Numbered, WritesNothing, OnlySpoils, Demand1}
@@ -57,9 +57,9 @@ abbrev refusalOf : ℕ → ℕ → Refusal
 refusalOf number at = getD (BodyTooLong ∷ listAt at) number BodyTooLong
 
 pub record Listed (r : Refusal) : Type 0 where
-  pub from : 1 ≤ numberOf r
-  pub until : numberOf r ≤ 25
-  pub is : refusalOf (numberOf r) (placeOf r) ≡ r
+  pub from : 1 ≤ refusalNumber r
+  pub until : refusalNumber r ≤ 25
+  pub is : refusalOf (refusalNumber r) (refusalPlace r) ≡ r
 
 listed : (r : Refusal) → Listed r
 listed SectionTooShort = record { from = omega arith; until = omega arith; is = refl }
@@ -97,8 +97,8 @@ numbered =
 
 -- ---- what refuses writes nothing
 
-cut-keeps : (v : cutter.Verdict) (out : List ℕ) (r : Refusal) → cutter.answerBy v ≡ NotCut r → cutter.outputBy v out ≡ out
-unfolding cutter.answerBy cutter.outputBy
+cut-keeps : (v : cutter.Verdict) (out : List ℕ) (r : Refusal) → cutter.cutBy v ≡ NotCut r → cutter.outputBy v out ≡ out
+unfolding cutter.cutBy cutter.outputBy
 cut-keeps (cutter.refuses r′) out r e = refl
 cut-keeps (cutter.writes bytes) out r e = absurd-answer (cc)
 
@@ -131,12 +131,12 @@ fed-keeps store payload Contradict r e = refl
 fed-keeps store payload (Take h) r e = absurd-answer (cc)
 
 writes-nothing : WritesNothing
-unfolding feeding.fedOf feeding.storeAfter handedOf outAfter bodyWritten contentWritten output bodyLaid laidTape bodyRecorded recorded
+unfolding feeding.fedOf feeding.storeAfter handedOf outAfter bodyWritten contentWritten outputWritten bodyLaid laidTape bodyRecorded recorded
 writes-nothing =
     record {
       cutter = λ body kind extension version number out. cut-keeps (cutter.cutting body kind extension version number (length out)) out;
       feed = λ g store s. fed-keeps store (payloadOf s) (feeding.verdictOf g store s);
-      hand-out = λ g store out. handed-keeps (bodyOf g store) out (handedOf g store out);
+      hand-out = λ g store out. handed-keeps (bodyHeld g store) out (handedOf g store out);
       writers = λ F pool tape out. written-keeps F out (writing F pool tape (length out));
       content-writer = λ pool tape out. content-keeps out (writing (content 3) pool tape (length out));
       layers = λ F own kind body tape. laid-keeps F tape (laying F own kind body (length tape));
@@ -176,8 +176,8 @@ spoiled-stays g p n = go (nothingBegun g) refl
     go b e = let m = most b e in same (omega (arith, n, m))
 
 -- the other refusals have other numbers
-differs : (r : Refusal) → eqb (numberOf r) 11 ≡ false → r ≡ Contradiction → ⊥
-differs r n e = eqb-false (numberOf r) 11 n (ap numberOf e)
+differs : (r : Refusal) → eqb (refusalNumber r) 11 ≡ false → r ≡ Contradiction → ⊥
+differs r n e = eqb-false (refusalNumber r) 11 n (ap refusalNumber e)
 
 -- a section is never refused for a contradiction
 section-not : (s : List ℕ) → readSection s ≡ NotGood Contradiction → ⊥

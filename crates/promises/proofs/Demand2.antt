@@ -7,45 +7,45 @@ use native.Mathlib.Omega.{arith}
 use lib.ListN.{length, getD, take}
 use lib.Dec.{ltb, leb, eqb}
 use borrow.Author.Tests.{ltb-true, eqb-true, le-leb, eq-eqb}
-use Rattle.choices.proofs.Tests.{both}
-use Rattle.refusal.specs.declared.Refusal.the-variants.{OtherKind, OutputTooSmall, OtherChecksum}
-use Rattle.placing.specs.Placed.{placed}
-use Rattle.placing.proofs.Placing.{placed-start}
+use Rattle.ground_choices.proofs.Tests.{both}
+use Rattle.ground_refusal.specs.declared.Refusal.the-variants.{OtherKind, OutputTooSmall, OtherChecksum}
+use Rattle.ground_placing.specs.Placed.{placed}
+use Rattle.ground_placing.proofs.Placing.{placed-start}
 use Rattle.crc.specs.Crc.{AreBytes}
-use Rattle.days.specs.Calendar.{dateOf}
-use Rattle.days.proofs.Theorems.{date-of-day, day-of-date, next-day}
-use Rattle.days.proofs.Values as days
-use Rattle.times.proofs.Inverse.{writes-read, reads-written}
-use Rattle.cutting.specs.Cutting.{partOf, cutHeading, sectionOf, answerBy, cutAnswer, Askable}
-use Rattle.cutting.specs.declared.Cut.the-variants.{Written}
-use Rattle.cutting.proofs.Counting.{counted-is}
-use Rattle.framing.proofs.Printing.{printed-length}
-use Rattle.framing.proofs.RoundTrip.{good-exactly}
-use Rattle.cutting.proofs.Sections.{cut-writes, cut-reads, cut-joined}
-use Rattle.formats.specs.Reading.{Reading, found, refused}
-use Rattle.formats.specs.Format.{Format, every}
-use Rattle.formats.specs.Answers.{stepOf}
-use Rattle.formats.specs.Body.{longest, reading, bodyRead, writing, bodyWritten, output, laying, bodyLaid, laidTape}
-use Rattle.formats.specs.declared.Step.the-variants.{At}
-use Rattle.formats.proofs.Classes.{Ok}
-use Rattle.formats.proofs.Outcomes.{found-inj, andThen-found, need-found}
-use Rattle.formats.proofs.RoundTrips as trips
+use Rattle.time_days.specs.Calendar.{dateOf}
+use Rattle.time_days.proofs.Theorems.{date-of-day, day-of-date, next-day}
+use Rattle.time_days.proofs.Values as days
+use Rattle.time_fields.proofs.Inverse.{writes-read, reads-written}
+use Rattle.section_cutter.specs.Cutting.{partCarried, cutHeading, sectionOf, cutBy, cutAnswer, Askable}
+use Rattle.section_cutter.specs.declared.Cut.the-variants.{Written}
+use Rattle.section_cutter.proofs.Counting.{counted-is}
+use Rattle.section_reader.proofs.Printing.{printed-length}
+use Rattle.section_reader.proofs.RoundTrip.{good-exactly}
+use Rattle.section_cutter.proofs.Sections.{cut-writes, cut-reads, cut-joined}
+use Rattle.body_formats.specs.Reading.{Reading, found, refused}
+use Rattle.body_formats.specs.Format.{Format, every}
+use Rattle.body_formats.specs.Answers.{stepOf}
+use Rattle.body_formats.specs.Body.{longest, reading, bodyRead, writing, bodyWritten, outputWritten, laying, bodyLaid, laidTape}
+use Rattle.body_formats.specs.declared.Step.the-variants.{At}
+use Rattle.body_formats.proofs.Classes.{Ok}
+use Rattle.body_formats.proofs.Outcomes.{found-inj, andThen-found, need-found}
+use Rattle.body_formats.proofs.RoundTrips as trips
 use Rattle.certificate.specs.Certificate.{certificateKind, certificate}
 use Rattle.certificate.proofs.RoundTrips.{certificate-trips}
-use Rattle.certificate.proofs.Table.{certificate-asked}
+use Rattle.certificate_fields.proofs.Table.{certificate-asked}
 use Rattle.index.specs.Index.{indexKind, index}
 use Rattle.index.proofs.RoundTrips.{index-trips}
-use Rattle.messages.proofs.Asked.{index-asked}
-use Rattle.records.proofs.Laid.{records-are}
+use Rattle.index_fields.proofs.Asked.{index-asked}
+use Rattle.index_records.proofs.Laid.{records-are}
 use Rattle.content.specs.Content.{Content, contentKind, content, extensionOf, readingOf, contentRead}
 use Rattle.content.proofs.RoundTrips.{content-trips}
 use Rattle.content.proofs.Smallest.{content-takes, smallestBody, smallest-accepted}
-use Rattle.languages.proofs.Asked.{content-asked}
-use Rattle.contentwriter.specs.Written.{writtenOf, contentWritten}
-use Rattle.contentwriter.specs.declared.Written.the-variants.{Of}
+use Rattle.content_fields.proofs.Asked.{content-asked}
+use Rattle.content_writer.specs.Written.{writtenOf, contentWritten}
+use Rattle.content_writer.specs.declared.Written.the-variants.{Of}
 use Rattle.configuration.specs.Configuration.{configurationKind, configuration}
 use Rattle.configuration.proofs.RoundTrips.{configuration-trips}
-use Rattle.commands.proofs.Asked.{configuration-asked}
+use Rattle.configuration_fields.proofs.Asked.{configuration-asked}
 use Rattle.promises.specs.Demand2.{WellFormed, Holds, WrittenAndRead, HoldsContent, Extended, Smallest, SectionsRead, Times, Days, Demand2}
 use Rattle.promises.proofs.LocalTimes.{local-times}
 
@@ -58,7 +58,7 @@ step-found (refused r) n e = absurd (let z : _≡_ {A = ℕ} 0 1 = cc in omega a
 
 module _ {A : Type 0} (F : Format A) (own : ℕ) (f : trips.RoundTrips F own) where
   ok : (t : A) → WellFormed F t → Ok F t
-  ok t w = record { right = w .right; small = w .small }
+  ok t w = record { writable = w .writable; small = w .small }
 
   own-kind : (kind : ℕ) (body : List ℕ) (t : A) (n : ℕ) → reading F own kind body ≡ found t n → kind ≡ own
   unfolding reading
@@ -72,7 +72,7 @@ module _ {A : Type 0} (F : Format A) (own : ℕ) (f : trips.RoundTrips F own) wh
         record {
           kind-is = k;
           body-is = a .0;
-          formed = record { right = a .1 .right; small = a .1 .small; bytes = subst AreBytes (a .0) b; short = subst (λ (s : List ℕ). length s ≤ longest) (a .0) (a .2) };
+          formed = record { writable = a .1 .writable; small = a .1 .small; bytes = subst AreBytes (a .0) b; short = subst (λ (s : List ℕ). length s ≤ longest) (a .0) (a .2) };
         },
         a .3,
       )
@@ -91,8 +91,8 @@ module _ {A : Type 0} (F : Format A) (own : ℕ) (f : trips.RoundTrips F own) wh
   unfolding bodyRead
   held-accepts kind body t h = ap stepOf (held-reads kind body t h)
 
-  written : (pool tape out : List ℕ) (t : A) (n : ℕ) → writing F pool tape (length out) ≡ found t n → output F pool tape out ≡ placed out 0 (F .print t)
-  unfolding output
+  written : (pool tape out : List ℕ) (t : A) (n : ℕ) → writing F pool tape (length out) ≡ found t n → outputWritten F pool tape out ≡ placed out 0 (F .print t)
+  unfolding outputWritten
   written pool tape out t n e = rw e
 
   is-laid : (kind : ℕ) (body : List ℕ) (t : A) → reading F own kind body ≡ found t (length body) → (tape : List ℕ) → length (F .tape t 0) ≤ length tape
@@ -123,12 +123,12 @@ module _ {A : Type 0} (F : Format A) (own : ℕ) (f : trips.RoundTrips F own) wh
   writes-back : (kind : ℕ) (body : List ℕ) → AreBytes body → (tape : List ℕ) (m : ℕ) → bodyLaid F own kind body (length tape) ≡ At m
       → (out : List ℕ) → length body ≤ length out
       → (bodyWritten F body (take m (laidTape F own kind body tape)) (length out) ≡ At (length body))
-      × (output F body (take m (laidTape F own kind body tape)) out ≡ placed out 0 body)
+      × (outputWritten F body (take m (laidTape F own kind body tape)) out ≡ placed out 0 body)
   unfolding bodyWritten
   writes-back kind body b tape m e out l =
       let x = laid-is kind body tape m e in
       let w = f .writes-back kind body (b .byte) (x .0) (x .1) (x .2) out l in
-      (ap (λ (t : List ℕ). bodyWritten F body t (length out)) (x .3) ∙ ap stepOf (w .0), ap (λ (t : List ℕ). output F body t out) (x .3) ∙ w .1)
+      (ap (λ (t : List ℕ). bodyWritten F body t (length out)) (x .3) ∙ ap stepOf (w .0), ap (λ (t : List ℕ). outputWritten F body t out) (x .3) ∙ w .1)
 
   round-trips : WrittenAndRead F own
   round-trips =
@@ -181,7 +181,7 @@ given (found t m) n extension e =
 given (refused r) n extension e = absurd (let z : _≡_ {A = ℕ} 0 1 = cc in omega arith)
 
 written-with : (pool tape out : List ℕ) (n extension : ℕ) → contentWritten pool tape (length out) ≡ Of n extension
-    → (t : Content) × (output (content 3) pool tape out ≡ placed out 0 (content 3 .print t)) × (readingOf 3 contentKind extension (content 3 .print t) ≡ found t n)
+    → (t : Content) × (outputWritten (content 3) pool tape out ≡ placed out 0 (content 3 .print t)) × (readingOf 3 contentKind extension (content 3 .print t) ≡ found t n)
 unfolding contentWritten readingOf
 written-with pool tape out n extension e =
     let g = given (writing (content 3) pool tape (length out)) n extension e in
@@ -205,7 +205,7 @@ module _ (kind extension : ℕ) (body : List ℕ) where
       let x = step-found (readingOf 3 kind extension body) n e in
       let i = andThen-found (reading (content 3) contentKind kind body) _ (x .0) n (x .1) in
       let h = read-holds (content 3) contentKind (content-trips 3) kind body (i .0) (i .1) b (i .2) .0 in
-      subst (λ (s : List ℕ). 33 ≤ length s) (sym (h .body-is)) (content-takes 3 (i .0) (h .formed .right))
+      subst (λ (s : List ℕ). 33 ≤ length s) (sym (h .body-is)) (content-takes 3 (i .0) (h .formed .writable))
 
 all-bytes : (s : List ℕ) → every (λ x. ltb x 256) s ≡ true → (i : ℕ) → getD s i 0 < 256
 unfolding every
@@ -229,11 +229,11 @@ smallest =
 -- ---- sections
 
 is-cut : (body : List ℕ) (kind extension version number : ℕ) → Askable (length body) kind extension version number
-    → (out : List ℕ) → length (partOf body number) + 12 ≤ length out → cutAnswer body kind extension version number out ≡ Written (length (partOf body number) + 12)
-unfolding sectionOf answerBy
+    → (out : List ℕ) → length (partCarried body number) + 12 ≤ length out → cutAnswer body kind extension version number out ≡ Written (length (partCarried body number) + 12)
+unfolding sectionOf cutBy
 is-cut body kind extension version number a out l =
-    ap answerBy (cut-writes body kind extension version number (length out) a l)
-    ∙ ap Written (printed-length (cutHeading (length body) kind extension version number) (partOf body number))
+    ap cutBy (cut-writes body kind extension version number (length out) a l)
+    ∙ ap Written (printed-length (cutHeading (length body) kind extension version number) (partCarried body number))
 
 sections : SectionsRead
 sections =

@@ -1,12 +1,12 @@
 -- Demand 3: the theorems of account.
 use lib.ListN.{length}
-use Rattle.holding.specs.State.{hasRoom}
-use Rattle.account.proofs.Demand3.{demand-3, handing-answers}
-use Rattle.account.proofs.Answering.{run-possible, feed-answers, run-answers}
-use Rattle.account.proofs.Growing.{table-room}
-use Rattle.account.proofs.Whole.{arrives-whole}
-use Rattle.account.proofs.Cuts.{printed-arrives, cut-arrives}
-use Rattle.account.proofs.Listed.{comes-back}
+use Rattle.gathering_state.specs.State.{hasRoom}
+use Rattle.gathering_account.proofs.Demand3.{demand-3, handing-answers}
+use Rattle.gathering_account.proofs.Answering.{run-possible, feed-answers, run-answers}
+use Rattle.gathering_account.proofs.Growing.{table-room}
+use Rattle.gathering_account.proofs.Whole.{arrives-whole}
+use Rattle.gathering_account.proofs.Cuts.{printed-arrives, cut-arrives}
+use Rattle.gathering_account.proofs.Listed.{comes-back}
 use Rattle.promises.specs.Demand3.{Demand3}
 
 pub demand3 : Demand3

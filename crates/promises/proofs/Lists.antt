@@ -1,8 +1,8 @@
 -- Each answer is given as its list says, by the theorem that crate orders has of it.
-use Rattle.orders.proofs.Sections.{sections-as-listed}
-use Rattle.orders.proofs.Gathering.{feeding-as-listed, complete-as-listed, handing-as-listed}
-use Rattle.orders.proofs.Cutter.{count-as-listed, cutter-as-listed}
-use Rattle.orders.proofs.Times.{packing-as-listed, unpacking-as-listed, text-as-listed}
+use Rattle.promises_orders.proofs.Sections.{sections-as-listed}
+use Rattle.promises_orders.proofs.Gathering.{feeding-as-listed, complete-as-listed, handing-as-listed}
+use Rattle.promises_orders.proofs.Cutter.{count-as-listed, cutter-as-listed}
+use Rattle.promises_orders.proofs.Times.{packing-as-listed, unpacking-as-listed, text-as-listed}
 use Rattle.promises.specs.Lists.{GivenExactly}
 
 pub given-exactly : GivenExactly

@@ -7,22 +7,22 @@ use mathlib.Core.Logic.{_↔_}
 use native.Mathlib.Omega.{arith}
 use borrow.Author.Tests.{lt-leb, not-true}
 use lib.IntN.{ℤ}
-use Rattle.refusal.specs.declared.Refusal.{Refusal}
-use Rattle.refusal.specs.declared.Refusal.the-variants.{ImpossibleDay, NotOfTheForm}
-use Rattle.days.specs.Calendar.{isDate, hasDay}
-use Rattle.times.specs.Field.{decimal, possible}
-use Rattle.times.specs.declared.Fielded.the-variants.{Field, Refused as NotFielded}
-use Rattle.offset.specs.Offset.{isOffset}
-use Rattle.local.specs.Clock.{isClock, packOf, unpackOf}
-use Rattle.local.specs.Text.{form, formed, two, typed, readText, Typable, textOf, IsText}
-use Rattle.local.specs.declared.LocalTime.{LocalTime}
-use Rattle.local.specs.declared.Unpacked.the-variants.{At, Refused as NotUnpacked}
-use Rattle.local.proofs.Forms.{by-form}
-use Rattle.local.proofs.RoundTrip.{packs-exactly, unpacks-exactly, unpack-packed, pack-unpacked}
-use Rattle.local.proofs.Characters.{text-formed, text-typed, reads-text, text-typable, text-only, text-accepted}
-use Rattle.orders.specs.Order.{_when_, Given, here, later}
-use Rattle.orders.specs.Times.{outside, utcDay, localDay, impossible, packingLines, unpackingLines, textLines}
-use Rattle.orders.proofs.Times.{packing-as-listed, unpacking-as-listed, text-as-listed}
+use Rattle.ground_refusal.specs.declared.Refusal.{Refusal}
+use Rattle.ground_refusal.specs.declared.Refusal.the-variants.{ImpossibleDay, NotOfTheForm}
+use Rattle.time_days.specs.Calendar.{isDate, hasDay}
+use Rattle.time_fields.specs.Field.{isDecimal, possible}
+use Rattle.time_fields.specs.declared.Fielded.the-variants.{Field, Refused as NotFielded}
+use Rattle.time_offset.specs.Offset.{isOffset}
+use Rattle.time_local.specs.Clock.{isClock, packOf, unpackOf}
+use Rattle.time_local.specs.Text.{form, formed, two, typed, readText, Typable, textOf, IsText}
+use Rattle.time_local.specs.declared.LocalTime.{LocalTime}
+use Rattle.time_local.specs.declared.Unpacked.the-variants.{At, Refused as NotUnpacked}
+use Rattle.time_local.proofs.Forms.{by-form}
+use Rattle.time_local.proofs.RoundTrip.{packs-exactly, unpacks-exactly, unpack-packed, pack-unpacked}
+use Rattle.time_local.proofs.Characters.{text-formed, text-typed, reads-text, text-typable, text-only, text-accepted}
+use Rattle.promises_orders.specs.Order.{_when_, Given, here, later}
+use Rattle.promises_orders.specs.Times.{offsetOutside, utcDay, localDay, impossible, packingLines, unpackingLines, textLines}
+use Rattle.promises_orders.proofs.Times.{packing-as-listed, unpacking-as-listed, text-as-listed}
 use Rattle.promises.specs.LocalTimes.{NoField, no-date, no-time, local-outside, utc-outside, NoLocalTime, no-moment, moved-outside, thirdOfNovember, LocalTimes}
 
 -- ---- 20
@@ -33,7 +33,7 @@ or-true false = refl
 
 module _ (t : LocalTime) (offset : ℤ) where
   why-none : (i d c o : Bool) → isDate (t .year) (t .month) (t .day) ≡ i → hasDay (t .year) (t .month) (t .day) ≡ d
-      → isClock t ≡ c → outside (utcDay t offset) ≡ o → (not d || not c || o) ≡ true → NoField t offset
+      → isClock t ≡ c → offsetOutside (utcDay t offset) ≡ o → (not d || not c || o) ≡ true → NoField t offset
   why-none false false c o i d e u n = no-date i
   why-none true false c o i d e u n = local-outside i d
   why-none i true false o f d e u n = no-time e
@@ -64,25 +64,25 @@ module _ (t : LocalTime) (offset : ℤ) where
       )
 
 module _ (field : ℕ) (offset : ℤ) where
-  why-no-time : (p o : Bool) → possible field ≡ p → outside (localDay field offset) ≡ o → (not p || o) ≡ true → NoLocalTime field offset
+  why-no-time : (p o : Bool) → possible field ≡ p → offsetOutside (localDay field offset) ≡ o → (not p || o) ≡ true → NoLocalTime field offset
   why-no-time false o p u n = no-moment p
   why-no-time true true p u n = moved-outside u
   why-no-time true false p u n = absurd (false≢true n)
 
-  no-time-why : NoLocalTime field offset → (not (possible field) || outside (localDay field offset)) ≡ true
+  no-time-why : NoLocalTime field offset → (not (possible field) || offsetOutside (localDay field offset)) ≡ true
   no-time-why (no-moment p) = rw p
   no-time-why (moved-outside u) = simp (u, or-true)
 
-  unpack-given : isOffset offset ≡ true → field < 2 ^ 40 → decimal field ≡ true → (not (possible field) || outside (localDay field offset)) ≡ true
+  unpack-given : isOffset offset ≡ true → field < 2 ^ 40 → isDecimal field ≡ true → (not (possible field) || offsetOutside (localDay field offset)) ≡ true
       → Given (ImpossibleDay 0) (unpackingLines field offset)
   unfolding unpackingLines
   unpack-given o w d n = later (ap not o) (later (lt-leb _ _ w) (later (ap not d) (here n)))
 
-  given-no-time : Given (ImpossibleDay 0) (unpackingLines field offset) → (not (possible field) || outside (localDay field offset)) ≡ true
+  given-no-time : Given (ImpossibleDay 0) (unpackingLines field offset) → (not (possible field) || offsetOutside (localDay field offset)) ≡ true
   unfolding unpackingLines
   given-no-time (later o (later w (later d (here n)))) = n
 
-  unpack-refused : isOffset offset ≡ true → field < 2 ^ 40 → decimal field ≡ true
+  unpack-refused : isOffset offset ≡ true → field < 2 ^ 40 → isDecimal field ≡ true
       → (unpackOf field offset ≡ NotUnpacked (ImpossibleDay 0)) ↔ NoLocalTime field offset
   unpack-refused o w d =
       let listed = unpacking-as-listed field offset .refused-exactly (ImpossibleDay 0) in (

@@ -8,27 +8,27 @@ use native.Mathlib.Omega.{arith}
 use lib.ListN.{length, getD, replicate, take, drop}
 use lib.Seq.{getD-take, getD-drop}
 use borrow.Author.Tests.{ne-eqb}
-use Rattle.placing.specs.Placed.{placed}
-use Rattle.placing.proofs.Placing.{placed-none}
+use Rattle.ground_placing.specs.Placed.{placed}
+use Rattle.ground_placing.proofs.Placing.{placed-none}
 use Rattle.crc.specs.Crc.{AreBytes}
-use Rattle.framing.specs.Section.{payloadOf, WellFormed}
-use Rattle.framing.specs.declared.Heading.{Heading}
-use Rattle.framing.proofs.RoundTrip.{reads-back}
-use Rattle.holding.specs.Lists.{part}
-use Rattle.holding.specs.State.{nothingBegun, hasRoom}
-use Rattle.holding.specs.declared.Gathering.{Gathering}
-use Rattle.feeding.specs.Feeding.{verdictOf, storeBy, storeAfter}
-use Rattle.feeding.specs.declared.Verdict.{Verdict}
-use Rattle.feeding.specs.declared.Verdict.the-variants.{Refuse, Repeat, Contradict, Take}
-use Rattle.handing.specs.Handing.{joined, bodyOf, outBy, outAfter}
-use Rattle.account.specs.Account.{Account, idle, table, account}
-use Rattle.account.specs.Gathers.{Box, freshBox, ByteStrings, feed, run, HandsOut, Fixes}
-use Rattle.account.specs.Arrival.{headingAt, CutInto, sectionsOf, listed}
-use Rattle.account.proofs.Bytes.{printed-bytes}
-use Rattle.account.proofs.Hearing.{counted-first}
-use Rattle.account.proofs.Cuts.{printed-cut, printed-arrives}
-use Rattle.account.proofs.Listed.{listed-arrives}
-use Rattle.account.proofs.Demand3.{demand-3}
+use Rattle.section_reader.specs.Section.{payloadOf, WellFormed}
+use Rattle.section_reader.specs.declared.Heading.{Heading}
+use Rattle.section_reader.proofs.RoundTrip.{reads-back}
+use Rattle.gathering_state.specs.Lists.{part}
+use Rattle.gathering_state.specs.State.{nothingBegun, hasRoom}
+use Rattle.gathering_state.specs.declared.Gathering.{Gathering}
+use Rattle.gathering_feed.specs.Feeding.{verdictOf, storeBy, storeAfter}
+use Rattle.gathering_feed.specs.declared.Verdict.{Verdict}
+use Rattle.gathering_feed.specs.declared.Verdict.the-variants.{Refuse, Repeat, Contradict, Take}
+use Rattle.gathering_hand_out.specs.Handing.{joined, bodyHeld, outBy, outAfter}
+use Rattle.gathering_account.specs.Account.{Account, idle, table, account}
+use Rattle.gathering_account.specs.Gathers.{Box, freshBox, ByteStrings, feed, boxAfter, HandsOut, Fixes}
+use Rattle.gathering_account.specs.Arrival.{headingAt, CutInto, sectionsOf, sectionsListed}
+use Rattle.gathering_account.proofs.Bytes.{printed-bytes}
+use Rattle.gathering_account.proofs.Hearing.{counted-first}
+use Rattle.gathering_account.proofs.Cuts.{printed-cut, printed-arrives}
+use Rattle.gathering_account.proofs.Listed.{listed-arrives}
+use Rattle.gathering_account.proofs.Demand3.{demand-3}
 
 -- ---- a table of two sections, the first empty, the second one byte
 
@@ -85,9 +85,9 @@ placed-first (x ∷ body) e = e
 
 -- what is handed out begins with no 1
 handed-first : (box : Box) (body : List ℕ) → box .store ≡ store → HandsOut box (0 ∷ []) body → getD (placed (0 ∷ []) 0 body) 0 0 ≡ 0
-unfolding outAfter outBy bodyOf store
+unfolding outAfter outBy bodyHeld store
 handed-first box body e h =
-    ap (λ (s : List ℕ). getD s 0 0) (sym (h .writes)) ∙ rw (h .answers) (placed-first (bodyOf (box .state) (box .store)) (rw e (joined-first store (zeros 8168) _ 0 _)))
+    ap (λ (s : List ℕ). getD s 0 0) (sym (h .writes)) ∙ rw (h .answers) (placed-first (bodyHeld (box .state) (box .store)) (rw e (joined-first store (zeros 8168) _ 0 _)))
 
 -- ---- what is stored
 
@@ -138,8 +138,8 @@ roomy : hasRoom (length store) (heading .last) ≡ true
 unfolding hasRoom heading store
 roomy = refl
 
-comes : HandsOut (run (freshBox store) fed) (0 ∷ []) (1 ∷ [])
-unfolding flatten heading listed
+comes : HandsOut (boxAfter (freshBox store) fed) (0 ∷ []) (1 ∷ [])
+unfolding flatten heading sectionsListed
 comes =
     printed-arrives heading payloads well short refl store fed all-bytes (listed-arrives sections (hasRoom (length store)) heading roomy) (0 ∷ []) (omega arith)
 
@@ -149,7 +149,7 @@ unfolding account CutInto headingAt
 first-heard = rw (printed-cut heading payloads well short 0 (omega arith)) (counted-first (hasRoom (length store)) (headingAt heading 0) (payloadOf (sections 0)) roomy)
 
 abbrev after-first : Gathering
-after-first = run (freshBox store) (sections 0 ∷ []) .state
+after-first = boxAfter (freshBox store) (sections 0 ∷ []) .state
 
 first-kind : after-first .kind ≡ 0xFD
 unfolding Fixes headingAt heading
@@ -160,10 +160,10 @@ unfolding nothingBegun
 begun = ne-eqb (after-first .kind) 0 (λ (z : after-first .kind ≡ 0). let k = first-kind in omega arith)
 
 module _ (h : (g : Gathering) (store s : List ℕ) → nothingBegun g ≡ false → storeAfter g store s ≡ store) where
-  nothing-stored : run (freshBox store) fed .store ≡ store
-  unfolding run feed freshBox
+  nothing-stored : boxAfter (freshBox store) fed .store ≡ store
+  unfolding boxAfter feed freshBox
   nothing-stored = h _ _ (sections 1) begun ∙ empty-stays _ store (sections 0) empty
 
   pub only-marks : ⊥
   unfolding placed
-  only-marks = let z : _≡_ {A = ℕ} 1 0 = handed-first (run (freshBox store) fed) (1 ∷ []) nothing-stored comes in omega arith
+  only-marks = let z : _≡_ {A = ℕ} 1 0 = handed-first (boxAfter (freshBox store) fed) (1 ∷ []) nothing-stored comes in omega arith

@@ -7,43 +7,43 @@ use native.Mathlib.Omega.{arith}
 use lib.ListN.{length, getD, length-take}
 use lib.Dec.{eqb, leb, ltb}
 use borrow.Author.Tests.{leb-true, ltb-true}
-use Rattle.choices.specs.Choice.{if_then_else_}
-use Rattle.refusal.specs.Numbers.{placeOf}
-use Rattle.refusal.specs.declared.Refusal.{Refusal}
-use Rattle.refusal.specs.declared.Refusal.the-variants.{SectionTooShort, OtherKind, FixedBitZero, SectionLengthOutside, OtherLength, NumberAboveLast, CheckNotZero, NotCurrent, OtherHeading, StoreTooShort, Contradiction, ImpossibleState, Missing, PastBody, OutsideSet, OutputTooSmall, TooLarge, BodyTooLong}
+use Rattle.ground_choices.specs.Choice.{if_then_else_}
+use Rattle.ground_refusal.specs.Numbers.{refusalPlace}
+use Rattle.ground_refusal.specs.declared.Refusal.{Refusal}
+use Rattle.ground_refusal.specs.declared.Refusal.the-variants.{SectionTooShort, OtherKind, FixedBitZero, SectionLengthOutside, OtherLength, NumberAboveLast, CheckNotZero, NotCurrent, OtherHeading, StoreTooShort, Contradiction, ImpossibleState, Missing, PastBody, OutsideSet, OutputTooSmall, TooLarge, BodyTooLong}
 use Rattle.crc.specs.Crc.{crc32Of}
-use Rattle.framing.specs.Section.{isKind, sectionLength, fixedBits, headingOf, payloadOf, readSection}
-use Rattle.framing.specs.declared.Heading.{Heading}
-use Rattle.framing.specs.declared.Sectioned.{Sectioned}
-use Rattle.framing.specs.declared.Sectioned.the-variants.{Good, Refused as NotGood}
-use Rattle.cutting.specs.Cutting as cutter
-use Rattle.cutting.specs.declared.Cut.the-variants.{Refused as NotCut}
-use Rattle.holding.specs.Lists.{smallestMissing}
-use Rattle.holding.specs.State.{possibleOf, nothingBegun, hasRoom, lengths}
-use Rattle.holding.specs.declared.Gathering.{Gathering}
-use Rattle.feeding.specs.Feeding as feeding
-use Rattle.feeding.specs.declared.Verdict.{Verdict}
-use Rattle.feeding.specs.declared.Verdict.the-variants.{Refuse}
-use Rattle.feeding.specs.declared.Answer.the-variants.{Refused as NotFed}
-use Rattle.feeding.proofs.Verdicts.{verdict-impossible, verdict-bad, verdict-good, Decided, old, other, short, spoiled, new, again, clash, decided}
-use Rattle.handing.specs.Handing as handing
-use Rattle.handing.specs.declared.Completeness.{Completeness}
-use Rattle.handing.specs.declared.Completeness.the-variants.{Complete, Refused as NotComplete}
-use Rattle.handing.specs.declared.Handed.the-variants.{Body, Refused as NotHanded}
-use Rattle.formats.specs.Reading.{Reading, found, refused}
-use Rattle.formats.specs.Format.{Format}
-use Rattle.formats.specs.Body.{reading, writing}
-use Rattle.formats.specs.declared.Step.the-variants.{Refused as NoStep}
-use Rattle.formats.proofs.Places.{Until, ends, stands, then-until, need-until, Placed, step-place, reading-until, read-place, laid-place, writing-until, written-place}
+use Rattle.section_reader.specs.Section.{isKind, sectionLength, fixedBits, headingOf, payloadOf, readSection}
+use Rattle.section_reader.specs.declared.Heading.{Heading}
+use Rattle.section_reader.specs.declared.Sectioned.{Sectioned}
+use Rattle.section_reader.specs.declared.Sectioned.the-variants.{Good, Refused as NotGood}
+use Rattle.section_cutter.specs.Cutting as cutter
+use Rattle.section_cutter.specs.declared.Cut.the-variants.{Refused as NotCut}
+use Rattle.gathering_state.specs.Lists.{smallestMissing}
+use Rattle.gathering_state.specs.State.{possibleOf, nothingBegun, hasRoom, lengths}
+use Rattle.gathering_state.specs.declared.Gathering.{Gathering}
+use Rattle.gathering_feed.specs.Feeding as feeding
+use Rattle.gathering_feed.specs.declared.Verdict.{Verdict}
+use Rattle.gathering_feed.specs.declared.Verdict.the-variants.{Refuse}
+use Rattle.gathering_feed.specs.declared.Answer.the-variants.{Refused as NotFed}
+use Rattle.gathering_feed.proofs.Verdicts.{verdict-impossible, verdict-bad, verdict-good, Decided, old, other, short, spoiled, new, again, clash, decided}
+use Rattle.gathering_hand_out.specs.Handing as handing
+use Rattle.gathering_hand_out.specs.declared.Completeness.{Completeness}
+use Rattle.gathering_hand_out.specs.declared.Completeness.the-variants.{Complete, Refused as NotComplete}
+use Rattle.gathering_hand_out.specs.declared.Handed.the-variants.{Body, Refused as NotHanded}
+use Rattle.body_formats.specs.Reading.{Reading, found, refused}
+use Rattle.body_formats.specs.Format.{Format}
+use Rattle.body_formats.specs.Body.{reading, writing}
+use Rattle.body_formats.specs.declared.Step.the-variants.{Refused as NoStep}
+use Rattle.body_formats.proofs.Places.{Until, ends, stands, then-until, need-until, Placed, step-place, reading-until, read-place, laid-place, writing-until, written-place}
 use Rattle.certificate.specs.Certificate.{certificateKind, certificate}
 use Rattle.certificate.proofs.Places.{certificate-placed}
 use Rattle.index.specs.Index.{indexKind, index}
 use Rattle.index.proofs.Places.{index-placed}
-use Rattle.records.specs.Records.{recording, bodyRecorded}
+use Rattle.index_records.specs.Records.{recording, bodyRecorded}
 use Rattle.content.specs.Content.{Content, contentKind, content}
 use Rattle.content.proofs.Places.{content-placed, extended-place}
-use Rattle.contentwriter.specs.Written.{writtenOf, contentWritten}
-use Rattle.contentwriter.specs.declared.Written.the-variants.{Refused as NotWritten}
+use Rattle.content_writer.specs.Written.{writtenOf, contentWritten}
+use Rattle.content_writer.specs.declared.Written.the-variants.{Refused as NotWritten}
 use Rattle.configuration.specs.Configuration.{configurationKind, configuration}
 use Rattle.configuration.proofs.Places.{configuration-placed}
 use Rattle.promises.specs.Places.{PlacesOf, Places}
@@ -57,22 +57,22 @@ absurd-answer z = absurd (omega arith)
 of-table : {A : Type 0} (F : Format A) (own : ℕ) → Placed F → PlacesOf F own
 of-table F own f = record { read = read-place F f own; laid = laid-place F f own; written = written-place F f }
 
-recorded : (kind : ℕ) (body : List ℕ) (room : ℕ) (r : Refusal) → bodyRecorded kind body room ≡ NoStep r → placeOf r ≤ length body
+recorded : (kind : ℕ) (body : List ℕ) (room : ℕ) (r : Refusal) → bodyRecorded kind body room ≡ NoStep r → refusalPlace r ≤ length body
 unfolding bodyRecorded recording
 recorded kind body room =
     step-place (recording kind body room)
     (then-until {last′ = room} (reading index indexKind kind body) _ (reading-until index index-placed indexKind kind body) (λ t q m.
     need-until (leb (length (t .messages)) room) _ zero-le (λ u. ends (leb-true _ _ u))))
 
-content-written : (pool tape : List ℕ) (room : ℕ) (r : Refusal) → contentWritten pool tape room ≡ NotWritten r → placeOf r ≡ 0
+content-written : (pool tape : List ℕ) (room : ℕ) (r : Refusal) → contentWritten pool tape room ≡ NotWritten r → refusalPlace r ≡ 0
 unfolding contentWritten
 content-written pool tape room r e = go (writing (content 3) pool tape room) (writing-until (content 3) (content-placed 3) pool tape room) e
   where
-    go : (x : Reading Content) → Until 0 room x → writtenOf x ≡ NotWritten r → placeOf r ≡ 0
+    go : (x : Reading Content) → Until 0 room x → writtenOf x ≡ NotWritten r → refusalPlace r ≡ 0
     go (found t n) h e = absurd-answer (cc)
     go (refused r′) (stands h) e =
         let same : r′ ≡ r = cc in
-        omega (arith, subst (λ (q : Refusal). placeOf q ≤ 0) same h)
+        omega (arith, subst (λ (q : Refusal). refusalPlace q ≤ 0) same h)
 
 -- ---- what names its refusals one after the other: each of them has Q
 
@@ -96,19 +96,19 @@ section-refusals Q q1 q2 q3 q4 q5 q6 q7 s =
     (next (ltb (getD s 7 0) (getD s 6 0)) NumberAboveLast _ (λ t. q6)
     (next (not (eqb (crc32Of s) 0)) CheckNotZero _ (λ t. q7) (λ r (e : Good (headingOf s) (length s - 12) ≡ NotGood r). absurd-answer (cc))))))))
 
-section-place : (s : List ℕ) (r : Refusal) → readSection s ≡ NotGood r → placeOf r ≡ 0
-section-place = section-refusals (λ r. placeOf r ≡ 0) refl refl refl refl refl refl refl
+section-place : (s : List ℕ) (r : Refusal) → readSection s ≡ NotGood r → refusalPlace r ≡ 0
+section-place = section-refusals (λ r. refusalPlace r ≡ 0) refl refl refl refl refl refl refl
 
 -- ---- feeding
 
 module _ (g : Gathering) (store s : List ℕ) where
   -- a refusal by this verdict stands at 0
   abbrev Nowhere : Verdict → Type 0
-  Nowhere v = (r : Refusal) → feeding.answerBy v ≡ NotFed r → placeOf r ≡ 0
+  Nowhere v = (r : Refusal) → feeding.answerBy v ≡ NotFed r → refusalPlace r ≡ 0
 
-  refuse-nowhere : (r′ : Refusal) → placeOf r′ ≡ 0 → Nowhere (Refuse r′)
+  refuse-nowhere : (r′ : Refusal) → refusalPlace r′ ≡ 0 → Nowhere (Refuse r′)
   unfolding feeding.answerBy
-  refuse-nowhere r′ h r e = let same : r′ ≡ r = cc in subst (λ (q : Refusal). placeOf q ≡ 0) same h
+  refuse-nowhere r′ h r e = let same : r′ ≡ r = cc in subst (λ (q : Refusal). refusalPlace q ≡ 0) same h
 
   good-nowhere : (h : Heading) {v : Verdict} → Decided g store h (payloadOf s) v → Nowhere v
   unfolding feeding.answerBy
@@ -131,10 +131,10 @@ module _ (g : Gathering) (store s : List ℕ) where
 -- ---- the cutter
 
 module _ (body : List ℕ) (kind extension version number : ℕ) where
-  cutting-place : (room : ℕ) (r : Refusal) → cutter.cutting body kind extension version number room ≡ cutter.refuses r → placeOf r ≡ 0
-  unfolding cutter.cutting cutter.fitting
+  cutting-place : (room : ℕ) (r : Refusal) → cutter.cutting body kind extension version number room ≡ cutter.refuses r → refusalPlace r ≡ 0
+  unfolding cutter.cutting cutter.cutIfRoom
   cutting-place room =
-      let next = or-else cutter.refuses (λ r r′ (e : cutter.refuses r ≡ cutter.refuses r′). cc) (λ r. placeOf r ≡ 0) in
+      let next = or-else cutter.refuses (λ r r′ (e : cutter.refuses r ≡ cutter.refuses r′). cc) (λ r. refusalPlace r ≡ 0) in
       next (not (isKind kind)) OtherKind _ (λ t. refl)
       (next (not (leb version 31 && leb extension 0xFFFF)) (OutsideSet 0) _ (λ t. refl)
       (next (eqb (length body) 0) (PastBody 0) _ (λ t. refl)
@@ -143,11 +143,11 @@ module _ (body : List ℕ) (kind extension version number : ℕ) where
       (next (ltb room (length (cutter.sectionOf body kind extension version number))) OutputTooSmall _ (λ t. refl)
       (λ r (e : cutter.writes (cutter.sectionOf body kind extension version number) ≡ cutter.refuses r). absurd-answer (cc)))))))
 
-  cut-place : (out : List ℕ) (r : Refusal) → cutter.cutAnswer body kind extension version number out ≡ NotCut r → placeOf r ≡ 0
-  unfolding cutter.answerBy
+  cut-place : (out : List ℕ) (r : Refusal) → cutter.cutAnswer body kind extension version number out ≡ NotCut r → refusalPlace r ≡ 0
+  unfolding cutter.cutBy
   cut-place out r e = go (cutter.cutting body kind extension version number (length out)) (cutting-place (length out)) e
     where
-      go : (v : cutter.Verdict) → ((r : Refusal) → v ≡ cutter.refuses r → placeOf r ≡ 0) → cutter.answerBy v ≡ NotCut r → placeOf r ≡ 0
+      go : (v : cutter.Verdict) → ((r : Refusal) → v ≡ cutter.refuses r → refusalPlace r ≡ 0) → cutter.cutBy v ≡ NotCut r → refusalPlace r ≡ 0
       go (cutter.refuses r′) h e = let same : r′ ≡ r = cc in h r (ap cutter.refuses same)
       go (cutter.writes bytes) h e = absurd-answer (cc)
 
@@ -155,38 +155,38 @@ module _ (body : List ℕ) (kind extension version number : ℕ) where
 
 module _ (g : Gathering) where
   -- the missing number is one of the table's
-  missing-place : (r : Refusal) → handing.missingOf (lengths g) ≡ NotComplete r → placeOf r ≤ g .last
+  missing-place : (r : Refusal) → handing.missingOf (lengths g) ≡ NotComplete r → refusalPlace r ≤ g .last
   unfolding handing.missingOf lengths
   missing-place =
-      or-else NotComplete (λ r r′ (e : NotComplete r ≡ NotComplete r′). cc) (λ r. placeOf r ≤ g .last)
+      or-else NotComplete (λ r r′ (e : NotComplete r ≡ NotComplete r′). cc) (λ r. refusalPlace r ≤ g .last)
       (ltb (smallestMissing (lengths g)) (length (lengths g))) (Missing (smallestMissing (lengths g))) Complete
       (λ t. let below = simp length-take at (ltb-true (smallestMissing (lengths g)) (length (lengths g)) t) in omega arith)
       (λ r (e : Complete ≡ NotComplete r). absurd-answer (cc))
 
-  complete-place : (bytes : ℕ) (r : Refusal) → handing.completeOf g bytes ≡ NotComplete r → placeOf r ≤ g .last
+  complete-place : (bytes : ℕ) (r : Refusal) → handing.completeOf g bytes ≡ NotComplete r → refusalPlace r ≤ g .last
   unfolding handing.completeOf
   complete-place bytes =
-      let next = or-else NotComplete (λ r r′ (e : NotComplete r ≡ NotComplete r′). cc) (λ r. placeOf r ≤ g .last) in
+      let next = or-else NotComplete (λ r r′ (e : NotComplete r ≡ NotComplete r′). cc) (λ r. refusalPlace r ≤ g .last) in
       next (not (possibleOf g)) ImpossibleState _ (λ t. zero-le)
       (next (nothingBegun g) (Missing 0) _ (λ t. zero-le)
       (next (not (hasRoom bytes (g .last))) StoreTooShort _ (λ t. zero-le)
       (next (not (eqb (g .spoiled) 0)) Contradiction _ (λ t. zero-le) missing-place)))
 
-  fitting-place : (n room : ℕ) (r : Refusal) → handing.fitting n room ≡ NotHanded r → placeOf r ≤ g .last
-  unfolding handing.fitting
+  fitting-place : (n room : ℕ) (r : Refusal) → handing.handedIfRoom n room ≡ NotHanded r → refusalPlace r ≤ g .last
+  unfolding handing.handedIfRoom
   fitting-place n room =
-      let next = or-else NotHanded (λ r r′ (e : NotHanded r ≡ NotHanded r′). cc) (λ r. placeOf r ≤ g .last) in
+      let next = or-else NotHanded (λ r r′ (e : NotHanded r ≡ NotHanded r′). cc) (λ r. refusalPlace r ≤ g .last) in
       next (ltb 1045504 n) BodyTooLong _ (λ t. zero-le)
       (next (ltb room n) OutputTooSmall (Body n) (λ t. zero-le) (λ r (e : Body n ≡ NotHanded r). absurd-answer (cc)))
 
-  handed-place : (store out : List ℕ) (r : Refusal) → handing.handedOf g store out ≡ NotHanded r → placeOf r ≤ g .last
+  handed-place : (store out : List ℕ) (r : Refusal) → handing.handedOf g store out ≡ NotHanded r → refusalPlace r ≤ g .last
   unfolding handing.handedOf handing.handedBy
   handed-place store out r e = go (handing.completeOf g (length store)) (complete-place (length store)) e
     where
-      go : (c : Completeness) → ((r : Refusal) → c ≡ NotComplete r → placeOf r ≤ g .last)
-          → handing.handedBy c (length (handing.bodyOf g store)) (length out) ≡ NotHanded r → placeOf r ≤ g .last
+      go : (c : Completeness) → ((r : Refusal) → c ≡ NotComplete r → refusalPlace r ≤ g .last)
+          → handing.handedBy c (length (handing.bodyHeld g store)) (length out) ≡ NotHanded r → refusalPlace r ≤ g .last
       go (NotComplete r′) h e = let same : r′ ≡ r = cc in h r (ap NotComplete same)
-      go Complete h e = fitting-place (length (handing.bodyOf g store)) (length out) r e
+      go Complete h e = fitting-place (length (handing.bodyHeld g store)) (length out) r e
 
 -- ---- all of them
 

@@ -9,61 +9,61 @@ use lib.ListN.{length}
 use lib.Dec.{leb, ltb}
 use lib.IntN.{ℤ}
 use borrow.Author.Tests.{leb-true, ltb-false}
-use Rattle.choices.specs.Choice.{if_then_else_}
-use Rattle.refusal.specs.Answers.{answerOf}
-use Rattle.refusal.specs.declared.Refusal.{Refusal}
-use Rattle.refusal.specs.declared.Refusal.the-variants.{OutsideSet, OutputTooSmall, TooLarge, BodyTooLong}
-use Rattle.register.proofs.Laws.{crc-lt}
+use Rattle.ground_choices.specs.Choice.{if_then_else_}
+use Rattle.ground_refusal.specs.Answers.{answerOf}
+use Rattle.ground_refusal.specs.declared.Refusal.{Refusal}
+use Rattle.ground_refusal.specs.declared.Refusal.the-variants.{OutsideSet, OutputTooSmall, TooLarge, BodyTooLong}
+use Rattle.crc_register.proofs.Laws.{crc-lt}
 use Rattle.crc.specs.Crc.{AreBytes, crc16Of}
-use Rattle.days.specs.Calendar.{dayOf}
-use Rattle.days.specs.declared.DayAnswer.{DayAnswer}
-use Rattle.days.specs.declared.DayAnswer.the-variants.{Day, Refused as NoDay}
-use Rattle.days.proofs.Answers.{weekday-accepted}
-use Rattle.days.proofs.Theorems.{date-of-day, day-within, date-within, DateWithin}
-use Rattle.times.specs.Field.{readTime}
-use Rattle.times.specs.declared.Timed.{Timed}
-use Rattle.times.specs.declared.Timed.the-variants.{At as TimedAt, Refused as NotTimed}
-use Rattle.times.specs.declared.Fielded.the-variants.{Field, Refused as NotFielded}
-use Rattle.times.proofs.Reading.{accepted-only}
-use Rattle.offset.specs.Offset.{isOffset}
-use Rattle.local.specs.Clock.{isClock, packedAt, packOf, unpackedAt, unpackOf}
-use Rattle.local.specs.declared.LocalTime.{LocalTime}
-use Rattle.local.specs.declared.Unpacked.the-variants.{At as LocalAt, Refused as NotUnpacked}
-use Rattle.local.proofs.Clocks.{ClockWithin, clock-within, no-day, on-day, pack-by, unpack-by}
-use Rattle.local.proofs.RoundTrip.{unpack-packed, pack-unpacked}
-use Rattle.local.proofs.Characters.{text-accepted}
-use Rattle.framing.specs.Section.{readSection}
-use Rattle.framing.specs.declared.Heading.{Heading}
-use Rattle.framing.specs.declared.Sectioned.the-variants.{Good}
-use Rattle.framing.proofs.Printing.{printed-length}
-use Rattle.framing.proofs.RoundTrip.{good-printed}
-use Rattle.cutting.specs.Cutting.{countedOf, partOf, sectionOf, Verdict, refuses, writes, cutting, answerBy, cutAnswer}
-use Rattle.cutting.specs.declared.Counted.the-variants.{Sections}
-use Rattle.cutting.specs.declared.Cut.the-variants.{Written}
-use Rattle.cutting.proofs.Counting.{counted-some, count-most, part-length}
-use Rattle.cutting.proofs.Sections.{cut-written}
-use Rattle.holding.specs.declared.Gathering.{Gathering}
-use Rattle.handing.specs.Handing.{bodyOf, completeOf, fitting, handedBy, handedOf}
-use Rattle.handing.specs.declared.Completeness.{Completeness}
-use Rattle.handing.specs.declared.Completeness.the-variants.{Complete, Refused as NotComplete}
-use Rattle.handing.specs.declared.Handed.{Handed}
-use Rattle.handing.specs.declared.Handed.the-variants.{Body, Refused as NotHanded}
-use Rattle.formats.specs.Reading.{Reading, found, refused}
-use Rattle.formats.specs.Format.{Format, count}
-use Rattle.formats.specs.Answers.{stepOf, numberOf, numberRead}
-use Rattle.formats.specs.Body.{longest, reading, writing, bodyWritten, laying, bodyLaid}
-use Rattle.formats.specs.declared.Step.the-variants.{At}
-use Rattle.formats.specs.declared.Number.the-variants.{Is}
-use Rattle.formats.proofs.Outcomes.{found-inj, andThen-found, need-found, within-found}
-use Rattle.formats.proofs.Leaves.{number-below}
+use Rattle.time_days.specs.Calendar.{dayOf}
+use Rattle.time_days.specs.declared.DayAnswer.{DayAnswer}
+use Rattle.time_days.specs.declared.DayAnswer.the-variants.{Day, Refused as NoDay}
+use Rattle.time_days.proofs.Answers.{weekday-accepted}
+use Rattle.time_days.proofs.Theorems.{date-of-day, day-within, date-within, DateWithin}
+use Rattle.time_fields.specs.Field.{readTime}
+use Rattle.time_fields.specs.declared.Timed.{Timed}
+use Rattle.time_fields.specs.declared.Timed.the-variants.{At as TimedAt, Refused as NotTimed}
+use Rattle.time_fields.specs.declared.Fielded.the-variants.{Field, Refused as NotFielded}
+use Rattle.time_fields.proofs.Reading.{accepted-only}
+use Rattle.time_offset.specs.Offset.{isOffset}
+use Rattle.time_local.specs.Clock.{isClock, packedAt, packOf, unpackedAt, unpackOf}
+use Rattle.time_local.specs.declared.LocalTime.{LocalTime}
+use Rattle.time_local.specs.declared.Unpacked.the-variants.{At as LocalAt, Refused as NotUnpacked}
+use Rattle.time_local.proofs.Clocks.{ClockWithin, clock-within, no-day, on-day, pack-by, unpack-by}
+use Rattle.time_local.proofs.RoundTrip.{unpack-packed, pack-unpacked}
+use Rattle.time_local.proofs.Characters.{text-accepted}
+use Rattle.section_reader.specs.Section.{readSection}
+use Rattle.section_reader.specs.declared.Heading.{Heading}
+use Rattle.section_reader.specs.declared.Sectioned.the-variants.{Good}
+use Rattle.section_reader.proofs.Printing.{printed-length}
+use Rattle.section_reader.proofs.RoundTrip.{good-printed}
+use Rattle.section_cutter.specs.Cutting.{countedOf, partCarried, sectionOf, Verdict, refuses, writes, cutting, cutBy, cutAnswer}
+use Rattle.section_cutter.specs.declared.Counted.the-variants.{Sections}
+use Rattle.section_cutter.specs.declared.Cut.the-variants.{Written}
+use Rattle.section_cutter.proofs.Counting.{counted-some, count-most, part-length}
+use Rattle.section_cutter.proofs.Sections.{cut-written}
+use Rattle.gathering_state.specs.declared.Gathering.{Gathering}
+use Rattle.gathering_hand_out.specs.Handing.{bodyHeld, completeOf, handedIfRoom, handedBy, handedOf}
+use Rattle.gathering_hand_out.specs.declared.Completeness.{Completeness}
+use Rattle.gathering_hand_out.specs.declared.Completeness.the-variants.{Complete, Refused as NotComplete}
+use Rattle.gathering_hand_out.specs.declared.Handed.{Handed}
+use Rattle.gathering_hand_out.specs.declared.Handed.the-variants.{Body, Refused as NotHanded}
+use Rattle.body_formats.specs.Reading.{Reading, found, refused}
+use Rattle.body_formats.specs.Format.{Format, count}
+use Rattle.body_formats.specs.Answers.{stepOf, numberOf, numberRead}
+use Rattle.body_formats.specs.Body.{longest, reading, writing, bodyWritten, laying, bodyLaid}
+use Rattle.body_formats.specs.declared.Step.the-variants.{At}
+use Rattle.body_formats.specs.declared.Number.the-variants.{Is}
+use Rattle.body_formats.proofs.Outcomes.{found-inj, andThen-found, need-found, within-found}
+use Rattle.body_formats.proofs.Leaves.{number-below}
 use Rattle.index.specs.Index.{Index, indexKind, index}
-use Rattle.records.specs.Records.{recording, bodyRecorded}
+use Rattle.index_records.specs.Records.{recording, bodyRecorded}
 use Rattle.content.specs.Content.{Content, content, extensionOf}
-use Rattle.contentwriter.specs.Written.{writtenOf, contentWritten}
-use Rattle.contentwriter.specs.declared.Written.the-variants.{Of as WrittenOf}
-use Rattle.telling.specs.Answers.{localAnswer, sectionAnswer, contentAnswer, localFieldAnswer}
-use Rattle.telling.specs.Taking.{TellsValue, TellsTime, TellsHeading, TellsContent}
-use Rattle.telling.proofs.Taking.{refusal-told, value-told, date-told, time-told, heading-told, part-told, content-told}
+use Rattle.content_writer.specs.Written.{writtenOf, contentWritten}
+use Rattle.content_writer.specs.declared.Written.the-variants.{Of as WrittenOf}
+use Rattle.c_answers.specs.Answers.{localAnswer, sectionAnswer, contentAnswer, localFieldAnswer}
+use Rattle.c_answers.specs.Taking.{TellsValue, TellsTime, TellsHeading, TellsContent}
+use Rattle.c_answers.proofs.Taking.{refusal-told, value-told, date-told, time-told, heading-told, part-told, content-told}
 use Rattle.promises.specs.Told.{RefusalsTold, Told}
 
 no-field : {A : Type 0} (r : Refusal) (f : ℕ) → NotFielded r ≡ Field f → A
@@ -126,13 +126,13 @@ count-told bytes n e =
 
 cut-told : (body : List ℕ) (kind extension version number : ℕ) (out : List ℕ) (n : ℕ) → cutAnswer body kind extension version number out ≡ Written n
     → TellsValue (answerOf 0 n) n
-unfolding answerBy sectionOf
+unfolding cutBy sectionOf
 cut-told body kind extension version number out n e = go (cutting body kind extension version number (length out)) refl e
   where
-    go : (v : Verdict) → cutting body kind extension version number (length out) ≡ v → answerBy v ≡ Written n → TellsValue (answerOf 0 n) n
+    go : (v : Verdict) → cutting body kind extension version number (length out) ≡ v → cutBy v ≡ Written n → TellsValue (answerOf 0 n) n
     go (refuses r) f e = let z : _≡_ {A = ℕ} 0 1 = cc in absurd (omega arith)
     go (writes s) f e =
-        let long = ap length (cut-written body kind extension version number (length out) s f .1) ∙ printed-length _ (partOf body number) in
+        let long = ap length (cut-written body kind extension version number (length out) s f .1) ∙ printed-length _ (partCarried body number) in
         let short = part-length body number in
         let z : length s ≡ n = cc in
         value-told n (omega arith)
@@ -141,8 +141,8 @@ past : {x : Handed} (b : Bool) (r : Refusal) (n : ℕ) → (if b then NotHanded 
 past true r n e = let z : _≡_ {A = ℕ} 0 1 = cc in absurd (omega arith)
 past false r n e = (refl, e)
 
-fitting-told : (size room n : ℕ) → fitting size room ≡ Body n → n ≤ 1045504
-unfolding fitting
+fitting-told : (size room n : ℕ) → handedIfRoom size room ≡ Body n → n ≤ 1045504
+unfolding handedIfRoom
 fitting-told size room n e =
     let a = past (ltb 1045504 size) BodyTooLong n e in
     let b = past (ltb room size) OutputTooSmall n (a .1) in
@@ -154,9 +154,9 @@ handed-told : (g : Gathering) (store out : List ℕ) (n : ℕ) → handedOf g st
 unfolding handedOf handedBy
 handed-told g store out n e = go (completeOf g (length store)) e
   where
-    go : (c : Completeness) → handedBy c (length (bodyOf g store)) (length out) ≡ Body n → TellsValue (answerOf 0 n) n
+    go : (c : Completeness) → handedBy c (length (bodyHeld g store)) (length out) ≡ Body n → TellsValue (answerOf 0 n) n
     go (NotComplete r) e = let z : _≡_ {A = ℕ} 0 1 = cc in absurd (omega arith)
-    go Complete e = let m = fitting-told (length (bodyOf g store)) (length out) n e in value-told n (omega arith)
+    go Complete e = let m = fitting-told (length (bodyHeld g store)) (length out) n e in value-told n (omega arith)
 
 -- ---- tables
 
@@ -182,7 +182,7 @@ unfolding writing
 written-most F pool tape room a n e =
     let i = andThen-found (F .form pool tape 0) _ a n e in
     let t = need-found (leb (length tape) (i .1)) (OutsideSet 0) _ a n (i .3) in
-    let o = need-found (not (F .over (i .0))) TooLarge _ a n (t .1) in
+    let o = need-found (not (F .tooLarge (i .0))) TooLarge _ a n (t .1) in
     let s = need-found (leb (length (F .print (i .0))) longest) TooLarge _ a n (o .1) in
     let r = need-found (leb (length (F .print (i .0))) room) OutputTooSmall _ a n (s .1) in
     let m = leb-true (length (F .print (i .0))) longest (s .0) in

@@ -5,26 +5,26 @@ use mathlib.Core.Bool.{true}
 use mathlib.Core.List.{List, [], _∷_}
 use native.Mathlib.Omega.{arith}
 use lib.ListN.{length, getD, replicate}
-use Rattle.refusal.specs.declared.Refusal.the-variants.{Missing}
-use Rattle.placing.specs.Placed.{placed}
+use Rattle.ground_refusal.specs.declared.Refusal.the-variants.{Missing}
+use Rattle.ground_placing.specs.Placed.{placed}
 use Rattle.crc.specs.Crc.{AreBytes}
-use Rattle.framing.specs.Section.{isKind}
-use Rattle.cutting.specs.Cutting.{sectionCount, cutHeading, sectionOf, Allowed}
-use Rattle.holding.specs.State.{freshState, possibleOf, nothingBegun, hasRoom}
-use Rattle.holding.specs.declared.Gathering.{Gathering}
-use Rattle.holding.proofs.State.{fresh-one}
-use Rattle.feeding.specs.Feeding.{fedOf}
-use Rattle.handing.specs.Handing.{completeOf, handedBy, handedOf}
-use Rattle.handing.specs.declared.Handed.the-variants.{Body, Refused as NotHanded}
-use Rattle.formats.specs.Format.{numberAt, count, followed, repeat, listOf, rest, exact, view, lengthOf, counted}
-use Rattle.formats.specs.Body.{reading, bodyRead}
-use Rattle.formats.specs.Answers.{numberRead}
-use Rattle.formats.specs.declared.Step.the-variants.{At, Refused}
-use Rattle.formats.specs.declared.Number.the-variants.{Is}
+use Rattle.section_reader.specs.Section.{isKind}
+use Rattle.section_cutter.specs.Cutting.{sectionCount, cutHeading, sectionOf, Allowed}
+use Rattle.gathering_state.specs.State.{freshState, possibleOf, nothingBegun, hasRoom}
+use Rattle.gathering_state.specs.declared.Gathering.{Gathering}
+use Rattle.gathering_state.proofs.State.{fresh-one}
+use Rattle.gathering_feed.specs.Feeding.{fedOf}
+use Rattle.gathering_hand_out.specs.Handing.{completeOf, handedBy, handedOf}
+use Rattle.gathering_hand_out.specs.declared.Handed.the-variants.{Body, Refused as NotHanded}
+use Rattle.body_formats.specs.Format.{numberAt, count, followed, repeat, listOf, rest, exact, view, lengthOf, counted}
+use Rattle.body_formats.specs.Body.{reading, bodyRead}
+use Rattle.body_formats.specs.Answers.{numberRead}
+use Rattle.body_formats.specs.declared.Step.the-variants.{At, Refused}
+use Rattle.body_formats.specs.declared.Number.the-variants.{Is}
 use Rattle.index.specs.Index.{indexKind, index, fields}
-use Rattle.messages.specs.Asked.{messageCount}
-use Rattle.account.specs.Gathers.{Box, freshBox, feed, run, HandsOut}
-use Rattle.account.specs.Arrival.{listed}
+use Rattle.index_fields.specs.Asked.{messageCount}
+use Rattle.gathering_account.specs.Gathers.{Box, freshBox, feed, boxAfter, HandsOut}
+use Rattle.gathering_account.specs.Arrival.{sectionsListed}
 use Rattle.promises.specs.Demand3.{fedTo}
 use Rattle.promises.specs.Useless.{ShutOut}
 use Rattle.promises.proofs.Demand3.{demand3}
@@ -58,7 +58,7 @@ module _ (x : ℕ) (h : x < 256) where
   roomy = refl
 
   fed : List (List ℕ)
-  fed = listed (sectionOf (x ∷ []) indexKind 0 0) 0 (sectionCount 1)
+  fed = sectionsListed (sectionOf (x ∷ []) indexKind 0 0) 0 (sectionCount 1)
 
   -- it comes back, into an output of one byte
   comes : HandsOut (fedTo store fed) (0 ∷ []) (x ∷ [])
@@ -71,8 +71,8 @@ first-byte : {x y : ℕ} → placed (0 ∷ []) 0 (x ∷ []) ≡ placed (0 ∷ []
 unfolding placed
 first-byte e = ap (λ (s : List ℕ). getD s 0 0) e
 
-same-state : ((g : Gathering) (store s : List ℕ) → fedOf g store s .state ≡ g) → (box : Box) (fed : List (List ℕ)) → run box fed .state ≡ box .state
-unfolding run feed
+same-state : ((g : Gathering) (store s : List ℕ) → fedOf g store s .state ≡ g) → (box : Box) (fed : List (List ℕ)) → boxAfter box fed .state ≡ box .state
+unfolding boxAfter feed
 same-state h box [] = refl
 same-state h box (s ∷ fed) = same-state h (feed box s) fed ∙ h (box .state) (box .store) s
 

@@ -1,8 +1,8 @@
 -- The values of document 01, by the crates' computations.
 use mathlib.Core.Path.{refl}
-use Rattle.days.proofs.Values as days
+use Rattle.time_days.proofs.Values as days
 use Rattle.crc.proofs.Vectors.{vectors}
-use Rattle.cutting.specs.Cutting.{sectionCount, countedOf}
+use Rattle.section_cutter.specs.Cutting.{sectionCount, countedOf}
 use Rattle.promises.specs.Values.{Values}
 
 pub values : Values

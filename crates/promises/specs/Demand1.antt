@@ -3,25 +3,25 @@ use Prim.Native.Nat.{ℕ, _≤_}
 use mathlib.Core.Path.{_≡_}
 use mathlib.Core.List.{List}
 use lib.ListN.{length}
-use Rattle.refusal.specs.Numbers.{numberOf, placeOf}
-use Rattle.refusal.specs.declared.Refusal.{Refusal}
-use Rattle.refusal.specs.declared.Refusal.the-variants.{Contradiction}
-use Rattle.cutting.specs.Cutting.{cutAnswer, cutOutput}
-use Rattle.cutting.specs.declared.Cut.the-variants.{Refused as NotCut}
-use Rattle.holding.specs.State.{spoiledState}
-use Rattle.holding.specs.declared.Gathering.{Gathering}
-use Rattle.feeding.specs.Feeding.{fedOf, storeAfter}
-use Rattle.feeding.specs.declared.Answer.the-variants.{HeldAlready, Refused as NotFed}
-use Rattle.handing.specs.Handing.{handedOf, outAfter}
-use Rattle.handing.specs.declared.Handed.the-variants.{Refused as NotHanded}
-use Rattle.formats.specs.Format.{Format}
-use Rattle.formats.specs.Body.{bodyWritten, output, bodyLaid, laidTape}
-use Rattle.formats.specs.declared.Step.the-variants.{Refused as NoStep}
+use Rattle.ground_refusal.specs.Numbers.{refusalNumber, refusalPlace}
+use Rattle.ground_refusal.specs.declared.Refusal.{Refusal}
+use Rattle.ground_refusal.specs.declared.Refusal.the-variants.{Contradiction}
+use Rattle.section_cutter.specs.Cutting.{cutAnswer, cutOutput}
+use Rattle.section_cutter.specs.declared.Cut.the-variants.{Refused as NotCut}
+use Rattle.gathering_state.specs.State.{spoiledState}
+use Rattle.gathering_state.specs.declared.Gathering.{Gathering}
+use Rattle.gathering_feed.specs.Feeding.{fedOf, storeAfter}
+use Rattle.gathering_feed.specs.declared.Answer.the-variants.{HeldAlready, Refused as NotFed}
+use Rattle.gathering_hand_out.specs.Handing.{handedOf, outAfter}
+use Rattle.gathering_hand_out.specs.declared.Handed.the-variants.{Refused as NotHanded}
+use Rattle.body_formats.specs.Format.{Format}
+use Rattle.body_formats.specs.Body.{bodyWritten, outputWritten, bodyLaid, laidTape}
+use Rattle.body_formats.specs.declared.Step.the-variants.{Refused as NoStep}
 use Rattle.content.specs.Content.{content}
-use Rattle.contentwriter.specs.Written.{contentWritten}
-use Rattle.contentwriter.specs.declared.Written.the-variants.{Refused as NotWritten}
-use Rattle.records.specs.Records.{bodyRecorded, recorded}
-use Rattle.records.specs.declared.Record.{Record}
+use Rattle.content_writer.specs.Written.{contentWritten}
+use Rattle.content_writer.specs.declared.Written.the-variants.{Refused as NotWritten}
+use Rattle.index_records.specs.Records.{bodyRecorded, recorded}
+use Rattle.index_records.specs.declared.Record.{Record}
 use Rattle.promises.specs.Lists.{GivenExactly}
 use Rattle.promises.specs.Places.{Places}
 use Rattle.promises.specs.Told.{Told}
@@ -32,9 +32,9 @@ use Rattle.promises.specs.Told.{Told}
 
 -- "Each refusal has one number of document 01's list [..]"
 pub record Numbered : Type 0 where
-  pub in-the-list : (r : Refusal) → (1 ≤ numberOf r) × (numberOf r ≤ 25)
+  pub in-the-list : (r : Refusal) → (1 ≤ refusalNumber r) × (refusalNumber r ≤ 25)
   -- a number and a place say which refusal it is
-  pub one-refusal : (r r′ : Refusal) → numberOf r ≡ numberOf r′ → placeOf r ≡ placeOf r′ → r ≡ r′
+  pub one-refusal : (r r′ : Refusal) → refusalNumber r ≡ refusalNumber r′ → refusalPlace r ≡ refusalPlace r′ → r ≡ r′
 
 -- "[..] given exactly when the list says": for sections, the gathering, the cutter, local times and text `Lists` states it, list by list. For
 -- bodies and writers the order is that of the fields, and the list is the definition that the answer is equal to (`Offered`): `reading` and the
@@ -47,8 +47,8 @@ pub record WritesNothing : Type 1 where
   pub feed : (g : Gathering) (store s : List ℕ) (r : Refusal) → fedOf g store s .answer ≡ NotFed r → storeAfter g store s ≡ store
   pub hand-out : (g : Gathering) (store out : List ℕ) (r : Refusal) → handedOf g store out ≡ NotHanded r → outAfter g store out ≡ out
   -- once for every format, so for every table
-  pub writers : {A : Type 0} (F : Format A) (pool tape out : List ℕ) (r : Refusal) → bodyWritten F pool tape (length out) ≡ NoStep r → output F pool tape out ≡ out
-  pub content-writer : (pool tape out : List ℕ) (r : Refusal) → contentWritten pool tape (length out) ≡ NotWritten r → output (content 3) pool tape out ≡ out
+  pub writers : {A : Type 0} (F : Format A) (pool tape out : List ℕ) (r : Refusal) → bodyWritten F pool tape (length out) ≡ NoStep r → outputWritten F pool tape out ≡ out
+  pub content-writer : (pool tape out : List ℕ) (r : Refusal) → contentWritten pool tape (length out) ≡ NotWritten r → outputWritten (content 3) pool tape out ≡ out
   pub layers : {A : Type 0} (F : Format A) (own kind : ℕ) (body tape : List ℕ) (r : Refusal)
       → bodyLaid F own kind body (length tape) ≡ NoStep r → laidTape F own kind body tape ≡ tape
   pub records : (kind : ℕ) (body : List ℕ) (list : List Record) (r : Refusal) → bodyRecorded kind body (length list) ≡ NoStep r → recorded kind body list ≡ list

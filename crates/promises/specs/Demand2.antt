@@ -5,37 +5,37 @@ use mathlib.Core.Bool.{true, false}
 use mathlib.Core.List.{List}
 use mathlib.Core.Logic.{_↔_}
 use lib.ListN.{length, take}
-use Rattle.refusal.specs.declared.Refusal.the-variants.{ImpossibleDay}
-use Rattle.placing.specs.Placed.{placed}
+use Rattle.ground_refusal.specs.declared.Refusal.the-variants.{ImpossibleDay}
+use Rattle.ground_placing.specs.Placed.{placed}
 use Rattle.crc.specs.Crc.{AreBytes}
-use Rattle.days.specs.Calendar.{inRange, dayOf, dateOf, dayAfter}
-use Rattle.days.specs.declared.Date.{Date}
-use Rattle.days.specs.declared.DayAnswer.the-variants.{Day}
-use Rattle.days.specs.declared.DateAnswer.the-variants.{On, Refused as NoDate}
-use Rattle.times.specs.Field.{readTime, writeTime}
-use Rattle.times.specs.declared.Moment.{Moment}
-use Rattle.times.specs.declared.Timed.the-variants as timed
-use Rattle.times.specs.declared.Fielded.the-variants.{Field}
-use Rattle.framing.specs.Section.{IsGood, IsPrinted}
-use Rattle.cutting.specs.Cutting.{joined, sectionCount, partOf, countedOf, cutHeading, sectionOf, Allowed, Askable, cutAnswer, cutOutput}
-use Rattle.framing.specs.declared.Heading.{Heading}
-use Rattle.cutting.specs.declared.Counted.the-variants.{Sections}
-use Rattle.cutting.specs.declared.Cut.the-variants.{Written}
-use Rattle.formats.specs.Reading.{found}
-use Rattle.formats.specs.Format.{Format}
-use Rattle.formats.specs.Body.{longest, reading, bodyRead, writing, bodyWritten, output, bodyLaid, laidTape}
-use Rattle.formats.specs.declared.Step.the-variants.{At}
+use Rattle.time_days.specs.Calendar.{inRange, dayOf, dateOf, dayAfter}
+use Rattle.time_days.specs.declared.Date.{Date}
+use Rattle.time_days.specs.declared.DayAnswer.the-variants.{Day}
+use Rattle.time_days.specs.declared.DateAnswer.the-variants.{On, Refused as NoDate}
+use Rattle.time_fields.specs.Field.{readTime, writeTime}
+use Rattle.time_fields.specs.declared.Moment.{Moment}
+use Rattle.time_fields.specs.declared.Timed.the-variants as timed
+use Rattle.time_fields.specs.declared.Fielded.the-variants.{Field}
+use Rattle.section_reader.specs.Section.{IsGood, IsPrinted}
+use Rattle.section_cutter.specs.Cutting.{partsJoined, sectionCount, partCarried, countedOf, cutHeading, sectionOf, Allowed, Askable, cutAnswer, cutOutput}
+use Rattle.section_reader.specs.declared.Heading.{Heading}
+use Rattle.section_cutter.specs.declared.Counted.the-variants.{Sections}
+use Rattle.section_cutter.specs.declared.Cut.the-variants.{Written}
+use Rattle.body_formats.specs.Reading.{found}
+use Rattle.body_formats.specs.Format.{Format}
+use Rattle.body_formats.specs.Body.{longest, reading, bodyRead, writing, bodyWritten, outputWritten, bodyLaid, laidTape}
+use Rattle.body_formats.specs.declared.Step.the-variants.{At}
 use Rattle.certificate.specs.Certificate.{Certificates, certificateKind, certificate}
-use Rattle.certificate.specs.Agreement.{CertificateAsked}
+use Rattle.certificate_fields.specs.Agreement.{CertificateAsked}
 use Rattle.index.specs.Index.{Index, indexKind, index}
-use Rattle.messages.specs.Agreement.{IndexAsked}
-use Rattle.records.specs.Agreement.{RecordsAre}
+use Rattle.index_fields.specs.Agreement.{IndexAsked}
+use Rattle.index_records.specs.Agreement.{RecordsAre}
 use Rattle.content.specs.Content.{Content, contentKind, content, extensionOf, readingOf, contentRead}
-use Rattle.languages.specs.Agreement.{ContentAsked}
-use Rattle.contentwriter.specs.Written.{contentWritten}
-use Rattle.contentwriter.specs.declared.Written.the-variants.{Of}
+use Rattle.content_fields.specs.Agreement.{ContentAsked}
+use Rattle.content_writer.specs.Written.{contentWritten}
+use Rattle.content_writer.specs.declared.Written.the-variants.{Of}
 use Rattle.configuration.specs.Configuration.{Configuration, configurationKind, configuration}
-use Rattle.commands.specs.Agreement.{ConfigurationAsked}
+use Rattle.configuration_fields.specs.Agreement.{ConfigurationAsked}
 use Rattle.promises.specs.LocalTimes.{LocalTimes}
 
 -- "Written and read as the standard has it, doubtful places settled in 01": a table's definition lists its fields in wire order beside 01's words
@@ -46,8 +46,8 @@ use Rattle.promises.specs.LocalTimes.{LocalTimes}
 
 -- a table that can be sent: no field of it is refused, no count or length is too large, and it is printed as bytes, at most 1,045,504
 pub record WellFormed {A : Type 0} (F : Format A) (t : A) : Type 0 where
-  pub right : F .right t ≡ true
-  pub small : F .over t ≡ false
+  pub writable : F .writable t ≡ true
+  pub small : F .tooLarge t ≡ false
   pub bytes : AreBytes (F .print t)
   pub short : length (F .print t) ≤ longest
 
@@ -68,14 +68,14 @@ pub record WrittenAndRead {A : Type 0} (F : Format A) (own : ℕ) : Type 0 where
   pub is-written : (t : A) → WellFormed F t → (out : List ℕ) → length (F .print t) ≤ length out
       → writing F (F .print t) (F .tape t 0) (length out) ≡ found t (length (F .print t))
   pub reads-back : (pool tape out : List ℕ) (t : A) (n : ℕ) → writing F pool tape (length out) ≡ found t n
-      → (output F pool tape out ≡ placed out 0 (F .print t)) × (n ≡ length (F .print t)) × (reading F own own (F .print t) ≡ found t n)
+      → (outputWritten F pool tape out ≡ placed out 0 (F .print t)) × (n ≡ length (F .print t)) × (reading F own own (F .print t) ≡ found t n)
   -- "each accepted table writes back to its bytes": it is laid onto any tape with room for its entries, and from them it is written
   pub is-laid : (kind : ℕ) (body : List ℕ) (t : A) → reading F own kind body ≡ found t (length body) → (tape : List ℕ) → length (F .tape t 0) ≤ length tape
       → bodyLaid F own kind body (length tape) ≡ At (length (F .tape t 0))
   pub writes-back : (kind : ℕ) (body : List ℕ) → AreBytes body → (tape : List ℕ) (m : ℕ) → bodyLaid F own kind body (length tape) ≡ At m
       → (out : List ℕ) → length body ≤ length out
       → (bodyWritten F body (take m (laidTape F own kind body tape)) (length out) ≡ At (length body))
-      × (output F body (take m (laidTape F own kind body tape)) out ≡ placed out 0 body)
+      × (outputWritten F body (take m (laidTape F own kind body tape)) out ≡ placed out 0 body)
 
 -- a content table also has the extension of its identifier
 pub record HoldsContent (kind extension : ℕ) (body : List ℕ) (t : Content) : Type 0 where
@@ -89,7 +89,7 @@ pub record Extended : Type 0 where
       → (contentRead 3 kind extension body ≡ At (length body)) ↔ ((t : Content) × HoldsContent kind extension body t)
   -- "the content writer also gives the extension": what it wrote reads back with the one that it gave
   pub written-with : (pool tape out : List ℕ) (n extension : ℕ) → contentWritten pool tape (length out) ≡ Of n extension
-      → (t : Content) × (output (content 3) pool tape out ≡ placed out 0 (content 3 .print t)) × (readingOf 3 contentKind extension (content 3 .print t) ≡ found t n)
+      → (t : Content) × (outputWritten (content 3) pool tape out ≡ placed out 0 (content 3 .print t)) × (readingOf 3 contentKind extension (content 3 .print t) ≡ found t n)
 
 -- "The smallest body is 33 bytes": no accepted one is shorter, and one has as many
 pub record Smallest : Type 0 where
@@ -105,13 +105,13 @@ pub record SectionsRead : Type 0 where
   pub counted : (n : ℕ) → 0 < n → n ≤ longest → countedOf n ≡ Sections (sectionCount n)
   -- what the cutter writes is good, with the heading asked for and its part of the body
   pub cut-reads : (body : List ℕ) (kind extension version number : ℕ) (out : List ℕ) (n : ℕ) → cutAnswer body kind extension version number out ≡ Written n
-      → IsGood (take n (cutOutput body kind extension version number out)) (cutHeading (length body) kind extension version number) (partOf body number)
+      → IsGood (take n (cutOutput body kind extension version number out)) (cutHeading (length body) kind extension version number) (partCarried body number)
   -- it writes each of them, where the output has room
   pub is-cut : (body : List ℕ) (kind extension version number : ℕ) → Askable (length body) kind extension version number
-      → (out : List ℕ) → length (partOf body number) + 12 ≤ length out → cutAnswer body kind extension version number out ≡ Written (length (partOf body number) + 12)
+      → (out : List ℕ) → length (partCarried body number) + 12 ≤ length out → cutAnswer body kind extension version number out ≡ Written (length (partCarried body number) + 12)
   -- and all of them joined are the body
   pub cut-joined : (body : List ℕ) (kind extension version : ℕ) → Allowed kind extension version → 0 < length body → length body ≤ longest
-      → joined (sectionOf body kind extension version) (sectionCount (length body)) ≡ body
+      → partsJoined (sectionOf body kind extension version) (sectionCount (length body)) ≡ body
 
 -- ---- times and days
 

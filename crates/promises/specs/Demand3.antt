@@ -1,28 +1,28 @@
 -- Demand 3: the gathering, over any byte strings that are fed to a fresh state and any store. Its words are defined in account's `Account`
--- and `Answering`, with no state and no store: `account` is the fixed table with its good, current sections, `Complete` that they "cover every
+-- and `Answering`, with no state and no store: `gathering_account` is the fixed table with its good, current sections, `Complete` that they "cover every
 -- number and no two of one number differ", `bodyOf` "their contents in number order", and `answerTo` what a feed answers.
 use Prim.Native.Nat.{ℕ, _+_, _≤_, _<_}
 use mathlib.Core.Path.{_≡_}
 use mathlib.Core.Bool.{true}
 use mathlib.Core.List.{List, [], flatten}
 use lib.ListN.{length, getD}
-use Rattle.cutting.specs.Cutting.{joined, sectionCount, cutHeading, sectionOf, Allowed}
-use Rattle.framing.specs.Section.{WellFormed}
-use Rattle.framing.specs.declared.Heading.{Heading}
-use Rattle.holding.specs.State.{possibleOf, hasRoom}
-use Rattle.handing.specs.declared.Handed.the-variants.{Body}
+use Rattle.section_cutter.specs.Cutting.{partsJoined, sectionCount, cutHeading, sectionOf, Allowed}
+use Rattle.section_reader.specs.Section.{WellFormed}
+use Rattle.section_reader.specs.declared.Heading.{Heading}
+use Rattle.gathering_state.specs.State.{possibleOf, hasRoom}
+use Rattle.gathering_hand_out.specs.declared.Handed.the-variants.{Body}
 use Rattle.crc.specs.Crc.{AreBytes}
-use Rattle.account.specs.Account.{Section, Account, idle, table, account, Complete, bodyOf}
-use Rattle.account.specs.Answering.{answerTo, answersTo}
-use Rattle.account.specs.Gathers.{Box, freshBox, ByteStrings, run, answerOf, answersOf, handing, HandsOut, Answers}
-use Rattle.account.specs.Arrival.{CutInto, sectionsOf, Arrives, listed}
+use Rattle.gathering_account.specs.Account.{Section, Account, idle, table, account, Complete, bodyOf}
+use Rattle.gathering_account.specs.Answering.{answerTo, answersTo}
+use Rattle.gathering_account.specs.Gathers.{Box, freshBox, ByteStrings, boxAfter, fedAnswer, answersOf, handing, HandsOut, Answers}
+use Rattle.gathering_account.specs.Arrival.{CutInto, sectionsOf, Arrives, sectionsListed}
 
 -- the account of what was fed, where the store has so many bytes; and the box after it
 abbrev pub heardBy : List ℕ → List (List ℕ) → Account
 heardBy store fed = account (hasRoom (length store)) idle fed
 
 abbrev pub fedTo : List ℕ → List (List ℕ) → Box
-fedTo store fed = run (freshBox store) fed
+fedTo store fed = boxAfter (freshBox store) fed
 
 pub record Demand3 : Type 0 where
   -- "a body is handed out exactly when the good, current sections of the fixed table cover every number and no two of one number differ": only then,
@@ -37,7 +37,7 @@ pub record Demand3 : Type 0 where
   pub answers : (store : List ℕ) (fed : List (List ℕ)) → ByteStrings fed → (out : List ℕ) → Answers (fedTo store fed) out (heardBy store fed)
   -- "Feeding: 12, 1 to 7, 8, 9, 10, 11": what a feed answers is told by the account of what was fed before it;
   pub feeds : (store : List ℕ) (fed : List (List ℕ)) → ByteStrings fed → (s : List ℕ)
-      → answerOf (fedTo store fed) s ≡ answerTo (hasRoom (length store)) (heardBy store fed) s
+      → fedAnswer (fedTo store fed) s ≡ answerTo (hasRoom (length store)) (heardBy store fed) s
   -- so are the answers of a whole run, in its order.
   pub all-feeds : (store : List ℕ) (fed : List (List ℕ)) → ByteStrings fed → answersOf (freshBox store) fed ≡ answersTo (hasRoom (length store)) idle fed
   -- 12, "not a possible gathering state", is never among them,
@@ -46,8 +46,8 @@ pub record Demand3 : Type 0 where
   pub has-room : (store : List ℕ) (fed : List (List ℕ)) (t : Heading) (S : List Section) → heardBy store fed ≡ table t S → hasRoom (length store) (t .last) ≡ true
   -- a table cut anywhere and fed whole, in any order and with repeats, is handed out;
   pub arrives : (store : List ℕ) (fed : List (List ℕ)) → ByteStrings fed → (h : Heading) (sections : ℕ → List ℕ) → CutInto h sections
-      → Arrives (hasRoom (length store)) h sections fed → (out : List ℕ) → length (joined sections (h .last + 1)) ≤ length out
-      → HandsOut (fedTo store fed) out (joined sections (h .last + 1))
+      → Arrives (hasRoom (length store)) h sections fed → (out : List ℕ) → length (partsJoined sections (h .last + 1)) ≤ length out
+      → HandsOut (fedTo store fed) out (partsJoined sections (h .last + 1))
   -- "each section carries a consecutive part, possibly empty": so it is with any parts of at most 4,084 bytes, printed with one heading;
   pub printed-arrives : (h : Heading) (parts : List (List ℕ)) → WellFormed h → ((k : ℕ) → length (getD parts k []) ≤ 4084) → length parts ≡ h .last + 1
       → (store : List ℕ) (fed : List (List ℕ)) → ByteStrings fed → Arrives (hasRoom (length store)) h (sectionsOf h parts) fed
@@ -60,4 +60,4 @@ pub record Demand3 : Type 0 where
   -- and there are such feeds: its sections, one after the other
   pub comes-back : (body : List ℕ) (kind extension version : ℕ) → AreBytes body → Allowed kind extension version → 0 < length body → length body ≤ 1045504
       → (store : List ℕ) → hasRoom (length store) (cutHeading (length body) kind extension version 0 .last) ≡ true → (out : List ℕ) → length body ≤ length out
-      → HandsOut (fedTo store (listed (sectionOf body kind extension version) 0 (sectionCount (length body)))) out body
+      → HandsOut (fedTo store (sectionsListed (sectionOf body kind extension version) 0 (sectionCount (length body)))) out body

@@ -5,25 +5,25 @@ use mathlib.Core.Path.{_≡_}
 use mathlib.Core.List.{List}
 use lib.IntN.{ℤ}
 use lib.ListN.{length}
-use Rattle.times.specs.declared.Fielded.the-variants.{Refused as NotFielded}
-use Rattle.local.specs.Clock.{packOf, unpackOf}
-use Rattle.local.specs.Text.{readText}
-use Rattle.local.specs.declared.LocalTime.{LocalTime}
-use Rattle.local.specs.declared.Unpacked.the-variants.{Refused as NotUnpacked}
-use Rattle.framing.specs.Section.{headingOf, readSection}
-use Rattle.framing.specs.declared.Sectioned.the-variants.{Good, Refused as NotGood}
-use Rattle.cutting.specs.Cutting.{sectionCount, countedOf, sectionOf, cutAnswer}
-use Rattle.cutting.specs.declared.Counted.the-variants.{Sections, Refused as NotCounted}
-use Rattle.cutting.specs.declared.Cut.the-variants.{Written, Refused as NotCut}
-use Rattle.holding.specs.declared.Gathering.{Gathering}
-use Rattle.handing.specs.Handing.{bodyOf, completeOf, handedOf}
-use Rattle.handing.specs.declared.Completeness.the-variants.{Complete, Refused as NotComplete}
-use Rattle.handing.specs.declared.Handed.the-variants.{Body, Refused as NotHanded}
-use Rattle.orders.specs.Order.{AsListed}
-use Rattle.orders.specs.Sections.{sectionLines}
-use Rattle.orders.specs.Gathering.{FedAsListed, completeLines, handingLines}
-use Rattle.orders.specs.Cutter.{countLines, cutterLines}
-use Rattle.orders.specs.Times.{IsField, packingLines, IsLocalTime, unpackingLines, textLines}
+use Rattle.time_fields.specs.declared.Fielded.the-variants.{Refused as NotFielded}
+use Rattle.time_local.specs.Clock.{packOf, unpackOf}
+use Rattle.time_local.specs.Text.{readText}
+use Rattle.time_local.specs.declared.LocalTime.{LocalTime}
+use Rattle.time_local.specs.declared.Unpacked.the-variants.{Refused as NotUnpacked}
+use Rattle.section_reader.specs.Section.{headingOf, readSection}
+use Rattle.section_reader.specs.declared.Sectioned.the-variants.{Good, Refused as NotGood}
+use Rattle.section_cutter.specs.Cutting.{sectionCount, countedOf, sectionOf, cutAnswer}
+use Rattle.section_cutter.specs.declared.Counted.the-variants.{Sections, Refused as NotCounted}
+use Rattle.section_cutter.specs.declared.Cut.the-variants.{Written, Refused as NotCut}
+use Rattle.gathering_state.specs.declared.Gathering.{Gathering}
+use Rattle.gathering_hand_out.specs.Handing.{bodyHeld, completeOf, handedOf}
+use Rattle.gathering_hand_out.specs.declared.Completeness.the-variants.{Complete, Refused as NotComplete}
+use Rattle.gathering_hand_out.specs.declared.Handed.the-variants.{Body, Refused as NotHanded}
+use Rattle.promises_orders.specs.Order.{AsListed}
+use Rattle.promises_orders.specs.Sections.{sectionLines}
+use Rattle.promises_orders.specs.Gathering.{FedAsListed, completeLines, handingLines}
+use Rattle.promises_orders.specs.Cutter.{countLines, cutterLines}
+use Rattle.promises_orders.specs.Times.{IsField, packingLines, IsLocalTime, unpackingLines, textLines}
 
 pub record GivenExactly : Type 0 where
   -- "Section: 1 to 7 as numbered"
@@ -33,7 +33,7 @@ pub record GivenExactly : Type 0 where
   -- "Handing out: 12; 13 if nothing begun; 10; 11; 13; 25; 21", of which the first five say whether all of a table is there
   pub complete : (g : Gathering) (bytes : ℕ) → AsListed NotComplete (λ a. a ≡ Complete) (completeLines g bytes) (completeOf g bytes)
   pub handing-out : (g : Gathering) (store out : List ℕ)
-      → AsListed NotHanded (λ a. a ≡ Body (length (bodyOf g store))) (handingLines g store out) (handedOf g store out)
+      → AsListed NotHanded (λ a. a ≡ Body (length (bodyHeld g store))) (handingLines g store out) (handedOf g store out)
   -- "Cutter: 2, 19 (version above 31), 14 (L = 0), 22, 6, 21", of which 14 and 22 are the count's
   pub count : (bytes : ℕ) → AsListed NotCounted (λ a. a ≡ Sections (sectionCount bytes)) (countLines bytes) (countedOf bytes)
   pub cutter : (body : List ℕ) (kind extension version number : ℕ) (out : List ℕ)

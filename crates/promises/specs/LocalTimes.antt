@@ -5,16 +5,16 @@ use mathlib.Core.Bool.{true, false}
 use mathlib.Core.List.{List, _∷_}
 use mathlib.Core.Logic.{_↔_}
 use lib.IntN.{ℤ}
-use Rattle.refusal.specs.declared.Refusal.the-variants.{ImpossibleDay, NotOfTheForm}
-use Rattle.days.specs.Calendar.{isDate, hasDay}
-use Rattle.times.specs.Field.{decimal, possible}
-use Rattle.times.specs.declared.Fielded.the-variants.{Field, Refused as NotFielded}
-use Rattle.offset.specs.Offset.{isOffset}
-use Rattle.local.specs.Clock.{isClock, packOf, unpackOf, IsFieldOf}
-use Rattle.local.specs.Text.{slash, readText, Typable, textOf, IsText}
-use Rattle.local.specs.declared.LocalTime.{LocalTime}
-use Rattle.local.specs.declared.Unpacked.the-variants.{At, Refused as NotUnpacked}
-use Rattle.orders.specs.Times.{outside, utcDay, localDay}
+use Rattle.ground_refusal.specs.declared.Refusal.the-variants.{ImpossibleDay, NotOfTheForm}
+use Rattle.time_days.specs.Calendar.{isDate, hasDay}
+use Rattle.time_fields.specs.Field.{isDecimal, possible}
+use Rattle.time_fields.specs.declared.Fielded.the-variants.{Field, Refused as NotFielded}
+use Rattle.time_offset.specs.Offset.{isOffset}
+use Rattle.time_local.specs.Clock.{isClock, packOf, unpackOf, IsFieldOf}
+use Rattle.time_local.specs.Text.{slash, readText, Typable, textOf, IsText}
+use Rattle.time_local.specs.declared.LocalTime.{LocalTime}
+use Rattle.time_local.specs.declared.Unpacked.the-variants.{At, Refused as NotUnpacked}
+use Rattle.promises_orders.specs.Times.{offsetOutside, utcDay, localDay}
 
 -- ---- "Both the local and the UTC day must lie in range (else 20)"
 
@@ -23,12 +23,12 @@ pub data NoField (t : LocalTime) (offset : ℤ) : Type 0 where
   no-date : isDate (t .year) (t .month) (t .day) ≡ false → NoField t offset
   no-time : isClock t ≡ false → NoField t offset
   local-outside : isDate (t .year) (t .month) (t .day) ≡ true → hasDay (t .year) (t .month) (t .day) ≡ false → NoField t offset
-  utc-outside : outside (utcDay t offset) ≡ true → NoField t offset
+  utc-outside : offsetOutside (utcDay t offset) ≡ true → NoField t offset
 
 -- why a field has no local time: its own day is out of range or its time is none; or the local day is out of range
 pub data NoLocalTime (field : ℕ) (offset : ℤ) : Type 0 where
   no-moment : possible field ≡ false → NoLocalTime field offset
-  moved-outside : outside (localDay field offset) ≡ true → NoLocalTime field offset
+  moved-outside : offsetOutside (localDay field offset) ≡ true → NoLocalTime field offset
 
 -- ---- text
 
@@ -46,7 +46,7 @@ pub record LocalTimes : Type 0 where
   pub there-and-back : (t : LocalTime) (offset : ℤ) (field : ℕ) → (packOf t offset ≡ Field field) ↔ (unpackOf field offset ≡ At t)
   -- 20 exactly where there is none
   pub pack-refused : (t : LocalTime) (offset : ℤ) → isOffset offset ≡ true → (packOf t offset ≡ NotFielded (ImpossibleDay 0)) ↔ NoField t offset
-  pub unpack-refused : (field : ℕ) (offset : ℤ) → isOffset offset ≡ true → field < 2 ^ 40 → decimal field ≡ true
+  pub unpack-refused : (field : ℕ) (offset : ℤ) → isOffset offset ≡ true → field < 2 ^ 40 → isDecimal field ≡ true
       → (unpackOf field offset ≡ NotUnpacked (ImpossibleDay 0)) ↔ NoLocalTime field offset
   -- "exactly `dd/mm/yyyy hh:mm:ss`, 19 bytes, day first": the characters of a local time are read as that local time,
   pub reads-text : (t : LocalTime) → Typable t → (offset : ℤ) → readText (textOf t) offset ≡ packOf t offset

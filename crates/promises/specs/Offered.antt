@@ -6,31 +6,31 @@ use mathlib.Core.List.{List}
 use lib.ListN.{length}
 use lib.IntN.{ℤ}
 use Rattle.crc.specs.Crc.{crc16Of, crc32Of}
-use Rattle.days.specs.Calendar.{dayOf, dateOf, weekdayOf}
-use Rattle.times.specs.Showing.{showing}
-use Rattle.local.specs.Clock.{packOf, unpackOf}
-use Rattle.local.specs.Text.{readText}
-use Rattle.framing.specs.Section.{readSection}
-use Rattle.cutting.specs.Cutting.{countedOf, cutAnswer, cutOutput}
-use Rattle.holding.specs.declared.Gathering.{Gathering}
-use Rattle.feeding.specs.Feeding.{fedOf, storeAfter}
-use Rattle.handing.specs.Handing.{handedOf, outAfter}
-use Rattle.formats.specs.Body.{bodyRead, bodyLaid, laidTape, bodyWritten, output}
+use Rattle.time_days.specs.Calendar.{dayOf, dateOf, weekdayOf}
+use Rattle.time_fields.specs.Showing.{showing}
+use Rattle.time_local.specs.Clock.{packOf, unpackOf}
+use Rattle.time_local.specs.Text.{readText}
+use Rattle.section_reader.specs.Section.{readSection}
+use Rattle.section_cutter.specs.Cutting.{countedOf, cutAnswer, cutOutput}
+use Rattle.gathering_state.specs.declared.Gathering.{Gathering}
+use Rattle.gathering_feed.specs.Feeding.{fedOf, storeAfter}
+use Rattle.gathering_hand_out.specs.Handing.{handedOf, outAfter}
+use Rattle.body_formats.specs.Body.{bodyRead, bodyLaid, laidTape, bodyWritten, outputWritten}
 use Rattle.certificate.specs.Certificate.{certificateKind, certificate}
-use Rattle.certificate.specs.Asked as certificate
-use Rattle.certificate.specs.Asked.{authorizationCount, authorizationPart, certificateCount, certificatePart}
+use Rattle.certificate_fields.specs.Asked as certificate
+use Rattle.certificate_fields.specs.Asked.{authorizationCount, authorizationPart, certificateCount, certificatePart}
 use Rattle.index.specs.Index.{indexKind, index}
-use Rattle.records.specs.Records.{bodyRecorded, recorded}
-use Rattle.records.specs.declared.Record.{Record}
-use Rattle.messages.specs.Asked.{messageCount, messagePart, signaturePart, identifierPart, identifierDigit, network, start, end, typePart, class, level, resourceCount, resourcePart, resourceDigit, flag, channelNetwork, channelStream, channelProgram, pcrPid, descriptorsPart, streamsPart, descriptorTag, descriptorPart, streamType, streamPid, streamDescriptors}
+use Rattle.index_records.specs.Records.{bodyRecorded, recorded}
+use Rattle.index_records.specs.declared.Record.{Record}
+use Rattle.index_fields.specs.Asked.{messageCount, messagePart, signaturePart, identifierPart, identifierDigit, network, start, end, typePart, class, level, resourceCount, resourcePart, resourceDigit, flag, channelNetwork, channelStream, channelProgram, pcrPid, descriptorsPart, streamsPart, descriptorTag, descriptorPart, streamType, streamPid, streamDescriptors}
 use Rattle.content.specs.Content.{contentKind, content, contentRead}
-use Rattle.contentwriter.specs.Written.{contentWritten}
-use Rattle.languages.specs.Asked as languages
-use Rattle.languages.specs.Asked.{extension, languageCount, languagePart, lettersPart, characterSet, textPart, agencyPart, auxiliaryCount, auxiliaryType, auxiliaryPart}
+use Rattle.content_writer.specs.Written.{contentWritten}
+use Rattle.content_fields.specs.Asked as languages
+use Rattle.content_fields.specs.Asked.{extension, languageCount, languagePart, lettersPart, characterSet, textPart, agencyPart, auxiliaryCount, auxiliaryType, auxiliaryPart}
 use Rattle.configuration.specs.Configuration.{configurationKind, configuration}
-use Rattle.commands.specs.Asked as commands
-use Rattle.commands.specs.Asked.{commandCount, commandPart, commandTag, commandContent, clockYear, clockMonth, clockDay, clockHour, clockMinute, clockSecond, codeAddress, codeResource, codeDigit, frequency, symbolRate, mapping, returnKind, returnAddress, period, volume, parameterCount, parameter, terminalCount, terminal, terminalDigit}
-use Rattle.telling.specs.Answers.{dayAnswer, dateAnswer, weekdayAnswer, fieldAnswer, localAnswer, showingAnswer, sectionAnswer, countAnswer, lengthAnswer, feedAnswer, handAnswer, readAnswer, numberAnswer, partAnswer, writtenAnswer, contentAnswer, localFieldAnswer}
+use Rattle.configuration_fields.specs.Asked as commands
+use Rattle.configuration_fields.specs.Asked.{commandCount, commandPart, commandTag, commandContent, clockYear, clockMonth, clockDay, clockHour, clockMinute, clockSecond, codeAddress, codeResource, codeDigit, frequency, symbolRate, mapping, returnKind, returnAddress, period, volume, parameterCount, parameter, terminalCount, terminal, terminalDigit}
+use Rattle.c_answers.specs.Answers.{dayAnswer, dateAnswer, weekdayAnswer, fieldAnswer, localAnswer, showingAnswer, sectionAnswer, countAnswer, lengthAnswer, feedAnswer, handAnswer, readAnswer, numberAnswer, partAnswer, writtenAnswer, contentAnswer, localFieldAnswer}
 use Rattle.promises.specs.Determined.{Determined, Determined₂, Determined₃}
 
 pub record Offered : Type 0 where
@@ -60,12 +60,12 @@ pub record Offered : Type 0 where
   pub nw-certificate-count : (body : List ℕ) → Determined (λ r. r ≡ numberAnswer (certificateCount body))
   pub nw-certificate-part : (body : List ℕ) (i : ℕ) → Determined (λ r. r ≡ partAnswer (certificatePart body i))
   pub nw-certificate-signature : (body : List ℕ) → Determined (λ r. r ≡ partAnswer (certificate.signaturePart body))
-  pub nw-certificate-write : (pool tape out : List ℕ) → Determined₂ (λ r out′. (r ≡ writtenAnswer (bodyWritten certificate pool tape (length out))) × (out′ ≡ output certificate pool tape out))
+  pub nw-certificate-write : (pool tape out : List ℕ) → Determined₂ (λ r out′. (r ≡ writtenAnswer (bodyWritten certificate pool tape (length out))) × (out′ ≡ outputWritten certificate pool tape out))
   pub nw-certificate-lay : (kind : ℕ) (body tape : List ℕ) → Determined₂ (λ r tape′. (r ≡ writtenAnswer (bodyLaid certificate certificateKind kind body (length tape))) × (tape′ ≡ laidTape certificate certificateKind kind body tape))
   -- the index table
   pub nw-index-read : (kind : ℕ) (body : List ℕ) → Determined (λ r. r ≡ readAnswer (bodyRead index indexKind kind body))
   pub nw-index-lay : (kind : ℕ) (body tape : List ℕ) → Determined₂ (λ r tape′. (r ≡ writtenAnswer (bodyLaid index indexKind kind body (length tape))) × (tape′ ≡ laidTape index indexKind kind body tape))
-  pub nw-index-write : (pool tape out : List ℕ) → Determined₂ (λ r out′. (r ≡ writtenAnswer (bodyWritten index pool tape (length out))) × (out′ ≡ output index pool tape out))
+  pub nw-index-write : (pool tape out : List ℕ) → Determined₂ (λ r out′. (r ≡ writtenAnswer (bodyWritten index pool tape (length out))) × (out′ ≡ outputWritten index pool tape out))
   -- its message records
   pub nw-index-records : (kind : ℕ) (body : List ℕ) (list : List Record) → Determined₂ (λ r list′. (r ≡ writtenAnswer (bodyRecorded kind body (length list))) × (list′ ≡ recorded kind body list))
   -- its fields
@@ -100,7 +100,7 @@ pub record Offered : Type 0 where
   -- the content table
   pub nw-content-read : (kind extension : ℕ) (body : List ℕ) → Determined (λ r. r ≡ readAnswer (contentRead 3 kind extension body))
   pub nw-content-lay : (kind : ℕ) (body tape : List ℕ) → Determined₂ (λ r tape′. (r ≡ writtenAnswer (bodyLaid (content 3) contentKind kind body (length tape))) × (tape′ ≡ laidTape (content 3) contentKind kind body tape))
-  pub nw-content-write : (pool tape out : List ℕ) → Determined₂ (λ r out′. (r ≡ contentAnswer (contentWritten pool tape (length out))) × (out′ ≡ output (content 3) pool tape out))
+  pub nw-content-write : (pool tape out : List ℕ) → Determined₂ (λ r out′. (r ≡ contentAnswer (contentWritten pool tape (length out))) × (out′ ≡ outputWritten (content 3) pool tape out))
   -- its fields
   pub nw-content-identifier : (body : List ℕ) → Determined (λ r. r ≡ partAnswer (languages.identifierPart body))
   pub nw-content-identifier-digit : (body : List ℕ) (i : ℕ) → Determined (λ r. r ≡ numberAnswer (languages.identifierDigit body i))
@@ -118,7 +118,7 @@ pub record Offered : Type 0 where
   -- the configuration table
   pub nw-configuration-read : (kind : ℕ) (body : List ℕ) → Determined (λ r. r ≡ readAnswer (bodyRead configuration configurationKind kind body))
   pub nw-configuration-lay : (kind : ℕ) (body tape : List ℕ) → Determined₂ (λ r tape′. (r ≡ writtenAnswer (bodyLaid configuration configurationKind kind body (length tape))) × (tape′ ≡ laidTape configuration configurationKind kind body tape))
-  pub nw-configuration-write : (pool tape out : List ℕ) → Determined₂ (λ r out′. (r ≡ writtenAnswer (bodyWritten configuration pool tape (length out))) × (out′ ≡ output configuration pool tape out))
+  pub nw-configuration-write : (pool tape out : List ℕ) → Determined₂ (λ r out′. (r ≡ writtenAnswer (bodyWritten configuration pool tape (length out))) × (out′ ≡ outputWritten configuration pool tape out))
   -- its fields
   pub nw-configuration-command-count : (body : List ℕ) → Determined (λ r. r ≡ numberAnswer (commandCount body))
   pub nw-configuration-command : (body : List ℕ) (i : ℕ) → Determined (λ r. r ≡ partAnswer (commandPart body i))

@@ -3,36 +3,36 @@ use Prim.Native.Nat.{ℕ, _≤_}
 use mathlib.Core.Path.{_≡_}
 use mathlib.Core.List.{List}
 use lib.ListN.{length}
-use Rattle.refusal.specs.Numbers.{placeOf}
-use Rattle.refusal.specs.declared.Refusal.{Refusal}
-use Rattle.framing.specs.Section.{readSection}
-use Rattle.framing.specs.declared.Sectioned.the-variants.{Refused as NotGood}
-use Rattle.cutting.specs.Cutting.{cutAnswer}
-use Rattle.cutting.specs.declared.Cut.the-variants.{Refused as NotCut}
-use Rattle.holding.specs.declared.Gathering.{Gathering}
-use Rattle.feeding.specs.Feeding.{fedOf}
-use Rattle.feeding.specs.declared.Answer.the-variants.{Refused as NotFed}
-use Rattle.handing.specs.Handing.{handedOf}
-use Rattle.handing.specs.declared.Handed.the-variants.{Refused as NotHanded}
-use Rattle.formats.specs.Format.{Format}
-use Rattle.formats.specs.Body.{bodyRead, bodyWritten, bodyLaid}
-use Rattle.formats.specs.declared.Step.the-variants.{Refused as NoStep}
+use Rattle.ground_refusal.specs.Numbers.{refusalPlace}
+use Rattle.ground_refusal.specs.declared.Refusal.{Refusal}
+use Rattle.section_reader.specs.Section.{readSection}
+use Rattle.section_reader.specs.declared.Sectioned.the-variants.{Refused as NotGood}
+use Rattle.section_cutter.specs.Cutting.{cutAnswer}
+use Rattle.section_cutter.specs.declared.Cut.the-variants.{Refused as NotCut}
+use Rattle.gathering_state.specs.declared.Gathering.{Gathering}
+use Rattle.gathering_feed.specs.Feeding.{fedOf}
+use Rattle.gathering_feed.specs.declared.Answer.the-variants.{Refused as NotFed}
+use Rattle.gathering_hand_out.specs.Handing.{handedOf}
+use Rattle.gathering_hand_out.specs.declared.Handed.the-variants.{Refused as NotHanded}
+use Rattle.body_formats.specs.Format.{Format}
+use Rattle.body_formats.specs.Body.{bodyRead, bodyWritten, bodyLaid}
+use Rattle.body_formats.specs.declared.Step.the-variants.{Refused as NoStep}
 use Rattle.certificate.specs.Certificate.{certificateKind, certificate}
 use Rattle.index.specs.Index.{indexKind, index}
-use Rattle.records.specs.Records.{bodyRecorded}
+use Rattle.index_records.specs.Records.{bodyRecorded}
 use Rattle.content.specs.Content.{contentKind, content, contentRead}
-use Rattle.contentwriter.specs.Written.{contentWritten}
-use Rattle.contentwriter.specs.declared.Written.the-variants.{Refused as NotWritten}
+use Rattle.content_writer.specs.Written.{contentWritten}
+use Rattle.content_writer.specs.declared.Written.the-variants.{Refused as NotWritten}
 use Rattle.configuration.specs.Configuration.{configurationKind, configuration}
 
 -- of a table with the format F and the kind `own`
 pub record PlacesOf {A : Type 0} (F : Format A) (own : ℕ) : Type 0 where
   -- "for 14 to 20 in a body the offset of the byte where the field begins; for left-over bytes the first of them; for a part that passes an
   -- end, its length field; else 0": in the body, or at its end where a field begins that is not there
-  pub read : (kind : ℕ) (body : List ℕ) (r : Refusal) → bodyRead F own kind body ≡ NoStep r → placeOf r ≤ length body
-  pub laid : (kind : ℕ) (body : List ℕ) (room : ℕ) (r : Refusal) → bodyLaid F own kind body room ≡ NoStep r → placeOf r ≤ length body
+  pub read : (kind : ℕ) (body : List ℕ) (r : Refusal) → bodyRead F own kind body ≡ NoStep r → refusalPlace r ≤ length body
+  pub laid : (kind : ℕ) (body : List ℕ) (room : ℕ) (r : Refusal) → bodyLaid F own kind body room ≡ NoStep r → refusalPlace r ≤ length body
   -- "and always 0 from writers"
-  pub written : (pool tape : List ℕ) (room : ℕ) (r : Refusal) → bodyWritten F pool tape room ≡ NoStep r → placeOf r ≡ 0
+  pub written : (pool tape : List ℕ) (room : ℕ) (r : Refusal) → bodyWritten F pool tape room ≡ NoStep r → refusalPlace r ≡ 0
 
 pub record Places : Type 0 where
   pub certificates : PlacesOf certificate certificateKind
@@ -40,13 +40,13 @@ pub record Places : Type 0 where
   pub contents : PlacesOf (content 3) contentKind
   pub configurations : PlacesOf configuration configurationKind
   -- the index reader that lays records, the content reader with its extension, and the content writer
-  pub recorded : (kind : ℕ) (body : List ℕ) (room : ℕ) (r : Refusal) → bodyRecorded kind body room ≡ NoStep r → placeOf r ≤ length body
-  pub extended : (kind extension : ℕ) (body : List ℕ) (r : Refusal) → contentRead 3 kind extension body ≡ NoStep r → placeOf r ≤ length body
-  pub content-written : (pool tape : List ℕ) (room : ℕ) (r : Refusal) → contentWritten pool tape room ≡ NotWritten r → placeOf r ≡ 0
+  pub recorded : (kind : ℕ) (body : List ℕ) (room : ℕ) (r : Refusal) → bodyRecorded kind body room ≡ NoStep r → refusalPlace r ≤ length body
+  pub extended : (kind extension : ℕ) (body : List ℕ) (r : Refusal) → contentRead 3 kind extension body ≡ NoStep r → refusalPlace r ≤ length body
+  pub content-written : (pool tape : List ℕ) (room : ℕ) (r : Refusal) → contentWritten pool tape room ≡ NotWritten r → refusalPlace r ≡ 0
   -- "else 0": of a section, of feeding and of the cutter
-  pub section : (s : List ℕ) (r : Refusal) → readSection s ≡ NotGood r → placeOf r ≡ 0
-  pub fed : (g : Gathering) (store s : List ℕ) (r : Refusal) → fedOf g store s .answer ≡ NotFed r → placeOf r ≡ 0
+  pub section : (s : List ℕ) (r : Refusal) → readSection s ≡ NotGood r → refusalPlace r ≡ 0
+  pub fed : (g : Gathering) (store s : List ℕ) (r : Refusal) → fedOf g store s .answer ≡ NotFed r → refusalPlace r ≡ 0
   pub cut : (body : List ℕ) (kind extension version number : ℕ) (out : List ℕ) (r : Refusal)
-      → cutAnswer body kind extension version number out ≡ NotCut r → placeOf r ≡ 0
+      → cutAnswer body kind extension version number out ≡ NotCut r → refusalPlace r ≡ 0
   -- "The place is 13's missing number": a number of the table
-  pub handed : (g : Gathering) (store out : List ℕ) (r : Refusal) → handedOf g store out ≡ NotHanded r → placeOf r ≤ g .last
+  pub handed : (g : Gathering) (store out : List ℕ) (r : Refusal) → handedOf g store out ≡ NotHanded r → refusalPlace r ≤ g .last

@@ -5,44 +5,44 @@ use mathlib.Core.Bool.{true, false}
 use mathlib.Core.List.{List}
 use lib.ListN.{length}
 use lib.IntN.{ℤ}
-use Rattle.refusal.specs.Answers.{answerOf}
-use Rattle.refusal.specs.declared.Refusal.{Refusal}
-use Rattle.refusal.specs.declared.Refusal.the-variants.{OutsideSet}
+use Rattle.ground_refusal.specs.Answers.{answerOf}
+use Rattle.ground_refusal.specs.declared.Refusal.{Refusal}
+use Rattle.ground_refusal.specs.declared.Refusal.the-variants.{OutsideSet}
 use Rattle.crc.specs.Crc.{AreBytes}
-use Rattle.days.specs.Calendar.{dayOf, dateOf, weekdayOf}
-use Rattle.days.specs.declared.Date.{Date}
-use Rattle.days.specs.declared.DayAnswer.the-variants.{Day, Refused as NoDay}
-use Rattle.days.specs.declared.DateAnswer.the-variants.{On, Refused as NoDate}
-use Rattle.days.specs.declared.WeekdayAnswer.the-variants.{Weekday, Refused as NoWeekday}
-use Rattle.times.specs.declared.Fielded.the-variants.{Field, Refused as NotFielded}
-use Rattle.times.specs.declared.Showing.the-variants as showing
-use Rattle.offset.specs.Offset.{isOffset}
-use Rattle.local.specs.Clock.{packOf, unpackOf}
-use Rattle.local.specs.Text.{readText}
-use Rattle.local.specs.declared.LocalTime.{LocalTime}
-use Rattle.local.specs.declared.Unpacked.the-variants.{At as LocalAt, Refused as NotUnpacked}
-use Rattle.framing.specs.Section.{readSection}
-use Rattle.framing.specs.declared.Heading.{Heading}
-use Rattle.framing.specs.declared.Sectioned.the-variants.{Good, Refused as NotGood}
-use Rattle.cutting.specs.Cutting.{countedOf, cutAnswer}
-use Rattle.cutting.specs.declared.Counted.the-variants.{Sections, Refused as NotCounted}
-use Rattle.cutting.specs.declared.Cut.the-variants.{Written, Refused as NotCut}
-use Rattle.holding.specs.declared.Gathering.{Gathering}
-use Rattle.feeding.specs.declared.Answer.the-variants as fed
-use Rattle.handing.specs.Handing.{handedOf}
-use Rattle.handing.specs.declared.Handed.the-variants.{Body, Refused as NotHanded}
-use Rattle.formats.specs.Format.{Format}
-use Rattle.formats.specs.Answers.{numberRead}
-use Rattle.formats.specs.Body.{longest, bodyWritten, bodyLaid}
-use Rattle.formats.specs.declared.Step.the-variants.{At, Refused as NoStep}
-use Rattle.formats.specs.declared.Number.{Number}
-use Rattle.formats.specs.declared.Number.the-variants.{Is, Refused as NoNumber}
-use Rattle.formats.specs.declared.Part.the-variants.{Of, Refused as NoPart}
-use Rattle.records.specs.Records.{bodyRecorded}
-use Rattle.contentwriter.specs.Written.{contentWritten}
-use Rattle.contentwriter.specs.declared.Written.the-variants.{Of as WrittenOf, Refused as NotWritten}
-use Rattle.telling.specs.Answers.{dayAnswer, dateAnswer, weekdayAnswer, fieldAnswer, localAnswer, showingAnswer, sectionAnswer, countAnswer, lengthAnswer, feedAnswer, handAnswer, readAnswer, numberAnswer, partAnswer, writtenAnswer, contentAnswer, localFieldAnswer}
-use Rattle.telling.specs.Taking.{refusalTold, TellsRefusal, TellsValue, TellsDate, TellsTime, TellsHeading, TellsPart, TellsContent}
+use Rattle.time_days.specs.Calendar.{dayOf, dateOf, weekdayOf}
+use Rattle.time_days.specs.declared.Date.{Date}
+use Rattle.time_days.specs.declared.DayAnswer.the-variants.{Day, Refused as NoDay}
+use Rattle.time_days.specs.declared.DateAnswer.the-variants.{On, Refused as NoDate}
+use Rattle.time_days.specs.declared.WeekdayAnswer.the-variants.{Weekday, Refused as NoWeekday}
+use Rattle.time_fields.specs.declared.Fielded.the-variants.{Field, Refused as NotFielded}
+use Rattle.time_fields.specs.declared.Showing.the-variants as showing
+use Rattle.time_offset.specs.Offset.{isOffset}
+use Rattle.time_local.specs.Clock.{packOf, unpackOf}
+use Rattle.time_local.specs.Text.{readText}
+use Rattle.time_local.specs.declared.LocalTime.{LocalTime}
+use Rattle.time_local.specs.declared.Unpacked.the-variants.{At as LocalAt, Refused as NotUnpacked}
+use Rattle.section_reader.specs.Section.{readSection}
+use Rattle.section_reader.specs.declared.Heading.{Heading}
+use Rattle.section_reader.specs.declared.Sectioned.the-variants.{Good, Refused as NotGood}
+use Rattle.section_cutter.specs.Cutting.{countedOf, cutAnswer}
+use Rattle.section_cutter.specs.declared.Counted.the-variants.{Sections, Refused as NotCounted}
+use Rattle.section_cutter.specs.declared.Cut.the-variants.{Written, Refused as NotCut}
+use Rattle.gathering_state.specs.declared.Gathering.{Gathering}
+use Rattle.gathering_feed.specs.declared.Answer.the-variants as fed
+use Rattle.gathering_hand_out.specs.Handing.{handedOf}
+use Rattle.gathering_hand_out.specs.declared.Handed.the-variants.{Body, Refused as NotHanded}
+use Rattle.body_formats.specs.Format.{Format}
+use Rattle.body_formats.specs.Answers.{numberRead}
+use Rattle.body_formats.specs.Body.{longest, bodyWritten, bodyLaid}
+use Rattle.body_formats.specs.declared.Step.the-variants.{At, Refused as NoStep}
+use Rattle.body_formats.specs.declared.Number.{Number}
+use Rattle.body_formats.specs.declared.Number.the-variants.{Is, Refused as NoNumber}
+use Rattle.body_formats.specs.declared.Part.the-variants.{Of, Refused as NoPart}
+use Rattle.index_records.specs.Records.{bodyRecorded}
+use Rattle.content_writer.specs.Written.{contentWritten}
+use Rattle.content_writer.specs.declared.Written.the-variants.{Of as WrittenOf, Refused as NotWritten}
+use Rattle.c_answers.specs.Answers.{dayAnswer, dateAnswer, weekdayAnswer, fieldAnswer, localAnswer, showingAnswer, sectionAnswer, countAnswer, lengthAnswer, feedAnswer, handAnswer, readAnswer, numberAnswer, partAnswer, writtenAnswer, contentAnswer, localFieldAnswer}
+use Rattle.c_answers.specs.Taking.{refusalTold, TellsRefusal, TellsValue, TellsDate, TellsTime, TellsHeading, TellsPart, TellsContent}
 
 -- "A refusal returns its number and a place": any refusal, as this kind of answer tells it
 abbrev pub Refuses : {A : Type 0} → (A → ℕ) → (Refusal → A) → Type 0

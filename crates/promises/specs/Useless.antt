@@ -3,20 +3,20 @@ use Prim.Native.Nat.{ℕ}
 use mathlib.Core.Path.{_≡_}
 use mathlib.Core.Bool.{false}
 use mathlib.Core.List.{List}
-use Rattle.refusal.specs.declared.Refusal.{Refusal}
-use Rattle.placing.specs.Placed.{placed}
-use Rattle.cutting.specs.Cutting.{countedOf}
-use Rattle.cutting.specs.declared.Counted.the-variants.{Sections}
-use Rattle.holding.specs.State.{nothingBegun}
-use Rattle.holding.specs.declared.Gathering.{Gathering}
-use Rattle.feeding.specs.Feeding.{fedOf, storeAfter}
-use Rattle.handing.specs.Handing.{handedOf, outAfter}
-use Rattle.handing.specs.declared.Handed.the-variants.{Body}
-use Rattle.formats.specs.Body.{bodyRead}
-use Rattle.formats.specs.declared.Step.the-variants.{Refused}
-use Rattle.formats.specs.declared.Number.the-variants.{Is}
+use Rattle.ground_refusal.specs.declared.Refusal.{Refusal}
+use Rattle.ground_placing.specs.Placed.{placed}
+use Rattle.section_cutter.specs.Cutting.{countedOf}
+use Rattle.section_cutter.specs.declared.Counted.the-variants.{Sections}
+use Rattle.gathering_state.specs.State.{nothingBegun}
+use Rattle.gathering_state.specs.declared.Gathering.{Gathering}
+use Rattle.gathering_feed.specs.Feeding.{fedOf, storeAfter}
+use Rattle.gathering_hand_out.specs.Handing.{handedOf, outAfter}
+use Rattle.gathering_hand_out.specs.declared.Handed.the-variants.{Body}
+use Rattle.body_formats.specs.Body.{bodyRead}
+use Rattle.body_formats.specs.declared.Step.the-variants.{Refused}
+use Rattle.body_formats.specs.declared.Number.the-variants.{Is}
 use Rattle.index.specs.Index.{indexKind, index}
-use Rattle.messages.specs.Asked.{messageCount}
+use Rattle.index_fields.specs.Asked.{messageCount}
 
 pub record ShutOut : Type 0 where
   -- "One that refuses all": a reader, and handing out

@@ -2,13 +2,13 @@
 use Prim.Native.Nat.{ℕ}
 use mathlib.Core.Path.{_≡_}
 use mathlib.Core.List.{List, [], _∷_}
-use Rattle.days.specs.Calendar.{dayOf, dateOf, weekdayOf}
-use Rattle.days.specs.declared.DayAnswer.the-variants.{Day}
-use Rattle.days.specs.declared.DateAnswer.the-variants.{On}
-use Rattle.days.specs.declared.WeekdayAnswer.the-variants.{Weekday}
+use Rattle.time_days.specs.Calendar.{dayOf, dateOf, weekdayOf}
+use Rattle.time_days.specs.declared.DayAnswer.the-variants.{Day}
+use Rattle.time_days.specs.declared.DateAnswer.the-variants.{On}
+use Rattle.time_days.specs.declared.WeekdayAnswer.the-variants.{Weekday}
 use Rattle.crc.specs.Crc.{crc16Of, crc32Of}
-use Rattle.cutting.specs.Cutting.{countedOf}
-use Rattle.cutting.specs.declared.Counted.the-variants.{Sections}
+use Rattle.section_cutter.specs.Cutting.{countedOf}
+use Rattle.section_cutter.specs.declared.Counted.the-variants.{Sections}
 
 -- a day number and a date are each other's
 abbrev pub IsDay : ℕ → ℕ → ℕ → ℕ → Type 0

@@ -1,6 +1,6 @@
 -- `byte32` meets its contract: its entry is the lookup of the high byte plus b.
 use borrow.Author.Needs.{needs}
-use Rattle.register.proofs.Lookups.{lookups, crc-chunks-block}
+use Rattle.crc_register.proofs.Lookups.{lookups, crc-chunks-block}
 use Rattle.crc.proofs.byte32.Statement.{statement}
 use Rattle.crc.proofs.byte32.Tie as tie
 

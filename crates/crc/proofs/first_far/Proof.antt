@@ -1,6 +1,6 @@
 -- `first_far` meets its contract: its entries are the lookups of the four chunks of x, in the tables from 12 on.
 use borrow.Author.Needs.{needs}
-use Rattle.register.proofs.Lookups.{lookups, crc-lookups}
+use Rattle.crc_register.proofs.Lookups.{lookups, crc-lookups}
 use Rattle.crc.proofs.first_far.Statement.{statement}
 use Rattle.crc.proofs.first_far.Tie as tie
 

@@ -1,6 +1,6 @@
 -- `near` meets its contract: its entries are the lookups of the four chunks of x.
 use borrow.Author.Needs.{needs}
-use Rattle.register.proofs.Lookups.{lookups, crc-chunks}
+use Rattle.crc_register.proofs.Lookups.{lookups, crc-chunks}
 use Rattle.crc.proofs.near.Statement.{statement}
 use Rattle.crc.proofs.near.Tie as tie
 

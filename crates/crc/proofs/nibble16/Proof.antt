@@ -1,6 +1,6 @@
 -- `nibble16` meets its contract: its entry is the lookup of the one chunk, the high nibble plus x.
 use borrow.Author.Needs.{needs}
-use Rattle.register.proofs.Lookups.{lookups, crc-chunks-block}
+use Rattle.crc_register.proofs.Lookups.{lookups, crc-chunks-block}
 use Rattle.crc.proofs.nibble16.Statement.{statement}
 use Rattle.crc.proofs.nibble16.Tie as tie
 

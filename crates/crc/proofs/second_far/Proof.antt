@@ -1,6 +1,6 @@
 -- `second_far` meets its contract: its entries are the lookups of the four chunks of x, in the tables from 8 on.
 use borrow.Author.Needs.{needs}
-use Rattle.register.proofs.Lookups.{lookups, crc-lookups}
+use Rattle.crc_register.proofs.Lookups.{lookups, crc-lookups}
 use Rattle.crc.proofs.second_far.Statement.{statement}
 use Rattle.crc.proofs.second_far.Tie as tie
 

@@ -1,7 +1,7 @@
 -- `word` meets its contract: the four bytes are the string.
 use mathlib.Core.Path.{_∙_, sym, ap}
 use borrow.Author.Needs.{needs}
-use Rattle.register.specs.Register.{bytesBits}
+use Rattle.crc_register.specs.Register.{bytesBits}
 use Rattle.crc.proofs.Walk.{four-bytes}
 use Rattle.crc.proofs.word.Statement.{statement}
 use Rattle.crc.proofs.word.Tie as tie

@@ -1,0 +1,23 @@
+-- `body_asking::skip_entry` meets its contract: its bytes end where a number of as many does, and its part begins there.
+use mathlib.Core.Path.{sym, _∙_}
+use Rattle.body_formats.proofs.Readers.{part-facts}
+use Rattle.body_asking.proofs.Entries.{head-no, entry-no, entry-at}
+use native.Mathlib.Omega.{arith}
+use borrow.Author.Needs.{needs}
+use Rattle.body_asking.proofs.skip_entry.Statement.{statement}
+use Rattle.body_asking.proofs.skip_entry.Tie as tie
+
+pub skip-entry-spec : {M : Type 1} → statement M
+skip-entry-spec =
+    tie.close
+    (tie.spec
+    (λ c κs. search needs)
+    (λ c. search needs)
+    (λ c. search needs)
+    (λ c κs. search needs)
+    (λ c. search needs)
+    (λ c. search needs)
+    (λ c. omega (arith, part-facts _ _ _ _ _ _ (sym (c .before .a .given .1) ∙ c .before .before .before .read-part .ensures) .0))
+    (λ c. head-no _ _ _ _ _ _ (sym (c .before .r .given .1) ∙ c .before .before .before .read-number .ensures))
+    (λ c. entry-no _ _ _ _ _ _ _ (sym (c .before .before .before .before .before .v .given .1) ∙ c .before .before .before .before .before .before .before .read-number .ensures) _ (sym (c .before .r2 .given .1) ∙ c .before .before .before .read-part .ensures))
+    (λ c. entry-at _ _ _ _ _ _ _ (sym (c .before .before .before .before .before .v .given .1) ∙ c .before .before .before .before .before .before .before .read-number .ensures) _ _ (sym (c .before .a .given .1) ∙ c .before .before .before .read-part .ensures)))

@@ -1,0 +1,32 @@
+-- `body_fields::read_reserved` meets its contract: the first byte, its high bits and the whole field are read in the order of the format.
+use mathlib.Core.Path.{sym, _∙_}
+use lib.Pow.{pow-pos}
+use Rattle.body_formats.proofs.Bits.{reserved-no, reserved-zero, reserved-past, reserved-is}
+use native.Mathlib.Omega.{arith}
+use borrow.Author.Needs.{needs}
+use Rattle.body_fields.proofs.read_reserved.Statement.{statement}
+use Rattle.body_fields.proofs.read_reserved.Tie as tie
+
+pub read-reserved-spec : {M : Type 1} → statement M
+read-reserved-spec =
+    tie.close
+    (tie.spec
+    (λ c κs. search needs)
+    (λ c. search needs)
+    (λ c. search needs)
+    (λ c. search needs)
+    (λ c. search needs)
+    (λ c κs. search needs)
+    (λ c. omega (arith, c .power .ensures, pow-pos (c .before .before .before .before .before .before .args .k)))
+    (λ c. reserved-zero _ _ _ _ _ _ _ (sym (c .before .before .before .first .given .1) ∙ c .before .before .before .before .before .read-number .ensures) (rw (← c .before .power .ensures) (c .if1 .taken)))
+    (λ c. search needs)
+    (λ c κs. search needs)
+    (λ c. search needs)
+    (λ c. search needs)
+    (λ c. search needs)
+    (λ c. search needs)
+    (λ c κs. search needs)
+    (λ c. rw (c .power2 .ensures) (pow-pos _))
+    (λ c. reserved-no _ _ _ _ _ _ (sym (c .before .r .given .1) ∙ c .before .before .before .read-number .ensures))
+    (λ c. reserved-past _ _ _ _ _ _ _ (sym (c .before .before .before .before .before .before .before .first .given .1) ∙ c .before .before .before .before .before .before .before .before .before .read-number .ensures) (rw (← c .before .before .before .before .before .power .ensures) (c .before .before .before .before .if1 .left)) _ (sym (c .before .r2 .given .1) ∙ c .before .before .before .read-number2 .ensures))
+    (λ c. rw (c .power2 .ensures) (reserved-is _ _ _ _ _ _ _ (sym (c .before .before .before .before .before .before .before .before .first .given .1) ∙ c .before .before .before .before .before .before .before .before .before .before .read-number .ensures) (rw (← c .before .before .before .before .before .before .power .ensures) (c .before .before .before .before .before .if1 .left)) _ _ (sym (c .before .before .v .given .1) ∙ c .before .before .before .before .read-number2 .ensures))))

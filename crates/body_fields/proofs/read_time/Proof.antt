@@ -1,0 +1,20 @@
+-- `body_fields::read_time` meets its contract: of a number of five bytes crate times says what is wrong.
+use mathlib.Core.Path.{sym, _∙_}
+use Rattle.body_formats.proofs.Strings.{time-no, time-said}
+use borrow.Author.Needs.{needs}
+use Rattle.body_fields.proofs.read_time.Statement.{statement}
+use Rattle.body_fields.proofs.read_time.Tie as tie
+
+pub read-time-spec : {M : Type 1} → statement M
+read-time-spec =
+    tie.close
+    (tie.spec
+    (λ c κs. search needs)
+    (λ c. search needs)
+    (λ c. search needs)
+    (λ c κs. search needs)
+    (λ c. search needs)
+    (λ c. search needs)
+    (λ c. time-no _ _ _ (λ i. c .before .before .before .before .shared-slice-known .given i .fits) _ (sym (c .before .r .given .1) ∙ c .before .before .before .read-number .ensures) .0)
+    (λ c. time-said _ _ _ (λ i. c .before .before .before .before .before .before .before .before .shared-slice-known .given i .fits) _ _ _ (sym (c .before .before .before .before .before .x .given .1) ∙ c .before .before .before .before .before .before .before .read-number .ensures) (sym (c .before .r2 .given .1) ∙ c .before .before .before .read-time .ensures))
+    (λ c. time-said _ _ _ (λ i. c .before .before .before .before .before .before .before .before .shared-slice-known .given i .fits) _ _ _ (sym (c .before .before .before .before .before .x .given .1) ∙ c .before .before .before .before .before .before .before .read-number .ensures) (sym (c .before .m .given .1) ∙ c .before .before .before .read-time .ensures)))

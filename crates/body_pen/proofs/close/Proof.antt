@@ -1,0 +1,25 @@
+-- `body_pen::close` meets its contract: the length is what lies between the two pens, and is written where it is below the limit.
+use Rattle.body_pen.proofs.Lengths.{close-none, close-refused, close-over, close-put}
+use native.Mathlib.Omega.{arith}
+use borrow.Author.Needs.{needs}
+use Rattle.body_pen.proofs.close.Statement.{statement}
+use Rattle.body_pen.proofs.close.Tie as tie
+
+pub close-spec : {M : Type 1} → statement M
+close-spec =
+    tie.close
+    (tie.spec
+    (λ c. search needs)
+    (λ c. search needs)
+    (λ c. search needs)
+    (λ c. search needs)
+    (λ c κs. search needs)
+    (λ c κs. search needs)
+    (λ c. close-over _ _ _ _ _ _ _ _ _ (c .before .before .before .before .before .before .before .x2 .given .1) _ _ (c .before .before .before .before .b2 .given .1) (c .before .less2 .result) (omega (arith, c .before .less2 .ensures, c .before .before .less .ensures)) (c .if1 .taken))
+    (λ c. search needs)
+    (λ c κs. search needs)
+    (λ c κs. search needs)
+    (λ c. close-none _ _ _ _ _ _ _ _ (c .before .x .given .1))
+    (λ c. close-refused _ _ _ _ _ _ _ _ _ (c .before .before .before .before .x2 .given .1) _ (c .before .b .given .1))
+    (λ c. search needs)
+    (λ c. close-put _ _ _ _ _ _ _ _ _ (c .before .before .before .before .before .before .before .before .before .before .before .before .x2 .given .1) _ _ (c .before .before .before .before .before .before .before .before .before .b2 .given .1) (c .before .before .before .before .before .before .less2 .result) (omega (arith, c .before .before .before .before .before .before .less2 .ensures, c .before .before .before .before .before .before .before .less .ensures)) (omega arith) _ (c .grown .ensures) (c .before .before .before .put-at .ensures)))

@@ -1,0 +1,25 @@
+-- `body_pen::put_count` meets its contract: the entry is the count, and its bytes are written.
+use mathlib.Core.Path.{sym, _∙_}
+use Rattle.body_pen.proofs.Leaves.{count-stopped}
+use Rattle.body_pen.proofs.Numbers.{count-no, count-is}
+use borrow.Author.Needs.{needs}
+use Rattle.body_pen.proofs.put_count.Statement.{statement}
+use Rattle.body_pen.proofs.put_count.Tie as tie
+
+pub put-count-spec : {M : Type 1} → statement M
+put-count-spec =
+    tie.close
+    (tie.spec
+    (λ c. search needs)
+    (λ c. search needs)
+    (λ c κs. search needs)
+    (λ c. search needs)
+    (λ c. search needs)
+    (λ c κs. search needs)
+    (λ c. search needs)
+    (λ c κs. search needs)
+    (λ c κs. search needs)
+    (λ c pool. count-stopped _ pool _ _ _ _ _ (c .before .x .given .1))
+    (λ c pool. count-no _ pool _ _ _ _ _ _ (c .before .before .before .before .before .x2 .given .1) _ (sym (c .before .r .given .1) ∙ c .before .before .before .entry-at .ensures))
+    (λ c. search needs)
+    (λ c pool. count-is _ pool _ _ _ _ _ _ (c .before .before .before .before .before .before .before .before .before .before .before .x2 .given .1) _ _ (sym (c .before .before .before .before .before .before .before .v .given .1) ∙ c .before .before .before .before .before .before .before .before .before .entry-at .ensures) _ (c .before .power .ensures) _ (c .grown .ensures) _ (c .before .before .before .before .put-at .ensures)))

@@ -1,0 +1,31 @@
+-- `body_pen::put_nibbles` meets its contract: both numbers are taken by the same tests, and make one byte.
+use mathlib.Core.Path.{sym, _∙_}
+use denote.Ref.{now}
+use Rattle.body_pen.proofs.Leaves.{kept-less, stopped}
+use Rattle.body_pen.proofs.Numbers.{high-refused, low-refused, nibbles-written}
+use native.Mathlib.Omega.{arith}
+use borrow.Author.Needs.{needs}
+use Rattle.body_pen.proofs.put_nibbles.Statement.{statement}
+use Rattle.body_pen.proofs.put_nibbles.Tie as tie
+
+pub put-nibbles-spec : {M : Type 1} → statement M
+put-nibbles-spec =
+    tie.close
+    (tie.spec
+    (λ c. search needs)
+    (λ c. search needs)
+    (λ c κs. search needs)
+    (λ c. search needs)
+    (λ c. search needs)
+    (λ c κs. search needs)
+    (λ c. search needs)
+    (λ c. search needs)
+    (λ c. let a = c .before .before .before .before .before .before .before .before .before .before .before .before .before .before .args in omega (arith, kept-less (now (a .tape)) _ 16 (a .lo) (a .hi) _ _ (sym (c .before .before .before .before .before .before .high .given .1) ∙ c .before .before .before .before .before .before .before .before .number-among .ensures)))
+    (λ c. let a = c .before .before .before .before .before .before .before .before .before .before .before .before .before .before .args in omega (arith, kept-less (now (a .tape)) _ 16 (a .lo) (a .hi) _ _ (sym (c .before .before .before .before .before .before .high .given .1) ∙ c .before .before .before .before .before .before .before .before .number-among .ensures), kept-less (now (a .tape)) _ 16 (a .lo) (a .hi) _ _ (sym (c .before .before .low .given .1) ∙ c .before .before .before .before .number-among2 .ensures)))
+    (λ c κs. search needs)
+    (λ c κs. search needs)
+    (λ c pool. stopped _ pool _ _ _ _ _ (c .before .x .given .1))
+    (λ c pool. let a = c .before .before .before .before .before .before .before .before .before .args in high-refused (a .lo) (a .hi) pool (now (a .tape)) _ _ _ _ _ (c .before .before .before .before .before .x2 .given .1) _ (sym (c .before .r .given .1) ∙ c .before .before .before .number-among .ensures))
+    (λ c pool. let a = c .before .before .before .before .before .before .before .before .before .before .before .before .before .args in low-refused (a .lo) (a .hi) pool (now (a .tape)) _ _ _ _ _ (c .before .before .before .before .before .before .before .before .before .x2 .given .1) _ _ (sym (c .before .before .before .before .before .high .given .1) ∙ c .before .before .before .before .before .before .before .number-among .ensures) _ (sym (c .before .r2 .given .1) ∙ c .before .before .before .number-among2 .ensures))
+    (λ c. search needs)
+    (λ c pool. let a = c .before .before .before .before .before .before .before .before .before .before .before .before .before .before .before .before .before .before .args in nibbles-written (a .lo) (a .hi) pool (now (a .tape)) _ _ _ _ _ (c .before .before .before .before .before .before .before .before .before .before .before .before .before .before .x2 .given .1) _ _ (sym (c .before .before .before .before .before .before .before .before .before .before .high .given .1) ∙ c .before .before .before .before .before .before .before .before .before .before .before .before .number-among .ensures) _ _ (sym (c .before .before .before .before .before .before .low .given .1) ∙ c .before .before .before .before .before .before .before .before .number-among2 .ensures) _ (c .grown .ensures) _ (c .before .before .before .put-at .ensures)))

@@ -1,0 +1,25 @@
+-- `body_pen::put_time` meets its contract: the number of a time is written.
+use mathlib.Core.Path.{sym, _∙_}
+use Rattle.body_formats.specs.Time.{time}
+use Rattle.body_pen.proofs.Leaves.{stopped}
+use Rattle.body_pen.proofs.Times.{startFault, start-large, timed-refused, timed-written}
+use borrow.Author.Needs.{needs}
+use Rattle.body_pen.proofs.put_time.Statement.{statement}
+use Rattle.body_pen.proofs.put_time.Tie as tie
+
+pub put-time-spec : {M : Type 1} → statement M
+unfolding time
+put-time-spec =
+    tie.close
+    (tie.spec
+    (λ c. search needs)
+    (λ c. search needs)
+    (λ c κs. search needs)
+    (λ c. search needs)
+    (λ c. search needs)
+    (λ c κs. search needs)
+    (λ c κs. search needs)
+    (λ c pool. stopped _ pool _ _ _ _ _ (c .before .x .given .1))
+    (λ c pool. timed-refused startFault start-large _ _ pool _ _ _ _ (c .before .before .before .before .before .x2 .given .1) _ (sym (c .before .r .given .1) ∙ c .before .before .before .time-at .ensures))
+    (λ c. search needs)
+    (λ c pool. timed-written startFault start-large _ _ pool _ _ _ _ (c .before .before .before .before .before .before .before .before .before .before .x2 .given .1) _ _ (sym (c .before .before .before .before .before .before .v .given .1) ∙ c .before .before .before .before .before .before .before .before .time-at .ensures) _ (c .grown .ensures) _ (c .before .before .before .put-at .ensures)))

@@ -1,0 +1,22 @@
+-- `body_pen::time_at` meets its contract: an entry that is not a time is refused as its judge says.
+use mathlib.Core.Path.{sym, ap, _∙_}
+use Rattle.body_formats.specs.Time.{timeFault, time}
+use Rattle.body_pen.proofs.Times.{startFault, start-large, timed-none, timed-no, timed-is}
+use borrow.Author.Needs.{needs}
+use Rattle.body_pen.proofs.time_at.Statement.{statement}
+use Rattle.body_pen.proofs.time_at.Tie as tie
+
+pub time-at-spec : {M : Type 1} → statement M
+unfolding time
+time-at-spec =
+    tie.close
+    (tie.spec
+    (λ c κs. search needs)
+    (λ c. search needs)
+    (λ c. search needs)
+    (λ c κs. search needs)
+    (λ c. search needs)
+    (λ c. search needs)
+    (λ c. timed-none startFault start-large _ _ _ (sym (c .before .r .given .1) ∙ c .before .before .before .entry-at .ensures))
+    (λ c. timed-no startFault start-large _ _ _ _ (sym (c .before .before .before .before .before .v .given .1) ∙ c .before .before .before .before .before .before .before .entry-at .ensures) _ (ap timeFault (sym (c .before .before .before .read-time .ensures) ∙ c .before .r2 .given .1)))
+    (λ c. timed-is startFault start-large _ _ _ _ (sym (c .before .before .before .before .before .v .given .1) ∙ c .before .before .before .before .before .before .before .entry-at .ensures) (ap timeFault (sym (c .before .before .before .read-time .ensures) ∙ c .before .m .given .1))))

@@ -1,0 +1,87 @@
+-- What a reader has to believe of a pen that goes through a form: dry it measures the bytes, wet it also writes them.
+use Prim.Native.Nat.{ℕ, _+_, _-_, _≤_, _<_, min}
+use mathlib.Core.Path.{_≡_}
+use mathlib.Core.List.{List, [], _∷_}
+use mathlib.Core.Bool.{Bool, true, false, not}
+use lib.ListN.{length}
+use lib.Dec.{ltb}
+use Rattle.ground_choices.specs.Choice.{if_then_else_}
+use Rattle.ground_placing.specs.Placed.{placed}
+use Rattle.ground_refusal.specs.declared.Refusal.{Refusal}
+use Rattle.body_formats.specs.Reading.{Reading, found, refused, valueOf}
+use Rattle.body_formats.specs.Format.{Format, tapeEntry, bytesOf}
+use Rattle.body_pen.specs.declared.Pen.{Pen}
+use Rattle.body_pen.specs.declared.Pen.the-variants.{At, Refused}
+use Rattle.body_pen.specs.declared.Count.{Count}
+
+-- The bytes so far and n more: 1,045,505, one more than a body may have, stands for all that are too many, and for a count or a
+-- length that is too large for its field. Both are 22.
+unfoldable pub more : ℕ → ℕ → Bool → ℕ
+more size n over = if over then 1045505 else min (size + n) 1045505
+
+abbrev pub penOnward : {A : Type 0} → Format A → ℕ → Reading A → Pen
+penOnward F size (found a k) = At (more size (length (F .print a)) (F .tooLarge a)) k
+penOnward F size (refused r) = Refused r
+
+-- the first refusal stands
+unfoldable pub penned : {A : Type 0} → Format A → List ℕ → List ℕ → Pen → Pen
+penned F pool tape (At size k) = penOnward F size (F .form pool tape k)
+penned F pool tape (Refused r) = Refused r
+
+-- What a pen answers and leaves: a dry one writes nothing; a wet one, where the form lays out a value whose bytes are not too many for a
+-- body and fit the output, writes them after those so far.
+pub record Penned {A : Type 0} (F : Format A) (pool tape : List ℕ) (x : Pen) (wet : Bool) (out : List ℕ) (r : Pen) (out′ : List ℕ) : Type 0 where
+  pub said : r ≡ penned F pool tape x
+  pub dry : wet ≡ false → out′ ≡ out
+  pub put : wet ≡ true → (size k : ℕ) → x ≡ At size k → (a : A) (j : ℕ) → F .form pool tape k ≡ found a j → F .tooLarge a ≡ false
+      → size + length (F .print a) ≤ 1045504 → size + length (F .print a) ≤ length out → out′ ≡ placed out size (F .print a)
+
+-- the number that the form lays out, 0 for none
+unfoldable pub valuePenned : Format ℕ → List ℕ → List ℕ → Pen → ℕ
+valuePenned C pool tape (At size k) = valueOf (C .form pool tape k)
+valuePenned C pool tape (Refused r) = 0
+
+-- a pen through a number, which is told too: a count, or a flag
+pub record Counted (C : Format ℕ) (pool tape : List ℕ) (x : Pen) (wet : Bool) (out : List ℕ) (r : Count) (out′ : List ℕ) : Type 0 where
+  pub past : Penned C pool tape x wet out (r .pen) out′
+  pub value : r .n ≡ valuePenned C pool tape x
+
+-- ---- values of a stated set
+
+-- the refusal of a value that the pen went past; the first refusal stands
+unfoldable pub refusing : Pen → Refusal → Pen
+refusing (At size k) u = Refused u
+refusing (Refused r) u = Refused r
+
+-- ---- counted parts: a length stands before its part, and is known after it
+
+-- a pen that leaves room for w bytes
+unfoldable pub gapped : ℕ → Pen → Pen
+gapped w (At size k) = At (more size w false) k
+gapped w (Refused r) = Refused r
+
+-- a pen past a part: x is before the w bytes of its length, b after its own; a part that is not shorter than the limit is too large
+unfoldable pub closed : ℕ → ℕ → Pen → Pen → Pen
+closed w limit (At size k) (At end j) = At (more end 0 (not (ltb (end - size - w) limit))) j
+closed w limit (At size k) (Refused r) = Refused r
+closed w limit (Refused r) b = Refused r
+
+-- What closing a part answers and leaves: a wet pen writes the length into the room left for it, after reserved bits that make `top`.
+pub record Closed (w top limit : ℕ) (x b : Pen) (wet : Bool) (out : List ℕ) (r : Pen) (out′ : List ℕ) : Type 0 where
+  pub said : r ≡ closed w limit x b
+  pub dry : wet ≡ false → out′ ≡ out
+  pub put : wet ≡ true → (size k : ℕ) → x ≡ At size k → (end j : ℕ) → b ≡ At end j → end - size - w < limit → size + w ≤ length out
+      → out′ ≡ placed out size (bytesOf w (top + (end - size - w)))
+
+-- ---- the count of a list that the body does not have
+
+unfoldable pub unprinted : Format ℕ
+unprinted =
+    record {
+      parse = λ s l p. found 0 p;
+      print = λ n. [];
+      writable = λ n. true;
+      tooLarge = λ n. false;
+      form = λ pool tape k. tapeEntry tape k;
+      tape = λ n p. n ∷ [];
+    }

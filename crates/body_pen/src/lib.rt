@@ -1,0 +1,554 @@
+// A pen through a form, field by field: dry it measures the bytes of a body, wet it also writes them.
+use body_formats::Number;
+use body_formats::Part;
+use ground_refusal::Refusal;
+use time_fields::EndTimed;
+use time_fields::Timed;
+ghost use mathlib.Core.Path.{_≡_};
+ghost use mathlib.Core.List.{List, []};
+ghost use mathlib.Core.Bool.{Bool, true, false, _&&_};
+ghost use Prim.Native.Nat.{ℕ, _+_, _-_, _≤_, _<_};
+ghost use lib.ListN.{length, take, drop};
+ghost use lib.Dec.{leb, ltb};
+ghost use Rattle.ground_placing.specs.Placed.{placed};
+ghost use Rattle.ground_refusal.specs.declared.Refusal.the-variants.{OutsideSet};
+ghost use Rattle.body_formats.specs.Reading.{found, refused, andThen, need};
+ghost use Rattle.body_formats.specs.Format.{tapeEntry, span, bytesOf, count, among, number, nibblesAmong, reserved, bytesAmong, digits, rest, opaque};
+ghost use Rattle.body_formats.specs.Time.{time, endTime};
+ghost use Rattle.body_formats.specs.Resource.{resources};
+ghost use Rattle.body_formats.specs.Answers.{numberOf};
+ghost use Rattle.body_formats.specs.declared.Part.the-variants.{Of, Refused as NoPart};
+ghost use Rattle.body_pen.specs.Penned.{more, Penned, Counted, refusing, gapped, Closed, unprinted};
+
+// Where a pen stands: the bytes so far, up to one more than a body may have, and the next entry of the tape; or why it stopped.
+pub enum Pen {
+    At(usize, usize),
+    Refused(Refusal),
+}
+
+// A pen past a number, and the number.
+pub struct Count {
+    pub pen: Pen,
+    pub n: u64,
+}
+
+// The bytes so far with n more, or those of a body that is too long.
+fn grown(size: usize, n: u64, over: bool) -> usize
+    ensures { λ r. ⌜ r ≡ more size n over ⌝ }
+{
+    if over {
+        return 1045505;
+    }
+    if 1045505 <= size {
+        return 1045505;
+    }
+    if ((1045505 - size) as u64) <= n {
+        return 1045505;
+    }
+    size + (n as usize)
+}
+
+// ---- bytes written
+
+// x in w bytes, from index at on.
+fn number_bytes(out: &mut [u8], at: usize, w: usize, x: u64)
+    requires { ⌜ at + w ≤ length (now out) ⌝ }
+    ensures { λ _. ⌜ now (out .exit) ≡ placed (now (out .entry)) at (bytesOf w x) ⌝ }
+{
+    let mut k = w;
+    let mut v = x;
+    while 0 < k {
+        k = k - 1;
+        out[at + k] = (v % 256) as u8;
+        v = v / 256;
+    }
+}
+
+// Whether n bytes fit from index at on, with no sum that could be too large.
+fn has_room(room: usize, at: usize, n: usize) -> bool
+    ensures { λ r. ⌜ r ≡ leb (at + n) room ⌝ }
+{
+    if room < at {
+        return false;
+    }
+    n <= room - at
+}
+
+// x in w bytes where they fit: a dry pen writes nothing.
+fn put_at(out: &mut [u8], at: usize, w: usize, x: u64, wet: bool)
+    ensures { λ _. ⌜ (wet ≡ false → now (out .exit) ≡ now (out .entry)) × (wet ≡ true → at + w ≤ length (now (out .entry)) → now (out .exit) ≡ placed (now (out .entry)) at (bytesOf w x)) ⌝ }
+{
+    if wet {
+        if has_room(out.len(), at, w) {
+            number_bytes(out, at, w, x);
+        }
+    }
+}
+
+// n bytes of the pool where they fit: a dry pen writes nothing.
+fn copy_span(pool: &[u8], a: usize, n: usize, out: &mut [u8], at: usize, wet: bool)
+    requires { ⌜ a + n ≤ length (now pool) ⌝ }
+    ensures { λ _. ⌜ (wet ≡ false → now (out .exit) ≡ now (out .entry)) × (wet ≡ true → at + n ≤ length (now (out .entry)) → now (out .exit) ≡ placed (now (out .entry)) at (take n (drop a (now (pool .entry))))) ⌝ }
+{
+    if wet {
+        if has_room(out.len(), at, n) {
+            let end = a + n;
+            ground_placing::copy_at(&pool[a..end], out, at);
+        }
+    }
+}
+
+// ---- entries of the tape
+
+// The number at the entry k, and the next entry; 19 where the tape has ended.
+fn entry_at(tape: &[u64], k: usize) -> Number
+    ensures { λ r. ⌜ r ≡ numberOf (tapeEntry (now (tape .entry)) k) ⌝ }
+{
+    if tape.len() <= k {
+        return Number::Refused(Refusal::OutsideSet(0));
+    }
+    Number::Is(tape[k], k + 1)
+}
+
+// A number below a bound and from lo to hi; any other is 19.
+fn number_among(tape: &[u64], k: usize, bound: u64, lo: u64, hi: u64) -> Number
+    ensures { λ r. ⌜ r ≡ numberOf (andThen (tapeEntry (now (tape .entry)) k) (λ v j. need (ltb v bound && (leb lo v && leb v hi)) (OutsideSet 0) (found v j))) ⌝ }
+{
+    match entry_at(tape, k) {
+        Number::Refused(r) => Number::Refused(r),
+        Number::Is(v, j) => {
+            if bound <= v {
+                return Number::Refused(Refusal::OutsideSet(0));
+            }
+            if v < lo {
+                return Number::Refused(Refusal::OutsideSet(0));
+            }
+            if hi < v {
+                return Number::Refused(Refusal::OutsideSet(0));
+            }
+            Number::Is(v, j)
+        }
+    }
+}
+
+// The span of the pool that the entries k and k + 1 say; 19 where there is none.
+pub fn span_at(pool: &[u8], tape: &[u64], k: usize) -> Part
+    ensures { λ r. ⌜ ((e : Refusal) → r ≡ NoPart e → span (now (pool .entry)) (now (tape .entry)) k ≡ refused e) × ((a n : ℕ) → r ≡ Of a n → (k + 2 ≤ length (now (tape .entry))) × (a + n ≤ length (now (pool .entry))) × (span (now (pool .entry)) (now (tape .entry)) k ≡ found (take n (drop a (now (pool .entry)))) (k + 2))) ⌝ }
+{
+    if tape.len() < 2 {
+        return Part::Refused(Refusal::OutsideSet(0));
+    }
+    if tape.len() - 2 < k {
+        return Part::Refused(Refusal::OutsideSet(0));
+    }
+    let a = tape[k];
+    let n = tape[k + 1];
+    let len = pool.len() as u64;
+    if len < a {
+        return Part::Refused(Refusal::OutsideSet(0));
+    }
+    if len - a < n {
+        return Part::Refused(Refusal::OutsideSet(0));
+    }
+    Part::Of(a as usize, n as usize)
+}
+
+// ---- numbers
+
+// A count of w bytes: one that is too large for them is as a body that is too long.
+pub fn put_count(tape: &[u64], x: Pen, w: usize, out: &mut [u8], wet: bool) -> Count
+    requires { ⌜ w ≤ 7 ⌝ }
+    ensures { λ r. ⌜ ((pool : List ℕ) → Counted (count w) pool (now (tape .entry)) x wet (now (out .entry)) r (now (out .exit))) ⌝ }
+{
+    match x {
+        Pen::Refused(r) => Count {
+            pen: Pen::Refused(r),
+            n: 0,
+        },
+        Pen::At(size, k) => match entry_at(tape, k) {
+            Number::Refused(r) => Count {
+                pen: Pen::Refused(r),
+                n: 0,
+            },
+            Number::Is(v, j) => {
+                put_at(out, size, w, v, wet);
+                Count {
+                    pen: Pen::At(grown(size, w as u64, body_fields::power(8 * w) <= v), j),
+                    n: v,
+                }
+            }
+        },
+    }
+}
+
+// A number from lo to hi after k reserved bits, in w + 1 bytes.
+pub fn put_reserved_among(
+    tape: &[u64],
+    x: Pen,
+    k: usize,
+    w: usize,
+    lo: u64,
+    hi: u64,
+    out: &mut [u8],
+    wet: bool,
+) -> Count
+    requires { ⌜ (k ≤ 8) × (w ≤ 6) ⌝ }
+    ensures { λ r. ⌜ ((pool : List ℕ) → Counted (among lo hi (reserved k w)) pool (now (tape .entry)) x wet (now (out .entry)) r (now (out .exit))) ⌝ }
+{
+    match x {
+        Pen::Refused(r) => Count {
+            pen: Pen::Refused(r),
+            n: 0,
+        },
+        Pen::At(size, i) => {
+            let bound = body_fields::power(8 * w + 8 - k);
+            let ones = body_fields::power(8 * w + 8) - bound;
+            match number_among(tape, i, bound, lo, hi) {
+                Number::Refused(r) => Count {
+                    pen: Pen::Refused(r),
+                    n: 0,
+                },
+                Number::Is(v, j) => {
+                    put_at(out, size, w + 1, ones + v, wet);
+                    Count {
+                        pen: Pen::At(grown(size, (w + 1) as u64, false), j),
+                        n: v,
+                    }
+                }
+            }
+        }
+    }
+}
+
+// A number after k reserved bits, in w + 1 bytes.
+pub fn put_reserved(tape: &[u64], x: Pen, k: usize, w: usize, out: &mut [u8], wet: bool) -> Count
+    requires { ⌜ (k ≤ 8) × (w ≤ 6) ⌝ }
+    ensures { λ r. ⌜ ((pool : List ℕ) → Counted (reserved k w) pool (now (tape .entry)) x wet (now (out .entry)) r (now (out .exit))) ⌝ }
+{
+    put_reserved_among(tape, x, k, w, 0, 0xFFFF_FFFF_FFFF_FFFF, out, wet)
+}
+
+// A number of w bytes from lo to hi, which is told too: one with no reserved bits.
+pub fn put_told_among(
+    tape: &[u64],
+    x: Pen,
+    w: usize,
+    lo: u64,
+    hi: u64,
+    out: &mut [u8],
+    wet: bool,
+) -> Count
+    requires { ⌜ (0 < w) × (w ≤ 7) ⌝ }
+    ensures { λ r. ⌜ ((pool : List ℕ) → Counted (among lo hi (number w)) pool (now (tape .entry)) x wet (now (out .entry)) r (now (out .exit))) ⌝ }
+{
+    put_reserved_among(tape, x, 0, w - 1, lo, hi, out, wet)
+}
+
+// A number of w bytes, which is told too.
+pub fn put_told(tape: &[u64], x: Pen, w: usize, out: &mut [u8], wet: bool) -> Count
+    requires { ⌜ (0 < w) × (w ≤ 7) ⌝ }
+    ensures { λ r. ⌜ ((pool : List ℕ) → Counted (number w) pool (now (tape .entry)) x wet (now (out .entry)) r (now (out .exit))) ⌝ }
+{
+    put_told_among(tape, x, w, 0, 0xFFFF_FFFF_FFFF_FFFF, out, wet)
+}
+
+// A number of w bytes from lo to hi.
+pub fn put_among(tape: &[u64], x: Pen, w: usize, lo: u64, hi: u64, out: &mut [u8], wet: bool) -> Pen
+    requires { ⌜ (0 < w) × (w ≤ 7) ⌝ }
+    ensures { λ r. ⌜ ((pool : List ℕ) → Penned (among lo hi (number w)) pool (now (tape .entry)) x wet (now (out .entry)) r (now (out .exit))) ⌝ }
+{
+    let past = put_told_among(tape, x, w, lo, hi, out, wet);
+    past.pen
+}
+
+// A number of w bytes.
+pub fn put_number(tape: &[u64], x: Pen, w: usize, out: &mut [u8], wet: bool) -> Pen
+    requires { ⌜ (0 < w) × (w ≤ 7) ⌝ }
+    ensures { λ r. ⌜ ((pool : List ℕ) → Penned (number w) pool (now (tape .entry)) x wet (now (out .entry)) r (now (out .exit))) ⌝ }
+{
+    let past = put_told(tape, x, w, out, wet);
+    past.pen
+}
+
+// Opaque bytes after a length of w bytes: one that is too large for them is as a body that is too long.
+pub fn put_part(pool: &[u8], tape: &[u64], x: Pen, w: usize, out: &mut [u8], wet: bool) -> Pen
+    requires { ⌜ w ≤ 7 ⌝ }
+    ensures { λ r. ⌜ Penned (opaque w) (now (pool .entry)) (now (tape .entry)) x wet (now (out .entry)) r (now (out .exit)) ⌝ }
+{
+    match x {
+        Pen::Refused(r) => Pen::Refused(r),
+        Pen::At(size, k) => match span_at(pool, tape, k) {
+            Part::Refused(r) => Pen::Refused(r),
+            Part::Of(a, n) => {
+                let m = n as u64;
+                let start = grown(size, w as u64, body_fields::power(8 * w) <= m);
+                put_at(out, size, w, m, wet);
+                copy_span(pool, a, n, out, start, wet);
+                Pen::At(grown(start, m, false), k + 2)
+            }
+        },
+    }
+}
+
+// Opaque bytes that fill their part.
+pub fn put_rest(pool: &[u8], tape: &[u64], x: Pen, out: &mut [u8], wet: bool) -> Pen
+    ensures { λ r. ⌜ Penned rest (now (pool .entry)) (now (tape .entry)) x wet (now (out .entry)) r (now (out .exit)) ⌝ }
+{
+    match x {
+        Pen::Refused(r) => Pen::Refused(r),
+        Pen::At(size, k) => match span_at(pool, tape, k) {
+            Part::Refused(r) => Pen::Refused(r),
+            Part::Of(a, n) => {
+                copy_span(pool, a, n, out, size, wet);
+                Pen::At(grown(size, n as u64, false), k + 2)
+            }
+        },
+    }
+}
+
+// Two numbers of four bits from lo to hi, in one byte.
+pub fn put_nibbles(tape: &[u64], x: Pen, lo: u64, hi: u64, out: &mut [u8], wet: bool) -> Pen
+    ensures { λ r. ⌜ ((pool : List ℕ) → Penned (nibblesAmong lo hi) pool (now (tape .entry)) x wet (now (out .entry)) r (now (out .exit))) ⌝ }
+{
+    match x {
+        Pen::Refused(r) => Pen::Refused(r),
+        Pen::At(size, k) => match number_among(tape, k, 16, lo, hi) {
+            Number::Refused(r) => Pen::Refused(r),
+            Number::Is(high, j) => match number_among(tape, j, 16, lo, hi) {
+                Number::Refused(r) => Pen::Refused(r),
+                Number::Is(low, i) => {
+                    put_at(out, size, 1, high * 16 + low, wet);
+                    Pen::At(grown(size, 1, false), i)
+                }
+            },
+        },
+    }
+}
+
+// ---- several bytes that are one field
+
+// n bytes, each from lo to hi.
+pub fn put_bytes(
+    pool: &[u8],
+    tape: &[u64],
+    x: Pen,
+    n: usize,
+    lo: u8,
+    hi: u8,
+    out: &mut [u8],
+    wet: bool,
+) -> Pen
+    ensures { λ r. ⌜ Penned (bytesAmong lo hi n) (now (pool .entry)) (now (tape .entry)) x wet (now (out .entry)) r (now (out .exit)) ⌝ }
+{
+    match x {
+        Pen::Refused(r) => Pen::Refused(r),
+        Pen::At(size, k) => match span_at(pool, tape, k) {
+            Part::Refused(r) => Pen::Refused(r),
+            Part::Of(a, m) => {
+                if m != n {
+                    return Pen::Refused(Refusal::OutsideSet(0));
+                }
+                if !body_fields::all_among(pool, a, m, lo, hi) {
+                    return Pen::Refused(Refusal::OutsideSet(0));
+                }
+                copy_span(pool, a, m, out, size, wet);
+                Pen::At(grown(size, m as u64, false), k + 2)
+            }
+        },
+    }
+}
+
+fn wide(x: u8) -> u64
+    ensures { λ r. ⌜ (r ≡ x) × (r < 256) ⌝ }
+{
+    x as u64
+}
+
+// Four reserved bits and 2 h + 1 decimal digits, in h + 1 bytes: the pool's reserved bits are not looked at.
+pub fn put_digits(pool: &[u8], tape: &[u64], x: Pen, h: usize, out: &mut [u8], wet: bool) -> Pen
+    ensures { λ r. ⌜ Penned (digits h) (now (pool .entry)) (now (tape .entry)) x wet (now (out .entry)) r (now (out .exit)) ⌝ }
+{
+    match x {
+        Pen::Refused(r) => Pen::Refused(r),
+        Pen::At(size, k) => match span_at(pool, tape, k) {
+            Part::Refused(r) => Pen::Refused(r),
+            Part::Of(a, n) => {
+                if n <= h {
+                    return Pen::Refused(Refusal::OutsideSet(0));
+                }
+                if 1 < n - h {
+                    return Pen::Refused(Refusal::OutsideSet(0));
+                }
+                let low = wide(pool[a]) % 16;
+                if 9 < low {
+                    return Pen::Refused(Refusal::DigitAboveNine(0));
+                }
+                if !body_fields::all_decimal(pool, a + 1, h) {
+                    return Pen::Refused(Refusal::DigitAboveNine(0));
+                }
+                let start = grown(size, 1, false);
+                put_at(out, size, 1, 240 + low, wet);
+                copy_span(pool, a + 1, h, out, start, wet);
+                Pen::At(grown(start, h as u64, false), k + 2)
+            }
+        },
+    }
+}
+
+// ---- times
+
+// The number at the entry k where it is a time, and the next entry.
+fn time_at(tape: &[u64], k: usize) -> Number
+    ensures { λ r. ⌜ r ≡ numberOf (time .form [] (now (tape .entry)) k) ⌝ }
+{
+    match entry_at(tape, k) {
+        Number::Refused(r) => Number::Refused(r),
+        Number::Is(v, j) => match time_fields::read_time(v, 0) {
+            Timed::Refused(r) => Number::Refused(r),
+            Timed::At(m) => Number::Is(v, j),
+        },
+    }
+}
+
+// A start time.
+pub fn put_time(tape: &[u64], x: Pen, out: &mut [u8], wet: bool) -> Pen
+    ensures { λ r. ⌜ ((pool : List ℕ) → Penned time pool (now (tape .entry)) x wet (now (out .entry)) r (now (out .exit))) ⌝ }
+{
+    match x {
+        Pen::Refused(r) => Pen::Refused(r),
+        Pen::At(size, k) => match time_at(tape, k) {
+            Number::Refused(r) => Pen::Refused(r),
+            Number::Is(v, j) => {
+                put_at(out, size, 5, v, wet);
+                Pen::At(grown(size, 5, false), j)
+            }
+        },
+    }
+}
+
+// The number at the entry k where it is a time or the live mark, and the next entry.
+fn end_at(tape: &[u64], k: usize) -> Number
+    ensures { λ r. ⌜ r ≡ numberOf (endTime .form [] (now (tape .entry)) k) ⌝ }
+{
+    match entry_at(tape, k) {
+        Number::Refused(r) => Number::Refused(r),
+        Number::Is(v, j) => match time_fields::read_end(v, 0) {
+            EndTimed::Refused(r) => Number::Refused(r),
+            EndTimed::Live => Number::Is(v, j),
+            EndTimed::At(m) => Number::Is(v, j),
+        },
+    }
+}
+
+// An end time, which may be live.
+pub fn put_end(tape: &[u64], x: Pen, out: &mut [u8], wet: bool) -> Pen
+    ensures { λ r. ⌜ ((pool : List ℕ) → Penned endTime pool (now (tape .entry)) x wet (now (out .entry)) r (now (out .exit))) ⌝ }
+{
+    match x {
+        Pen::Refused(r) => Pen::Refused(r),
+        Pen::At(size, k) => match end_at(tape, k) {
+            Number::Refused(r) => Pen::Refused(r),
+            Number::Is(v, j) => {
+                put_at(out, size, 5, v, wet);
+                Pen::At(grown(size, 5, false), j)
+            }
+        },
+    }
+}
+
+// ---- values of a stated set
+
+// The refusal of a value that the pen went past; one before it stands.
+pub fn refuse(x: Pen, u: Refusal) -> Pen
+    ensures { λ r. ⌜ r ≡ refusing x u ⌝ }
+{
+    match x {
+        Pen::Refused(r) => Pen::Refused(r),
+        Pen::At(size, k) => Pen::Refused(u),
+    }
+}
+
+// ---- counted parts and lists
+
+// A pen that leaves room for w bytes.
+pub fn gap(x: Pen, w: usize) -> Pen
+    ensures { λ r. ⌜ r ≡ gapped w x ⌝ }
+{
+    match x {
+        Pen::Refused(r) => Pen::Refused(r),
+        Pen::At(size, k) => Pen::At(grown(size, w as u64, false), k),
+    }
+}
+
+fn less(a: usize, b: usize) -> usize
+    ensures { λ r. ⌜ r ≡ a - b ⌝ }
+{
+    if a < b {
+        return 0;
+    }
+    a - b
+}
+
+// The length of a part, in the w bytes left for it: x is the pen before them, b the one after the part; top are its reserved bits.
+pub fn close(x: Pen, b: Pen, w: usize, top: u64, limit: u64, out: &mut [u8], wet: bool) -> Pen
+    requires { ⌜ top + limit ≤ 0x1_0000_0000_0000_0000 ⌝ }
+    ensures { λ r. ⌜ Closed w top limit x b wet (now (out .entry)) r (now (out .exit)) ⌝ }
+{
+    match x {
+        Pen::Refused(r) => Pen::Refused(r),
+        Pen::At(size, k) => match b {
+            Pen::Refused(r) => Pen::Refused(r),
+            Pen::At(end, j) => {
+                let n = less(less(end, size), w) as u64;
+                if limit <= n {
+                    return Pen::At(1045505, j);
+                }
+                put_at(out, size, w, top + n, wet);
+                Pen::At(grown(end, 0, false), j)
+            }
+        },
+    }
+}
+
+// The count of a list that the body does not have.
+pub fn take_count(tape: &[u64], x: Pen) -> Count
+    ensures { λ r. ⌜ ((pool : List ℕ) (wet : Bool) (out : List ℕ) → Counted unprinted pool (now (tape .entry)) x wet out r out) ⌝ }
+{
+    match x {
+        Pen::Refused(r) => Count {
+            pen: Pen::Refused(r),
+            n: 0,
+        },
+        Pen::At(size, k) => match entry_at(tape, k) {
+            Number::Refused(r) => Count {
+                pen: Pen::Refused(r),
+                n: 0,
+            },
+            Number::Is(n, j) => Count {
+                pen: Pen::At(grown(size, 0, false), j),
+                n,
+            },
+        },
+    }
+}
+
+// "resource count 8, resources of 4 reserved + 23 digits".
+pub fn put_resources(pool: &[u8], tape: &[u64], x: Pen, out: &mut [u8], wet: bool) -> Pen
+    ensures { λ r. ⌜ Penned resources (now (pool .entry)) (now (tape .entry)) x wet (now (out .entry)) r (now (out .exit)) ⌝ }
+{
+    let things = put_count(tape, x, 1, out, wet);
+    let mut pen = things.pen;
+    let mut left = things.n;
+    while 0 < left {
+        match put_digits(pool, tape, pen, 11, out, wet) {
+            Pen::Refused(r) => {
+                return Pen::Refused(r);
+            }
+            Pen::At(size, k) => {
+                pen = Pen::At(size, k);
+            }
+        }
+        left = left - 1;
+    }
+    pen
+}

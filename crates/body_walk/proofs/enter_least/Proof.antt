@@ -1,0 +1,20 @@
+-- `body_walk::enter_least` meets its contract: the part read is the one entered.
+use mathlib.Core.Path.{_∙_}
+use native.Mathlib.Omega.{arith}
+use denote.Ref.{now}
+use borrow.Author.Needs.{needs}
+use Rattle.body_formats.specs.Format.{leastOf}
+use Rattle.body_walk.proofs.Leaves.{counted-end, enter-refused, enter-at}
+use Rattle.body_walk.proofs.enter_least.Statement.{statement}
+use Rattle.body_walk.proofs.enter_least.Tie as tie
+
+pub enter-least-spec : {M : Type 1} → statement M
+enter-least-spec =
+    tie.close
+    (tie.spec
+    (λ c. search needs)
+    (λ c. search needs)
+    (λ c κs. search needs)
+    (λ c κs. let t = c .before .before .before .before .before .args in omega (arith, counted-end (leastOf (t .w) (t .least)) (now (t .s)) (t .l) (c .before .before .x2 .given .0 .0) _ (c .read-part-least .ensures)))
+    (λ c. enter-refused _ _ _ _ _ (c .before .x .given .1))
+    (λ c. c .into .ensures ∙ enter-at _ _ _ _ _ _ (c .before .before .before .x2 .given .1) _ (c .before .read-part-least .ensures)))

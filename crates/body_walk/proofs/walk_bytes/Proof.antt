@@ -1,0 +1,21 @@
+-- `body_walk::walk_bytes` meets its contract: the part read is where the field stands.
+use native.Mathlib.Omega.{arith}
+use denote.Ref.{now}
+use borrow.Author.Needs.{needs}
+use Rattle.body_formats.specs.Format.{bytesAmong}
+use Rattle.body_walk.proofs.Pairs.{stays}
+use Rattle.body_walk.proofs.Leaves.{field-end, field-leaf, bytes-two, bytes-fit}
+use Rattle.body_walk.proofs.walk_bytes.Statement.{statement}
+use Rattle.body_walk.proofs.walk_bytes.Tie as tie
+
+pub walk-bytes-spec : {M : Type 1} → statement M
+walk-bytes-spec =
+    tie.close
+    (tie.spec
+    (λ c. search needs)
+    (λ c. search needs)
+    (λ c κs. search needs)
+    (λ c κs. let t = c .before .before .before .before .before .before .before .args in omega (arith, field-end (bytesAmong (t .lo) (t .hi) (t .n)) _ (bytes-two _ _ _) (now (t .s)) (t .l) (c .before .before .before .x2 .given .0 .0) (bytes-fit _ _ _ _ _ _) _ (c .before .read-bytes .ensures)))
+    (λ c. stays (c .before .x .given .1))
+    (λ c. search needs)
+    (λ c. field-leaf _ _ (bytes-two _ _ _) _ _ _ (bytes-fit _ _ _ _ _ _) _ (c .before .before .before .before .read-bytes .ensures) _ _ _ _ (c .before .before .before .before .before .before .x2 .given .1) _ _ (c .before .before .past-part .ensures)))

@@ -1,0 +1,19 @@
+-- `body_walk::walk_part` meets its contract: the part read is what the opaque bytes fill.
+use native.Mathlib.Omega.{arith}
+use borrow.Author.Needs.{needs}
+use Rattle.body_walk.proofs.Pairs.{stays}
+use Rattle.body_walk.proofs.Leaves.{part-leaf, part-end}
+use Rattle.body_walk.proofs.walk_part.Statement.{statement}
+use Rattle.body_walk.proofs.walk_part.Tie as tie
+
+pub walk-part-spec : {M : Type 1} → statement M
+walk-part-spec =
+    tie.close
+    (tie.spec
+    (λ c. search needs)
+    (λ c. search needs)
+    (λ c κs. search needs)
+    (λ c κs. omega (arith, part-end _ _ _ _ _ (c .before .read-part .ensures)))
+    (λ c. stays (c .before .x .given .1))
+    (λ c. search needs)
+    (λ c. part-leaf _ _ _ _ _ _ _ (c .before .before .before .before .before .before .x2 .given .1) _ _ (c .before .before .before .before .read-part .ensures) _ _ (c .before .before .past-part .ensures)))

@@ -1,0 +1,21 @@
+-- `body_walk::walk_reserved_among` meets its contract: the number read is judged as the format does, walked past, and told.
+use mathlib.Core.Path.{ap, _∙_}
+use borrow.Author.Needs.{needs}
+use Rattle.body_formats.specs.Answers.{numberAmong}
+use Rattle.body_formats.proofs.Bits.{number-among}
+use Rattle.body_walk.proofs.Leaves.{count-refused, number-counted, only-one, reserved-one}
+use Rattle.body_walk.proofs.walk_reserved_among.Statement.{statement}
+use Rattle.body_walk.proofs.walk_reserved_among.Tie as tie
+
+pub walk-reserved-among-spec : {M : Type 1} → statement M
+walk-reserved-among-spec =
+    tie.close
+    (tie.spec
+    (λ c. search needs)
+    (λ c. search needs)
+    (λ c κs. search needs)
+    (λ c κs. search needs)
+    (λ c κs. search needs)
+    (λ c. count-refused _ _ _ _ _ _ _ (c .before .x .given .1))
+    (λ c. search needs)
+    (λ c. number-counted _ (only-one _ _ (reserved-one _ _)) _ _ _ _ _ _ _ (c .before .before .before .before .before .before .before .x2 .given .1) _ (c .before .before .before .before .among .ensures ∙ ap (numberAmong _ _ _) (c .before .before .before .before .before .read-reserved .ensures) ∙ number-among _ _ _ _ _ _) _ _ (c .before .before .told .ensures)))

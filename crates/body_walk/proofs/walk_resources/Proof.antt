@@ -1,0 +1,15 @@
+-- `body_walk::walk_resources` meets its contract: the count, and so many resources.
+use borrow.Author.Needs.{needs}
+use Rattle.body_formats.proofs.Leaves.{count-lawful, digits-lawful}
+use Rattle.body_walk.proofs.Counts.{list-walk}
+use Rattle.body_walk.proofs.walk_resources.Statement.{statement}
+use Rattle.body_walk.proofs.walk_resources.Tie as tie
+
+pub walk-resources-spec : {M : Type 1} → statement M
+walk-resources-spec =
+    tie.close
+    (tie.spec
+    (λ c κs. search needs)
+    (λ c κs. search needs)
+    (λ c. search needs)
+    (λ c. list-walk (count-lawful 1) (digits-lawful 11) (c .before .before .before .before .before .before .walk-count .ensures) (c .before .before .walk-all-resources .ensures)))

@@ -1,0 +1,19 @@
+-- `body_walk::walk_told` meets its contract: w bytes hold any number of the format, and it is told.
+use mathlib.Core.Path.{_∙_}
+use borrow.Author.Needs.{needs}
+use Rattle.body_formats.proofs.Bits.{number-is-count}
+use Rattle.body_walk.proofs.Leaves.{count-refused, number-counted, number-one}
+use Rattle.body_walk.proofs.walk_told.Statement.{statement}
+use Rattle.body_walk.proofs.walk_told.Tie as tie
+
+pub walk-told-spec : {M : Type 1} → statement M
+walk-told-spec =
+    tie.close
+    (tie.spec
+    (λ c. search needs)
+    (λ c. search needs)
+    (λ c κs. search needs)
+    (λ c κs. search needs)
+    (λ c. count-refused _ _ _ _ _ _ _ (c .before .x .given .1))
+    (λ c. search needs)
+    (λ c. number-counted _ (number-one _) _ _ _ _ _ _ _ (c .before .before .before .before .before .before .x2 .given .1) _ (c .before .before .before .before .read-number .ensures ∙ number-is-count _ _ _ _ (λ i. c .before .before .before .before .before .before .before .before .before .shared-slice-known .given i .fits)) _ _ (c .before .before .told .ensures)))

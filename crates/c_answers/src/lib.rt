@@ -1,0 +1,234 @@
+// How each answer of the library becomes one number for C: the refusal's number in the low byte, and above it its place or the value.
+use body_formats::Number;
+use body_formats::Part;
+use body_formats::Step;
+use content_writer::Written;
+use gathering_feed::Answer;
+use gathering_hand_out::Handed;
+use ground_refusal::Refusal;
+use section_cutter::Counted;
+use section_cutter::Cut;
+use section_reader::Heading;
+use section_reader::Sectioned;
+use time_days::Date;
+use time_days::DateAnswer;
+use time_days::DayAnswer;
+use time_days::WeekdayAnswer;
+use time_fields::Fielded;
+use time_fields::Showing;
+use time_local::LocalTime;
+use time_local::Unpacked;
+ghost use mathlib.Core.Path.{_≡_};
+ghost use Prim.Native.Nat.{_≤_};
+ghost use Rattle.crc.specs.Crc.{digit};
+ghost use Rattle.c_answers.specs.Packing.{packed};
+ghost use Rattle.c_answers.specs.Answers.{dayAnswer, dateFields, dateAnswer, weekdayAnswer, fieldAnswer, timeFields, localAnswer, showingAnswer, headingFields, sectionAnswer, countAnswer, lengthAnswer, feedAnswer, handAnswer, readAnswer, numberAnswer, partAnswer, writtenAnswer, contentAnswer, localFieldAnswer};
+
+pub fn day_answer(a: DayAnswer) -> u64
+    ensures { λ r. ⌜ r ≡ dayAnswer a ⌝ }
+{
+    match a {
+        DayAnswer::Day(n) => ground_refusal::answered(n as u64),
+        DayAnswer::Refused(why) => ground_refusal::refused(why),
+    }
+}
+
+// A date as one number, a byte for each part but two for the year.
+fn packed_date(d: Date) -> u64
+    ensures { λ r. ⌜ r ≡ packed (dateFields d) ⌝ }
+{
+    (d.year % 65536) as u64 * 0x1_0000 + (d.month % 256) as u64 * 0x100 + (d.day % 256) as u64
+}
+
+pub fn date_answer(a: DateAnswer) -> u64
+    ensures { λ r. ⌜ r ≡ dateAnswer a ⌝ }
+{
+    match a {
+        DateAnswer::On(d) => ground_refusal::answered(packed_date(d)),
+        DateAnswer::Refused(why) => ground_refusal::refused(why),
+    }
+}
+
+pub fn weekday_answer(a: WeekdayAnswer) -> u64
+    ensures { λ r. ⌜ r ≡ weekdayAnswer a ⌝ }
+{
+    match a {
+        WeekdayAnswer::Weekday(w) => ground_refusal::answered(w as u64),
+        WeekdayAnswer::Refused(why) => ground_refusal::refused(why),
+    }
+}
+
+pub fn field_answer(f: Fielded) -> u64
+    ensures { λ r. ⌜ r ≡ fieldAnswer f ⌝ }
+{
+    match f {
+        Fielded::Field(field) => ground_refusal::answered(field),
+        Fielded::Refused(why) => ground_refusal::refused(why),
+    }
+}
+
+// A local time as one number, a byte for each part but two for the year.
+fn packed_time(t: LocalTime) -> u64
+    ensures { λ r. ⌜ r ≡ packed (timeFields t) ⌝ }
+{
+    (t.year % 65536) as u64 * 0x100_0000_0000
+        + (t.month % 256) as u64 * 0x1_0000_0000
+        + (t.day % 256) as u64 * 0x100_0000
+        + (t.hour % 256) as u64 * 0x1_0000
+        + (t.minute % 256) as u64 * 0x100
+        + (t.second % 256) as u64
+}
+
+pub fn local_answer(a: Unpacked) -> u64
+    ensures { λ r. ⌜ r ≡ localAnswer a ⌝ }
+{
+    match a {
+        Unpacked::At(t) => ground_refusal::answered(packed_time(t)),
+        Unpacked::Refused(why) => ground_refusal::refused(why),
+    }
+}
+
+pub fn showing_answer(a: Showing) -> u64
+    ensures { λ r. ⌜ r ≡ showingAnswer a ⌝ }
+{
+    match a {
+        Showing::Before => ground_refusal::answered(0),
+        Showing::On => ground_refusal::answered(1),
+        Showing::Ended => ground_refusal::answered(2),
+        Showing::Refused(why) => ground_refusal::refused(why),
+    }
+}
+
+fn bit(b: bool) -> u64
+    ensures { λ r. ⌜ (r ≡ digit b) × (r ≤ 1) ⌝ }
+{
+    if b { 1 } else { 0 }
+}
+
+// A heading as one number, a byte for each field but two for the extension.
+fn packed_heading(h: Heading) -> u64
+    ensures { λ r. ⌜ r ≡ packed (headingFields h) ⌝ }
+{
+    (h.kind as u64) * 0x1_0000_0000_0000
+        + (h.extension as u64) * 0x1_0000_0000
+        + (h.version % 256) as u64 * 0x100_0000
+        + bit(h.current) * 0x1_0000
+        + (h.number as u64) * 0x100
+        + (h.last as u64)
+}
+
+pub fn section_answer(a: Sectioned) -> u64
+    ensures { λ r. ⌜ r ≡ sectionAnswer a ⌝ }
+{
+    match a {
+        Sectioned::Good(h, _length) => ground_refusal::answered(packed_heading(h)),
+        Sectioned::Refused(why) => ground_refusal::refused(why),
+    }
+}
+
+pub fn count_answer(a: Counted) -> u64
+    ensures { λ r. ⌜ r ≡ countAnswer a ⌝ }
+{
+    match a {
+        Counted::Sections(count) => ground_refusal::answered(count as u64),
+        Counted::Refused(why) => ground_refusal::refused(why),
+    }
+}
+
+pub fn length_answer(a: Cut) -> u64
+    ensures { λ r. ⌜ r ≡ lengthAnswer a ⌝ }
+{
+    match a {
+        Cut::Written(length) => ground_refusal::answered(length as u64),
+        Cut::Refused(why) => ground_refusal::refused(why),
+    }
+}
+
+pub fn feed_answer(a: Answer) -> u64
+    ensures { λ r. ⌜ r ≡ feedAnswer a ⌝ }
+{
+    match a {
+        Answer::Taken => ground_refusal::answered(0),
+        Answer::HeldAlready => ground_refusal::answered(1),
+        Answer::Refused(why) => ground_refusal::refused(why),
+    }
+}
+
+pub fn hand_answer(h: Handed) -> u64
+    ensures { λ r. ⌜ r ≡ handAnswer h ⌝ }
+{
+    match h {
+        Handed::Body(n) => ground_refusal::answered(n as u64),
+        Handed::Refused(why) => ground_refusal::refused(why),
+    }
+}
+
+// What reading a body answers: nothing more where it is accepted.
+pub fn read_answer(s: Step) -> u64
+    ensures { λ r. ⌜ r ≡ readAnswer s ⌝ }
+{
+    match s {
+        Step::At(_end) => ground_refusal::answered(0),
+        Step::Refused(why) => ground_refusal::refused(why),
+    }
+}
+
+pub fn number_answer(n: Number) -> u64
+    ensures { λ r. ⌜ r ≡ numberAnswer n ⌝ }
+{
+    match n {
+        Number::Is(x, _after) => ground_refusal::answered(x),
+        Number::Refused(why) => ground_refusal::refused(why),
+    }
+}
+
+// The part of a body that opaque bytes fill: its start above its length.
+pub fn part_answer(p: Part) -> u64
+    ensures { λ r. ⌜ r ≡ partAnswer p ⌝ }
+{
+    match p {
+        Part::Of(start, length) => {
+            ground_refusal::answered(
+                (start as u64) % 0x1_0000_0000 * 0x100_0000 + (length as u64) % 0x100_0000,
+            )
+        }
+        Part::Refused(why) => ground_refusal::refused(why),
+    }
+}
+
+// What writing a body answers, or laying one onto a tape: how many bytes, or entries.
+pub fn written_answer(s: Step) -> u64
+    ensures { λ r. ⌜ r ≡ writtenAnswer s ⌝ }
+{
+    match s {
+        Step::At(end) => ground_refusal::answered(end as u64),
+        Step::Refused(why) => ground_refusal::refused(why),
+    }
+}
+
+// What writing a content table answers: the extension above the length.
+pub fn content_answer(a: Written) -> u64
+    ensures { λ r. ⌜ r ≡ contentAnswer a ⌝ }
+{
+    match a {
+        Written::Of(length, extension) => {
+            ground_refusal::answered(
+                (extension as u64) % 0x1_0000 * 0x100_0000 + (length as u64) % 0x100_0000,
+            )
+        }
+        Written::Refused(why) => ground_refusal::refused(why),
+    }
+}
+
+// The local time of a time field that was asked for: the offset is judged before the field's own refusal is told.
+pub fn local_field_answer(field: Number, offset: i32) -> u64
+    ensures { λ r. ⌜ r ≡ localFieldAnswer offset field ⌝ }
+{
+    if !time_offset::permitted(offset) {
+        return ground_refusal::refused(Refusal::OutsideSet(0));
+    }
+    match field {
+        Number::Is(f, _after) => local_answer(time_local::unpack(f, offset)),
+        Number::Refused(why) => ground_refusal::refused(why),
+    }
+}

@@ -1,0 +1,3 @@
+-- The laws that other crates cite.
+mod Answers
+pub mod Table

@@ -1,0 +1,17 @@
+-- `certificate_fields::certificate_part` meets its contract: the certificates follow the first list.
+use mathlib.Core.Path.{sym, _∙_}
+use Rattle.certificate_fields.proofs.Answers.{part-no, part-is}
+use borrow.Author.Needs.{needs}
+use Rattle.certificate_fields.proofs.certificate_part.Statement.{statement}
+use Rattle.certificate_fields.proofs.certificate_part.Tie as tie
+
+pub certificate-part-spec : {M : Type 1} → statement M
+certificate-part-spec =
+    tie.close
+    (tie.spec
+    (λ c κs. search needs)
+    (λ c. search needs)
+    (λ c. search needs)
+    (λ c κs. search needs)
+    (λ c. part-no _ _ (sym (c .before .r .given .1) ∙ c .before .before .before .skip-list .ensures) _)
+    (λ c. c .listed-part .ensures ∙ part-is _ _ (sym (c .before .before .a .given .1) ∙ c .before .before .before .before .skip-list .ensures) _))

@@ -1,0 +1,64 @@
+// The certificate table: written from a form.
+use body_formats::Step;
+use body_pen::Pen;
+use ground_refusal::Refusal;
+ghost use mathlib.Core.Path.{_≡_};
+ghost use Prim.Native.Nat.{_≤_};
+ghost use lib.ListN.{length};
+ghost use Rattle.body_formats.specs.Body.{bodyWritten, outputWritten};
+ghost use Rattle.body_pen.specs.Penned.{Penned};
+ghost use Rattle.certificate.specs.Certificate.{certificate, parts};
+
+// A list of parts after its count. The count is whatever the tape says, so that it ends at the first refusal.
+fn put_list(pool: &[u8], tape: &[u64], x: Pen, w: usize, out: &mut [u8], wet: bool) -> Pen
+    requires { ⌜ w ≤ 7 ⌝ }
+    ensures { λ r. ⌜ Penned (parts w) (now (pool .entry)) (now (tape .entry)) x wet (now (out .entry)) r (now (out .exit)) ⌝ }
+{
+    let c = body_pen::put_count(tape, x, 1, out, wet);
+    let mut pen = c.pen;
+    let mut left = c.n;
+    while 0 < left {
+        match body_pen::put_part(pool, tape, pen, w, out, wet) {
+            Pen::Refused(r) => {
+                return Pen::Refused(r);
+            }
+            Pen::At(size, k) => {
+                pen = Pen::At(size, k);
+            }
+        }
+        left = left - 1;
+    }
+    pen
+}
+
+// The three fields.
+fn put_certificate(pool: &[u8], tape: &[u64], x: Pen, out: &mut [u8], wet: bool) -> Pen
+    ensures { λ r. ⌜ Penned certificate (now (pool .entry)) (now (tape .entry)) x wet (now (out .entry)) r (now (out .exit)) ⌝ }
+{
+    let a = put_list(pool, tape, x, 2, out, wet);
+    let b = put_list(pool, tape, a, 1, out, wet);
+    body_pen::put_part(pool, tape, b, 2, out, wet)
+}
+
+// Writes the table that the form lays out, a tape of numbers and a pool of bytes, at the start of out.
+pub fn write(pool: &[u8], tape: &[u64], out: &mut [u8]) -> Step
+    ensures said { λ r. ⌜ r ≡ bodyWritten certificate (now (pool .entry)) (now (tape .entry)) (length (now (out .entry))) ⌝ }
+    ensures left { λ r. ⌜ now (out .exit) ≡ outputWritten certificate (now (pool .entry)) (now (tape .entry)) (now (out .entry)) ⌝ }
+{
+    match put_certificate(pool, tape, Pen::At(0, 0), out, false) {
+        Pen::Refused(r) => Step::Refused(r),
+        Pen::At(size, k) => {
+            if k < tape.len() {
+                return Step::Refused(Refusal::OutsideSet(0));
+            }
+            if 1045504 < size {
+                return Step::Refused(Refusal::TooLarge);
+            }
+            if out.len() < size {
+                return Step::Refused(Refusal::OutputTooSmall);
+            }
+            put_certificate(pool, tape, Pen::At(0, 0), out, true);
+            Step::At(size)
+        }
+    }
+}

@@ -1,0 +1,3 @@
+-- The laws that the functions' proofs cite, and values of the definition.
+mod Hosts
+mod Values

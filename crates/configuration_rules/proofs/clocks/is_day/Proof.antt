@@ -1,0 +1,22 @@
+-- `configuration_rules::clocks::is_day` meets its contract: a date that fits its fields has a day exactly where crate days answers one, and no other has.
+use mathlib.Core.Path.{sym, _∙_}
+use borrow.Author.Needs.{needs}
+use Rattle.configuration_rules.proofs.Dated.{is-day, no-day, year-too-large, month-too-large, day-too-large}
+use Rattle.configuration_rules.proofs.clocks.is_day.Statement.{statement}
+use Rattle.configuration_rules.proofs.clocks.is_day.Tie as tie
+
+pub is-day-spec : {M : Type 1} → statement M
+is-day-spec =
+    tie.close
+    (tie.spec
+    (λ c. year-too-large _ _ _ (c .if1 .taken))
+    (λ c. month-too-large _ _ _ (c .if2 .taken))
+    (λ c. day-too-large _ _ _ (c .if3 .taken))
+    (λ c. search needs)
+    (λ c. search needs)
+    (λ c. search needs)
+    (λ c κs. search needs)
+    (λ c. search needs)
+    (λ c. search needs)
+    (λ c. is-day _ _ _ (sym (c .before .n .given .1) ∙ c .before .before .before .day-of .ensures))
+    (λ c. no-day _ _ _ (sym (c .before .r .given .1) ∙ c .before .before .before .day-of .ensures)))

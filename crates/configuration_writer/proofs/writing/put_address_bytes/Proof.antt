@@ -1,0 +1,26 @@
+-- `configuration_writer::writing::put_address_bytes` meets its contract: its tests are those of the form, and the bytes of the pool are put.
+use borrow.Author.Needs.{needs}
+use Rattle.ground_choices.proofs.Tests.{met, unmet}
+use Rattle.body_pen.proofs.Leaves.{stopped}
+use Rattle.configuration_writer.proofs.Judged.{address-none, address-length, address-outside, address-put}
+use Rattle.configuration_writer.proofs.writing.put_address_bytes.Statement.{statement}
+use Rattle.configuration_writer.proofs.writing.put_address_bytes.Tie as tie
+
+pub put-address-bytes-spec : {M : Type 1} → statement M
+put-address-bytes-spec =
+    tie.close
+    (tie.spec
+    (λ c. search needs)
+    (λ c. search needs)
+    (λ c κs. search needs)
+    (λ c. search needs)
+    (λ c. search needs)
+    (λ c κs. search needs)
+    (λ c. let s = (c .before .before .before .before .before .span-at .ensures .1 _ _ (c .before .before .before .a .given .1)) in address-length _ _ _ _ _ _ _ _ (c .before .before .before .before .before .before .before .x2 .given .1) _ _ (s .1) (s .2) (unmet _ (c .before .length-fits .ensures) (c .if1 .taken)))
+    (λ c κs. (c .before .before .before .before .before .span-at .ensures .1 _ _ (c .before .before .before .a .given .1)) .1)
+    (λ c. let s = (c .before .before .before .before .before .before .before .span-at .ensures .1 _ _ (c .before .before .before .before .before .a .given .1)) in address-outside _ _ _ _ _ _ _ _ (c .before .before .before .before .before .before .before .before .before .x2 .given .1) _ _ (s .1) (s .2) (met _ (c .before .before .before .length-fits .ensures) (c .before .before .if1 .left)) (unmet _ (c .before .is-address .ensures) (c .if2 .taken)))
+    (λ c κs. search needs)
+    (λ c. stopped _ _ _ _ _ _ _ (c .before .x .given .1))
+    (λ c. address-none _ _ _ _ _ _ _ _ (c .before .before .before .before .before .x2 .given .1) _ (c .before .before .before .span-at .ensures .0 _ (c .before .r .given .1)))
+    (λ c. search needs)
+    (λ c. let s = (c .before .before .before .before .before .before .before .before .before .before .before .span-at .ensures .1 _ _ (c .before .before .before .before .before .before .before .before .before .a .given .1)) in address-put _ _ _ _ _ _ _ _ (c .before .before .before .before .before .before .before .before .before .before .before .before .before .x2 .given .1) _ _ (s .1) (s .2) (met _ (c .before .before .before .before .before .before .before .length-fits .ensures) (c .before .before .before .before .before .before .if1 .left)) (met _ (c .before .before .before .before .before .is-address .ensures) (c .before .before .before .before .if2 .left)) (c .before .before .put-rest .ensures)))

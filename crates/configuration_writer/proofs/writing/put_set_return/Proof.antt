@@ -1,0 +1,17 @@
+-- `configuration_writer::writing::put_set_return` meets its contract: the address, of the kind that is put first, and the terminals fill the content.
+use borrow.Author.Needs.{needs}
+use Rattle.body_pen.proofs.Pairs.{pair-pen, after-number, exact-pen}
+use Rattle.configuration.specs.Configuration.{said}
+use Rattle.configuration_writer.proofs.writing.put_set_return.Statement.{statement}
+use Rattle.configuration_writer.proofs.writing.put_set_return.Tie as tie
+
+pub put-set-return-spec : {M : Type 1} → statement M
+unfolding said
+put-set-return-spec =
+    tie.close
+    (tie.spec
+    (λ c κs. search needs)
+    (λ c κs. search needs)
+    (λ c κs. search needs)
+    (λ c. search needs)
+    (λ c. exact-pen (after-number _ (c .before .before .before .before .before .before .before .before .before .before .put-told-among .ensures _) (pair-pen (c .before .before .before .before .before .before .put-address .ensures) (c .before .before .put-terminals .ensures))) _))

@@ -1,0 +1,149 @@
+// The fields of a content table, asked for one by one: of the body, of a language told by where it begins and its length, of its i-th auxiliary file.
+use body_formats::Number;
+use body_formats::Part;
+use body_formats::Step;
+use ground_refusal::Refusal;
+ghost use mathlib.Core.Path.{_≡_};
+ghost use Prim.Native.Nat.{_≤_};
+ghost use Rattle.body_formats.specs.Format.{among, reserved};
+ghost use Rattle.body_formats.specs.Answers.{numberOf};
+ghost use Rattle.content_fields.specs.Asked.{identifierPart, identifierDigit, extension, languageCount, languagePart, signaturePart, lettersPart, characterSet, textPart, agencyPart, auxiliaryCount, auxiliaryType, auxiliaryPart};
+
+// The part of the body that the identifier fills.
+pub fn identifier(s: &[u8]) -> Part
+    ensures { λ r. ⌜ r ≡ identifierPart (now (s .entry)) ⌝ }
+{
+    body_fields::read_digits(s, s.len(), 0, 17)
+}
+
+// The i-th digit of the identifier.
+pub fn identifier_digit(s: &[u8], i: u64) -> Number
+    ensures { λ r. ⌜ r ≡ identifierDigit (now (s .entry)) i ⌝ }
+{
+    body_fields::digit_at(s, s.len(), 0, 17, i)
+}
+
+// The extension that goes with the body: the CRC-16 of the 18 bytes that hold the identifier.
+pub fn extension(s: &[u8]) -> Number
+    ensures { λ r. ⌜ r ≡ extension (now (s .entry)) ⌝ }
+{
+    match identifier(s) {
+        Part::Refused(r) => Number::Refused(r),
+        Part::Of(a, n) => Number::Is(crc::crc16(&s[..18]) as u64, 18),
+    }
+}
+
+// k reserved one bits and a number from lo to hi, in one byte.
+fn number_among(s: &[u8], l: usize, p: usize, k: usize, lo: u64, hi: u64) -> Number
+    requires { ⌜ k ≤ 8 ⌝ }
+    ensures { λ r. ⌜ r ≡ numberOf (among lo hi (reserved k 0) .parse (now (s .entry)) l p) ⌝ }
+{
+    body_fields::among(body_fields::read_reserved(s, l, p, k, 0), p, lo, hi)
+}
+
+// How many languages there are.
+pub fn language_count(s: &[u8]) -> Number
+    ensures { λ r. ⌜ r ≡ languageCount (now (s .entry)) ⌝ }
+{
+    number_among(s, s.len(), 18, 4, 1, 5)
+}
+
+// The part of the body that the i-th language fills.
+pub fn language(s: &[u8], i: u64) -> Part
+    ensures { λ r. ⌜ r ≡ languagePart (now (s .entry)) i ⌝ }
+{
+    let l = s.len();
+    match language_count(s) {
+        Number::Refused(r) => Part::Refused(r),
+        Number::Is(n, q) => match body_asking::nth_entry(s, l, q, 0, 4, n, i) {
+            Step::Refused(r) => Part::Refused(r),
+            Step::At(p) => body_fields::read_part(s, l, p, 4),
+        },
+    }
+}
+
+// The part of the body that the signature fills.
+pub fn signature(s: &[u8]) -> Part
+    ensures { λ r. ⌜ r ≡ signaturePart (now (s .entry)) ⌝ }
+{
+    let l = s.len();
+    match language_count(s) {
+        Number::Refused(r) => Part::Refused(r),
+        Number::Is(n, q) => match body_asking::skip_entries(s, l, q, 0, 4, n) {
+            Step::Refused(r) => Part::Refused(r),
+            Step::At(p) => body_fields::read_part(s, l, p, 2),
+        },
+    }
+}
+
+// The part of the body that the three letters of the language fill.
+pub fn letters(s: &[u8], at: usize, n: usize) -> Part
+    ensures { λ r. ⌜ r ≡ lettersPart (now (s .entry)) at n ⌝ }
+{
+    if body_asking::in_body(s, at, n) {
+        return body_fields::read_bytes(s, at + n, at, 3, 0x61, 0x7A);
+    }
+    Part::Refused(Refusal::OutsideSet(0))
+}
+
+pub fn character_set(s: &[u8], at: usize, n: usize) -> Number
+    ensures { λ r. ⌜ r ≡ characterSet (now (s .entry)) at n ⌝ }
+{
+    if body_asking::in_body(s, at, n) {
+        return number_among(s, at + n, at + 3, 5, 0, 4);
+    }
+    Number::Refused(Refusal::OutsideSet(0))
+}
+
+// The part of the body that the text fills.
+pub fn text(s: &[u8], at: usize, n: usize) -> Part
+    ensures { λ r. ⌜ r ≡ textPart (now (s .entry)) at n ⌝ }
+{
+    if body_asking::in_body(s, at, n) {
+        return body_fields::read_part(s, at + n, at + 4, 2);
+    }
+    Part::Refused(Refusal::OutsideSet(0))
+}
+
+// The part of the body that the agency fills: it follows the text.
+pub fn agency(s: &[u8], at: usize, n: usize) -> Part
+    ensures { λ r. ⌜ r ≡ agencyPart (now (s .entry)) at n ⌝ }
+{
+    match text(s, at, n) {
+        Part::Refused(r) => Part::Refused(r),
+        Part::Of(a, m) => body_fields::read_part(s, at + n, a + m, 1),
+    }
+}
+
+// How many auxiliary files the language has.
+pub fn auxiliary_count(s: &[u8], at: usize, n: usize) -> Number
+    ensures { λ r. ⌜ r ≡ auxiliaryCount (now (s .entry)) at n ⌝ }
+{
+    match agency(s, at, n) {
+        Part::Refused(r) => Number::Refused(r),
+        Part::Of(a, m) => number_among(s, at + n, a + m, 4, 0, 2),
+    }
+}
+
+// The type of the i-th auxiliary file: it begins the file.
+pub fn auxiliary_type(s: &[u8], at: usize, n: usize, i: u64) -> Number
+    ensures { λ r. ⌜ r ≡ auxiliaryType 3 (now (s .entry)) at n i ⌝ }
+{
+    match auxiliary_count(s, at, n) {
+        Number::Refused(r) => Number::Refused(r),
+        Number::Is(m, q) => match body_asking::nth_entry(s, at + n, q, 1, 3, m, i) {
+            Step::Refused(r) => Number::Refused(r),
+            Step::At(p) => body_fields::read_number(s, at + n, p, 1),
+        },
+    }
+}
+
+// The part of the body that the data of the i-th auxiliary file fill.
+pub fn auxiliary(s: &[u8], at: usize, n: usize, i: u64) -> Part
+    ensures { λ r. ⌜ r ≡ auxiliaryPart 3 (now (s .entry)) at n i ⌝ }
+{
+    match auxiliary_type(s, at, n, i) {
+        Number::Refused(r) => Part::Refused(r),
+        Number::Is(t, q) => body_fields::read_part(s, at + n, q, 3),
+    }
+}

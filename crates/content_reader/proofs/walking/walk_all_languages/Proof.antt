@@ -1,0 +1,29 @@
+-- `content_reader::walking::walk_all_languages` meets its contract: each turn walks one language, and those left make the whole.
+use native.Mathlib.Omega.{arith}
+use borrow.Author.Needs.{needs}
+use Rattle.body_formats.specs.Format.{times}
+use Rattle.body_walk.proofs.Counts.{Ahead, ahead-start, times-turn, times-done}
+use Rattle.content.specs.Content.{language}
+use Rattle.content.proofs.Lawful.{language-lawful}
+use Rattle.content_reader.proofs.walking.walk_all_languages.Statement.{statement}
+use Rattle.content_reader.proofs.walking.walk_all_languages.Tie as tie
+
+abbrev Inv-loop : tie.InvT-loop
+Inv-loop s l w n tape₀ wet at₀ left₀ tape at left = Ahead (times n (language w)) s l at₀ wet tape₀ (times left (language w)) at tape
+
+abbrev μ-loop : tie.MeasureT-loop
+μ-loop s l w n tape₀ wet at₀ left₀ tape at left = left
+
+pub walk-all-languages-spec : {M : Type 1} → statement M
+walk-all-languages-spec =
+    tie.close
+    (tie.spec
+    Inv-loop
+    μ-loop
+    (λ c. ahead-start)
+    (λ c κs. search needs)
+    (λ c. search needs)
+    (λ c. search needs)
+    (λ c. times-turn (language _) (c .before .before .before .before .before .loop .left) (language-lawful _) (c .before .before .before .before .loop-test .taken) (c .before .before .before .before .before .loop .inv) (c .before .before .walk-language .ensures) (search needs))
+    (λ c. c .before .loop .inv .same)
+    (λ c. times-done (language _) (c .before .loop .left) (omega arith) (c .before .loop .inv)))

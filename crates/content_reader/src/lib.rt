@@ -1,0 +1,55 @@
+// The content table: its body read, and laid onto a form.
+mod walking;
+
+use body_formats::Step;
+use body_walk::Walk;
+use ground_refusal::Refusal;
+ghost use mathlib.Core.Path.{_≡_};
+ghost use lib.ListN.{length};
+ghost use Rattle.body_formats.specs.Body.{bodyLaid, laidTape};
+ghost use Rattle.content.specs.Content.{contentKind, content, contentRead};
+
+// Where the table ends, or why it is refused; the extension is looked at last.
+pub fn read(kind: u32, extension: u32, s: &[u8]) -> Step
+    ensures { λ r. ⌜ r ≡ contentRead 3 kind extension (now (s .entry)) ⌝ }
+{
+    match body_fields::open_body(0xFE, kind, s) {
+        Step::Refused(r) => Step::Refused(r),
+        Step::At(start) => {
+            let mut none: [u64; 1] = [0; 1];
+            match walking::walk_content(s, Walk::At(0, 0), 3, &mut none, false) {
+                Walk::Refused(r) => Step::Refused(r),
+                Walk::At(end, room) => {
+                    if (crc::crc16(&s[..18]) as u32) != extension {
+                        return Step::Refused(Refusal::OtherChecksum);
+                    }
+                    Step::At(end)
+                }
+            }
+        }
+    }
+}
+
+// Lays a body onto a tape, with the body itself as the pool: the form from which it is written again. The extension, which is no part
+// of the body, is not looked at.
+pub fn lay(kind: u32, s: &[u8], tape: &mut [u64]) -> Step
+    ensures said { λ r. ⌜ r ≡ bodyLaid (content 3) contentKind kind (now (s .entry)) (length (now (tape .entry))) ⌝ }
+    ensures left { λ r. ⌜ now (tape .exit) ≡ laidTape (content 3) contentKind kind (now (s .entry)) (now (tape .entry)) ⌝ }
+{
+    match body_fields::open_body(0xFE, kind, s) {
+        Step::Refused(r) => Step::Refused(r),
+        Step::At(start) => {
+            let room = tape.len() + 1;
+            match walking::walk_content(s, Walk::At(0, room), 3, tape, false) {
+                Walk::Refused(r) => Step::Refused(r),
+                Walk::At(end, left) => {
+                    if left == 0 {
+                        return Step::Refused(Refusal::OutputTooSmall);
+                    }
+                    walking::walk_content(s, Walk::At(0, room), 3, tape, true);
+                    Step::At(room - left)
+                }
+            }
+        }
+    }
+}

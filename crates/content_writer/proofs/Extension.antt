@@ -1,0 +1,63 @@
+-- The written body's extension: it is worked out of the first 18 bytes of the output, which are its identifier.
+use Prim.Native.Nat.{ℕ, _≤_}
+use mathlib.Core.Path.{_≡_, sym, ap, _∙_}
+use mathlib.Core.List.{List, _++_}
+use native.Mathlib.Omega.{arith}
+use lib.ListN.{length, take, drop, length-append}
+use lib.Seq.{length-take-le, take-append-le}
+use Rattle.ground_placing.proofs.Placing.{placed-whole}
+use Rattle.ground_refusal.specs.declared.Refusal.{Refusal}
+use Rattle.crc.specs.Crc.{crc16Of}
+use Rattle.body_formats.specs.Reading.{Reading, found, refused}
+use Rattle.body_formats.specs.Answers.{stepOf}
+use Rattle.body_formats.specs.Body.{writing, bodyWritten, outputWritten}
+use Rattle.body_formats.specs.declared.Step.the-variants.{At, Refused as NoStep}
+use Rattle.content.specs.Content.{identifier, Content, content, extensionOf}
+use Rattle.content.proofs.RoundTrips.{content-trips}
+use Rattle.content.proofs.Extension.{printed-identifier}
+use Rattle.content_writer.specs.Written.{writtenOf, contentWritten}
+use Rattle.content_writer.specs.declared.Written.the-variants.{Of, Refused}
+
+-- a refusal is the same whether or not an extension is told
+pub still-refused : (pool tape : List ℕ) (room : ℕ) (e : Refusal) → NoStep e ≡ bodyWritten (content 3) pool tape room → Refused e ≡ contentWritten pool tape room
+unfolding bodyWritten contentWritten
+still-refused pool tape room e f = go (writing (content 3) pool tape room) f
+  where
+    go : (y : Reading Content) → NoStep e ≡ stepOf y → Refused e ≡ writtenOf y
+    go (found c n) g = absurd (let z : _≡_ {A = ℕ} 0 1 = cc in omega arith)
+    go (refused u) g = ap Refused (let z : e ≡ u = cc in z)
+
+module _ (pool tape out : List ℕ) (size : ℕ) (said : At size ≡ bodyWritten (content 3) pool tape (length out)) where
+  value : (c : Content) × (writing (content 3) pool tape (length out) ≡ found c size)
+  unfolding bodyWritten
+  value = go (writing (content 3) pool tape (length out)) said
+    where
+      go : (y : Reading Content) → At size ≡ stepOf y → (c : Content) × (y ≡ found c size)
+      go (found c n) g = (c, ap (found c) (let z : n ≡ size = cc in z))
+      go (refused u) g = absurd (let z : _≡_ {A = ℕ} 0 1 = cc in omega arith)
+
+  identified : (18 ≤ length (content 3 .print (value .0))) × (take 18 (content 3 .print (value .0)) ≡ identifier .print (value .0 .identifier))
+  identified = printed-identifier 3 (value .0) (content-trips 3 .written-reads-back pool tape (length out) (value .0) size (value .1) .2)
+
+  module _ (now : List ℕ) (left : now ≡ outputWritten (content 3) pool tape out) where
+    begins : now ≡ content 3 .print (value .0) ++ drop (length (content 3 .print (value .0))) out
+    unfolding outputWritten
+    begins = left ∙ rw (value .1) (placed-whole out (content 3 .print (value .0)))
+
+    first : take 18 now ≡ identifier .print (value .0 .identifier)
+    first =
+        ap (take 18) begins ∙ take-append-le 18 (content 3 .print (value .0)) (drop (length (content 3 .print (value .0))) out) (identified .0)
+        ∙ identified .1
+
+    pub identifier-fits : 18 ≤ length now
+    identifier-fits =
+        let long = ap length begins ∙ length-append (content 3 .print (value .0)) (drop (length (content 3 .print (value .0))) out) in
+        omega (arith, long, identified .0)
+
+    pub first-there : (k : ℕ) → k ≤ 18 → k ≡ length (take k now)
+    first-there k h = sym (length-take-le k now (omega (arith, identifier-fits)))
+
+    -- n is what the code works out of the first 18 bytes
+    pub with-extension : (n : ℕ) → n ≡ crc16Of (take 18 now) → Of size n ≡ contentWritten pool tape (length out)
+    unfolding contentWritten extensionOf
+    with-extension n h = rw (value .1) (ap (Of size) (h ∙ ap crc16Of first))

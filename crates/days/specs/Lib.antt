@@ -1,2 +1,0 @@
--- The definitions that the contracts of `days` cite.
-pub mod Calendar

@@ -1,0 +1,165 @@
+-- Each feed keeps what a box stands for, by the ways that its verdict can go; and so does a run of feeds.
+use Prim.Native.Nat.{ℕ, _+_, _≤_}
+use mathlib.Core.Path.{_≡_, refl, sym, _∙_, ap}
+use mathlib.Core.Bool.{true, false}
+use mathlib.Core.List.{List, [], _∷_, _++_, List·Memᴰ·head, List·Memᴰ·tail}
+use native.Mathlib.Omega.{arith}
+use lib.ListN.{length, getD, length-set}
+use Rattle.crc.specs.Crc.{AreBytes}
+use Rattle.ground_refusal.specs.declared.Refusal.{Refusal}
+use Rattle.section_reader.specs.Section.{payloadOf, readSection, WellFormed}
+use Rattle.section_reader.specs.declared.Heading.{Heading}
+use Rattle.section_reader.specs.declared.Sectioned.the-variants.{Good}
+use Rattle.ground_placing.proofs.Placing.{placed-length}
+use Rattle.section_reader.proofs.RoundTrip.{good-printed}
+use Rattle.gathering_state.specs.State.{freshState, place, hasRoom, withSection}
+use Rattle.gathering_state.specs.declared.Gathering.{Gathering}
+use Rattle.gathering_state.proofs.State.{place-within}
+use Rattle.gathering_feed.specs.Feeding.{agrees, verdictOf, stateBy, storeBy}
+use Rattle.gathering_feed.specs.declared.Verdict.{Verdict}
+use Rattle.gathering_feed.specs.declared.Verdict.the-variants.{Refuse, Repeat, Contradict, Take}
+use Rattle.gathering_feed.proofs.Verdicts.{SameHeading, Heard as Passed, verdict-bad, verdict-good, Decided, old, other, short, spoiled, new, again, clash, decided}
+use Rattle.gathering_account.specs.Account.{heard, Section, Account, idle, table, accountAfter, account, Agree}
+use Rattle.gathering_account.specs.Gathers.{Box, freshBox, ByteStrings, feed, boxAfter}
+use Rattle.gathering_account.proofs.Taking.{Ready, begun-with}
+use Rattle.gathering_account.proofs.Keeping.{Kept, agree-front, kept-again, kept-clash, kept-more, kept-none}
+use Rattle.gathering_account.proofs.Hearing.{ReadAs, as-good, as-bad, readAs, heard-bad, heard-old, heard-good, counted-nothing, counted-first, counted-none, counted-same, counted-other, feed-by}
+use Rattle.gathering_account.proofs.Standing.{Fixed, Stands, fresh-stands, calm-stands, spoiled-stands, never, stands-possible, fresh-agrees, fresh-calm, fresh-held, fresh-ready, fixed-ready, fixed-spoiled, spoiled-marked, same-with, fixed-agrees, fixed-heading, fixed-not-short, formed-kind}
+
+-- ---- a good section
+
+module _ (bytes : ℕ) (box : Box) (s : List ℕ) (areBytes : AreBytes s) (h : Heading) (n : ℕ) (e : readSection s ≡ Good h n) where
+  abbrev g : Gathering
+  g = box .state
+
+  abbrev p : List ℕ
+  p = payloadOf s
+
+  abbrev section : Section
+  section = record { number = h .number; contents = p }
+
+  formed : WellFormed h
+  formed = good-printed s h n areBytes e .formed
+
+  p-short : length p ≤ 4084
+  p-short = let i = good-printed s h n areBytes e in omega arith
+
+  -- it is taken, as the table's first or as a further one
+  takes : (t : Heading) (S : List Section) → Ready g h → Kept g (box .store) S → SameHeading (withSection g h (length p)) t → h .last ≡ t .last
+      → Passed g (box .store) h → length (box .store) ≡ bytes → getD (g .held) (h .number) 0 ≡ 0
+      → verdictOf g (box .store) s ≡ Take h → Stands bytes (feed box s) (table t (S ++ section ∷ []))
+  unfolding stateBy storeBy withSection
+  takes t S r kept same last passed long unheld v =
+      let w = formed in
+      let l = p-short in
+      let m = r .long in
+      let within = place-within (length (box .store)) (h .last) (h .number) (passed .roomy) (w .number-high) in
+      rw (feed-by box s (Take h) v)
+      (calm-stands
+      (record {
+        same = same;
+        roomy = rw (← last, ← long) (passed .roomy);
+        last-high = rw (← last) (w .last-high);
+        long = length-set (g .held) (h .number) (length p + 1) ∙ m;
+        begun = begun-with g h (length p) r (formed-kind h w) (w .version-high) (w .number-high) (w .last-high) l;
+      })
+      (placed-length (box .store) (place (h .number)) p (omega arith) ∙ long)
+      (passed .calm)
+      (kept-more g (box .store) S kept h p unheld (omega arith) (r .short) within l))
+
+  -- the feed changes nothing, nor does what is heard
+  still : (a : Account) → Stands bytes box a → (r : Refusal) → verdictOf g (box .store) s ≡ Refuse r → (a′ : Account) → a′ ≡ a → Stands bytes (feed box s) a′
+  unfolding stateBy storeBy
+  still a st r v a′ q = let i : feed box s ≡ box = feed-by box s (Refuse r) v in rw (i, q) st
+
+  unheard : (a : Account) → h .current ≡ false → accountAfter (hasRoom bytes) a (heard s) ≡ a
+  unheard a c = ap (accountAfter (hasRoom bytes) a) (heard-old s h n e c) ∙ counted-nothing (hasRoom bytes) a
+
+  -- nothing begun: it begins, unless there is no room
+  module _ (z : g ≡ freshState) (l : length (box .store) ≡ bytes) where
+    empty : (k : ℕ) → getD (g .held) k 0 ≡ 0
+    empty = rw z fresh-held
+
+    begins : Passed g (box .store) h → verdictOf g (box .store) s ≡ Take h → Stands bytes (feed box s) (table h (section ∷ []))
+    unfolding withSection
+    begins x f =
+        takes h [] (rw z (fresh-ready h)) (kept-none g (box .store) empty) (record { kind = refl; extension = refl; version = refl; last = refl }) refl x l
+        (empty (h .number)) f
+
+    good-fresh : (v : Verdict) → verdictOf g (box .store) s ≡ v → Decided g (box .store) h p v → Stands bytes (feed box s) (accountAfter (hasRoom bytes) idle (heard s))
+    good-fresh v f (old c) = still idle (fresh-stands z l) _ f _ (unheard idle c)
+    good-fresh v f (other c a) = never (agrees g h) (rw z (fresh-agrees h)) a
+    good-fresh v f (short c a r) = still idle (fresh-stands z l) _ f _ (rw (heard-good s h n e c) (counted-none (hasRoom bytes) h p (rw l at r)))
+    good-fresh v f (spoiled c a r x) = absurd (x (rw z fresh-calm))
+    good-fresh v f (new x u) = rw (heard-good s h n e (x .current), counted-first (hasRoom bytes) h p (rw l at (x .roomy))) (begins x f)
+    good-fresh v f (again x u q) = absurd (u (empty (h .number)))
+    good-fresh v f (clash x u q) = absurd (u (empty (h .number)))
+
+  -- a table is fixed
+  module _ (t : Heading) (S : List Section) (x : Fixed g bytes t) (l : length (box .store) ≡ bytes) where
+    counts : h .current ≡ true → agrees g h ≡ true → accountAfter (hasRoom bytes) (table t S) (heard s) ≡ table t (S ++ section ∷ [])
+    counts c a = rw (heard-good s h n e c) (counted-same (hasRoom bytes) h p t S (sym (fixed-agrees x h) ∙ a))
+
+    passes : h .current ≡ true → agrees g h ≡ false → accountAfter (hasRoom bytes) (table t S) (heard s) ≡ table t S
+    passes c a = rw (heard-good s h n e c) (counted-other (hasRoom bytes) h p t S (sym (fixed-agrees x h) ∙ a))
+
+    good-calm : g .spoiled ≡ 0 → Kept g (box .store) S → (v : Verdict) → verdictOf g (box .store) s ≡ v → Decided g (box .store) h p v
+        → Stands bytes (feed box s) (accountAfter (hasRoom bytes) (table t S) (heard s))
+    unfolding stateBy storeBy
+    good-calm z k v f (old c) = still (table t S) (calm-stands x l z k) _ f _ (unheard (table t S) c)
+    good-calm z k v f (other c a) = still (table t S) (calm-stands x l z k) _ f _ (passes c a)
+    good-calm z k v f (short c a r) = fixed-not-short x h (box .store) l a r
+    good-calm z k v f (spoiled c a r y) = absurd (y z)
+    good-calm z k v f (new y u) =
+        let a = fixed-heading x h (y .agreed) in
+        rw (counts (y .current) (y .agreed))
+        (takes t S (fixed-ready g bytes t h x (a .last)) k (same-with g t h (length p) (x .same) a) (sym (a .last) ∙ x .same .last) y l u f)
+    good-calm z k v f (again y u q) =
+        rw (counts (y .current) (y .agreed), feed-by box s Repeat f) (calm-stands x l z (kept-again g (box .store) S k section u q))
+    good-calm z k v f (clash y u q) =
+        rw (counts (y .current) (y .agreed), feed-by box s Contradict f)
+        (spoiled-stands (fixed-spoiled g bytes t x) l (spoiled-marked g) (kept-clash g (box .store) S k section u q))
+
+    good-spoiled : (g .spoiled ≡ 0 → ⊥) → (Agree S → ⊥) → (v : Verdict) → verdictOf g (box .store) s ≡ v → Decided g (box .store) h p v
+        → Stands bytes (feed box s) (accountAfter (hasRoom bytes) (table t S) (heard s))
+    good-spoiled z k v f (old c) = still (table t S) (spoiled-stands x l z k) _ f _ (unheard (table t S) c)
+    good-spoiled z k v f (other c a) = still (table t S) (spoiled-stands x l z k) _ f _ (passes c a)
+    good-spoiled z k v f (short c a r) = fixed-not-short x h (box .store) l a r
+    good-spoiled z k v f (spoiled c a r y) = still (table t (S ++ section ∷ [])) (spoiled-stands x l z (λ i. k (agree-front S (section ∷ []) i))) _ f _ (counts c a)
+    good-spoiled z k v f (new y u) = absurd (z (y .calm))
+    good-spoiled z k v f (again y u q) = absurd (z (y .calm))
+    good-spoiled z k v f (clash y u q) = absurd (z (y .calm))
+
+-- ---- any byte string, and any list of them
+
+module _ (bytes : ℕ) (box : Box) (s : List ℕ) (areBytes : AreBytes s) where
+  feed-good : {a : Account} → Stands bytes box a → (h : Heading) (n : ℕ) → readSection s ≡ Good h n
+      → (v : Verdict) → verdictOf (box .state) (box .store) s ≡ v → Decided (box .state) (box .store) h (payloadOf s) v
+      → Stands bytes (feed box s) (accountAfter (hasRoom bytes) a (heard s))
+  feed-good (fresh-stands z l) h n e = good-fresh bytes box s areBytes h n e z l
+  feed-good (calm-stands {t} {S} x l z k) h n e = good-calm bytes box s areBytes h n e t S x l z k
+  feed-good (spoiled-stands {t} {S} x l z k) h n e = good-spoiled bytes box s areBytes h n e t S x l z k
+
+  pub feed-stands : {a : Account} → Stands bytes box a → Stands bytes (feed box s) (accountAfter (hasRoom bytes) a (heard s))
+  unfolding stateBy storeBy
+  feed-stands {a} st = go (readAs s)
+    where
+      go : ReadAs s → Stands bytes (feed box s) (accountAfter (hasRoom bytes) a (heard s))
+      go (as-good h n e) =
+          feed-good st h n e _ (verdict-good (box .state) (box .store) s (stands-possible st) h n e) (decided (box .state) (box .store) h (payloadOf s))
+      go (as-bad r e) =
+          rw (heard-bad s r e, counted-nothing (hasRoom bytes) a, feed-by box s (Refuse r) (verdict-bad (box .state) (box .store) s (stands-possible st) r e)) st
+
+pub run-stands : (bytes : ℕ) (fed : List (List ℕ)) → ByteStrings fed → (box : Box) (a : Account) → Stands bytes box a
+    → Stands bytes (boxAfter box fed) (account (hasRoom bytes) a fed)
+unfolding boxAfter account ByteStrings
+run-stands bytes [] areBytes box a st = st
+run-stands bytes (s ∷ fed) areBytes box a st =
+    run-stands bytes fed (λ r i. areBytes r (List·Memᴰ·tail i)) (feed box s) (accountAfter (hasRoom bytes) a (heard s))
+    (feed-stands bytes box s (areBytes s (List·Memᴰ·head refl)) st)
+
+-- a run of feeds, from a fresh state
+pub fresh-run : (store : List ℕ) (fed : List (List ℕ)) → ByteStrings fed
+    → Stands (length store) (boxAfter (freshBox store) fed) (account (hasRoom (length store)) idle fed)
+unfolding freshBox
+fresh-run store fed areBytes = run-stands (length store) fed areBytes (freshBox store) idle (fresh-stands refl refl)

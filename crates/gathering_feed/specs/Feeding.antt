@@ -1,0 +1,86 @@
+-- What a reader has to believe of feeding: the order of its refusals, and what each verdict makes of answer, state and store.
+use Prim.Native.Nat.{ℕ}
+use mathlib.Core.Bool.{Bool, not, _&&_, _||_}
+use mathlib.Core.List.{List}
+use lib.Dec.{eqb}
+use lib.ListN.{length, getD}
+use Rattle.ground_refusal.specs.declared.Refusal.the-variants.{NotCurrent, OtherHeading, StoreTooShort, Contradiction, ImpossibleState}
+use Rattle.ground_choices.specs.Choice.{if_then_else_}
+use Rattle.section_reader.specs.Section.{payloadOf, readSection}
+use Rattle.ground_placing.specs.Placed.{placed}
+use Rattle.section_reader.specs.declared.Heading.{Heading}
+use Rattle.section_reader.specs.declared.Sectioned.{Sectioned}
+use Rattle.section_reader.specs.declared.Sectioned.the-variants.{Good, Refused as NotGood}
+use Rattle.gathering_state.specs.Lists.{sameBytes}
+use Rattle.gathering_state.specs.State.{possibleOf, nothingBegun, place, hasRoom, heldPayload, withSection, spoiledState}
+use Rattle.gathering_state.specs.declared.Gathering.{Gathering}
+use Rattle.gathering_feed.specs.declared.Verdict.{Verdict}
+use Rattle.gathering_feed.specs.declared.Verdict.the-variants.{Refuse, Repeat, Contradict, Take}
+use Rattle.gathering_feed.specs.declared.Answer.{Answer}
+use Rattle.gathering_feed.specs.declared.Answer.the-variants.{Taken, HeldAlready, Refused}
+use Rattle.gathering_feed.specs.declared.Fed.{Fed}
+
+-- ---- the verdict
+
+-- the heading does not differ from the gathering's "(kind, extension, version, last number)", or "Nothing begun"
+unfoldable pub agrees : Gathering → Heading → Bool
+agrees g h =
+    nothingBegun g
+    || eqb (g .kind) (h .kind) && eqb (g .extension) (h .extension) && eqb (g .version) (h .version) && eqb (g .last) (h .last)
+
+-- a section of the gathering's table: its number is not held, or held with the same payload, or "same heading and number, other payload"
+unfoldable pub numberVerdict : Gathering → List ℕ → Heading → List ℕ → Verdict
+numberVerdict g store h payload =
+    if eqb (getD (g .held) (h .number) 0) 0 then Take h else
+    if sameBytes (heldPayload g store (h .number)) payload then Repeat else
+    Contradict
+
+-- a good section: 8, 9, 10, 11. A fresh state is not spoiled and holds nothing: "no 9 or 11".
+unfoldable pub goodVerdict : Gathering → List ℕ → Heading → List ℕ → Verdict
+goodVerdict g store h payload =
+    if not (h .current) then Refuse NotCurrent else
+    if not (agrees g h) then Refuse OtherHeading else
+    if not (hasRoom (length store) (h .last)) then Refuse StoreTooShort else
+    if not (eqb (g .spoiled) 0) then Refuse Contradiction else
+    numberVerdict g store h payload
+
+-- 1 to 7, then the rest
+unfoldable pub sectionVerdict : Gathering → List ℕ → List ℕ → Sectioned → Verdict
+sectionVerdict g store s (NotGood r) = Refuse r
+sectionVerdict g store s (Good h n) = goodVerdict g store h (payloadOf s)
+
+-- "Feeding: 12, 1 to 7, 8, 9, 10, 11": the byte string s is fed
+unfoldable pub verdictOf : Gathering → List ℕ → List ℕ → Verdict
+verdictOf g store s =
+    if not (possibleOf g) then Refuse ImpossibleState else
+    sectionVerdict g store s (readSection s)
+
+-- ---- what follows from it
+
+unfoldable pub answerBy : Verdict → Answer
+answerBy (Refuse r) = Refused r
+answerBy Repeat = HeldAlready
+answerBy Contradict = Refused Contradiction
+answerBy (Take h) = Taken
+
+-- "Only 11 for a contradiction changes state: the gathering is spoiled"; "A repeat [..] changes nothing"
+unfoldable pub stateBy : Gathering → List ℕ → Verdict → Gathering
+stateBy g payload (Refuse r) = g
+stateBy g payload Repeat = g
+stateBy g payload Contradict = spoiledState g
+stateBy g payload (Take h) = withSection g h (length payload)
+
+-- "A taken payload of number k goes to byte k × 4,084 of the store; all other store bytes stay"
+unfoldable pub storeBy : List ℕ → List ℕ → Verdict → List ℕ
+storeBy store payload (Refuse r) = store
+storeBy store payload Repeat = store
+storeBy store payload Contradict = store
+storeBy store payload (Take h) = placed store (place (h .number)) payload
+
+-- the answer and the state after the byte string s is fed
+unfoldable pub fedOf : Gathering → List ℕ → List ℕ → Fed
+fedOf g store s = record { answer = answerBy (verdictOf g store s); state = stateBy g (payloadOf s) (verdictOf g store s) }
+
+-- the store after it
+unfoldable pub storeAfter : Gathering → List ℕ → List ℕ → List ℕ
+storeAfter g store s = storeBy store (payloadOf s) (verdictOf g store s)

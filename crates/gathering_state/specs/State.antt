@@ -1,0 +1,72 @@
+-- What a reader has to believe of a gathering's state: the fresh one, which states are possible, where payloads stand, and how a state changes.
+use Prim.Native.Nat.{ℕ, _+_, _-_, _*_}
+use mathlib.Core.Bool.{Bool, _&&_, _||_}
+use mathlib.Core.List.{List}
+use lib.Dec.{eqb, leb, ltb}
+use lib.ListN.{getD, set, replicate, take, drop}
+use Rattle.section_reader.specs.Section.{isKind}
+use Rattle.section_reader.specs.declared.Heading.{Heading}
+use Rattle.gathering_state.specs.Lists.{greatest, part}
+use Rattle.gathering_state.specs.declared.Gathering.{Gathering}
+
+-- ---- possible states
+
+-- "A fresh state holds nothing"
+unfoldable pub freshState : Gathering
+freshState = record { extension = 0; kind = 0; version = 0; last = 0; spoiled = 0; held = replicate 256 0 }
+
+-- "exactly the fresh one"
+unfoldable pub isFresh : Gathering → Bool
+isFresh g =
+    eqb (g .kind) 0 && eqb (g .extension) 0 && eqb (g .version) 0 && eqb (g .last) 0 && eqb (g .spoiled) 0 && eqb (greatest (g .held)) 0
+
+-- "a kind FB to FE, a version up to 31, at least one held number, none above last, and held lengths up to 4,084"; the mark `spoiled` is 0 or 1
+unfoldable pub isBegun : Gathering → Bool
+isBegun g =
+    isKind (g .kind) && leb (g .version) 31 && leb (g .spoiled) 1
+    && ltb 0 (greatest (g .held)) && eqb (greatest (drop (g .last + 1) (g .held))) 0 && leb (greatest (g .held)) (4084 + 1)
+
+-- "A state is possible if it is exactly the fresh one, or" begun
+unfoldable pub possibleOf : Gathering → Bool
+possibleOf g = isFresh g || isBegun g
+
+-- of a possible state: is it the fresh one? No table has the kind 0.
+unfoldable pub nothingBegun : Gathering → Bool
+nothingBegun g = eqb (g .kind) 0
+
+-- ---- the store
+
+-- "A taken payload of number k goes to byte k × 4,084 of the store"
+unfoldable pub place : ℕ → ℕ
+place k = k * 4084
+
+-- a store of `bytes` bytes is not "shorter than (last + 1) × 4,084 bytes"
+unfoldable pub hasRoom : ℕ → ℕ → Bool
+hasRoom bytes last = leb ((last + 1) * 4084) bytes
+
+-- the held lengths of the numbers that the table has
+unfoldable pub lengths : Gathering → List ℕ
+lengths g = take (g .last + 1) (g .held)
+
+-- the payload that stands in the store for number k, if k is held
+unfoldable pub heldPayload : Gathering → List ℕ → ℕ → List ℕ
+heldPayload g store k = part store (place k) (getD (g .held) k 0 - 1)
+
+-- ---- how a state changes
+
+-- a section with the heading h and a payload of n bytes is taken
+unfoldable pub withSection : Gathering → Heading → ℕ → Gathering
+withSection g h n =
+    record {
+      extension = h .extension;
+      kind = h .kind;
+      version = h .version;
+      last = h .last;
+      spoiled = g .spoiled;
+      held = set (g .held) (h .number) (n + 1);
+    }
+
+-- "Only 11 for a contradiction changes state: the gathering is spoiled"
+unfoldable pub spoiledState : Gathering → Gathering
+spoiledState g =
+    record { extension = g .extension; kind = g .kind; version = g .version; last = g .last; spoiled = 1; held = g .held }

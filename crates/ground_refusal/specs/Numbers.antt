@@ -1,0 +1,60 @@
+-- What a reader has to believe of refusals: document 01's number for each case, and its place.
+use Prim.Native.Nat.{ℕ}
+use Rattle.ground_refusal.specs.declared.Refusal.{Refusal}
+use Rattle.ground_refusal.specs.declared.Refusal.the-variants.{SectionTooShort, OtherKind, FixedBitZero, SectionLengthOutside, OtherLength, NumberAboveLast, CheckNotZero, NotCurrent, OtherHeading, StoreTooShort, Contradiction, ImpossibleState, Missing, PastBody, PastPart, LeftOver, ReservedBitZero, DigitAboveNine, OutsideSet, ImpossibleDay, OutputTooSmall, TooLarge, OtherChecksum, NotOfTheForm, BodyTooLong}
+
+-- the numbers of document 01's list
+abbrev pub refusalNumber : Refusal → ℕ
+refusalNumber SectionTooShort = 1
+refusalNumber OtherKind = 2
+refusalNumber FixedBitZero = 3
+refusalNumber SectionLengthOutside = 4
+refusalNumber OtherLength = 5
+refusalNumber NumberAboveLast = 6
+refusalNumber CheckNotZero = 7
+refusalNumber NotCurrent = 8
+refusalNumber OtherHeading = 9
+refusalNumber StoreTooShort = 10
+refusalNumber Contradiction = 11
+refusalNumber ImpossibleState = 12
+refusalNumber (Missing at) = 13
+refusalNumber (PastBody at) = 14
+refusalNumber (PastPart at) = 15
+refusalNumber (LeftOver at) = 16
+refusalNumber (ReservedBitZero at) = 17
+refusalNumber (DigitAboveNine at) = 18
+refusalNumber (OutsideSet at) = 19
+refusalNumber (ImpossibleDay at) = 20
+refusalNumber OutputTooSmall = 21
+refusalNumber TooLarge = 22
+refusalNumber OtherChecksum = 23
+refusalNumber NotOfTheForm = 24
+refusalNumber BodyTooLong = 25
+
+-- "A refusal returns its number and a place": the place is 0 where the list gives none
+abbrev pub refusalPlace : Refusal → ℕ
+refusalPlace SectionTooShort = 0
+refusalPlace OtherKind = 0
+refusalPlace FixedBitZero = 0
+refusalPlace SectionLengthOutside = 0
+refusalPlace OtherLength = 0
+refusalPlace NumberAboveLast = 0
+refusalPlace CheckNotZero = 0
+refusalPlace NotCurrent = 0
+refusalPlace OtherHeading = 0
+refusalPlace StoreTooShort = 0
+refusalPlace Contradiction = 0
+refusalPlace ImpossibleState = 0
+refusalPlace (Missing at) = at
+refusalPlace (PastBody at) = at
+refusalPlace (PastPart at) = at
+refusalPlace (LeftOver at) = at
+refusalPlace (ReservedBitZero at) = at
+refusalPlace (DigitAboveNine at) = at
+refusalPlace (OutsideSet at) = at
+refusalPlace (ImpossibleDay at) = at
+refusalPlace OutputTooSmall = 0
+refusalPlace TooLarge = 0
+refusalPlace OtherChecksum = 0
+refusalPlace NotOfTheForm = 0
+refusalPlace BodyTooLong = 0

@@ -1,0 +1,141 @@
+// The refusals of document 01: a named case for each of its numbers, and the number and place that each is told by.
+ghost use mathlib.Core.Path.{_≡_};
+ghost use Rattle.ground_refusal.specs.Numbers.{refusalNumber, refusalPlace};
+ghost use Rattle.ground_refusal.specs.Answers.{answerOf, refusedOf};
+
+// One case for each number of the list. A case holds a place where the list gives one.
+pub enum Refusal {
+    // 1: a section shorter than 12 bytes.
+    SectionTooShort,
+    // 2: table_id not FB to FE, or not the kind this reader takes.
+    OtherKind,
+    // 3: one of the six fixed bits of the heading is 0.
+    FixedBitZero,
+    // 4: section_length below 9 or above 4,093.
+    SectionLengthOutside,
+    // 5: the byte string is not section_length + 3 long.
+    OtherLength,
+    // 6: section_number above last; or the cutter is asked for a section past the last.
+    NumberAboveLast,
+    // 7: the CRC_32 register is not zero.
+    CheckNotZero,
+    // 8: current is 0.
+    NotCurrent,
+    // 9: the heading differs from the gathering's.
+    OtherHeading,
+    // 10: the store is shorter than (last + 1) × 4,084 bytes.
+    StoreTooShort,
+    // 11: same heading and number, other payload; or the gathering is spoiled already.
+    Contradiction,
+    // 12: not a possible gathering state.
+    ImpossibleState,
+    // 13: a section is missing: the smallest missing number.
+    Missing(usize),
+    // 14: the body ends inside a field, or a counted part passes the body's end; the cutter's body is empty.
+    PastBody(usize),
+    // 15: a field or inner part passes the end of its counted part, or bytes are left in it; a command's content or address of wrong length.
+    PastPart(usize),
+    // 16: bytes left after the signature.
+    LeftOver(usize),
+    // 17: a reserved bit is 0, or the two top bits of a 12-bit descriptor length are not 00.
+    ReservedBitZero(usize),
+    // 18: a decimal digit above 9.
+    DigitAboveNine(usize),
+    // 19: a value outside its stated set.
+    OutsideSet(usize),
+    // 20: an impossible day or time, or a day outside 15079 to 65535.
+    ImpossibleDay(usize),
+    // 21: the output buffer or the record list is too small.
+    OutputTooSmall,
+    // 22: a length or count too large for its field; a body above 1,045,504 bytes; a program's input above 64 KiB.
+    TooLarge,
+    // 23: the content extension is not the CRC-16 of the identifier.
+    OtherChecksum,
+    // 24: date text not of the exact form.
+    NotOfTheForm,
+    // 25: the joined body is above 1,045,504 bytes.
+    BodyTooLong,
+}
+
+// The number of a refusal in document 01's list.
+pub fn number(r: Refusal) -> u8
+    ensures { λ n. ⌜ n ≡ refusalNumber r ⌝ }
+{
+    match r {
+        Refusal::SectionTooShort => 1,
+        Refusal::OtherKind => 2,
+        Refusal::FixedBitZero => 3,
+        Refusal::SectionLengthOutside => 4,
+        Refusal::OtherLength => 5,
+        Refusal::NumberAboveLast => 6,
+        Refusal::CheckNotZero => 7,
+        Refusal::NotCurrent => 8,
+        Refusal::OtherHeading => 9,
+        Refusal::StoreTooShort => 10,
+        Refusal::Contradiction => 11,
+        Refusal::ImpossibleState => 12,
+        Refusal::Missing(_at) => 13,
+        Refusal::PastBody(_at) => 14,
+        Refusal::PastPart(_at) => 15,
+        Refusal::LeftOver(_at) => 16,
+        Refusal::ReservedBitZero(_at) => 17,
+        Refusal::DigitAboveNine(_at) => 18,
+        Refusal::OutsideSet(_at) => 19,
+        Refusal::ImpossibleDay(_at) => 20,
+        Refusal::OutputTooSmall => 21,
+        Refusal::TooLarge => 22,
+        Refusal::OtherChecksum => 23,
+        Refusal::NotOfTheForm => 24,
+        Refusal::BodyTooLong => 25,
+    }
+}
+
+// The place of a refusal: 0 where the list gives none.
+pub fn place(r: Refusal) -> usize
+    ensures { λ n. ⌜ n ≡ refusalPlace r ⌝ }
+{
+    match r {
+        Refusal::SectionTooShort => 0,
+        Refusal::OtherKind => 0,
+        Refusal::FixedBitZero => 0,
+        Refusal::SectionLengthOutside => 0,
+        Refusal::OtherLength => 0,
+        Refusal::NumberAboveLast => 0,
+        Refusal::CheckNotZero => 0,
+        Refusal::NotCurrent => 0,
+        Refusal::OtherHeading => 0,
+        Refusal::StoreTooShort => 0,
+        Refusal::Contradiction => 0,
+        Refusal::ImpossibleState => 0,
+        Refusal::Missing(at) => at,
+        Refusal::PastBody(at) => at,
+        Refusal::PastPart(at) => at,
+        Refusal::LeftOver(at) => at,
+        Refusal::ReservedBitZero(at) => at,
+        Refusal::DigitAboveNine(at) => at,
+        Refusal::OutsideSet(at) => at,
+        Refusal::ImpossibleDay(at) => at,
+        Refusal::OutputTooSmall => 0,
+        Refusal::TooLarge => 0,
+        Refusal::OtherChecksum => 0,
+        Refusal::NotOfTheForm => 0,
+        Refusal::BodyTooLong => 0,
+    }
+}
+
+// What an answer to C holds above its low byte: 56 bits.
+const ABOVE: u64 = 0x0100_0000_0000_0000;
+
+// A refusal as the C side is told of it.
+pub fn refused(r: Refusal) -> u64
+    ensures { λ a. ⌜ a ≡ refusedOf r ⌝ }
+{
+    (number(r) as u64) + 256 * ((place(r) as u64) % ABOVE)
+}
+
+// A value as the C side is told of it: no refusal, and the value above the low byte.
+pub fn answered(value: u64) -> u64
+    ensures { λ a. ⌜ a ≡ answerOf 0 value ⌝ }
+{
+    256 * (value % ABOVE)
+}

@@ -1,0 +1,17 @@
+-- `index_fields::signature` meets its contract: the signature follows the messages.
+use mathlib.Core.Path.{sym, _∙_}
+use Rattle.index_fields.proofs.Answers.{signature-no, signature-is}
+use borrow.Author.Needs.{needs}
+use Rattle.index_fields.proofs.signature.Statement.{statement}
+use Rattle.index_fields.proofs.signature.Tie as tie
+
+pub signature-spec : {M : Type 1} → statement M
+signature-spec =
+    tie.close
+    (tie.spec
+    (λ c κs. search needs)
+    (λ c. search needs)
+    (λ c. search needs)
+    (λ c κs. search needs)
+    (λ c. signature-no _ _ (sym (c .before .r .given .1) ∙ c .before .before .before .skip-list .ensures))
+    (λ c. c .read-part .ensures ∙ signature-is _ _ (sym (c .before .before .q .given .1) ∙ c .before .before .before .before .skip-list .ensures)))

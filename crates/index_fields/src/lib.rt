@@ -1,0 +1,321 @@
+// The fields of an index table, asked for one by one: of the body, of a message told by where it begins and its length, of a descriptor or a stream at p in a part that ends at l.
+use body_formats::Number;
+use body_formats::Part;
+use body_formats::Step;
+use ground_refusal::Refusal;
+ghost use mathlib.Core.Path.{_≡_};
+ghost use mathlib.Core.Bool.{_&&_};
+ghost use Prim.Native.Nat.{_+_, _*_, _/_, _%_, _≤_};
+ghost use lib.Dec.{leb};
+ghost use Rattle.body_formats.specs.Reading.{found, andThen};
+ghost use Rattle.body_formats.specs.Format.{number, nibblesAmong};
+ghost use Rattle.body_formats.specs.Answers.{numberOf};
+ghost use Rattle.body_asking.specs.Asking.{fieldIn};
+ghost use Rattle.index_fields.specs.Asked.{messageCount, messagePart, signaturePart, identifierPart, identifierDigit, network, start, end, typePart, class, level, resourceCount, resourceAt, resourcePart, resourceDigit, flag, channelAt, inChannel, channelNetwork, channelStream, channelProgram, pcrPid, descriptorsPart, streamsPart, firstByte, descriptorTag, descriptorPart, streamType, streamPid, streamDescriptors};
+
+// How many messages there are.
+pub fn message_count(s: &[u8]) -> Number
+    ensures { λ r. ⌜ r ≡ messageCount (now (s .entry)) ⌝ }
+{
+    body_fields::read_number(s, s.len(), 0, 1)
+}
+
+// The part of the body that the i-th message fills.
+pub fn message(s: &[u8], i: u64) -> Part
+    ensures { λ r. ⌜ r ≡ messagePart (now (s .entry)) i ⌝ }
+{
+    body_fields::listed_part(s, s.len(), 0, 1, 2, i)
+}
+
+// The part of the body that the signature fills.
+pub fn signature(s: &[u8]) -> Part
+    ensures { λ r. ⌜ r ≡ signaturePart (now (s .entry)) ⌝ }
+{
+    let l = s.len();
+    match body_fields::skip_list(s, l, 0, 1, 2) {
+        Step::Refused(r) => Part::Refused(r),
+        Step::At(q) => body_fields::read_part(s, l, q, 2),
+    }
+}
+
+// The part of the body that the identifier fills.
+pub fn identifier(s: &[u8], at: usize, n: usize) -> Part
+    ensures { λ r. ⌜ r ≡ identifierPart (now (s .entry)) at n ⌝ }
+{
+    if body_asking::in_body(s, at, n) {
+        return body_fields::read_digits(s, at + n, at, 17);
+    }
+    Part::Refused(Refusal::OutsideSet(0))
+}
+
+// The i-th digit of the identifier.
+pub fn identifier_digit(s: &[u8], at: usize, n: usize, i: u64) -> Number
+    ensures { λ r. ⌜ r ≡ identifierDigit (now (s .entry)) at n i ⌝ }
+{
+    if body_asking::in_body(s, at, n) {
+        return body_fields::digit_at(s, at + n, at, 17, i);
+    }
+    Number::Refused(Refusal::OutsideSet(0))
+}
+
+pub fn network(s: &[u8], at: usize, n: usize) -> Number
+    ensures { λ r. ⌜ r ≡ network (now (s .entry)) at n ⌝ }
+{
+    body_asking::number_in(s, at, n, 18, 2)
+}
+
+pub fn start(s: &[u8], at: usize, n: usize) -> Number
+    ensures { λ r. ⌜ r ≡ start (now (s .entry)) at n ⌝ }
+{
+    if body_asking::in_body(s, at, n) {
+        return body_fields::read_time(s, at + n, at + 20);
+    }
+    Number::Refused(Refusal::OutsideSet(0))
+}
+
+pub fn end(s: &[u8], at: usize, n: usize) -> Number
+    ensures { λ r. ⌜ r ≡ end (now (s .entry)) at n ⌝ }
+{
+    if body_asking::in_body(s, at, n) {
+        return body_fields::read_end(s, at + n, at + 25);
+    }
+    Number::Refused(Refusal::OutsideSet(0))
+}
+
+// The part of the body that the type fills.
+pub fn type_part(s: &[u8], at: usize, n: usize) -> Part
+    ensures { λ r. ⌜ r ≡ typePart (now (s .entry)) at n ⌝ }
+{
+    if body_asking::in_body(s, at, n) {
+        return body_fields::read_bytes(s, at + n, at + 30, 5, 0, 0x7F);
+    }
+    Part::Refused(Refusal::OutsideSet(0))
+}
+
+fn one_to_four(x: u64) -> bool
+    ensures { λ r. ⌜ r ≡ (leb 1 x && leb x 4) ⌝ }
+{
+    if x < 1 {
+        return false;
+    }
+    x <= 4
+}
+
+// "class 4 bits (1 to 4), level 4 bits (1 to 4)", in the byte b.
+fn halves_good(b: u64) -> bool
+    ensures { λ r. ⌜ r ≡ ((leb 1 (b / 16) && leb (b / 16) 4) && (leb 1 (b % 16) && leb (b % 16) 4)) ⌝ }
+{
+    if one_to_four(b / 16) {
+        return one_to_four(b % 16);
+    }
+    false
+}
+
+// The byte that class and level share: where either is bad, neither is answered.
+fn class_and_level(s: &[u8], at: usize, n: usize) -> Number
+    ensures { λ r. ⌜ r ≡ numberOf (andThen (fieldIn (nibblesAmong 1 4) 35 (now (s .entry)) at n) (λ x q. found (x .0 * 16 + x .1) q)) ⌝ }
+{
+    match body_asking::number_in(s, at, n, 35, 1) {
+        Number::Refused(r) => Number::Refused(r),
+        Number::Is(b, q) => {
+            if halves_good(b) {
+                return Number::Is(b, q);
+            }
+            Number::Refused(Refusal::OutsideSet(at + 35))
+        }
+    }
+}
+
+pub fn class(s: &[u8], at: usize, n: usize) -> Number
+    ensures { λ r. ⌜ r ≡ class (now (s .entry)) at n ⌝ }
+{
+    match class_and_level(s, at, n) {
+        Number::Refused(r) => Number::Refused(r),
+        Number::Is(b, q) => Number::Is(b / 16, q),
+    }
+}
+
+pub fn level(s: &[u8], at: usize, n: usize) -> Number
+    ensures { λ r. ⌜ r ≡ level (now (s .entry)) at n ⌝ }
+{
+    match class_and_level(s, at, n) {
+        Number::Refused(r) => Number::Refused(r),
+        Number::Is(b, q) => Number::Is(b % 16, q),
+    }
+}
+
+// How many resources the message has.
+pub fn resource_count(s: &[u8], at: usize, n: usize) -> Number
+    ensures { λ r. ⌜ r ≡ resourceCount (now (s .entry)) at n ⌝ }
+{
+    body_asking::number_in(s, at, n, 36, 1)
+}
+
+// How many resources there are, and where the i-th begins: each has 12 bytes. 19 where there is none.
+fn resource_at(s: &[u8], at: usize, n: usize, i: u64) -> Number
+    ensures { λ r. ⌜ r ≡ numberOf (resourceAt (now (s .entry)) at n i) ⌝ }
+{
+    match resource_count(s, at, n) {
+        Number::Refused(r) => Number::Refused(r),
+        Number::Is(m, q) => {
+            if i < m {
+                return Number::Is(m, q + 12 * (i as usize));
+            }
+            Number::Refused(Refusal::OutsideSet(0))
+        }
+    }
+}
+
+// The part of the body that the i-th resource fills.
+pub fn resource(s: &[u8], at: usize, n: usize, i: u64) -> Part
+    ensures { λ r. ⌜ r ≡ resourcePart (now (s .entry)) at n i ⌝ }
+{
+    match resource_at(s, at, n, i) {
+        Number::Refused(r) => Part::Refused(r),
+        Number::Is(m, p) => body_fields::read_digits(s, at + n, p, 11),
+    }
+}
+
+// The j-th digit of the i-th resource.
+pub fn resource_digit(s: &[u8], at: usize, n: usize, i: u64, j: u64) -> Number
+    ensures { λ r. ⌜ r ≡ resourceDigit (now (s .entry)) at n i j ⌝ }
+{
+    match resource_at(s, at, n, i) {
+        Number::Refused(r) => Number::Refused(r),
+        Number::Is(m, p) => body_fields::digit_at(s, at + n, p, 11, j),
+    }
+}
+
+// The channel flag, which follows the resources.
+pub fn flag(s: &[u8], at: usize, n: usize) -> Number
+    ensures { λ r. ⌜ r ≡ flag (now (s .entry)) at n ⌝ }
+{
+    match resource_count(s, at, n) {
+        Number::Refused(r) => Number::Refused(r),
+        Number::Is(m, q) => body_fields::read_reserved(s, at + n, q + 12 * (m as usize), 7, 0),
+    }
+}
+
+// The flag, and where the channel begins; 19 where the flag is 0.
+fn channel_at(s: &[u8], at: usize, n: usize) -> Number
+    ensures { λ r. ⌜ r ≡ numberOf (channelAt (now (s .entry)) at n) ⌝ }
+{
+    match flag(s, at, n) {
+        Number::Refused(r) => Number::Refused(r),
+        Number::Is(f, q) => {
+            if 0 < f {
+                return Number::Is(f, q);
+            }
+            Number::Refused(Refusal::OutsideSet(0))
+        }
+    }
+}
+
+// The number of two bytes that stands k bytes into the channel.
+fn channel_number(s: &[u8], at: usize, n: usize, k: usize) -> Number
+    requires { ⌜ k ≤ 4 ⌝ }
+    ensures { λ r. ⌜ r ≡ numberOf (inChannel (number 2) k (now (s .entry)) at n) ⌝ }
+{
+    match channel_at(s, at, n) {
+        Number::Refused(r) => Number::Refused(r),
+        Number::Is(f, q) => body_fields::read_number(s, at + n, q + k, 2),
+    }
+}
+
+pub fn channel_network(s: &[u8], at: usize, n: usize) -> Number
+    ensures { λ r. ⌜ r ≡ channelNetwork (now (s .entry)) at n ⌝ }
+{
+    channel_number(s, at, n, 0)
+}
+
+pub fn channel_stream(s: &[u8], at: usize, n: usize) -> Number
+    ensures { λ r. ⌜ r ≡ channelStream (now (s .entry)) at n ⌝ }
+{
+    channel_number(s, at, n, 2)
+}
+
+pub fn channel_program(s: &[u8], at: usize, n: usize) -> Number
+    ensures { λ r. ⌜ r ≡ channelProgram (now (s .entry)) at n ⌝ }
+{
+    channel_number(s, at, n, 4)
+}
+
+pub fn pcr_pid(s: &[u8], at: usize, n: usize) -> Number
+    ensures { λ r. ⌜ r ≡ pcrPid (now (s .entry)) at n ⌝ }
+{
+    match channel_at(s, at, n) {
+        Number::Refused(r) => Number::Refused(r),
+        Number::Is(f, q) => body_fields::read_reserved(s, at + n, q + 6, 3, 1),
+    }
+}
+
+// The part of the body that the channel's descriptors fill.
+pub fn descriptors(s: &[u8], at: usize, n: usize) -> Part
+    ensures { λ r. ⌜ r ≡ descriptorsPart (now (s .entry)) at n ⌝ }
+{
+    match channel_at(s, at, n) {
+        Number::Refused(r) => Part::Refused(r),
+        Number::Is(f, q) => body_fields::read_part12(s, at + n, q + 8),
+    }
+}
+
+// The part of the body that the streams fill: it follows the descriptors.
+pub fn streams(s: &[u8], at: usize, n: usize) -> Part
+    ensures { λ r. ⌜ r ≡ streamsPart (now (s .entry)) at n ⌝ }
+{
+    match descriptors(s, at, n) {
+        Part::Refused(r) => Part::Refused(r),
+        Part::Of(a, m) => body_fields::read_part(s, at + n, a + m, 2),
+    }
+}
+
+// The byte at p: a descriptor's tag, or a stream's type.
+fn first_byte(s: &[u8], l: usize, p: usize) -> Number
+    ensures { λ r. ⌜ r ≡ firstByte (now (s .entry)) l p ⌝ }
+{
+    if body_asking::in_part(s, l, p) {
+        return body_fields::read_number(s, l, p, 1);
+    }
+    Number::Refused(Refusal::OutsideSet(0))
+}
+
+pub fn descriptor_tag(s: &[u8], l: usize, p: usize) -> Number
+    ensures { λ r. ⌜ r ≡ descriptorTag (now (s .entry)) l p ⌝ }
+{
+    first_byte(s, l, p)
+}
+
+// The part of the body that the descriptor's data fill.
+pub fn descriptor_part(s: &[u8], l: usize, p: usize) -> Part
+    ensures { λ r. ⌜ r ≡ descriptorPart (now (s .entry)) l p ⌝ }
+{
+    if body_asking::in_part(s, l, p) {
+        return body_fields::read_part(s, l, p + 1, 1);
+    }
+    Part::Refused(Refusal::OutsideSet(0))
+}
+
+pub fn stream_type(s: &[u8], l: usize, p: usize) -> Number
+    ensures { λ r. ⌜ r ≡ streamType (now (s .entry)) l p ⌝ }
+{
+    first_byte(s, l, p)
+}
+
+pub fn stream_pid(s: &[u8], l: usize, p: usize) -> Number
+    ensures { λ r. ⌜ r ≡ streamPid (now (s .entry)) l p ⌝ }
+{
+    if body_asking::in_part(s, l, p) {
+        return body_fields::read_reserved(s, l, p + 1, 3, 1);
+    }
+    Number::Refused(Refusal::OutsideSet(0))
+}
+
+// The part of the body that the stream's descriptors fill.
+pub fn stream_descriptors(s: &[u8], l: usize, p: usize) -> Part
+    ensures { λ r. ⌜ r ≡ streamDescriptors (now (s .entry)) l p ⌝ }
+{
+    if body_asking::in_part(s, l, p) {
+        return body_fields::read_part12(s, l, p + 3);
+    }
+    Part::Refused(Refusal::OutsideSet(0))
+}

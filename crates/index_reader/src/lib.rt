@@ -1,0 +1,50 @@
+// The index table: its body read, and laid onto a form.
+mod channels;
+mod walking;
+
+use body_formats::Step;
+use body_walk::Walk;
+use ground_refusal::Refusal;
+ghost use mathlib.Core.Path.{_≡_};
+ghost use lib.ListN.{length};
+ghost use Rattle.body_formats.specs.Body.{bodyRead, bodyLaid, laidTape};
+ghost use Rattle.index.specs.Index.{indexKind, index};
+
+// Where the table ends, or why it is refused.
+pub fn read(kind: u32, s: &[u8]) -> Step
+    ensures { λ r. ⌜ r ≡ bodyRead index indexKind kind (now (s .entry)) ⌝ }
+{
+    match body_fields::open_body(0xFD, kind, s) {
+        Step::Refused(r) => Step::Refused(r),
+        Step::At(start) => {
+            let mut none: [u64; 1] = [0; 1];
+            match walking::walk_index(s, Walk::At(0, 0), &mut none, false) {
+                Walk::Refused(r) => Step::Refused(r),
+                Walk::At(end, room) => Step::At(end),
+            }
+        }
+    }
+}
+
+// Lays an accepted body onto a tape, with the body itself as the pool: the form from which it is written again.
+pub fn lay(kind: u32, s: &[u8], tape: &mut [u64]) -> Step
+    ensures said { λ r. ⌜ r ≡ bodyLaid index indexKind kind (now (s .entry)) (length (now (tape .entry))) ⌝ }
+    ensures left { λ r. ⌜ now (tape .exit) ≡ laidTape index indexKind kind (now (s .entry)) (now (tape .entry)) ⌝ }
+{
+    match body_fields::open_body(0xFD, kind, s) {
+        Step::Refused(r) => Step::Refused(r),
+        Step::At(start) => {
+            let room = tape.len() + 1;
+            match walking::walk_index(s, Walk::At(0, room), tape, false) {
+                Walk::Refused(r) => Step::Refused(r),
+                Walk::At(end, left) => {
+                    if left == 0 {
+                        return Step::Refused(Refusal::OutputTooSmall);
+                    }
+                    walking::walk_index(s, Walk::At(0, room), tape, true);
+                    Step::At(room - left)
+                }
+            }
+        }
+    }
+}

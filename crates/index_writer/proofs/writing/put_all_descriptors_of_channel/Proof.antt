@@ -1,0 +1,34 @@
+-- `index_writer::writing::put_all_descriptors_of_channel` meets its contract: each turn puts one more, the first refusal ends them, and the turns are as many as the count says.
+use mathlib.Core.Path.{_≡_, refl}
+use native.Mathlib.Omega.{arith}
+use lib.ListN.{length}
+use borrow.Author.Needs.{needs}
+use Rattle.body_pen.proofs.Lists.{Underway, list-start, many-pen, times-turn, times-stop, times-done}
+use Rattle.index.specs.Index.{descriptor}
+use Rattle.index_writer.proofs.writing.put_all_descriptors_of_channel.Statement.{statement}
+use Rattle.index_writer.proofs.writing.put_all_descriptors_of_channel.Tie as tie
+
+abbrev Inv-loop : tie.InvT-loop
+Inv-loop pool tape out₀ wet pen₀ left₀ out pen left = (length out ≡ length out₀) × Underway descriptor pool tape wet left₀ pen₀ out₀ left pen out
+
+abbrev μ-loop : tie.MeasureT-loop
+μ-loop pool tape out₀ wet pen₀ left₀ out pen left = left
+
+pub put-all-descriptors-of-channel-spec : {M : Type 1} → statement M
+put-all-descriptors-of-channel-spec =
+    tie.close
+    (tie.spec
+    Inv-loop
+    μ-loop
+    (λ c κs. search needs)
+    (λ c. (refl, list-start (c .take-count .ensures _ _ _)))
+    (λ c κs. search needs)
+    (λ c. search needs)
+    (λ c. search needs)
+    (λ c. many-pen _ (c .before .before .before .before .before .before .before .before .before .take-count .ensures _ _ _) (times-stop (c .before .before .before .before .before .before .before .before .loop .inv .1) (c .before .before .before .before .before .before .before .loop-test .taken) (c .before .before .before .before .before .put-descriptor .ensures) _ (c .before .r .given .1)))
+    (λ c. search needs)
+    (λ c. search needs)
+    (λ c. search needs)
+    (λ c. (search needs, times-turn (c .before .before .before .before .before .before .before .before .loop .inv .1) (c .before .before .before .before .before .before .before .loop-test .taken) (c .before .before .before .before .before .put-descriptor .ensures) _ (c .before .size .given .1)))
+    (λ c. search needs)
+    (λ c. many-pen _ (c .before .before .take-count .ensures _ _ _) (times-done (c .before .loop .inv .1) (omega arith))))

@@ -1,0 +1,27 @@
+-- `index_writer::writing::put_channel` meets its contract: its fields one after the other, under their names.
+use mathlib.Core.Path.{refl}
+use borrow.Author.Needs.{needs}
+use Rattle.body_pen.proofs.Pairs.{pair-pen, view-pen}
+use Rattle.index.specs.Index.{channelFields, channel}
+use Rattle.index_writer.proofs.writing.put_channel.Statement.{statement}
+use Rattle.index_writer.proofs.writing.put_channel.Tie as tie
+
+pub put-channel-spec : {M : Type 1} → statement M
+unfolding channel channelFields
+put-channel-spec =
+    tie.close
+    (tie.spec
+    (λ c κs. search needs)
+    (λ c κs. search needs)
+    (λ c κs. search needs)
+    (λ c κs. search needs)
+    (λ c κs. search needs)
+    (λ c κs. search needs)
+    (λ c. search needs)
+    (λ c. view-pen
+    (pair-pen (c .before .before .before .before .before .before .before .before .before .before .before .before .before .before .before .before .before .before .before .before .before .before .put-number .ensures _)
+    (pair-pen (c .before .before .before .before .before .before .before .before .before .before .before .before .before .before .before .before .before .before .put-number2 .ensures _)
+    (pair-pen (c .before .before .before .before .before .before .before .before .before .before .before .before .before .before .put-number3 .ensures _)
+    (pair-pen (c .before .before .before .before .before .before .before .before .before .before .put-reserved .ensures _ .past)
+    (pair-pen (c .before .before .before .before .before .before .put-descriptors-of-channel .ensures) (c .before .before .put-streams .ensures))))))
+    _ _ (λ a. refl)))

@@ -1,0 +1,17 @@
+-- `index_writer::writing::put_descriptor` meets its contract: its fields one after the other, under their names.
+use mathlib.Core.Path.{refl}
+use borrow.Author.Needs.{needs}
+use Rattle.body_pen.proofs.Pairs.{pair-pen, view-pen}
+use Rattle.index.specs.Index.{descriptor}
+use Rattle.index_writer.proofs.writing.put_descriptor.Statement.{statement}
+use Rattle.index_writer.proofs.writing.put_descriptor.Tie as tie
+
+pub put-descriptor-spec : {M : Type 1} → statement M
+unfolding descriptor
+put-descriptor-spec =
+    tie.close
+    (tie.spec
+    (λ c κs. search needs)
+    (λ c κs. search needs)
+    (λ c. search needs)
+    (λ c. view-pen (pair-pen (c .before .before .before .before .before .before .put-number .ensures _) (c .before .before .put-part .ensures)) _ _ (λ a. refl)))

@@ -1,0 +1,17 @@
+-- `index_writer::writing::put_descriptors_of_channel` meets its contract: they are put after room for their length, which is then put into it.
+use borrow.Author.Needs.{needs}
+use Rattle.body_pen.proofs.Lengths.{length12-pen}
+use Rattle.index.specs.Index.{descriptors}
+use Rattle.index_writer.proofs.writing.put_descriptors_of_channel.Statement.{statement}
+use Rattle.index_writer.proofs.writing.put_descriptors_of_channel.Tie as tie
+
+pub put-descriptors-of-channel-spec : {M : Type 1} → statement M
+unfolding descriptors
+put-descriptors-of-channel-spec =
+    tie.close
+    (tie.spec
+    (λ c κs. search needs)
+    (λ c κs. search needs)
+    (λ c κs. search needs)
+    (λ c. search needs)
+    (λ c. length12-pen (c .before .before .before .before .before .before .before .before .gap .ensures) (c .before .before .before .before .before .before .put-all-descriptors-of-channel .ensures) (c .before .before .close .ensures)))

@@ -1,0 +1,18 @@
+-- `index_writer::writing::put_stream` meets its contract: its fields one after the other, under their names.
+use mathlib.Core.Path.{refl}
+use borrow.Author.Needs.{needs}
+use Rattle.body_pen.proofs.Pairs.{pair-pen, view-pen}
+use Rattle.index.specs.Index.{streamFields, stream}
+use Rattle.index_writer.proofs.writing.put_stream.Statement.{statement}
+use Rattle.index_writer.proofs.writing.put_stream.Tie as tie
+
+pub put-stream-spec : {M : Type 1} → statement M
+unfolding stream streamFields
+put-stream-spec =
+    tie.close
+    (tie.spec
+    (λ c κs. search needs)
+    (λ c κs. search needs)
+    (λ c κs. search needs)
+    (λ c. search needs)
+    (λ c. view-pen (pair-pen (c .before .before .before .before .before .before .before .before .before .before .put-number .ensures _) (pair-pen (c .before .before .before .before .before .before .put-reserved .ensures _ .past) (c .before .before .put-descriptors .ensures))) _ _ (λ a. refl)))

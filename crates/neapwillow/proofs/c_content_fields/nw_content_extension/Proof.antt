@@ -1,0 +1,14 @@
+-- `neapwillow::nw_content_extension` meets its contract: the inner answer, packed.
+use mathlib.Core.Path.{ap, _∙_}
+use borrow.Author.Needs.{needs}
+use Rattle.c_answers.specs.Answers.{numberAnswer}
+use Rattle.neapwillow.proofs.c_content_fields.nw_content_extension.Statement.{statement}
+use Rattle.neapwillow.proofs.c_content_fields.nw_content_extension.Tie as tie
+
+pub nw-content-extension-spec : {M : Type 1} → statement M
+nw-content-extension-spec =
+    tie.close
+    (tie.spec
+    (λ c κs. search needs)
+    (λ c κs. search needs)
+    (λ c. c .number-answer .ensures ∙ ap numberAnswer (c .before .extension .ensures)))

@@ -1,0 +1,14 @@
+-- `neapwillow::nw_language_text` meets its contract: the inner answer, packed.
+use mathlib.Core.Path.{ap, _∙_}
+use borrow.Author.Needs.{needs}
+use Rattle.c_answers.specs.Answers.{partAnswer}
+use Rattle.neapwillow.proofs.c_content_fields.nw_language_text.Statement.{statement}
+use Rattle.neapwillow.proofs.c_content_fields.nw_language_text.Tie as tie
+
+pub nw-language-text-spec : {M : Type 1} → statement M
+nw-language-text-spec =
+    tie.close
+    (tie.spec
+    (λ c κs. search needs)
+    (λ c κs. search needs)
+    (λ c. c .part-answer .ensures ∙ ap partAnswer (c .before .text .ensures)))

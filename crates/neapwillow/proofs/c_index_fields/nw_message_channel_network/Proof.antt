@@ -1,0 +1,14 @@
+-- `neapwillow::nw_message_channel_network` meets its contract: the inner answer, packed.
+use mathlib.Core.Path.{ap, _∙_}
+use borrow.Author.Needs.{needs}
+use Rattle.c_answers.specs.Answers.{numberAnswer}
+use Rattle.neapwillow.proofs.c_index_fields.nw_message_channel_network.Statement.{statement}
+use Rattle.neapwillow.proofs.c_index_fields.nw_message_channel_network.Tie as tie
+
+pub nw-message-channel-network-spec : {M : Type 1} → statement M
+nw-message-channel-network-spec =
+    tie.close
+    (tie.spec
+    (λ c κs. search needs)
+    (λ c κs. search needs)
+    (λ c. c .number-answer .ensures ∙ ap numberAnswer (c .before .channel-network .ensures)))

@@ -1,0 +1,22 @@
+// The gathering as C has it: a pointer to the state, byte strings as pointer and length, and one number for the answer.
+use gathering_state::Gathering;
+ghost use mathlib.Core.Path.{_≡_};
+ghost use Rattle.gathering_feed.specs.Feeding.{fedOf, storeAfter};
+ghost use Rattle.gathering_hand_out.specs.Handing.{handedOf, outAfter};
+ghost use Rattle.c_answers.specs.Answers.{feedAnswer, handAnswer};
+
+// One byte string is fed: the state that was lent becomes the state after it.
+#[no_mangle]
+pub extern "C" fn nw_gathering_feed(g: &mut Gathering, store: &mut [u8], s: &[u8]) -> u64
+    ensures { λ r. ⌜ (r ≡ feedAnswer (fedOf (now (g .entry)) (now (store .entry)) (now (s .entry)) .answer)) × (now (g .exit) ≡ fedOf (now (g .entry)) (now (store .entry)) (now (s .entry)) .state) × (now (store .exit) ≡ storeAfter (now (g .entry)) (now (store .entry)) (now (s .entry))) ⌝ }
+{
+    c_answers::feed_answer(gathering_lent::feed(g, store, s))
+}
+
+// The body is handed out, or the first rule that forbids it is told. The state is only looked at.
+#[no_mangle]
+pub extern "C" fn nw_gathering_hand_out(g: &Gathering, store: &[u8], out: &mut [u8]) -> u64
+    ensures { λ r. ⌜ (r ≡ handAnswer (handedOf (now (g .entry)) (now (store .entry)) (now (out .entry)))) × (now (out .exit) ≡ outAfter (now (g .entry)) (now (store .entry)) (now (out .entry))) ⌝ }
+{
+    c_answers::hand_answer(gathering_lent::hand_out(g, store, out))
+}

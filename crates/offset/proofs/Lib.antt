@@ -1,6 +1,0 @@
--- The laws that the proofs of `offset` and of its callers cite.
-pub mod Signed
-pub mod Floors
-pub mod Moving
-pub mod Exact
-pub mod Values

@@ -1,2 +1,0 @@
--- The definitions that the contracts of `offset` cite.
-pub mod Offset

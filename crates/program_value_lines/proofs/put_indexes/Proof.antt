@@ -1,0 +1,71 @@
+-- `program_value_lines::put_indexes` meets its contract: a line for each body, one after the other.
+use mathlib.Core.List.{_++_}
+use borrow.Author.Needs.{needs}
+use Rattle.program_printing.proofs.Putting.{room-first, put-room, put-then}
+use Rattle.program_value_lines.specs.Report.{threeLine, twoLine, fourLine, indexLines}
+use Rattle.program_value_lines.proofs.put_indexes.Statement.{statement}
+use Rattle.program_value_lines.proofs.put_indexes.Tie as tie
+
+put-line-requires : tie.Need-put-line-requires
+unfolding indexLines threeLine
+put-line-requires c κs =
+    let first = c .before .before .before .before .before .before .before in
+    let start = first .before .before .before in
+    rw (first .index-answer .ensures) (room-first (start .args .at) threeLine (twoLine ++ fourLine) (start .pre))
+
+put-line-requires-2 : tie.Need-put-line-requires-2
+unfolding indexLines threeLine twoLine
+put-line-requires-2 c κs =
+    let one = c .before .before .before .before .before in
+    let second = one .before .before .before .before .before .before in
+    let first = second .before .before in
+    rw (second .index-answer2 .ensures)
+    (room-first (one .put-line .result) twoLine fourLine
+    (put-room (twoLine ++ fourLine) (rw (first .index-answer .ensures) at (one .put-line .ensures)) (first .before .before .before .pre)))
+
+put-line-requires-3 : tie.Need-put-line-requires-3
+unfolding indexLines threeLine twoLine fourLine
+put-line-requires-3 c κs =
+    let two = c .before .before .before .before .before in
+    let one = two .before .before .before .before .before .before in
+    let third = one .before .before .before .before in
+    let second = third .before .before in
+    let first = second .before .before in
+    let start = first .before .before .before in
+    rw (third .index-answer3 .ensures)
+    (put-room fourLine (rw (second .index-answer2 .ensures) at (two .put-line2 .ensures))
+    (put-room (twoLine ++ fourLine) (rw (first .index-answer .ensures) at (one .put-line .ensures)) (start .pre)))
+
+returns : tie.Need-returns
+unfolding indexLines threeLine twoLine fourLine
+returns c =
+    let three = c .before .before in
+    let two = three .before .before .before .before .before .before in
+    let one = two .before .before .before .before .before .before in
+    let third = one .before .before .before .before in
+    let second = third .before .before in
+    let first = second .before .before in
+    put-then (rw (first .index-answer .ensures) at (one .put-line .ensures))
+    (put-then (rw (second .index-answer2 .ensures) at (two .put-line2 .ensures)) (rw (third .index-answer3 .ensures) at (three .put-line3 .ensures)))
+
+pub put-indexes-spec : {M : Type 1} → statement M
+put-indexes-spec =
+    tie.close
+    (tie.spec
+    (λ c. search needs)
+    (λ c κs. search needs)
+    (λ c. search needs)
+    (λ c κs. search needs)
+    (λ c. search needs)
+    (λ c κs. search needs)
+    (λ c. search needs)
+    (λ c. search needs)
+    put-line-requires
+    (λ c. search needs)
+    (λ c. search needs)
+    put-line-requires-2
+    (λ c. search needs)
+    (λ c. search needs)
+    put-line-requires-3
+    (λ c. search needs)
+    returns)

@@ -1,0 +1,70 @@
+-- `program_value_lines::put_times` meets its contract: a line for the day and for each time, one after the other.
+use mathlib.Core.List.{_++_}
+use borrow.Author.Needs.{needs}
+use Rattle.program_printing.proofs.Putting.{room-first, put-room, put-then}
+use Rattle.program_value_lines.specs.Report.{dayLine, novemberLine, marchLine, timeLines}
+use Rattle.program_value_lines.proofs.put_times.Statement.{statement}
+use Rattle.program_value_lines.proofs.put_times.Tie as tie
+
+put-line-requires : tie.Need-put-line-requires
+unfolding timeLines dayLine
+put-line-requires c κs =
+    let first = c .before .before .before .before .before .before .before in
+    let start = first .before .before in
+    rw (first .day-answer .ensures) (room-first (start .args .at) dayLine (novemberLine ++ marchLine) (start .pre))
+
+put-line-requires-2 : tie.Need-put-line-requires-2
+unfolding timeLines dayLine novemberLine
+put-line-requires-2 c κs =
+    let one = c .before .before .before .before .before in
+    let second = one .before .before .before .before .before .before in
+    let first = second .before .before in
+    rw (second .time-answer .ensures)
+    (room-first (one .put-line .result) novemberLine marchLine
+    (put-room (novemberLine ++ marchLine) (rw (first .day-answer .ensures) at (one .put-line .ensures)) (first .before .before .pre)))
+
+put-line-requires-3 : tie.Need-put-line-requires-3
+unfolding timeLines dayLine novemberLine marchLine
+put-line-requires-3 c κs =
+    let two = c .before .before .before .before .before in
+    let one = two .before .before .before .before .before .before in
+    let third = one .before .before .before .before in
+    let second = third .before .before in
+    let first = second .before .before in
+    let start = first .before .before in
+    rw (third .time-answer2 .ensures)
+    (put-room marchLine (rw (second .time-answer .ensures) at (two .put-line2 .ensures))
+    (put-room (novemberLine ++ marchLine) (rw (first .day-answer .ensures) at (one .put-line .ensures)) (start .pre)))
+
+returns : tie.Need-returns
+unfolding timeLines dayLine novemberLine marchLine
+returns c =
+    let three = c .before .before in
+    let two = three .before .before .before .before .before .before in
+    let one = two .before .before .before .before .before .before in
+    let third = one .before .before .before .before in
+    let second = third .before .before in
+    let first = second .before .before in
+    put-then (rw (first .day-answer .ensures) at (one .put-line .ensures))
+    (put-then (rw (second .time-answer .ensures) at (two .put-line2 .ensures)) (rw (third .time-answer2 .ensures) at (three .put-line3 .ensures)))
+
+pub put-times-spec : {M : Type 1} → statement M
+put-times-spec =
+    tie.close
+    (tie.spec
+    (λ c κs. search needs)
+    (λ c. search needs)
+    (λ c κs. search needs)
+    (λ c. search needs)
+    (λ c κs. search needs)
+    (λ c. search needs)
+    (λ c. search needs)
+    put-line-requires
+    (λ c. search needs)
+    (λ c. search needs)
+    put-line-requires-2
+    (λ c. search needs)
+    (λ c. search needs)
+    put-line-requires-3
+    (λ c. search needs)
+    returns)

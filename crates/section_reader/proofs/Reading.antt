@@ -1,0 +1,136 @@
+-- Laws of reading: each way out of the judgement, and what is known of a section that it takes.
+use Prim.Native.Nat.{ℕ, _+_, _-_, _*_, _/_, _%_, _≤_, _<_}
+use mathlib.Core.Bool.{Bool, true, false, _&&_}
+use mathlib.Core.List.{List}
+use mathlib.Core.Path.{_≡_, refl, ap}
+use native.Mathlib.Omega.{arith}
+use borrow.Author.Tests.{lt-ltb, le-ltb, le-leb, lt-leb, eq-eqb, ne-eqb, leb-true, eqb-true}
+use lib.Dec.{eqb, leb}
+use lib.ListN.{length, getD}
+use Rattle.crc.specs.Crc.{crc32Of}
+use Rattle.ground_refusal.specs.declared.Refusal.the-variants.{SectionTooShort, OtherKind, FixedBitZero, SectionLengthOutside, OtherLength, NumberAboveLast, CheckNotZero}
+use Rattle.section_reader.specs.Section.{isKind, word, fixedBits, sectionLength, headingOf, readSection}
+use Rattle.section_reader.specs.declared.Heading.{Heading}
+use Rattle.section_reader.specs.declared.Sectioned.the-variants.{Good, Refused}
+
+-- ---- two tests in one
+
+pub within : (a n b : ℕ) → a ≤ n → n ≤ b → leb a n && leb n b ≡ true
+within a n b h h′ = rw (le-leb a n h, le-leb n b h′)
+
+pub not-from : (a n b : ℕ) → n < a → leb a n && leb n b ≡ false
+not-from a n b h = rw (lt-leb a n h)
+
+pub from-then : (a n b : ℕ) → a ≤ n → leb a n && leb n b ≡ leb n b
+from-then a n b h = rw (le-leb a n h)
+
+pub both : (a b : Bool) → a && b ≡ true → (a ≡ true) × (b ≡ true)
+both true true e = (refl, refl)
+both true false e = (refl, e)
+both false b e = (e, absurd (let z : _≡_ {A = ℕ} 0 1 = cc in omega arith))
+
+pub within-known : (a n b : ℕ) → leb a n && leb n b ≡ true → (a ≤ n) × (n ≤ b)
+within-known a n b e = let t = both (leb a n) (leb n b) e in (leb-true a n (t .0), leb-true n b (t .1))
+
+pub kind-within : (k : ℕ) → isKind k ≡ true → (0xFB ≤ k) × (k ≤ 0xFE)
+unfolding isKind
+kind-within k e = within-known 0xFB k 0xFE e
+
+pub is-kind-is : (k : ℕ) → leb 0xFB k && leb k 0xFE ≡ isKind k
+unfolding isKind
+is-kind-is k = refl
+
+pub fixed-known : (s : List ℕ) → fixedBits s ≡ true → (getD s 1 0 / 16 ≡ 15) × (getD s 5 0 / 64 ≡ 3)
+unfolding fixedBits
+fixed-known s e =
+    let t = both (eqb (getD s 1 0 / 16) 15) (eqb (getD s 5 0 / 64) 3) e in
+    (eqb-true (getD s 1 0 / 16) 15 (t .0), eqb-true (getD s 5 0 / 64) 3 (t .1))
+
+pub fixed-not : (s : List ℕ) → ((getD s 1 0 / 16 ≡ 15) × (getD s 5 0 / 64 ≡ 3) → ⊥) → fixedBits s ≡ false
+fixed-not s h = go (fixedBits s) refl
+  where
+    go : (t : Bool) → fixedBits s ≡ t → t ≡ false
+    go true e = absurd (h (fixed-known s e))
+    go false e = refl
+
+pub fixed-then : (s : List ℕ) → getD s 1 0 / 16 ≡ 15 → fixedBits s ≡ eqb (getD s 5 0 / 64) 3
+unfolding fixedBits
+fixed-then s h = rw (eq-eqb (getD s 1 0 / 16) 15 h)
+
+pub section-length-is : (s : List ℕ) (n : ℕ) → n ≡ getD s 1 0 * 256 + getD s 2 0 → n % 4096 ≡ sectionLength s
+unfolding sectionLength word
+section-length-is s n e = ap (λ (m : ℕ). m % 4096) e
+
+pub heading-of-is : (s : List ℕ) (n : ℕ) → n ≡ getD s 3 0 * 256 + getD s 4 0
+    → record { kind = getD s 0 0; extension = n; version = getD s 5 0 / 2 % 32; current = eqb (getD s 5 0 % 2) 1; number = getD s 6 0; last = getD s 7 0 } ≡ headingOf s
+unfolding headingOf word
+heading-of-is s n e = rw e
+
+-- ---- the refusals, each from what leads to it
+
+module _ (s : List ℕ) where
+  pub too-short : length s < 12 → readSection s ≡ Refused SectionTooShort
+  unfolding readSection
+  too-short h = rw (lt-ltb (length s) 12 h)
+
+  module _ (long : 12 ≤ length s) where
+    pub other-kind : isKind (getD s 0 0) ≡ false → readSection s ≡ Refused OtherKind
+    unfolding readSection
+    other-kind h = simp (le-ltb (length s) 12 long, h)
+
+    module _ (kind : isKind (getD s 0 0) ≡ true) where
+      pub fixed-bit-zero : fixedBits s ≡ false → readSection s ≡ Refused FixedBitZero
+      unfolding readSection
+      fixed-bit-zero h = simp (le-ltb (length s) 12 long, kind, h)
+
+      module _ (fixed : fixedBits s ≡ true) where
+        pub length-outside : leb 9 (sectionLength s) && leb (sectionLength s) 4093 ≡ false → readSection s ≡ Refused SectionLengthOutside
+        unfolding readSection
+        length-outside h = simp (le-ltb (length s) 12 long, kind, fixed, h)
+
+        pub other-length : leb 9 (sectionLength s) && leb (sectionLength s) 4093 ≡ true → (length s ≡ sectionLength s + 3 → ⊥) → readSection s ≡ Refused OtherLength
+        unfolding readSection
+        other-length counted h = simp (le-ltb (length s) 12 long, kind, fixed, counted, ne-eqb (length s) (sectionLength s + 3) h)
+
+-- refusals 1 to 5 do not apply
+pub record Framed (s : List ℕ) : Type 0 where
+  pub long : 12 ≤ length s
+  pub kind : isKind (getD s 0 0) ≡ true
+  pub fixed : fixedBits s ≡ true
+  pub counted : leb 9 (sectionLength s) && leb (sectionLength s) 4093 ≡ true
+  pub whole : length s ≡ sectionLength s + 3
+
+module _ (s : List ℕ) (f : Framed s) where
+  pub number-above : getD s 7 0 < getD s 6 0 → readSection s ≡ Refused NumberAboveLast
+  unfolding readSection
+  number-above h =
+      simp
+      (le-ltb (length s) 12 (f .long), f .kind, f .fixed, f .counted, eq-eqb (length s) (sectionLength s + 3) (f .whole), lt-ltb (getD s 7 0) (getD s 6 0) h)
+
+  module _ (ordered : getD s 6 0 ≤ getD s 7 0) where
+    pub check-not-zero : (crc32Of s ≡ 0 → ⊥) → readSection s ≡ Refused CheckNotZero
+    unfolding readSection
+    check-not-zero h =
+        simp (
+          le-ltb (length s) 12 (f .long),
+          f .kind,
+          f .fixed,
+          f .counted,
+          eq-eqb (length s) (sectionLength s + 3) (f .whole),
+          le-ltb (getD s 7 0) (getD s 6 0) ordered,
+          ne-eqb (crc32Of s) 0 h,
+        )
+
+    pub good : (h : Heading) → h ≡ headingOf s → crc32Of s ≡ 0 → readSection s ≡ Good h (length s - 12)
+    unfolding readSection
+    good h is e =
+        rw is
+        (simp (
+          le-ltb (length s) 12 (f .long),
+          f .kind,
+          f .fixed,
+          f .counted,
+          eq-eqb (length s) (sectionLength s + 3) (f .whole),
+          le-ltb (getD s 7 0) (getD s 6 0) ordered,
+          eq-eqb (crc32Of s) 0 e,
+        ))

@@ -1,0 +1,120 @@
+// A section on the wire: read and judged.
+use ground_refusal::Refusal;
+ghost use mathlib.Core.Path.{_≡_};
+ghost use mathlib.Core.Bool.{_&&_};
+ghost use Prim.Native.Nat.{_+_, _*_, _≤_};
+ghost use lib.Dec.{leb};
+ghost use lib.ListN.{length};
+ghost use Rattle.section_reader.specs.Section.{isKind, fixedBits, sectionLength, headingOf, readSection};
+
+// What a section says before its payload.
+pub struct Heading {
+    // table_id: FB configuration, FC certificate, FD index, FE content.
+    pub kind: u8,
+    pub extension: u16,
+    pub version: u16,
+    pub current: bool,
+    pub number: u8,
+    pub last: u8,
+}
+
+// A byte string judged: a good section's heading and the length of its payload, which begins at byte 8; or the first rule that it breaks.
+pub enum Sectioned {
+    Good(Heading, usize),
+    Refused(Refusal),
+}
+
+// A byte as a wider number.
+fn wide(x: u8) -> u32
+    ensures { λ r. ⌜ (r ≡ x) × (r ≤ 255) ⌝ }
+{
+    x as u32
+}
+
+// The 16 bits of two bytes.
+fn word_of(high: u8, low: u8) -> u32
+    ensures { λ r. ⌜ (r ≡ high * 256 + low) × (r ≤ 0xFFFF) ⌝ }
+{
+    wide(high) * 256 + wide(low)
+}
+
+// Is n one of low to high?
+fn within(low: u32, n: u32, high: u32) -> bool
+    ensures { λ r. ⌜ r ≡ (leb low n && leb n high) ⌝ }
+{
+    if n < low {
+        return false;
+    }
+    n <= high
+}
+
+// Is it the table_id of one of the four tables? For later crates too.
+pub fn is_kind(kind: u32) -> bool
+    ensures { λ r. ⌜ r ≡ isKind kind ⌝ }
+{
+    within(0xFB, kind, 0xFE)
+}
+
+// Are the six fixed bits ones?
+fn fixed_bits(s: &[u8]) -> bool
+    requires { ⌜ 12 ≤ length (now s) ⌝ }
+    ensures { λ r. ⌜ r ≡ fixedBits (now (s .entry)) ⌝ }
+{
+    if s[1] / 16 != 15 {
+        return false;
+    }
+    s[5] / 64 == 3
+}
+
+// The field section_length.
+fn section_length(s: &[u8]) -> u32
+    requires { ⌜ 12 ≤ length (now s) ⌝ }
+    ensures { λ r. ⌜ r ≡ sectionLength (now (s .entry)) ⌝ }
+{
+    word_of(s[1], s[2]) % 4096
+}
+
+// The fields of the first eight bytes.
+fn heading_of(s: &[u8]) -> Heading
+    requires { ⌜ 12 ≤ length (now s) ⌝ }
+    ensures { λ r. ⌜ r ≡ headingOf (now (s .entry)) ⌝ }
+{
+    Heading {
+        kind: s[0],
+        extension: word_of(s[3], s[4]) as u16,
+        version: (s[5] / 2 % 32) as u16,
+        current: s[5] % 2 == 1,
+        number: s[6],
+        last: s[7],
+    }
+}
+
+// The judgement of any byte string: refusals 1 to 7, in this order.
+pub fn read_section(s: &[u8]) -> Sectioned
+    ensures { λ r. ⌜ r ≡ readSection (now (s .entry)) ⌝ }
+{
+    if s.len() < 12 {
+        return Sectioned::Refused(Refusal::SectionTooShort);
+    }
+    if !is_kind(wide(s[0])) {
+        return Sectioned::Refused(Refusal::OtherKind);
+    }
+    if !fixed_bits(s) {
+        return Sectioned::Refused(Refusal::FixedBitZero);
+    }
+    let length = section_length(s);
+    if !within(9, length, 4093) {
+        return Sectioned::Refused(Refusal::SectionLengthOutside);
+    }
+    if s.len() != length as usize + 3 {
+        return Sectioned::Refused(Refusal::OtherLength);
+    }
+    if s[7] < s[6] {
+        return Sectioned::Refused(Refusal::NumberAboveLast);
+    }
+    let check = crc::crc32(s);
+    if check != 0 {
+        return Sectioned::Refused(Refusal::CheckNotZero);
+    }
+    Sectioned::Good(heading_of(s), s.len() - 12)
+}

@@ -1,0 +1,3 @@
+-- The definitions that the contracts of `time_local` cite.
+pub mod Clock
+pub mod Text

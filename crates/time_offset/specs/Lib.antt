@@ -1,0 +1,2 @@
+-- The definitions that the contracts of `time_offset` cite.
+pub mod Offset
