@@ -81,7 +81,7 @@ class Crate:
 
 CRATES = {os.path.basename(path): Crate(path) for path in files('crates', '*')}
 
-# What the other documents may name: crates, what they define, their edits, and their files as `Table` or `messages/proofs/Asked`.
+# What the other documents may name: crates, what they define, their edits, and their files as `Table` or `index_fields/proofs/Asked`.
 MODULES = [os.path.relpath(without_ending(path), 'crates') for path in files('crates', '*', '*', '*.antt')]
 NOT_EDITS = set(CRATES).union(MODULES, map(os.path.basename, MODULES), *[crate.names for crate in CRATES.values()])
 KNOWN = NOT_EDITS.union(*[crate.edits.union(*crate.parts.values()) for crate in CRATES.values()])
