@@ -9,8 +9,9 @@ INCLUDEDIR = $(PREFIX)/include
 MANDIR = $(PREFIX)/share/man
 INSTALL ?= install
 
+# The archives of the crates that tools/kit lists; the library's alone is installed.
 ARCHIVE = target/staticlib/libneapwillow.a
-ARCHIVES = $(ARCHIVE) target/staticlib/libc_commands.a
+ARCHIVES := $(patsubst %,target/staticlib/lib%.a,$(shell sed -n 's/^exporting=(\(.*\))/\1/p' tools/kit))
 PROGRAMS = nw-dates nw-section
 COMMANDS = $(PROGRAMS:%=target/bin/%)
 SOURCES := crates.txt $(shell find crates -type f)
