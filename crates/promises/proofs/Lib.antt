@@ -8,5 +8,6 @@ pub mod Demand2
 pub mod Demand3
 pub mod Values
 pub mod Determined
+pub mod Offered
 pub mod Marks
 pub mod Useless

@@ -28,7 +28,7 @@ use Rattle.promises.specs.Told.{Told}
 
 -- "Every input of every length is taken without a fault, and every call finishes." This is the language's to say, and no theorem: a function
 -- is built only once it is proved that it never indexes past an end, wraps a sum, loses bits or divides by 0, and that it ends. No offered
--- function has a `requires` (tests/promises.py sees to it), so this holds of every input.
+-- function has a `requires` (tools/offered sees to it), so this holds of every input.
 
 -- "Each refusal has one number of document 01's list [..]"
 pub record Numbered : Type 0 where

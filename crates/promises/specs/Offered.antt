@@ -1,11 +1,11 @@
 -- What each function offered to C promises: any two results that its contract allows are equal. A line is a contract in its own words, with x for
--- `now (x .entry)` and x′ for `now (x .exit)`; tests/promises.py holds each line to the source.
+-- `now (x .entry)` and x′ for `now (x .exit)`. Written by tools/offered from the contracts; tests/check-promises holds it to them.
 use Prim.Native.Nat.{ℕ}
+use mathlib.Core.List.{List, _++_}
 use mathlib.Core.Path.{_≡_}
-use mathlib.Core.List.{List}
-use lib.ListN.{length}
 use lib.IntN.{ℤ}
-use Rattle.crc.specs.Crc.{crc16Of, crc32Of}
+use lib.ListN.{length, drop}
+use Rattle.crc.specs.Crc.{crc32Of, crc16Of}
 use Rattle.time_days.specs.Calendar.{dayOf, dateOf, weekdayOf}
 use Rattle.time_fields.specs.Showing.{showing}
 use Rattle.time_local.specs.Clock.{packOf, unpackOf}
@@ -15,65 +15,81 @@ use Rattle.section_cutter.specs.Cutting.{countedOf, cutAnswer, cutOutput}
 use Rattle.gathering_state.specs.declared.Gathering.{Gathering}
 use Rattle.gathering_feed.specs.Feeding.{fedOf, storeAfter}
 use Rattle.gathering_hand_out.specs.Handing.{handedOf, outAfter}
-use Rattle.body_formats.specs.Body.{bodyRead, bodyLaid, laidTape, bodyWritten, outputWritten}
-use Rattle.certificate.specs.Certificate.{certificateKind, certificate}
-use Rattle.certificate_fields.specs.Asked as certificate
+use Rattle.program_date_lines.specs.Report.{reportOf}
+use Rattle.program_section_line.specs.Line.{lineOf}
+use Rattle.body_formats.specs.Body.{bodyRead, bodyWritten, outputWritten, bodyLaid, laidTape}
+use Rattle.certificate.specs.Certificate.{certificate, certificateKind}
+use Rattle.certificate_fields.specs.Asked as certificate-fields
 use Rattle.certificate_fields.specs.Asked.{authorizationCount, authorizationPart, certificateCount, certificatePart}
-use Rattle.index.specs.Index.{indexKind, index}
+use Rattle.index.specs.Index.{index, indexKind}
+use Rattle.index_fields.specs.Asked as index-fields
+use Rattle.index_fields.specs.Asked.{messageCount, messagePart, network, start, end, typePart, class, level, resourceCount, resourcePart, resourceDigit, flag}
+use Rattle.index_fields.specs.Asked.{channelNetwork, channelStream, channelProgram, pcrPid, descriptorsPart, streamsPart, descriptorTag, descriptorPart}
+use Rattle.index_fields.specs.Asked.{streamType, streamPid, streamDescriptors}
 use Rattle.index_records.specs.Records.{bodyRecorded, recorded}
 use Rattle.index_records.specs.declared.Record.{Record}
-use Rattle.index_fields.specs.Asked.{messageCount, messagePart, signaturePart, identifierPart, identifierDigit, network, start, end, typePart, class, level, resourceCount, resourcePart, resourceDigit, flag, channelNetwork, channelStream, channelProgram, pcrPid, descriptorsPart, streamsPart, descriptorTag, descriptorPart, streamType, streamPid, streamDescriptors}
-use Rattle.content.specs.Content.{contentKind, content, contentRead}
+use Rattle.content.specs.Content.{contentRead, content, contentKind}
 use Rattle.content_writer.specs.Written.{contentWritten}
-use Rattle.content_fields.specs.Asked as languages
-use Rattle.content_fields.specs.Asked.{extension, languageCount, languagePart, lettersPart, characterSet, textPart, agencyPart, auxiliaryCount, auxiliaryType, auxiliaryPart}
-use Rattle.configuration.specs.Configuration.{configurationKind, configuration}
-use Rattle.configuration_fields.specs.Asked as commands
-use Rattle.configuration_fields.specs.Asked.{commandCount, commandPart, commandTag, commandContent, clockYear, clockMonth, clockDay, clockHour, clockMinute, clockSecond, codeAddress, codeResource, codeDigit, frequency, symbolRate, mapping, returnKind, returnAddress, period, volume, parameterCount, parameter, terminalCount, terminal, terminalDigit}
-use Rattle.c_answers.specs.Answers.{dayAnswer, dateAnswer, weekdayAnswer, fieldAnswer, localAnswer, showingAnswer, sectionAnswer, countAnswer, lengthAnswer, feedAnswer, handAnswer, readAnswer, numberAnswer, partAnswer, writtenAnswer, contentAnswer, localFieldAnswer}
+use Rattle.content_fields.specs.Asked as content-fields
+use Rattle.content_fields.specs.Asked.{extension, languageCount, languagePart, lettersPart, characterSet, textPart, agencyPart, auxiliaryCount, auxiliaryType}
+use Rattle.content_fields.specs.Asked.{auxiliaryPart}
+use Rattle.configuration.specs.Configuration.{configuration, configurationKind}
+use Rattle.configuration_fields.specs.Asked as configuration-fields
+use Rattle.configuration_fields.specs.Asked.{commandCount, commandPart, commandTag, commandContent, clockYear, clockMonth, clockDay, clockHour, clockMinute}
+use Rattle.configuration_fields.specs.Asked.{clockSecond, codeAddress, codeResource, codeDigit, frequency, symbolRate, mapping, returnKind, returnAddress}
+use Rattle.configuration_fields.specs.Asked.{period, volume, parameterCount, parameter, terminalCount, terminal, terminalDigit}
+use Rattle.c_answers.specs.Answers.{dayAnswer, dateAnswer, weekdayAnswer, fieldAnswer, localAnswer, showingAnswer, sectionAnswer, countAnswer, lengthAnswer}
+use Rattle.c_answers.specs.Answers.{feedAnswer, handAnswer, readAnswer, numberAnswer, partAnswer, writtenAnswer, localFieldAnswer, contentAnswer}
 use Rattle.promises.specs.Determined.{Determined, Determined₂, Determined₃}
 
 pub record Offered : Type 0 where
-  -- checksums
+  -- The two checksums for C.
   pub nw-crc32 : (s : List ℕ) → Determined (λ r. r ≡ crc32Of s)
   pub nw-crc16 : (s : List ℕ) → Determined (λ r. r ≡ crc16Of s)
-  -- days
+  -- Days, dates and weekdays for C.
   pub nw-day-of : (year month day : ℕ) → Determined (λ r. r ≡ dayAnswer (dayOf year month day))
   pub nw-date-of : (day : ℕ) → Determined (λ r. r ≡ dateAnswer (dateOf day))
   pub nw-weekday : (day : ℕ) → Determined (λ r. r ≡ weekdayAnswer (weekdayOf day))
-  -- times
-  pub nw-time-pack : (year month day hour minute second : ℕ) (offset : ℤ) → Determined (λ r. r ≡ fieldAnswer (packOf (record { year = year; month = month; day = day; hour = hour; minute = minute; second = second }) offset))
+  -- Time fields, local times and the instant for C.
+  pub nw-time-pack : (year month day hour minute second : ℕ) (offset : ℤ) →
+      Determined (λ r. r ≡ fieldAnswer (packOf (record { year = year; month = month; day = day; hour = hour; minute = minute; second = second }) offset))
   pub nw-time-read-text : (text : List ℕ) (offset : ℤ) → Determined (λ r. r ≡ fieldAnswer (readText text offset))
   pub nw-time-unpack : (field : ℕ) (offset : ℤ) → Determined (λ r. r ≡ localAnswer (unpackOf field offset))
   pub nw-time-showing : (start end day second : ℕ) → Determined (λ r. r ≡ showingAnswer (showing start end (record { day = day; second = second })))
-  -- sections
+  -- Sections for C: one read, and a body cut.
   pub nw-section-read : (s : List ℕ) → Determined (λ r. r ≡ sectionAnswer (readSection s))
   pub nw-section-count : (length : ℕ) → Determined (λ r. r ≡ countAnswer (countedOf length))
-  pub nw-section-cut : (body : List ℕ) (kind extension version number : ℕ) (out : List ℕ) → Determined₂ (λ r out′. (r ≡ lengthAnswer (cutAnswer body kind extension version number out)) × (out′ ≡ cutOutput body kind extension version number out))
-  -- the gathering
-  pub nw-gathering-feed : (g : Gathering) (store s : List ℕ) → Determined₃ (λ r g′ store′. (r ≡ feedAnswer (fedOf g store s .answer)) × (g′ ≡ fedOf g store s .state) × (store′ ≡ storeAfter g store s))
-  pub nw-gathering-hand-out : (g : Gathering) (store out : List ℕ) → Determined₂ (λ r out′. (r ≡ handAnswer (handedOf g store out)) × (out′ ≡ outAfter g store out))
-  -- the certificate table
+  pub nw-section-cut : (body : List ℕ) (kind extension version number : ℕ) (out : List ℕ) →
+      Determined₂ (λ r out′. (r ≡ lengthAnswer (cutAnswer body kind extension version number out)) × (out′ ≡ cutOutput body kind extension version number out))
+  -- The gathering as C has it: a pointer to the state, byte strings as pointer and length, and one number for the answer.
+  pub nw-gathering-feed : (g : Gathering) (store s : List ℕ) →
+      Determined₃ (λ r g′ store′. (r ≡ feedAnswer (fedOf g store s .answer)) × (g′ ≡ fedOf g store s .state) × (store′ ≡ storeAfter g store s))
+  pub nw-gathering-hand-out : (g : Gathering) (store out : List ℕ) →
+      Determined₂ (λ r out′. (r ≡ handAnswer (handedOf g store out)) × (out′ ≡ outAfter g store out))
+  -- The certificate table for C.
   pub nw-certificate-read : (kind : ℕ) (body : List ℕ) → Determined (λ r. r ≡ readAnswer (bodyRead certificate certificateKind kind body))
   pub nw-certificate-authorization-count : (body : List ℕ) → Determined (λ r. r ≡ numberAnswer (authorizationCount body))
   pub nw-certificate-authorization : (body : List ℕ) (i : ℕ) → Determined (λ r. r ≡ partAnswer (authorizationPart body i))
   pub nw-certificate-count : (body : List ℕ) → Determined (λ r. r ≡ numberAnswer (certificateCount body))
   pub nw-certificate-part : (body : List ℕ) (i : ℕ) → Determined (λ r. r ≡ partAnswer (certificatePart body i))
-  pub nw-certificate-signature : (body : List ℕ) → Determined (λ r. r ≡ partAnswer (certificate.signaturePart body))
-  pub nw-certificate-write : (pool tape out : List ℕ) → Determined₂ (λ r out′. (r ≡ writtenAnswer (bodyWritten certificate pool tape (length out))) × (out′ ≡ outputWritten certificate pool tape out))
-  pub nw-certificate-lay : (kind : ℕ) (body tape : List ℕ) → Determined₂ (λ r tape′. (r ≡ writtenAnswer (bodyLaid certificate certificateKind kind body (length tape))) × (tape′ ≡ laidTape certificate certificateKind kind body tape))
-  -- the index table
+  pub nw-certificate-signature : (body : List ℕ) → Determined (λ r. r ≡ partAnswer (certificate-fields.signaturePart body))
+  pub nw-certificate-write : (pool tape out : List ℕ) →
+      Determined₂ (λ r out′. (r ≡ writtenAnswer (bodyWritten certificate pool tape (length out))) × (out′ ≡ outputWritten certificate pool tape out))
+  pub nw-certificate-lay : (kind : ℕ) (body tape : List ℕ) →
+      Determined₂ (λ r tape′. (r ≡ writtenAnswer (bodyLaid certificate certificateKind kind body (length tape))) ×
+      (tape′ ≡ laidTape certificate certificateKind kind body tape))
+  -- The index table for C: read, laid onto a form, written from one.
   pub nw-index-read : (kind : ℕ) (body : List ℕ) → Determined (λ r. r ≡ readAnswer (bodyRead index indexKind kind body))
-  pub nw-index-lay : (kind : ℕ) (body tape : List ℕ) → Determined₂ (λ r tape′. (r ≡ writtenAnswer (bodyLaid index indexKind kind body (length tape))) × (tape′ ≡ laidTape index indexKind kind body tape))
-  pub nw-index-write : (pool tape out : List ℕ) → Determined₂ (λ r out′. (r ≡ writtenAnswer (bodyWritten index pool tape (length out))) × (out′ ≡ outputWritten index pool tape out))
-  -- its message records
-  pub nw-index-records : (kind : ℕ) (body : List ℕ) (list : List Record) → Determined₂ (λ r list′. (r ≡ writtenAnswer (bodyRecorded kind body (length list))) × (list′ ≡ recorded kind body list))
-  -- its fields
+  pub nw-index-lay : (kind : ℕ) (body tape : List ℕ) →
+      Determined₂ (λ r tape′. (r ≡ writtenAnswer (bodyLaid index indexKind kind body (length tape))) × (tape′ ≡ laidTape index indexKind kind body tape))
+  pub nw-index-write : (pool tape out : List ℕ) →
+      Determined₂ (λ r out′. (r ≡ writtenAnswer (bodyWritten index pool tape (length out))) × (out′ ≡ outputWritten index pool tape out))
+  -- The fields of an index table for C, asked for one by one.
   pub nw-index-message-count : (body : List ℕ) → Determined (λ r. r ≡ numberAnswer (messageCount body))
   pub nw-index-message : (body : List ℕ) (i : ℕ) → Determined (λ r. r ≡ partAnswer (messagePart body i))
-  pub nw-index-signature : (body : List ℕ) → Determined (λ r. r ≡ partAnswer (signaturePart body))
-  pub nw-message-identifier : (body : List ℕ) (at length : ℕ) → Determined (λ r. r ≡ partAnswer (identifierPart body at length))
-  pub nw-message-identifier-digit : (body : List ℕ) (at length i : ℕ) → Determined (λ r. r ≡ numberAnswer (identifierDigit body at length i))
+  pub nw-index-signature : (body : List ℕ) → Determined (λ r. r ≡ partAnswer (index-fields.signaturePart body))
+  pub nw-message-identifier : (body : List ℕ) (at length : ℕ) → Determined (λ r. r ≡ partAnswer (index-fields.identifierPart body at length))
+  pub nw-message-identifier-digit : (body : List ℕ) (at length i : ℕ) → Determined (λ r. r ≡ numberAnswer (index-fields.identifierDigit body at length i))
   pub nw-message-network : (body : List ℕ) (at length : ℕ) → Determined (λ r. r ≡ numberAnswer (network body at length))
   pub nw-message-start : (body : List ℕ) (at length : ℕ) → Determined (λ r. r ≡ numberAnswer (start body at length))
   pub nw-message-end : (body : List ℕ) (at length : ℕ) → Determined (λ r. r ≡ numberAnswer (end body at length))
@@ -97,17 +113,23 @@ pub record Offered : Type 0 where
   pub nw-stream-descriptors : (body : List ℕ) (end p : ℕ) → Determined (λ r. r ≡ partAnswer (streamDescriptors body end p))
   pub nw-message-local-start : (body : List ℕ) (at length : ℕ) (offset : ℤ) → Determined (λ r. r ≡ localFieldAnswer offset (start body at length))
   pub nw-message-local-end : (body : List ℕ) (at length : ℕ) (offset : ℤ) → Determined (λ r. r ≡ localFieldAnswer offset (end body at length))
-  -- the content table
+  -- The message records of an index table for C, which lends the list.
+  pub nw-index-records : (kind : ℕ) (body : List ℕ) (list : List Record) →
+      Determined₂ (λ r list′. (r ≡ writtenAnswer (bodyRecorded kind body (length list))) × (list′ ≡ recorded kind body list))
+  -- The content table for C: read with its extension, laid onto a form, written from one with its extension.
   pub nw-content-read : (kind extension : ℕ) (body : List ℕ) → Determined (λ r. r ≡ readAnswer (contentRead 3 kind extension body))
-  pub nw-content-lay : (kind : ℕ) (body tape : List ℕ) → Determined₂ (λ r tape′. (r ≡ writtenAnswer (bodyLaid (content 3) contentKind kind body (length tape))) × (tape′ ≡ laidTape (content 3) contentKind kind body tape))
-  pub nw-content-write : (pool tape out : List ℕ) → Determined₂ (λ r out′. (r ≡ contentAnswer (contentWritten pool tape (length out))) × (out′ ≡ outputWritten (content 3) pool tape out))
-  -- its fields
-  pub nw-content-identifier : (body : List ℕ) → Determined (λ r. r ≡ partAnswer (languages.identifierPart body))
-  pub nw-content-identifier-digit : (body : List ℕ) (i : ℕ) → Determined (λ r. r ≡ numberAnswer (languages.identifierDigit body i))
+  pub nw-content-lay : (kind : ℕ) (body tape : List ℕ) →
+      Determined₂ (λ r tape′. (r ≡ writtenAnswer (bodyLaid (content 3) contentKind kind body (length tape))) ×
+      (tape′ ≡ laidTape (content 3) contentKind kind body tape))
+  pub nw-content-write : (pool tape out : List ℕ) →
+      Determined₂ (λ r out′. (r ≡ contentAnswer (contentWritten pool tape (length out))) × (out′ ≡ outputWritten (content 3) pool tape out))
+  -- The fields of a content table for C, asked for one by one.
+  pub nw-content-identifier : (body : List ℕ) → Determined (λ r. r ≡ partAnswer (content-fields.identifierPart body))
+  pub nw-content-identifier-digit : (body : List ℕ) (i : ℕ) → Determined (λ r. r ≡ numberAnswer (content-fields.identifierDigit body i))
   pub nw-content-extension : (body : List ℕ) → Determined (λ r. r ≡ numberAnswer (extension body))
   pub nw-content-language-count : (body : List ℕ) → Determined (λ r. r ≡ numberAnswer (languageCount body))
   pub nw-content-language : (body : List ℕ) (i : ℕ) → Determined (λ r. r ≡ partAnswer (languagePart body i))
-  pub nw-content-signature : (body : List ℕ) → Determined (λ r. r ≡ partAnswer (languages.signaturePart body))
+  pub nw-content-signature : (body : List ℕ) → Determined (λ r. r ≡ partAnswer (content-fields.signaturePart body))
   pub nw-language-letters : (body : List ℕ) (at length : ℕ) → Determined (λ r. r ≡ partAnswer (lettersPart body at length))
   pub nw-language-character-set : (body : List ℕ) (at length : ℕ) → Determined (λ r. r ≡ numberAnswer (characterSet body at length))
   pub nw-language-text : (body : List ℕ) (at length : ℕ) → Determined (λ r. r ≡ partAnswer (textPart body at length))
@@ -115,14 +137,17 @@ pub record Offered : Type 0 where
   pub nw-language-auxiliary-count : (body : List ℕ) (at length : ℕ) → Determined (λ r. r ≡ numberAnswer (auxiliaryCount body at length))
   pub nw-language-auxiliary-type : (body : List ℕ) (at length i : ℕ) → Determined (λ r. r ≡ numberAnswer (auxiliaryType 3 body at length i))
   pub nw-language-auxiliary : (body : List ℕ) (at length i : ℕ) → Determined (λ r. r ≡ partAnswer (auxiliaryPart 3 body at length i))
-  -- the configuration table
+  -- The configuration table for C: read, laid onto a form, written from one.
   pub nw-configuration-read : (kind : ℕ) (body : List ℕ) → Determined (λ r. r ≡ readAnswer (bodyRead configuration configurationKind kind body))
-  pub nw-configuration-lay : (kind : ℕ) (body tape : List ℕ) → Determined₂ (λ r tape′. (r ≡ writtenAnswer (bodyLaid configuration configurationKind kind body (length tape))) × (tape′ ≡ laidTape configuration configurationKind kind body tape))
-  pub nw-configuration-write : (pool tape out : List ℕ) → Determined₂ (λ r out′. (r ≡ writtenAnswer (bodyWritten configuration pool tape (length out))) × (out′ ≡ outputWritten configuration pool tape out))
-  -- its fields
+  pub nw-configuration-lay : (kind : ℕ) (body tape : List ℕ) →
+      Determined₂ (λ r tape′. (r ≡ writtenAnswer (bodyLaid configuration configurationKind kind body (length tape))) ×
+      (tape′ ≡ laidTape configuration configurationKind kind body tape))
+  pub nw-configuration-write : (pool tape out : List ℕ) →
+      Determined₂ (λ r out′. (r ≡ writtenAnswer (bodyWritten configuration pool tape (length out))) × (out′ ≡ outputWritten configuration pool tape out))
+  -- The fields of a configuration table and of its commands for C, asked for one by one.
   pub nw-configuration-command-count : (body : List ℕ) → Determined (λ r. r ≡ numberAnswer (commandCount body))
   pub nw-configuration-command : (body : List ℕ) (i : ℕ) → Determined (λ r. r ≡ partAnswer (commandPart body i))
-  pub nw-configuration-signature : (body : List ℕ) → Determined (λ r. r ≡ partAnswer (commands.signaturePart body))
+  pub nw-configuration-signature : (body : List ℕ) → Determined (λ r. r ≡ partAnswer (configuration-fields.signaturePart body))
   pub nw-command-tag : (body : List ℕ) (p : ℕ) → Determined (λ r. r ≡ numberAnswer (commandTag body p))
   pub nw-command-content : (body : List ℕ) (p : ℕ) → Determined (λ r. r ≡ partAnswer (commandContent body p))
   pub nw-command-clock-year : (body : List ℕ) (p : ℕ) → Determined (λ r. r ≡ numberAnswer (clockYear body p))
@@ -146,3 +171,6 @@ pub record Offered : Type 0 where
   pub nw-command-terminal-count : (body : List ℕ) (p : ℕ) → Determined (λ r. r ≡ numberAnswer (terminalCount body p))
   pub nw-command-terminal : (body : List ℕ) (p i : ℕ) → Determined (λ r. r ≡ partAnswer (terminal body p i))
   pub nw-command-terminal-digit : (body : List ℕ) (p i j : ℕ) → Determined (λ r. r ≡ numberAnswer (terminalDigit body p i j))
+  -- What the commands nw-dates and nw-section call from C: the report and the line of the programs `dates` and `section`.
+  pub nw-dates-report : (input out : List ℕ) → Determined₂ (λ r out′. (r ≡ length (reportOf input)) × (out′ ≡ reportOf input ++ drop r out))
+  pub nw-section-line : (input out : List ℕ) → Determined₂ (λ r out′. (r ≡ length (lineOf input)) × (out′ ≡ lineOf input ++ drop r out))
