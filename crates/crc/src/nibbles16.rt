@@ -1,4 +1,4 @@
-// The table of CRC-16 at a nibble, the low one of x. A key has a fifth bit, as those of `firstword` have a ninth.
+// The table of CRC-16 at a nibble, the low one of x. A key has a fifth bit, as those of `crc_table_first_far` have a ninth.
 ghost use mathlib.Core.Path.{_≡_};
 ghost use Rattle.crc_register.specs.Register.{tableEntry};
 

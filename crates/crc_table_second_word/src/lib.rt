@@ -1,6 +1,6 @@
 // CRC_32's tables at a byte for the last four of eight bytes: table j is for eight bits, the low ones of x, with 8 * j to follow.
 //
-// Keys as in `firstword`. `crc_table_last_bytes` has table 0 once more.
+// Keys as in `crc_table_first_far`. `crc_table_last_bytes` has table 0 once more.
 ghost use mathlib.Core.Path.{_≡_};
 ghost use Rattle.crc_register.specs.Register.{tableEntry};
 
