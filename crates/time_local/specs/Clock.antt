@@ -18,6 +18,8 @@ use Rattle.time_fields.specs.declared.Fielded.the-variants.{Field, Refused as N
 use Rattle.time_fields.specs.Field.{readTime, writeTime}
 use Rattle.time_offset.specs.Offset.{isOffset, toUtc, toLocal, IsLocal}
 use Rattle.time_local.specs.declared.LocalTime.{LocalTime}
+use Rattle.time_local.specs.declared.UtcField.{UtcField}
+use Rattle.time_local.specs.declared.UtcField.the-variants.{Field as Possible, Impossible}
 use Rattle.time_local.specs.declared.Unpacked.{Unpacked}
 use Rattle.time_local.specs.declared.Unpacked.the-variants.{At as LocalAt, Refused as NotUnpacked}
 
@@ -51,6 +53,11 @@ packedAt offset (Refused r) = NotFielded r
 -- "Local to UTC from numbers: 19 (offset), then 20"
 unfoldable pub packOf : LocalTime → ℤ → Fielded
 packOf t offset = cond (isOffset offset) (packedAt offset (localMoment t)) (NotFielded (OutsideSet 0))
+
+-- the answer of packing at an offset of the range: a field, or 20
+unfoldable pub packedAs : UtcField → Fielded
+packedAs (Possible field) = Field field
+packedAs Impossible = NotFielded (ImpossibleDay 0)
 
 -- ---- from UTC
 

@@ -2,8 +2,8 @@
 ghost use mathlib.Core.Path.{_≡_};
 ghost use mathlib.Core.Bool.{true};
 ghost use Prim.Native.Nat.{_<_};
-ghost use Rattle.time_offset.specs.Offset.{toUtc, toLocal};
-ghost use Rattle.time_local.specs.Clock.{isClock, localMoment, written, packOf, dated, unpackOf};
+ghost use Rattle.time_offset.specs.Offset.{isOffset, toUtc, toLocal};
+ghost use Rattle.time_local.specs.Clock.{isClock, localMoment, written, packOf, packedAs, dated, unpackOf};
 ghost use Rattle.time_local.specs.Text.{form, fits, formed, TwoDigits, two, typed, readText};
 use ground_refusal::Refusal;
 use time_days::DateAnswer;
@@ -20,6 +20,13 @@ pub struct LocalTime {
     pub hour: u32,
     pub minute: u32,
     pub second: u32,
+}
+
+// The UTC field of a local time at an offset of the range, or that there is none: 20 is the only refusal there. No refusal
+// stands in it, for a field that shares its bytes with one is written in pieces, and whoever reads it whole has to wait.
+enum UtcField {
+    Field(u64),
+    Impossible,
 }
 
 // What a field says at an offset.
@@ -69,6 +76,20 @@ fn field_at(local: Moment, offset: i32) -> Fielded
     }
 }
 
+// The UTC field of a local time at an offset of the range.
+fn packed(t: LocalTime, offset: i32) -> UtcField
+    requires { ⌜ isOffset offset ≡ true ⌝ }
+    ensures { λ r. ⌜ packedAs r ≡ packOf t offset ⌝ }
+{
+    match local_moment(t) {
+        Timed::At(local) => match field_at(local, offset) {
+            Fielded::Field(field) => UtcField::Field(field),
+            Fielded::Refused(_why) => UtcField::Impossible,
+        },
+        Timed::Refused(_why) => UtcField::Impossible,
+    }
+}
+
 // The UTC field of a local time.
 pub fn pack(t: LocalTime, offset: i32) -> Fielded
     ensures { λ r. ⌜ r ≡ packOf t offset ⌝ }
@@ -76,9 +97,9 @@ pub fn pack(t: LocalTime, offset: i32) -> Fielded
     if !time_offset::permitted(offset) {
         return Fielded::Refused(Refusal::OutsideSet(0));
     }
-    match local_moment(t) {
-        Timed::At(local) => field_at(local, offset),
-        Timed::Refused(r) => Fielded::Refused(r),
+    match packed(t, offset) {
+        UtcField::Field(field) => Fielded::Field(field),
+        UtcField::Impossible => Fielded::Refused(Refusal::ImpossibleDay(0)),
     }
 }
 
