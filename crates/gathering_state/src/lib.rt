@@ -1,7 +1,7 @@
 // The state of a gathering, and the small functions on it and on its store that feeding and handing out rest on.
 use section_reader::Heading;
 ghost use mathlib.Core.Path.{_≡_};
-ghost use Prim.Native.Nat.{_-_, _<_, _≤_};
+ghost use Prim.Native.Nat.{_-_, _<_, _≤_, max};
 ghost use lib.ListN.{length, drop};
 ghost use Rattle.gathering_state.specs.Lists.{greatest, smallestMissing, total, sameBytes};
 ghost use Rattle.gathering_state.specs.State.{freshState, isFresh, isBegun, possibleOf, place, hasRoom, withSection, spoiledState};
@@ -22,20 +22,36 @@ pub struct Gathering {
 
 // ---- leaves on slices: feeding and handing out call those that are public
 
-// The greatest number from index `from` on.
-fn greatest_from(s: &[u16], from: usize) -> u16
-    requires { ⌜ from ≤ length (now s) ⌝ }
-    ensures { λ r. ⌜ r ≡ greatest (drop from (now (s .entry))) ⌝ }
+// What one pass over the held lengths tells.
+struct Survey {
+    // The greatest of all.
+    most: u16,
+    // The greatest of those above the last number.
+    above: u16,
+}
+
+fn larger(a: u16, b: u16) -> u16
+    ensures { λ r. ⌜ r ≡ max a b ⌝ }
+{
+    if a < b { b } else { a }
+}
+
+// One pass over the lengths; the numbers from `beyond` on are those above the last.
+fn survey_of(s: &[u16], beyond: usize) -> Survey
+    ensures { λ r. ⌜ (r .most ≡ greatest (now (s .entry))) × (r .above ≡ greatest (drop beyond (now (s .entry)))) ⌝ }
 {
     let mut most: u16 = 0;
-    let mut i = from;
+    let mut above: u16 = 0;
+    let mut i = 0;
     while i < s.len() {
-        if most < s[i] {
-            most = s[i];
+        let n = s[i];
+        most = larger(most, n);
+        if beyond <= i {
+            above = larger(above, n);
         }
         i += 1;
     }
-    most
+    Survey { most, above }
 }
 
 // The smallest number that is not held: "The search for a missing number stops at the first one found."
@@ -126,7 +142,7 @@ fn is_fresh(g: Gathering) -> bool
     if g.spoiled != 0 {
         return false;
     }
-    if greatest_from(&g.held, 0) != 0 {
+    if survey_of(&g.held, 0).most != 0 {
         return false;
     }
     true
@@ -144,15 +160,14 @@ fn is_begun(g: Gathering) -> bool
     if 1 < g.spoiled {
         return false;
     }
-    let most = greatest_from(&g.held, 0);
-    if most == 0 {
+    let seen = survey_of(&g.held, g.last as usize + 1);
+    if seen.most == 0 {
         return false;
     }
-    if 4085 < most {
+    if 4085 < seen.most {
         return false;
     }
-    let above = g.last as usize + 1;
-    if greatest_from(&g.held, above) != 0 {
+    if seen.above != 0 {
         return false;
     }
     true
