@@ -10,7 +10,9 @@ ghost use Rattle.c_answers.specs.Answers.{feedAnswer, handAnswer};
 pub extern "C" fn nw_gathering_feed(g: &mut Gathering, store: &mut [u8], s: &[u8]) -> u64
     ensures { λ r. ⌜ (r ≡ feedAnswer (fedOf (now (g .entry)) (now (store .entry)) (now (s .entry)) .answer)) × (now (g .exit) ≡ fedOf (now (g .entry)) (now (store .entry)) (now (s .entry)) .state) × (now (store .exit) ≡ storeAfter (now (g .entry)) (now (store .entry)) (now (s .entry))) ⌝ }
 {
-    c_answers::feed_answer(gathering_lent::feed(g, store, s))
+    let fed = gathering_feed::feed_step(*g, store, s);
+    *g = fed.state;
+    c_answers::feed_answer(fed.answer)
 }
 
 // The body is handed out, or the first rule that forbids it is told. The state is only looked at.
@@ -18,5 +20,5 @@ pub extern "C" fn nw_gathering_feed(g: &mut Gathering, store: &mut [u8], s: &[u8
 pub extern "C" fn nw_gathering_hand_out(g: &Gathering, store: &[u8], out: &mut [u8]) -> u64
     ensures { λ r. ⌜ (r ≡ handAnswer (handedOf (now (g .entry)) (now (store .entry)) (now (out .entry)))) × (now (out .exit) ≡ outAfter (now (g .entry)) (now (store .entry)) (now (out .entry))) ⌝ }
 {
-    c_answers::hand_answer(gathering_lent::hand_out(g, store, out))
+    c_answers::hand_answer(gathering_hand_out::hand_out(*g, store, out))
 }
