@@ -20,7 +20,7 @@ static inline size_t whole_value(nw_answer a) { return (size_t)NW_VALUE(a); }
 // Writes a form into so much room. A refusal has no place and changes nothing; bytes after a body stay.
 static inline nw_answer write_form(const struct table *t, const nw_form *f, struct lent *out) {
     nw_answer a = t->write(f->pool, f->pool_bytes, f->tape, f->entries, out->bytes, out->size);
-    must(taken(a) || (NW_REFUSAL(a) <= NW_BODY_TOO_LONG && NW_PLACE(a) == 0));
+    must(taken(a) || (listed(NW_REFUSAL(a)) && NW_PLACE(a) == 0));
     must(kept(out, taken(a) ? t->length(a) : 0));
     return a;
 }

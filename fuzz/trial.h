@@ -101,10 +101,13 @@ static inline void give_back(struct lent *l) {
 
 static inline bool taken(nw_answer a) { return NW_REFUSAL(a) == NW_TAKEN; }
 
+// The header has the list, which may have gaps.
+static inline bool listed(unsigned number) { return strcmp(nw_refusal_text(number), "no such refusal") != 0; }
+
 // A refusal has a number of the list; only 13 to 20 have a place, and it lies in a body of n bytes or at its end.
 static inline void hold_refusal(nw_answer a, size_t n) {
     unsigned number = NW_REFUSAL(a);
-    must(number <= NW_BODY_TOO_LONG);
+    must(listed(number));
     if (number == NW_TAKEN || number == NW_MISSING) return;
     must(number >= NW_PAST_BODY && number <= NW_IMPOSSIBLE_DAY ? NW_PLACE(a) <= n : NW_PLACE(a) == 0);
 }
@@ -112,12 +115,12 @@ static inline void hold_refusal(nw_answer a, size_t n) {
 // A part that was answered lies in the body.
 static inline void hold_part(nw_answer a, size_t n) {
     if (taken(a)) must(NW_PART_START(a) <= n && NW_PART_LENGTH(a) <= n - NW_PART_START(a));
-    else must(NW_REFUSAL(a) <= NW_BODY_TOO_LONG);
+    else must(listed(NW_REFUSAL(a)));
 }
 
 static inline void hold_number(nw_answer a, uint64_t most) {
     if (taken(a)) must(NW_VALUE(a) <= most);
-    else must(NW_REFUSAL(a) <= NW_BODY_TOO_LONG);
+    else must(listed(NW_REFUSAL(a)));
 }
 
 // ---- forms made up from an input: mostly good ones

@@ -66,35 +66,35 @@ enum nw_refusal {
  * this header, tested and not proved. */
 static inline const char *nw_refusal_text(unsigned number)
 {
-    static const char *const texts[] = {
-        "nothing is refused",
-        "the section is shorter than 12 bytes",
-        "the table is of another kind",
-        "a fixed bit of the heading is 0",
-        "section_length is below 9 or above 4,093",
-        "the section is not as long as its section_length says",
-        "the section number is above the last",
-        "the section's CRC_32 is wrong",
-        "the section is not current",
-        "the section belongs to another table",
-        "the store is too short for the table",
-        "two payloads contradict each other under one section number",
-        "the gathering's state is not a possible one",
-        "a section is missing",
-        "the body ends too early",
-        "a field does not fit its part",
-        "bytes are left after the signature",
-        "a reserved bit is wrong",
-        "a decimal digit is above 9",
-        "a value is outside its set",
-        "the day or the time is impossible or out of range",
-        "the output buffer or the record list is too small",
-        "a length, a count or a body is too large",
-        "the extension is not the CRC-16 of the identifier",
-        "the text is not dd/mm/yyyy hh:mm:ss",
-        "the joined body is above 1,045,504 bytes",
-    };
-    return number < sizeof texts / sizeof texts[0] ? texts[number] : "no such refusal";
+    switch (number) {
+    case NW_TAKEN: return "nothing is refused";
+    case NW_SECTION_TOO_SHORT: return "the section is shorter than 12 bytes";
+    case NW_OTHER_KIND: return "the table is of another kind";
+    case NW_FIXED_BIT_ZERO: return "a fixed bit of the heading is 0";
+    case NW_SECTION_LENGTH_OUTSIDE: return "section_length is below 9 or above 4,093";
+    case NW_OTHER_LENGTH: return "the section is not as long as its section_length says";
+    case NW_NUMBER_ABOVE_LAST: return "the section number is above the last";
+    case NW_CHECK_NOT_ZERO: return "the section's CRC_32 is wrong";
+    case NW_NOT_CURRENT: return "the section is not current";
+    case NW_OTHER_HEADING: return "the section belongs to another table";
+    case NW_STORE_TOO_SHORT: return "the store is too short for the table";
+    case NW_CONTRADICTION: return "two payloads contradict each other under one section number";
+    case NW_IMPOSSIBLE_STATE: return "the gathering's state is not a possible one";
+    case NW_MISSING: return "a section is missing";
+    case NW_PAST_BODY: return "the body ends too early";
+    case NW_PAST_PART: return "a field does not fit its part";
+    case NW_LEFT_OVER: return "bytes are left after the signature";
+    case NW_RESERVED_BIT_ZERO: return "a reserved bit is wrong";
+    case NW_DIGIT_ABOVE_NINE: return "a decimal digit is above 9";
+    case NW_OUTSIDE_SET: return "a value is outside its set";
+    case NW_IMPOSSIBLE_DAY: return "the day or the time is impossible or out of range";
+    case NW_OUTPUT_TOO_SMALL: return "the output buffer or the record list is too small";
+    case NW_TOO_LARGE: return "a length, a count or a body is too large";
+    case NW_OTHER_CHECKSUM: return "the extension is not the CRC-16 of the identifier";
+    case NW_NOT_OF_THE_FORM: return "the text is not dd/mm/yyyy hh:mm:ss";
+    case NW_BODY_TOO_LONG: return "the joined body is above 1,045,504 bytes";
+    default: return "no such refusal";
+    }
 }
 
 /* ---- Checksums --------------------------------------------------------------------------------

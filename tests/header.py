@@ -106,6 +106,9 @@ def source_refusals():
     """Each case of the enum and its number, the name as the header writes it."""
     source = read('crates', 'ground_refusal', 'src', 'lib.rt')
     arms = re.findall(r'Refusal::(\w+)(?:\(\w+\))? => (\d+),', source[source.index('fn number('):source.index('fn place(')])
+    cases = re.findall(r'^    (\w+)(?:\(usize\))?,$', source[source.index('pub enum Refusal'):source.index('fn number(')], flags=re.M)
+    if [case for case, _ in arms] != cases:
+        sys.exit('not every case of the enum has a number')
     return {'NW' + re.sub(r'([A-Z])', r'_\1', case).upper(): int(number) for case, number in arms}
 
 
@@ -145,7 +148,7 @@ def main():
                 wrong += 1
                 print('%s %s: the source has %s, the header %s' % (what, name, source.get(name), declared.get(name)))
         print('%d of kind %s in the source' % (len(source), what))
-    if wrong or len(pairs[0][1]) < 14 or len(pairs[1][1]) != 25 or not all(source for _, source, _ in pairs):
+    if wrong or len(pairs[0][1]) < 14 or not all(source for _, source, _ in pairs):
         sys.exit('%d differ' % wrong)
     print('the headers declare them as they are')
 

@@ -10,7 +10,7 @@
 
 #include "whole.h"
 
-enum { REFUSALS = 26 };
+enum { REFUSALS = 64 };  // room for each number, whichever the list has
 
 #define NAMED(name, refusals) {#name, refusals},
 static const struct { const char *name, *refusals; } functions[] = {FUNCTIONS(NAMED)};

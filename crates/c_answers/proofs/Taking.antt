@@ -6,7 +6,6 @@ use mathlib.Core.List.{List, [], _∷_}
 use native.Mathlib.Omega.{arith}
 use native.Mathlib.Nat.{mod-eq-of-lt, pow-le-pow-right, lt-of-lt-of-le}
 use lib.ListN.{length, getD, drop}
-use Rattle.ground_refusal.specs.Answers.{answerOf, refusedOf}
 use Rattle.ground_refusal.specs.declared.Refusal.{Refusal}
 use Rattle.ground_refusal.proofs.Numbers.{number-most}
 use Rattle.crc.specs.Crc.{digit}
@@ -18,7 +17,7 @@ use Rattle.section_reader.specs.Section.{WellFormed}
 use Rattle.section_reader.specs.declared.Heading.{Heading}
 use Rattle.body_formats.specs.Body.{longest}
 use Rattle.c_answers.specs.Packing.{widths, packed}
-use Rattle.c_answers.specs.Answers.{dateFields, timeFields, headingFields}
+use Rattle.c_answers.specs.Answers.{answerOf, refusedOf, dateFields, timeFields, headingFields}
 use Rattle.c_answers.specs.Taking.{aboveTold, fieldTold, TellsRefusal, TellsValue, TellsDate, TellsTime, TellsHeading, TellsPart, TellsContent}
 use Rattle.c_answers.proofs.Packing.{packed-below, first-back, field-back}
 

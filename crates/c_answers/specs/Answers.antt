@@ -1,9 +1,10 @@
 -- What a reader has to believe of the answers to C: which value each answer of the library becomes; a refusal is always `refusedOf`.
 use mathlib.Core.Bool.{cond}
 use mathlib.Core.List.{List, [], _∷_}
-use Prim.Native.Nat.{ℕ}
+use Prim.Native.Nat.{ℕ, _+_, _*_, _%_, _^_}
 use lib.IntN.{ℤ}
-use Rattle.ground_refusal.specs.Answers.{answerOf, refusedOf}
+use Rattle.ground_refusal.specs.Numbers.{refusalNumber, refusalPlace}
+use Rattle.ground_refusal.specs.declared.Refusal.{Refusal}
 use Rattle.ground_refusal.specs.declared.Refusal.the-variants.{OutsideSet}
 use Rattle.crc.specs.Crc.{digit}
 use Rattle.time_days.specs.declared.Date.{Date}
@@ -42,6 +43,15 @@ use Rattle.gathering_feed.specs.declared.Answer.the-variants as fed
 use Rattle.gathering_hand_out.specs.declared.Handed.{Handed}
 use Rattle.gathering_hand_out.specs.declared.Handed.the-variants as handed
 use Rattle.c_answers.specs.Packing.{packed}
+
+-- ---- one number
+
+-- the refusal's number in the low byte, 0 for none, and above it the 56 low bits of the place or the value
+abbrev pub answerOf : ℕ → ℕ → ℕ
+answerOf number above = number + 256 * (above % 2 ^ 56)
+
+abbrev pub refusedOf : Refusal → ℕ
+refusedOf r = answerOf (refusalNumber r) (refusalPlace r)
 
 -- ---- days
 

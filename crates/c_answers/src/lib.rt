@@ -22,14 +22,31 @@ ghost use mathlib.Core.Path.{_≡_};
 ghost use Prim.Native.Nat.{_≤_};
 ghost use Rattle.crc.specs.Crc.{digit};
 ghost use Rattle.c_answers.specs.Packing.{packed};
-ghost use Rattle.c_answers.specs.Answers.{dayAnswer, dateFields, dateAnswer, weekdayAnswer, fieldAnswer, timeFields, localAnswer, showingAnswer, headingFields, sectionAnswer, countAnswer, lengthAnswer, feedAnswer, handAnswer, readAnswer, numberAnswer, partAnswer, writtenAnswer, contentAnswer, localFieldAnswer};
+ghost use Rattle.c_answers.specs.Answers.{answerOf, refusedOf, dayAnswer, dateFields, dateAnswer, weekdayAnswer, fieldAnswer, timeFields, localAnswer, showingAnswer, headingFields, sectionAnswer, countAnswer, lengthAnswer, feedAnswer, handAnswer, readAnswer, numberAnswer, partAnswer, writtenAnswer, contentAnswer, localFieldAnswer};
+
+// What an answer holds above its low byte: 56 bits.
+const ABOVE: u64 = 0x0100_0000_0000_0000;
+
+// A refusal as C is told of it.
+fn refused(r: Refusal) -> u64
+    ensures { λ a. ⌜ a ≡ refusedOf r ⌝ }
+{
+    (ground_refusal::number(r) as u64) + 256 * ((ground_refusal::place(r) as u64) % ABOVE)
+}
+
+// A value as C is told of it: no refusal, and the value above the low byte.
+fn answered(value: u64) -> u64
+    ensures { λ a. ⌜ a ≡ answerOf 0 value ⌝ }
+{
+    256 * (value % ABOVE)
+}
 
 pub fn day_answer(a: DayAnswer) -> u64
     ensures { λ r. ⌜ r ≡ dayAnswer a ⌝ }
 {
     match a {
-        DayAnswer::Day(n) => ground_refusal::answered(n as u64),
-        DayAnswer::Refused(why) => ground_refusal::refused(why),
+        DayAnswer::Day(n) => answered(n as u64),
+        DayAnswer::Refused(why) => refused(why),
     }
 }
 
@@ -44,8 +61,8 @@ pub fn date_answer(a: DateAnswer) -> u64
     ensures { λ r. ⌜ r ≡ dateAnswer a ⌝ }
 {
     match a {
-        DateAnswer::On(d) => ground_refusal::answered(packed_date(d)),
-        DateAnswer::Refused(why) => ground_refusal::refused(why),
+        DateAnswer::On(d) => answered(packed_date(d)),
+        DateAnswer::Refused(why) => refused(why),
     }
 }
 
@@ -53,8 +70,8 @@ pub fn weekday_answer(a: WeekdayAnswer) -> u64
     ensures { λ r. ⌜ r ≡ weekdayAnswer a ⌝ }
 {
     match a {
-        WeekdayAnswer::Weekday(w) => ground_refusal::answered(w as u64),
-        WeekdayAnswer::Refused(why) => ground_refusal::refused(why),
+        WeekdayAnswer::Weekday(w) => answered(w as u64),
+        WeekdayAnswer::Refused(why) => refused(why),
     }
 }
 
@@ -62,8 +79,8 @@ pub fn field_answer(f: Fielded) -> u64
     ensures { λ r. ⌜ r ≡ fieldAnswer f ⌝ }
 {
     match f {
-        Fielded::Field(field) => ground_refusal::answered(field),
-        Fielded::Refused(why) => ground_refusal::refused(why),
+        Fielded::Field(field) => answered(field),
+        Fielded::Refused(why) => refused(why),
     }
 }
 
@@ -83,8 +100,8 @@ pub fn local_answer(a: Unpacked) -> u64
     ensures { λ r. ⌜ r ≡ localAnswer a ⌝ }
 {
     match a {
-        Unpacked::At(t) => ground_refusal::answered(packed_time(t)),
-        Unpacked::Refused(why) => ground_refusal::refused(why),
+        Unpacked::At(t) => answered(packed_time(t)),
+        Unpacked::Refused(why) => refused(why),
     }
 }
 
@@ -92,10 +109,10 @@ pub fn showing_answer(a: Showing) -> u64
     ensures { λ r. ⌜ r ≡ showingAnswer a ⌝ }
 {
     match a {
-        Showing::Before => ground_refusal::answered(0),
-        Showing::On => ground_refusal::answered(1),
-        Showing::Ended => ground_refusal::answered(2),
-        Showing::Refused(why) => ground_refusal::refused(why),
+        Showing::Before => answered(0),
+        Showing::On => answered(1),
+        Showing::Ended => answered(2),
+        Showing::Refused(why) => refused(why),
     }
 }
 
@@ -121,8 +138,8 @@ pub fn section_answer(a: Sectioned) -> u64
     ensures { λ r. ⌜ r ≡ sectionAnswer a ⌝ }
 {
     match a {
-        Sectioned::Good(h, _length) => ground_refusal::answered(packed_heading(h)),
-        Sectioned::Refused(why) => ground_refusal::refused(why),
+        Sectioned::Good(h, _length) => answered(packed_heading(h)),
+        Sectioned::Refused(why) => refused(why),
     }
 }
 
@@ -130,8 +147,8 @@ pub fn count_answer(a: Counted) -> u64
     ensures { λ r. ⌜ r ≡ countAnswer a ⌝ }
 {
     match a {
-        Counted::Sections(count) => ground_refusal::answered(count as u64),
-        Counted::Refused(why) => ground_refusal::refused(why),
+        Counted::Sections(count) => answered(count as u64),
+        Counted::Refused(why) => refused(why),
     }
 }
 
@@ -139,8 +156,8 @@ pub fn length_answer(a: Cut) -> u64
     ensures { λ r. ⌜ r ≡ lengthAnswer a ⌝ }
 {
     match a {
-        Cut::Written(length) => ground_refusal::answered(length as u64),
-        Cut::Refused(why) => ground_refusal::refused(why),
+        Cut::Written(length) => answered(length as u64),
+        Cut::Refused(why) => refused(why),
     }
 }
 
@@ -148,9 +165,9 @@ pub fn feed_answer(a: Answer) -> u64
     ensures { λ r. ⌜ r ≡ feedAnswer a ⌝ }
 {
     match a {
-        Answer::Taken => ground_refusal::answered(0),
-        Answer::HeldAlready => ground_refusal::answered(1),
-        Answer::Refused(why) => ground_refusal::refused(why),
+        Answer::Taken => answered(0),
+        Answer::HeldAlready => answered(1),
+        Answer::Refused(why) => refused(why),
     }
 }
 
@@ -158,8 +175,8 @@ pub fn hand_answer(h: Handed) -> u64
     ensures { λ r. ⌜ r ≡ handAnswer h ⌝ }
 {
     match h {
-        Handed::Body(n) => ground_refusal::answered(n as u64),
-        Handed::Refused(why) => ground_refusal::refused(why),
+        Handed::Body(n) => answered(n as u64),
+        Handed::Refused(why) => refused(why),
     }
 }
 
@@ -168,8 +185,8 @@ pub fn read_answer(s: Step) -> u64
     ensures { λ r. ⌜ r ≡ readAnswer s ⌝ }
 {
     match s {
-        Step::At(_end) => ground_refusal::answered(0),
-        Step::Refused(why) => ground_refusal::refused(why),
+        Step::At(_end) => answered(0),
+        Step::Refused(why) => refused(why),
     }
 }
 
@@ -177,8 +194,8 @@ pub fn number_answer(n: Number) -> u64
     ensures { λ r. ⌜ r ≡ numberAnswer n ⌝ }
 {
     match n {
-        Number::Is(x, _after) => ground_refusal::answered(x),
-        Number::Refused(why) => ground_refusal::refused(why),
+        Number::Is(x, _after) => answered(x),
+        Number::Refused(why) => refused(why),
     }
 }
 
@@ -188,11 +205,9 @@ pub fn part_answer(p: Part) -> u64
 {
     match p {
         Part::Of(start, length) => {
-            ground_refusal::answered(
-                (start as u64) % 0x1_0000_0000 * 0x100_0000 + (length as u64) % 0x100_0000,
-            )
+            answered((start as u64) % 0x1_0000_0000 * 0x100_0000 + (length as u64) % 0x100_0000)
         }
-        Part::Refused(why) => ground_refusal::refused(why),
+        Part::Refused(why) => refused(why),
     }
 }
 
@@ -201,8 +216,8 @@ pub fn written_answer(s: Step) -> u64
     ensures { λ r. ⌜ r ≡ writtenAnswer s ⌝ }
 {
     match s {
-        Step::At(end) => ground_refusal::answered(end as u64),
-        Step::Refused(why) => ground_refusal::refused(why),
+        Step::At(end) => answered(end as u64),
+        Step::Refused(why) => refused(why),
     }
 }
 
@@ -212,11 +227,9 @@ pub fn content_answer(a: Written) -> u64
 {
     match a {
         Written::Of(length, extension) => {
-            ground_refusal::answered(
-                (extension as u64) % 0x1_0000 * 0x100_0000 + (length as u64) % 0x100_0000,
-            )
+            answered((extension as u64) % 0x1_0000 * 0x100_0000 + (length as u64) % 0x100_0000)
         }
-        Written::Refused(why) => ground_refusal::refused(why),
+        Written::Refused(why) => refused(why),
     }
 }
 
@@ -225,10 +238,10 @@ pub fn local_field_answer(field: Number, offset: i32) -> u64
     ensures { λ r. ⌜ r ≡ localFieldAnswer offset field ⌝ }
 {
     if !time_offset::permitted(offset) {
-        return ground_refusal::refused(Refusal::OutsideSet(0));
+        return refused(Refusal::OutsideSet(0));
     }
     match field {
         Number::Is(f, _after) => local_answer(time_local::unpack(f, offset)),
-        Number::Refused(why) => ground_refusal::refused(why),
+        Number::Refused(why) => refused(why),
     }
 }

@@ -1,34 +1,72 @@
--- Laws of the refusals' numbers.
-use Prim.Native.Nat.{_<_}
+-- Laws of the refusals' numbers: each is one of the list's, and with a place it tells the refusal, whichever numbers the list has.
+use Prim.Native.Nat.{ℕ, _<_}
+use mathlib.Core.Path.{_≡_, refl, sym, ap₂, _∙_}
+use mathlib.Core.Bool.{true, cond}
+use mathlib.Core.List.{List, [], _∷_}
 use native.Mathlib.Omega.{arith}
-use Rattle.ground_refusal.specs.Numbers.{refusalNumber}
+use lib.Dec.{eqb}
+use Rattle.ground_refusal.specs.Numbers.{refusalNumber, isNumber, refusalPlace}
 use Rattle.ground_refusal.specs.declared.Refusal.{Refusal}
 use Rattle.ground_refusal.specs.declared.Refusal.the-variants.{SectionTooShort, OtherKind, FixedBitZero, SectionLengthOutside, OtherLength, NumberAboveLast, CheckNotZero, NotCurrent, OtherHeading, StoreTooShort, Contradiction, ImpossibleState, Missing, PastBody, PastPart, LeftOver, ReservedBitZero, DigitAboveNine, OutsideSet, ImpossibleDay, OutputTooSmall, TooLarge, OtherChecksum, NotOfTheForm, BodyTooLong}
 
+-- each number beside its refusal, at a place
+abbrev beside : ℕ → List (ℕ × Refusal)
+beside at =
+    (1, SectionTooShort) ∷ (2, OtherKind) ∷ (3, FixedBitZero) ∷ (4, SectionLengthOutside) ∷ (5, OtherLength)
+    ∷ (6, NumberAboveLast) ∷ (7, CheckNotZero) ∷ (8, NotCurrent) ∷ (9, OtherHeading) ∷ (10, StoreTooShort) ∷ (11, Contradiction)
+    ∷ (12, ImpossibleState) ∷ (13, Missing at) ∷ (14, PastBody at) ∷ (15, PastPart at) ∷ (16, LeftOver at)
+    ∷ (17, ReservedBitZero at) ∷ (18, DigitAboveNine at) ∷ (19, OutsideSet at) ∷ (20, ImpossibleDay at) ∷ (21, OutputTooSmall)
+    ∷ (22, TooLarge) ∷ (23, OtherChecksum) ∷ (24, NotOfTheForm) ∷ (25, BodyTooLong) ∷ []
+
+-- what stands beside a number; any refusal where nothing does
+abbrev found : ℕ → List (ℕ × Refusal) → Refusal
+found n [] = SectionTooShort
+found n (l ∷ ls) = cond (eqb n (l .0)) (l .1) (found n ls)
+
+-- the refusal that a number and a place tell
+abbrev refusalOf : ℕ → ℕ → Refusal
+refusalOf number at = found number (beside at)
+
+record Known (r : Refusal) : Type 0 where
+  pub listed : isNumber (refusalNumber r) ≡ true
+  -- one or two decimal digits
+  pub most : refusalNumber r < 100
+  pub back : refusalOf (refusalNumber r) (refusalPlace r) ≡ r
+
+known : (r : Refusal) → Known r
+known SectionTooShort = record { listed = refl; most = omega arith; back = refl }
+known OtherKind = record { listed = refl; most = omega arith; back = refl }
+known FixedBitZero = record { listed = refl; most = omega arith; back = refl }
+known SectionLengthOutside = record { listed = refl; most = omega arith; back = refl }
+known OtherLength = record { listed = refl; most = omega arith; back = refl }
+known NumberAboveLast = record { listed = refl; most = omega arith; back = refl }
+known CheckNotZero = record { listed = refl; most = omega arith; back = refl }
+known NotCurrent = record { listed = refl; most = omega arith; back = refl }
+known OtherHeading = record { listed = refl; most = omega arith; back = refl }
+known StoreTooShort = record { listed = refl; most = omega arith; back = refl }
+known Contradiction = record { listed = refl; most = omega arith; back = refl }
+known ImpossibleState = record { listed = refl; most = omega arith; back = refl }
+known (Missing at) = record { listed = refl; most = omega arith; back = refl }
+known (PastBody at) = record { listed = refl; most = omega arith; back = refl }
+known (PastPart at) = record { listed = refl; most = omega arith; back = refl }
+known (LeftOver at) = record { listed = refl; most = omega arith; back = refl }
+known (ReservedBitZero at) = record { listed = refl; most = omega arith; back = refl }
+known (DigitAboveNine at) = record { listed = refl; most = omega arith; back = refl }
+known (OutsideSet at) = record { listed = refl; most = omega arith; back = refl }
+known (ImpossibleDay at) = record { listed = refl; most = omega arith; back = refl }
+known OutputTooSmall = record { listed = refl; most = omega arith; back = refl }
+known TooLarge = record { listed = refl; most = omega arith; back = refl }
+known OtherChecksum = record { listed = refl; most = omega arith; back = refl }
+known NotOfTheForm = record { listed = refl; most = omega arith; back = refl }
+known BodyTooLong = record { listed = refl; most = omega arith; back = refl }
+
+pub number-listed : (r : Refusal) → isNumber (refusalNumber r) ≡ true
+number-listed r = known r .listed
+
 -- a number has one or two decimal digits
 pub number-most : (r : Refusal) → refusalNumber r < 100
-number-most SectionTooShort = omega arith
-number-most OtherKind = omega arith
-number-most FixedBitZero = omega arith
-number-most SectionLengthOutside = omega arith
-number-most OtherLength = omega arith
-number-most NumberAboveLast = omega arith
-number-most CheckNotZero = omega arith
-number-most NotCurrent = omega arith
-number-most OtherHeading = omega arith
-number-most StoreTooShort = omega arith
-number-most Contradiction = omega arith
-number-most ImpossibleState = omega arith
-number-most (Missing at) = omega arith
-number-most (PastBody at) = omega arith
-number-most (PastPart at) = omega arith
-number-most (LeftOver at) = omega arith
-number-most (ReservedBitZero at) = omega arith
-number-most (DigitAboveNine at) = omega arith
-number-most (OutsideSet at) = omega arith
-number-most (ImpossibleDay at) = omega arith
-number-most OutputTooSmall = omega arith
-number-most TooLarge = omega arith
-number-most OtherChecksum = omega arith
-number-most NotOfTheForm = omega arith
-number-most BodyTooLong = omega arith
+number-most r = known r .most
+
+-- a number and a place say which refusal it is
+pub one-refusal : (r r′ : Refusal) → refusalNumber r ≡ refusalNumber r′ → refusalPlace r ≡ refusalPlace r′ → r ≡ r′
+one-refusal r r′ n p = sym (known r .back) ∙ ap₂ refusalOf n p ∙ known r′ .back

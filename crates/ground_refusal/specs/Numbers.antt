@@ -1,5 +1,7 @@
 -- What a reader has to believe of refusals: document 01's number for each case, and its place.
 use Prim.Native.Nat.{ℕ}
+use mathlib.Core.Bool.{Bool, _&&_}
+use lib.Dec.{leb}
 use Rattle.ground_refusal.specs.declared.Refusal.{Refusal}
 use Rattle.ground_refusal.specs.declared.Refusal.the-variants.{SectionTooShort, OtherKind, FixedBitZero, SectionLengthOutside, OtherLength, NumberAboveLast, CheckNotZero, NotCurrent, OtherHeading, StoreTooShort, Contradiction, ImpossibleState, Missing, PastBody, PastPart, LeftOver, ReservedBitZero, DigitAboveNine, OutsideSet, ImpossibleDay, OutputTooSmall, TooLarge, OtherChecksum, NotOfTheForm, BodyTooLong}
 
@@ -30,6 +32,10 @@ refusalNumber TooLarge = 22
 refusalNumber OtherChecksum = 23
 refusalNumber NotOfTheForm = 24
 refusalNumber BodyTooLong = 25
+
+-- the numbers that the list has; it may have gaps
+abbrev pub isNumber : ℕ → Bool
+isNumber n = leb 1 n && leb n 25
 
 -- "A refusal returns its number and a place": the place is 0 where the list gives none
 abbrev pub refusalPlace : Refusal → ℕ

@@ -1,7 +1,6 @@
 // The refusals of document 01: a named case for each of its numbers, and the number and place that each is told by.
 ghost use mathlib.Core.Path.{_≡_};
 ghost use Rattle.ground_refusal.specs.Numbers.{refusalNumber, refusalPlace};
-ghost use Rattle.ground_refusal.specs.Answers.{answerOf, refusedOf};
 
 // One case for each number of the list. A case holds a place where the list gives one.
 pub enum Refusal {
@@ -121,21 +120,4 @@ pub fn place(r: Refusal) -> usize
         Refusal::NotOfTheForm => 0,
         Refusal::BodyTooLong => 0,
     }
-}
-
-// What an answer to C holds above its low byte: 56 bits.
-const ABOVE: u64 = 0x0100_0000_0000_0000;
-
-// A refusal as the C side is told of it.
-pub fn refused(r: Refusal) -> u64
-    ensures { λ a. ⌜ a ≡ refusedOf r ⌝ }
-{
-    (number(r) as u64) + 256 * ((place(r) as u64) % ABOVE)
-}
-
-// A value as the C side is told of it: no refusal, and the value above the low byte.
-pub fn answered(value: u64) -> u64
-    ensures { λ a. ⌜ a ≡ answerOf 0 value ⌝ }
-{
-    256 * (value % ABOVE)
 }

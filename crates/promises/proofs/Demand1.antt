@@ -4,12 +4,13 @@ use mathlib.Core.Path.{_≡_, refl, sym, ap, ap₂, _∙_}
 use mathlib.Core.Bool.{Bool, true, false}
 use mathlib.Core.List.{List, [], _∷_}
 use native.Mathlib.Omega.{arith}
-use lib.ListN.{length, getD}
+use lib.ListN.{length}
 use lib.Dec.{eqb}
 use borrow.Author.Tests.{eqb-false}
-use Rattle.ground_refusal.specs.Numbers.{refusalNumber, refusalPlace}
+use Rattle.ground_refusal.specs.Numbers.{refusalNumber}
 use Rattle.ground_refusal.specs.declared.Refusal.{Refusal}
-use Rattle.ground_refusal.specs.declared.Refusal.the-variants.{SectionTooShort, OtherKind, FixedBitZero, SectionLengthOutside, OtherLength, NumberAboveLast, CheckNotZero, NotCurrent, OtherHeading, StoreTooShort, Contradiction, ImpossibleState, Missing, PastBody, PastPart, LeftOver, ReservedBitZero, DigitAboveNine, OutsideSet, ImpossibleDay, OutputTooSmall, TooLarge, OtherChecksum, NotOfTheForm, BodyTooLong}
+use Rattle.ground_refusal.specs.declared.Refusal.the-variants.{SectionTooShort, OtherKind, FixedBitZero, SectionLengthOutside, OtherLength, NumberAboveLast, CheckNotZero, NotCurrent, OtherHeading, StoreTooShort, Contradiction, ImpossibleState}
+use Rattle.ground_refusal.proofs.Numbers.{number-listed, one-refusal}
 use Rattle.section_reader.specs.Section.{payloadOf, readSection}
 use Rattle.section_cutter.specs.Cutting as cutter
 use Rattle.section_cutter.specs.declared.Cut.the-variants.{Refused as NotCut}
@@ -43,57 +44,8 @@ use Rattle.promises.proofs.Told.{told}
 use Rattle.promises.specs.Demand1.{Numbered, WritesNothing, OnlySpoils, Demand1}
 use Rattle.promises.proofs.Lists.{given-exactly}
 
--- ---- numbers
-
--- the refusals in the order of the list, each at the place
-abbrev listAt : ℕ → List Refusal
-listAt at =
-    SectionTooShort ∷ OtherKind ∷ FixedBitZero ∷ SectionLengthOutside ∷ OtherLength ∷ NumberAboveLast ∷ CheckNotZero ∷ NotCurrent ∷ OtherHeading ∷ StoreTooShort
-    ∷ Contradiction ∷ ImpossibleState ∷ Missing at ∷ PastBody at ∷ PastPart at ∷ LeftOver at ∷ ReservedBitZero at ∷ DigitAboveNine at ∷ OutsideSet at
-    ∷ ImpossibleDay at ∷ OutputTooSmall ∷ TooLarge ∷ OtherChecksum ∷ NotOfTheForm ∷ BodyTooLong ∷ []
-
--- the number counts from 1
-abbrev refusalOf : ℕ → ℕ → Refusal
-refusalOf number at = getD (BodyTooLong ∷ listAt at) number BodyTooLong
-
-pub record Listed (r : Refusal) : Type 0 where
-  pub from : 1 ≤ refusalNumber r
-  pub until : refusalNumber r ≤ 25
-  pub is : refusalOf (refusalNumber r) (refusalPlace r) ≡ r
-
-listed : (r : Refusal) → Listed r
-listed SectionTooShort = record { from = omega arith; until = omega arith; is = refl }
-listed OtherKind = record { from = omega arith; until = omega arith; is = refl }
-listed FixedBitZero = record { from = omega arith; until = omega arith; is = refl }
-listed SectionLengthOutside = record { from = omega arith; until = omega arith; is = refl }
-listed OtherLength = record { from = omega arith; until = omega arith; is = refl }
-listed NumberAboveLast = record { from = omega arith; until = omega arith; is = refl }
-listed CheckNotZero = record { from = omega arith; until = omega arith; is = refl }
-listed NotCurrent = record { from = omega arith; until = omega arith; is = refl }
-listed OtherHeading = record { from = omega arith; until = omega arith; is = refl }
-listed StoreTooShort = record { from = omega arith; until = omega arith; is = refl }
-listed Contradiction = record { from = omega arith; until = omega arith; is = refl }
-listed ImpossibleState = record { from = omega arith; until = omega arith; is = refl }
-listed (Missing at) = record { from = omega arith; until = omega arith; is = refl }
-listed (PastBody at) = record { from = omega arith; until = omega arith; is = refl }
-listed (PastPart at) = record { from = omega arith; until = omega arith; is = refl }
-listed (LeftOver at) = record { from = omega arith; until = omega arith; is = refl }
-listed (ReservedBitZero at) = record { from = omega arith; until = omega arith; is = refl }
-listed (DigitAboveNine at) = record { from = omega arith; until = omega arith; is = refl }
-listed (OutsideSet at) = record { from = omega arith; until = omega arith; is = refl }
-listed (ImpossibleDay at) = record { from = omega arith; until = omega arith; is = refl }
-listed OutputTooSmall = record { from = omega arith; until = omega arith; is = refl }
-listed TooLarge = record { from = omega arith; until = omega arith; is = refl }
-listed OtherChecksum = record { from = omega arith; until = omega arith; is = refl }
-listed NotOfTheForm = record { from = omega arith; until = omega arith; is = refl }
-listed BodyTooLong = record { from = omega arith; until = omega arith; is = refl }
-
 numbered : Numbered
-numbered =
-    record {
-      in-the-list = λ r. (listed r .from, listed r .until);
-      one-refusal = λ r r′ n p. sym (listed r .is) ∙ ap₂ refusalOf n p ∙ listed r′ .is;
-    }
+numbered = record { in-the-list = number-listed; one-refusal = one-refusal }
 
 -- ---- what refuses writes nothing
 

@@ -10,7 +10,6 @@ use lib.Dec.{leb, ltb}
 use lib.IntN.{ℤ}
 use borrow.Author.Tests.{leb-true, ltb-false}
 use Rattle.ground_choices.specs.Choice.{if_then_else_}
-use Rattle.ground_refusal.specs.Answers.{answerOf}
 use Rattle.ground_refusal.specs.declared.Refusal.{Refusal}
 use Rattle.ground_refusal.specs.declared.Refusal.the-variants.{OutsideSet, OutputTooSmall, TooLarge, BodyTooLong}
 use Rattle.crc_register.proofs.Laws.{crc-lt}
@@ -61,7 +60,7 @@ use Rattle.index_records.specs.Records.{recording, bodyRecorded}
 use Rattle.content.specs.Content.{Content, content, extensionOf}
 use Rattle.content_writer.specs.Written.{writtenOf, contentWritten}
 use Rattle.content_writer.specs.declared.Written.the-variants.{Of as WrittenOf}
-use Rattle.c_answers.specs.Answers.{localAnswer, sectionAnswer, contentAnswer, localFieldAnswer}
+use Rattle.c_answers.specs.Answers.{answerOf, localAnswer, sectionAnswer, contentAnswer, localFieldAnswer}
 use Rattle.c_answers.specs.Taking.{TellsValue, TellsTime, TellsHeading, TellsContent}
 use Rattle.c_answers.proofs.Taking.{refusal-told, value-told, date-told, time-told, heading-told, part-told, content-told}
 use Rattle.promises.specs.Told.{RefusalsTold, Told}

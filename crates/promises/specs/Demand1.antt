@@ -1,9 +1,10 @@
 -- Demand 1, sentence by sentence: nothing faults, each refusal has one number, and a refused call writes nothing.
-use Prim.Native.Nat.{ℕ, _≤_}
+use Prim.Native.Nat.{ℕ}
 use mathlib.Core.Path.{_≡_}
+use mathlib.Core.Bool.{true}
 use mathlib.Core.List.{List}
 use lib.ListN.{length}
-use Rattle.ground_refusal.specs.Numbers.{refusalNumber, refusalPlace}
+use Rattle.ground_refusal.specs.Numbers.{refusalNumber, isNumber, refusalPlace}
 use Rattle.ground_refusal.specs.declared.Refusal.{Refusal}
 use Rattle.ground_refusal.specs.declared.Refusal.the-variants.{Contradiction}
 use Rattle.section_cutter.specs.Cutting.{cutAnswer, cutOutput}
@@ -32,7 +33,7 @@ use Rattle.promises.specs.Told.{Told}
 
 -- "Each refusal has one number of document 01's list [..]"
 pub record Numbered : Type 0 where
-  pub in-the-list : (r : Refusal) → (1 ≤ refusalNumber r) × (refusalNumber r ≤ 25)
+  pub in-the-list : (r : Refusal) → isNumber (refusalNumber r) ≡ true
   -- a number and a place say which refusal it is
   pub one-refusal : (r r′ : Refusal) → refusalNumber r ≡ refusalNumber r′ → refusalPlace r ≡ refusalPlace r′ → r ≡ r′
 

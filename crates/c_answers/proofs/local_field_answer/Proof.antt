@@ -5,13 +5,12 @@ use lib.IntN.{ℤ}
 use mir.Facts.{toZ-ofZ}
 use borrow.Author.Needs.{needs}
 use borrow.Author.Tests.{not-true, not-false}
-use Rattle.ground_refusal.specs.Answers.{refusedOf}
 use Rattle.ground_refusal.specs.declared.Refusal.the-variants.{OutsideSet}
 use Rattle.body_formats.specs.declared.Number.{Number}
 use Rattle.time_offset.specs.Offset.{isOffset}
 use Rattle.time_offset.proofs.Moving.{offset-tested}
 use Rattle.time_local.specs.Clock.{unpackOf}
-use Rattle.c_answers.specs.Answers.{localAnswer, localOrRefused, localFieldAnswer}
+use Rattle.c_answers.specs.Answers.{refusedOf, localAnswer, localOrRefused, localFieldAnswer}
 use Rattle.c_answers.proofs.local_field_answer.Statement.{statement}
 use Rattle.c_answers.proofs.local_field_answer.Tie as tie
 

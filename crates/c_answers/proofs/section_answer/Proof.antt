@@ -1,8 +1,7 @@
 -- `c_answers::section_answer` meets its contract: in either arm the answer is the arm's case, and is packed as that case is.
 use mathlib.Core.Path.{sym, ap, _∙_}
 use borrow.Author.Needs.{needs}
-use Rattle.ground_refusal.specs.Answers.{answerOf}
-use Rattle.c_answers.specs.Answers.{sectionAnswer}
+use Rattle.c_answers.specs.Answers.{answerOf, sectionAnswer}
 use Rattle.c_answers.proofs.section_answer.Statement.{statement}
 use Rattle.c_answers.proofs.section_answer.Tie as tie
 
