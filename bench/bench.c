@@ -41,52 +41,75 @@ struct operation {
     size_t sizes[MOST_SIZES];
 };
 
+// ---- the library's functions that are called through a pointer, as plain C has them: an answer is its 64 bits
+
+#define PACKED(name, parameters, ...)                                                                                \
+    static plain_answer packed_##name parameters { return nw_##name(__VA_ARGS__).packed; }
+#define OF_BODY(name) PACKED(name, (const uint8_t *body, size_t n), body, n)
+#define COUNTED_IN_BODY(name) PACKED(name, (const uint8_t *body, size_t n, uint64_t i), body, n, i)
+#define OF_PART(name) PACKED(name, (const uint8_t *body, size_t n, size_t at, size_t length), body, n, at, length)
+#define COUNTED_IN_PART(name)                                                                                        \
+    PACKED(name, (const uint8_t *body, size_t n, size_t at, size_t length, uint64_t i), body, n, at, length, i)
+#define OF_COMMAND(name) PACKED(name, (const uint8_t *body, size_t n, size_t p), body, n, p)
+#define COUNTED_IN_COMMAND(name) PACKED(name, (const uint8_t *body, size_t n, size_t p, uint64_t i), body, n, p, i)
+
 // ---- CRC_32, and a section read
 
 static uint64_t crc32_library(const uint8_t *s, size_t n) { return nw_crc32(s, n); }
 static uint64_t crc32_byte_table(const uint8_t *s, size_t n) { return plain_crc32_byte_table(s, n); }
 static uint64_t crc32_slicing(const uint8_t *s, size_t n) { return plain_crc32(s, n); }
 
-static uint64_t read_library(const uint8_t *s, size_t n) { return nw_section_read(s, n); }
+static uint64_t read_library(const uint8_t *s, size_t n) { return nw_section_read(s, n).packed; }
 static uint64_t read_slicing(const uint8_t *s, size_t n) { return plain_section_read(s, n); }
 
 // ---- a day-first time read at an offset, and its field unpacked again
 
 enum { TEXT = 19, EAST = 480 };
 
-static uint64_t text_library(const uint8_t *s, size_t n) { return nw_time_read_text(s, n, EAST); }
+static uint64_t text_library(const uint8_t *s, size_t n) { return nw_time_read_text(s, n, EAST).packed; }
 static uint64_t text_plain(const uint8_t *s, size_t n) { return plain_time_read_text(s, n, EAST); }
 
 static uint64_t field_of(const uint8_t *s) {
     return (uint64_t)s[0] << 32 | (uint64_t)s[1] << 24 | (uint64_t)s[2] << 16 | (uint64_t)s[3] << 8 | s[4];
 }
 
-static uint64_t unpack_library(const uint8_t *s, size_t n) { return n ? nw_time_unpack(field_of(s), EAST) : 0; }
+static uint64_t unpack_library(const uint8_t *s, size_t n) { return n ? nw_time_unpack(field_of(s), EAST).packed : 0; }
 static uint64_t unpack_plain(const uint8_t *s, size_t n) { return n ? plain_time_unpack(field_of(s), EAST) : 0; }
 
 // ---- a body cut into all its sections, one right after the other
 
-typedef nw_answer cutter(const uint8_t *body, size_t n, uint32_t kind, uint32_t extension, uint32_t version,
-                         uint32_t number, uint8_t *out, size_t room);
+typedef plain_answer cutter(const uint8_t *body, size_t n, uint32_t kind, uint32_t extension, uint32_t version,
+                            uint32_t number, uint8_t *out, size_t room);
+
+PACKED(section_cut,
+       (const uint8_t *body, size_t n, uint32_t kind, uint32_t extension, uint32_t version, uint32_t number,
+        uint8_t *out, size_t room),
+       body, n, kind, extension, version, number, out, room)
 
 // The bytes written, and the refusal that ends them.
 static uint64_t cut_all(cutter *cut, const uint8_t *s, size_t n) {
     uint64_t used = 0;
     for (uint32_t number = 0;; number++) {
-        nw_answer got = cut(s, n, 0xFD, 0x0C29, 17, number, output + used, sizeof output - used);
-        if (NW_REFUSAL(got)) return used << 8 | NW_REFUSAL(got);
-        used += NW_VALUE(got);
+        plain_answer got = cut(s, n, 0xFD, 0x0C29, 17, number, output + used, sizeof output - used);
+        if (refusal_of(got)) return used << 8 | refusal_of(got);
+        used += value_of(got);
     }
 }
 
-static uint64_t cut_library(const uint8_t *s, size_t n) { return cut_all(nw_section_cut, s, n); }
+static uint64_t cut_library(const uint8_t *s, size_t n) { return cut_all(packed_section_cut, s, n); }
 static uint64_t cut_slicing(const uint8_t *s, size_t n) { return cut_all(plain_section_cut, s, n); }
 
 // ---- a table of full sections, which come one right after the other, gathered and handed out
 
-typedef nw_answer feeder(struct nw_gathering *g, uint8_t *store, size_t room, const uint8_t *s, size_t n);
-typedef nw_answer hander(const struct nw_gathering *g, const uint8_t *store, size_t room, uint8_t *out,
-                         size_t out_room);
+typedef plain_answer feeder(struct nw_gathering *g, uint8_t *store, size_t room, const uint8_t *s, size_t n);
+typedef plain_answer hander(const struct nw_gathering *g, const uint8_t *store, size_t room, uint8_t *out,
+                            size_t out_room);
+
+PACKED(gathering_feed, (struct nw_gathering *g, uint8_t *store, size_t room, const uint8_t *s, size_t n), g, store,
+       room, s, n)
+PACKED(gathering_hand_out,
+       (const struct nw_gathering *g, const uint8_t *store, size_t room, uint8_t *out, size_t out_room), g, store,
+       room, out, out_room)
 
 // A number that every answer has a part in.
 static uint64_t gather(feeder *feed, hander *hand_out, const uint8_t *s, size_t n) {
@@ -99,7 +122,7 @@ static uint64_t gather(feeder *feed, hander *hand_out, const uint8_t *s, size_t 
 }
 
 static uint64_t gather_library(const uint8_t *s, size_t n) {
-    return gather(nw_gathering_feed, nw_gathering_hand_out, s, n);
+    return gather(packed_gathering_feed, packed_gathering_hand_out, s, n);
 }
 
 static uint64_t gather_slicing(const uint8_t *s, size_t n) {
@@ -115,14 +138,16 @@ enum { ENTRIES = 2 * (LISTS + CERTIFICATES) + 4 };
 static uint64_t tape[ENTRIES];
 
 static uint64_t certificate_plain(const uint8_t *s, size_t n) { return plain_certificate_read(NW_CERTIFICATE, s, n); }
-static uint64_t certificate_library(const uint8_t *s, size_t n) { return nw_certificate_read(NW_CERTIFICATE, s, n); }
+static uint64_t certificate_library(const uint8_t *s, size_t n) {
+    return nw_certificate_read(NW_CERTIFICATE, s, n).packed;
+}
 
 static uint64_t writing_plain(const uint8_t *s, size_t n) {
     return plain_certificate_write(s, n, tape, ENTRIES, output, sizeof output);
 }
 
 static uint64_t writing_library(const uint8_t *s, size_t n) {
-    return nw_certificate_write(s, n, tape, ENTRIES, output, sizeof output);
+    return nw_certificate_write(s, n, tape, ENTRIES, output, sizeof output).packed;
 }
 
 // ---- an index body read, written from a form, and asked for every field of every message
@@ -131,11 +156,11 @@ static uint64_t writing_library(const uint8_t *s, size_t n) {
 static uint64_t index_tape[NW_INDEX_ENTRIES(MOST_TABLE)];
 static size_t index_entries;
 
-static uint64_t index_library(const uint8_t *s, size_t n) { return nw_index_read(NW_INDEX, s, n); }
+static uint64_t index_library(const uint8_t *s, size_t n) { return nw_index_read(NW_INDEX, s, n).packed; }
 static uint64_t index_plain(const uint8_t *s, size_t n) { return plain_index_read(NW_INDEX, s, n); }
 
 static uint64_t index_writing_library(const uint8_t *s, size_t n) {
-    return nw_index_write(s, n, index_tape, index_entries, output, sizeof output);
+    return nw_index_write(s, n, index_tape, index_entries, output, sizeof output).packed;
 }
 
 static uint64_t index_writing_plain(const uint8_t *s, size_t n) {
@@ -143,15 +168,24 @@ static uint64_t index_writing_plain(const uint8_t *s, size_t n) {
 }
 
 // Functions of a message at a place, of a length; and of what begins in a part that ends at a place.
-typedef nw_answer placed(const uint8_t *body, size_t n, size_t at_or_end, size_t length_or_place);
+typedef plain_answer placed(const uint8_t *body, size_t n, size_t at_or_end, size_t length_or_place);
+
+PACKED(index_records, (uint32_t kind, const uint8_t *body, size_t n, nw_record *list, size_t room), kind, body, n,
+       list, room)
+OF_PART(message_identifier) OF_PART(message_network) OF_PART(message_start) OF_PART(message_end) OF_PART(message_type)
+OF_PART(message_class) OF_PART(message_level) OF_PART(message_channel_flag) OF_PART(message_channel_network)
+OF_PART(message_channel_stream) OF_PART(message_channel_program) OF_PART(message_pcr_pid) OF_PART(message_descriptors)
+OF_PART(message_streams) OF_PART(message_resource_count) COUNTED_IN_PART(message_resource)
+OF_PART(descriptor_tag) OF_PART(descriptor_bytes)
+OF_PART(stream_type) OF_PART(stream_pid) OF_PART(stream_descriptors)
 
 enum { OF_MESSAGE = 14 };
 
 // Those of one contender.
 struct askers {
-    nw_answer (*records)(uint32_t kind, const uint8_t *body, size_t n, nw_record *list, size_t room);
+    plain_answer (*records)(uint32_t kind, const uint8_t *body, size_t n, nw_record *list, size_t room);
     placed *of_message[OF_MESSAGE], *resource_count;
-    nw_answer (*resource)(const uint8_t *body, size_t n, size_t at, size_t length, uint64_t i);
+    plain_answer (*resource)(const uint8_t *body, size_t n, size_t at, size_t length, uint64_t i);
     placed *descriptors, *descriptor_tag, *descriptor_bytes;
     placed *streams, *stream_type, *stream_pid, *stream_descriptors;
 };
@@ -168,25 +202,26 @@ struct askers {
         prefix##_message_streams, prefix##_stream_type, prefix##_stream_pid, prefix##_stream_descriptors             \
     }
 
-static const struct askers library_askers = ASKERS(nw), plain_askers = ASKERS(plain);
+static const struct askers library_askers = ASKERS(packed), plain_askers = ASKERS(plain);
 
 // A number that every answer so far has a part in.
-static uint64_t answered(uint64_t so_far, nw_answer got) { return so_far * 31 + got; }
+static uint64_t answered(uint64_t so_far, plain_answer got) { return so_far * 31 + got; }
 
-static size_t part_after(nw_answer part) { return NW_PART_START(part) + NW_PART_LENGTH(part); }
+static size_t part_after(plain_answer part) { return part_start(part) + part_length(part); }
 
-static uint64_t ask_descriptors(const struct askers *ask, const uint8_t *s, size_t n, nw_answer part, uint64_t so_far) {
-    nw_answer bytes;
-    for (size_t p = NW_PART_START(part), end = part_after(part); p < end; p = part_after(bytes)) {
+static uint64_t ask_descriptors(const struct askers *ask, const uint8_t *s, size_t n, plain_answer part,
+                                uint64_t so_far) {
+    plain_answer bytes;
+    for (size_t p = part_start(part), end = part_after(part); p < end; p = part_after(bytes)) {
         so_far = answered(so_far, ask->descriptor_tag(s, n, end, p));
         so_far = answered(so_far, bytes = ask->descriptor_bytes(s, n, end, p));
     }
     return so_far;
 }
 
-static uint64_t ask_streams(const struct askers *ask, const uint8_t *s, size_t n, nw_answer part, uint64_t so_far) {
-    nw_answer descriptors;
-    for (size_t p = NW_PART_START(part), end = part_after(part); p < end; p = part_after(descriptors)) {
+static uint64_t ask_streams(const struct askers *ask, const uint8_t *s, size_t n, plain_answer part, uint64_t so_far) {
+    plain_answer descriptors;
+    for (size_t p = part_start(part), end = part_after(part); p < end; p = part_after(descriptors)) {
         so_far = answered(so_far, ask->stream_type(s, n, end, p));
         so_far = answered(so_far, ask->stream_pid(s, n, end, p));
         descriptors = ask->stream_descriptors(s, n, end, p);
@@ -197,9 +232,9 @@ static uint64_t ask_streams(const struct askers *ask, const uint8_t *s, size_t n
 
 static uint64_t ask_message(const struct askers *ask, const uint8_t *s, size_t n, const nw_record *r, uint64_t so_far) {
     for (size_t i = 0; i < OF_MESSAGE; i++) so_far = answered(so_far, ask->of_message[i](s, n, r->at, r->length));
-    nw_answer count = ask->resource_count(s, n, r->at, r->length);
+    plain_answer count = ask->resource_count(s, n, r->at, r->length);
     so_far = answered(so_far, count);
-    for (uint64_t i = 0; i < NW_VALUE(count); i++)
+    for (uint64_t i = 0; i < value_of(count); i++)
         so_far = answered(so_far, ask->resource(s, n, r->at, r->length, i));
     so_far = ask_descriptors(ask, s, n, ask->descriptors(s, n, r->at, r->length), so_far);
     return ask_streams(ask, s, n, ask->streams(s, n, r->at, r->length), so_far);
@@ -207,10 +242,10 @@ static uint64_t ask_message(const struct askers *ask, const uint8_t *s, size_t n
 
 static uint64_t ask_all(const struct askers *ask, const uint8_t *s, size_t n) {
     static nw_record list[NW_MOST_MESSAGES];
-    nw_answer got = ask->records(NW_INDEX, s, n, list, NW_MOST_MESSAGES);
-    if (NW_REFUSAL(got)) return got;
+    plain_answer got = ask->records(NW_INDEX, s, n, list, NW_MOST_MESSAGES);
+    if (refusal_of(got)) return got;
     uint64_t so_far = got;
-    for (const nw_record *r = list; r < list + NW_VALUE(got); r++) so_far = ask_message(ask, s, n, r, so_far);
+    for (const nw_record *r = list; r < list + value_of(got); r++) so_far = ask_message(ask, s, n, r, so_far);
     return so_far;
 }
 
@@ -224,7 +259,7 @@ static size_t content_entries;
 static uint32_t content_extension;
 
 static uint64_t content_library(const uint8_t *s, size_t n) {
-    return nw_content_read(NW_CONTENT, content_extension, s, n);
+    return nw_content_read(NW_CONTENT, content_extension, s, n).packed;
 }
 
 static uint64_t content_plain(const uint8_t *s, size_t n) {
@@ -232,21 +267,26 @@ static uint64_t content_plain(const uint8_t *s, size_t n) {
 }
 
 static uint64_t content_writing_library(const uint8_t *s, size_t n) {
-    return nw_content_write(s, n, content_tape, content_entries, output, sizeof output);
+    return nw_content_write(s, n, content_tape, content_entries, output, sizeof output).packed;
 }
 
 static uint64_t content_writing_plain(const uint8_t *s, size_t n) {
     return plain_content_write(s, n, content_tape, content_entries, output, sizeof output);
 }
 
-typedef nw_answer of_body(const uint8_t *body, size_t n);
-typedef nw_answer numbered(const uint8_t *body, size_t n, size_t at, size_t length, uint64_t i);
+typedef plain_answer of_body(const uint8_t *body, size_t n);
+typedef plain_answer numbered(const uint8_t *body, size_t n, size_t at, size_t length, uint64_t i);
+
+OF_BODY(content_identifier) OF_BODY(content_extension) OF_BODY(content_signature) OF_BODY(content_language_count)
+COUNTED_IN_BODY(content_language) OF_PART(language_letters) OF_PART(language_character_set) OF_PART(language_text)
+OF_PART(language_agency) OF_PART(language_auxiliary_count) COUNTED_IN_PART(language_auxiliary_type)
+COUNTED_IN_PART(language_auxiliary)
 
 enum { OF_CONTENT = 3, OF_LANGUAGE = 4 };
 
 struct content_askers {
     of_body *of_content[OF_CONTENT], *language_count;
-    nw_answer (*language)(const uint8_t *body, size_t n, uint64_t i);
+    plain_answer (*language)(const uint8_t *body, size_t n, uint64_t i);
     placed *of_language[OF_LANGUAGE], *auxiliary_count;
     numbered *auxiliary_type, *auxiliary;
 };
@@ -260,15 +300,16 @@ struct content_askers {
         prefix##_language_auxiliary_count, prefix##_language_auxiliary_type, prefix##_language_auxiliary             \
     }
 
-static const struct content_askers content_by_library = CONTENT_ASKERS(nw), content_by_plain = CONTENT_ASKERS(plain);
+static const struct content_askers content_by_library = CONTENT_ASKERS(packed);
+static const struct content_askers content_by_plain = CONTENT_ASKERS(plain);
 
-static uint64_t ask_language(const struct content_askers *ask, const uint8_t *s, size_t n, nw_answer part,
+static uint64_t ask_language(const struct content_askers *ask, const uint8_t *s, size_t n, plain_answer part,
                              uint64_t so_far) {
-    size_t at = NW_PART_START(part), length = NW_PART_LENGTH(part);
+    size_t at = part_start(part), length = part_length(part);
     for (size_t i = 0; i < OF_LANGUAGE; i++) so_far = answered(so_far, ask->of_language[i](s, n, at, length));
-    nw_answer count = ask->auxiliary_count(s, n, at, length);
+    plain_answer count = ask->auxiliary_count(s, n, at, length);
     so_far = answered(so_far, count);
-    for (uint64_t i = 0; i < NW_VALUE(count); i++) {
+    for (uint64_t i = 0; i < value_of(count); i++) {
         so_far = answered(so_far, ask->auxiliary_type(s, n, at, length, i));
         so_far = answered(so_far, ask->auxiliary(s, n, at, length, i));
     }
@@ -276,10 +317,10 @@ static uint64_t ask_language(const struct content_askers *ask, const uint8_t *s,
 }
 
 static uint64_t ask_content(const struct content_askers *ask, const uint8_t *s, size_t n) {
-    nw_answer count = ask->language_count(s, n), part;
+    plain_answer count = ask->language_count(s, n), part;
     uint64_t so_far = count;
     for (size_t i = 0; i < OF_CONTENT; i++) so_far = answered(so_far, ask->of_content[i](s, n));
-    for (uint64_t i = 0; i < NW_VALUE(count); i++) {
+    for (uint64_t i = 0; i < value_of(count); i++) {
         so_far = answered(so_far, part = ask->language(s, n, i));
         so_far = ask_language(ask, s, n, part, so_far);
     }
@@ -295,7 +336,7 @@ static uint64_t configuration_tape[NW_CONFIGURATION_ENTRIES(MOST_TABLE)];
 static size_t configuration_entries;
 
 static uint64_t configuration_library(const uint8_t *s, size_t n) {
-    return nw_configuration_read(NW_CONFIGURATION, s, n);
+    return nw_configuration_read(NW_CONFIGURATION, s, n).packed;
 }
 
 static uint64_t configuration_plain(const uint8_t *s, size_t n) {
@@ -303,15 +344,24 @@ static uint64_t configuration_plain(const uint8_t *s, size_t n) {
 }
 
 static uint64_t configuration_writing_library(const uint8_t *s, size_t n) {
-    return nw_configuration_write(s, n, configuration_tape, configuration_entries, output, sizeof output);
+    return nw_configuration_write(s, n, configuration_tape, configuration_entries, output, sizeof output).packed;
 }
 
 static uint64_t configuration_writing_plain(const uint8_t *s, size_t n) {
     return plain_configuration_write(s, n, configuration_tape, configuration_entries, output, sizeof output);
 }
 
-typedef nw_answer of_command(const uint8_t *body, size_t n, size_t p);
-typedef nw_answer counted(const uint8_t *body, size_t n, size_t p, uint64_t i);
+typedef plain_answer of_command(const uint8_t *body, size_t n, size_t p);
+typedef plain_answer counted(const uint8_t *body, size_t n, size_t p, uint64_t i);
+
+OF_BODY(configuration_command_count) OF_BODY(configuration_signature) OF_COMMAND(command_tag)
+OF_COMMAND(command_content) OF_COMMAND(command_clock_year) OF_COMMAND(command_clock_month)
+OF_COMMAND(command_clock_day) OF_COMMAND(command_clock_hour) OF_COMMAND(command_clock_minute)
+OF_COMMAND(command_clock_second) OF_COMMAND(command_code_address) OF_COMMAND(command_code_resource)
+OF_COMMAND(command_frequency) OF_COMMAND(command_symbol_rate) OF_COMMAND(command_mapping)
+OF_COMMAND(command_return_kind) OF_COMMAND(command_return_address) OF_COMMAND(command_period)
+OF_COMMAND(command_volume) OF_COMMAND(command_parameter_count) OF_COMMAND(command_terminal_count)
+COUNTED_IN_COMMAND(command_parameter) COUNTED_IN_COMMAND(command_terminal)
 
 enum { MOST_OF_TAG = 6 };
 
@@ -336,33 +386,34 @@ struct command_askers {
         prefix##_command_parameter, prefix##_command_terminal                                                        \
     }
 
-static const struct command_askers commands_by_library = COMMAND_ASKERS(nw), commands_by_plain = COMMAND_ASKERS(plain);
+static const struct command_askers commands_by_library = COMMAND_ASKERS(packed);
+static const struct command_askers commands_by_plain = COMMAND_ASKERS(plain);
 
 // A count, and each of the things.
-static uint64_t ask_counted(const uint8_t *s, size_t n, size_t p, nw_answer count, counted *each, uint64_t so_far) {
+static uint64_t ask_counted(const uint8_t *s, size_t n, size_t p, plain_answer count, counted *each, uint64_t so_far) {
     so_far = answered(so_far, count);
-    for (uint64_t i = 0; i < NW_VALUE(count); i++) so_far = answered(so_far, each(s, n, p, i));
+    for (uint64_t i = 0; i < value_of(count); i++) so_far = answered(so_far, each(s, n, p, i));
     return so_far;
 }
 
 static uint64_t ask_command(const struct command_askers *ask, const uint8_t *s, size_t n, size_t p, uint64_t so_far) {
-    nw_answer tag = ask->tag(s, n, p);
+    plain_answer tag = ask->tag(s, n, p);
     so_far = answered(so_far, tag);
-    if (NW_VALUE(tag) > NW_QUERY) return so_far;
-    of_command *const *its = ask->of_tag[NW_VALUE(tag)];
+    if (value_of(tag) > NW_QUERY) return so_far;
+    of_command *const *its = ask->of_tag[value_of(tag)];
     for (size_t i = 0; i < MOST_OF_TAG && its[i]; i++) so_far = answered(so_far, its[i](s, n, p));
-    if (NW_VALUE(tag) == NW_QUERY)
+    if (value_of(tag) == NW_QUERY)
         so_far = ask_counted(s, n, p, ask->parameter_count(s, n, p), ask->parameter, so_far);
-    if (NW_VALUE(tag) >= NW_FREQUENCY)
+    if (value_of(tag) >= NW_FREQUENCY)
         so_far = ask_counted(s, n, p, ask->terminal_count(s, n, p), ask->terminal, so_far);
     return so_far;
 }
 
 static uint64_t ask_configuration(const struct command_askers *ask, const uint8_t *s, size_t n) {
-    nw_answer count = ask->command_count(s, n), content;
+    plain_answer count = ask->command_count(s, n), content;
     uint64_t so_far = answered(count, ask->signature(s, n));
     size_t p = 1;
-    for (uint64_t left = NW_VALUE(count); left > 0; left--, p = part_after(content)) {
+    for (uint64_t left = value_of(count); left > 0; left--, p = part_after(content)) {
         so_far = answered(so_far, content = ask->content(s, n, p));
         so_far = ask_command(ask, s, n, p, so_far);
     }
@@ -393,7 +444,7 @@ static void fill_section(size_t n) {
     fill_bytes(n - 12);
     memcpy(payload, input, n - 12);
     plain_section_put(input, &(struct plain_heading){0xFD, 0x0C29, 17, 1, 0, 0}, payload, n - 12);
-    if (NW_REFUSAL(read_slicing(input, n))) abort();
+    if (refusal_of(read_slicing(input, n))) abort();
 }
 
 // The section of some number of a table of so many sections, in place i.
@@ -517,9 +568,9 @@ static void fill_index(size_t n) {
     *to++ = (uint8_t)messages;
     for (size_t i = 0; i < messages; i++) to = put_message(to, streams);
     put_two(to, n - 2 - (size_t)(to - input));
-    nw_answer laid = plain_index_lay(NW_INDEX, input, n, index_tape, sizeof index_tape / sizeof index_tape[0]);
-    index_entries = NW_VALUE(laid);
-    if (NW_REFUSAL(laid) || index_writing_plain(input, n) != n << 8 || memcmp(input, output, n) != 0) abort();
+    plain_answer laid = plain_index_lay(NW_INDEX, input, n, index_tape, sizeof index_tape / sizeof index_tape[0]);
+    index_entries = value_of(laid);
+    if (refusal_of(laid) || index_writing_plain(input, n) != n << 8 || memcmp(input, output, n) != 0) abort();
 }
 
 // A content body: what is opaque keeps the bytes that were there.
@@ -551,11 +602,11 @@ static void fill_content(size_t n) {
     *to++ = 0xF0 | LANGUAGES;
     for (int i = 0; i < LANGUAGES; i++) to = put_language(to, (n - 100) / LANGUAGES - 4);
     put_opaque(to, 2, n - 2 - (size_t)(to - input));
-    content_extension = (uint32_t)NW_VALUE(plain_content_extension(input, n));
-    nw_answer laid = plain_content_lay(NW_CONTENT, input, n, content_tape, NW_CONTENT_ENTRIES);
-    content_entries = NW_VALUE(laid);
-    if (NW_REFUSAL(laid) || content_plain(input, n) != 0 ||
-        NW_CONTENT_LENGTH(content_writing_plain(input, n)) != n || memcmp(input, output, n) != 0)
+    content_extension = (uint32_t)value_of(plain_content_extension(input, n));
+    plain_answer laid = plain_content_lay(NW_CONTENT, input, n, content_tape, NW_CONTENT_ENTRIES);
+    content_entries = value_of(laid);
+    if (refusal_of(laid) || content_plain(input, n) != 0 ||
+        written_length(content_writing_plain(input, n)) != n || memcmp(input, output, n) != 0)
         abort();
 }
 
@@ -601,10 +652,10 @@ static void fill_configuration(size_t n) {
         to = put_opaque(to + 1, 2, 60000);
     }
     put_two(to, (size_t)(end - to) - 2);
-    nw_answer laid = plain_configuration_lay(NW_CONFIGURATION, input, n, configuration_tape,
-                                             sizeof configuration_tape / sizeof configuration_tape[0]);
-    configuration_entries = NW_VALUE(laid);
-    if (NW_REFUSAL(laid) || configuration_writing_plain(input, n) != n << 8 || memcmp(input, output, n) != 0) abort();
+    plain_answer laid = plain_configuration_lay(NW_CONFIGURATION, input, n, configuration_tape,
+                                                sizeof configuration_tape / sizeof configuration_tape[0]);
+    configuration_entries = value_of(laid);
+    if (refusal_of(laid) || configuration_writing_plain(input, n) != n << 8 || memcmp(input, output, n) != 0) abort();
 }
 
 static const struct operation operations[] = {

@@ -338,7 +338,7 @@ static const char *why_impossible(const char *text) {
 static bool read_time(struct drill *d, enum word w, uint64_t *field) {
     const struct line *l = &d->first[w];
     nw_answer answer = nw_time_read_text((const uint8_t *)l->value, strlen(l->value), d->offset);
-    *field = NW_VALUE(answer);
+    *field = nw_value(answer);
     if (NW_REFUSAL(answer) == NW_TAKEN) return true;
     const char *more = w == END ? ", or the word live" : "";
     if (NW_REFUSAL(answer) == NW_IMPOSSIBLE_DAY) fault(d, l, "%s", why_impossible(l->value));
@@ -385,8 +385,7 @@ static int read_drill(struct drill *d) {
 // ---- the tables
 
 // Each field was judged by its name, so that no writer should refuse one.
-static bool refused(const char *what, nw_answer answer) {
-    unsigned number = NW_REFUSAL(answer);
+static bool refused(const char *what, unsigned number) {
     if (number != NW_TAKEN) complain("%s can't be made: %s (refusal %u)", what, nw_refusal_text(number), number);
     return number != NW_TAKEN;
 }
@@ -422,12 +421,12 @@ static void content_form(const struct drill *d, nw_form *f) {
 // Cuts the n bytes of the desk's body into sections, each right after the one before.
 static bool cut(struct desk *k, size_t n, unsigned kind, unsigned extension, int version) {
     nw_answer count = nw_section_count(n), made;
-    if (refused("the sections", count)) return false;
-    for (uint32_t number = 0; number < NW_VALUE(count); number++) {
+    if (refused("the sections", NW_REFUSAL(count))) return false;
+    for (uint32_t number = 0; number < nw_value(count); number++) {
         made = nw_section_cut(k->body, n, kind, extension, (uint32_t)version, number, k->sections + k->bytes,
                               sizeof k->sections - k->bytes);
-        if (refused("a section", made)) return false;
-        k->bytes += NW_VALUE(made);
+        if (refused("a section", NW_REFUSAL(made))) return false;
+        k->bytes += nw_value(made);
     }
     return true;
 }
@@ -436,16 +435,16 @@ static bool write_index(const struct drill *d, struct desk *k) {
     nw_form f = nw_form_start(k->pool, POOL, k->tape, ENTRIES);
     index_form(d, &f);
     nw_answer made = nw_index_write(f.pool, f.pool_bytes, f.tape, f.entries, k->body, sizeof k->body);
-    return !refused("the index table", made) && cut(k, NW_VALUE(made), NW_INDEX, 0, d->version);
+    return !refused("the index table", NW_REFUSAL(made)) && cut(k, nw_value(made), NW_INDEX, 0, d->version);
 }
 
 // The content table's extension is how a box finds it: the CRC-16 of the message's identifier.
 static bool write_content(const struct drill *d, struct desk *k) {
     nw_form f = nw_form_start(k->pool, POOL, k->tape, ENTRIES);
     content_form(d, &f);
-    nw_answer made = nw_content_write(f.pool, f.pool_bytes, f.tape, f.entries, k->body, sizeof k->body);
-    return !refused("the content table", made)
-        && cut(k, NW_CONTENT_LENGTH(made), NW_CONTENT, NW_CONTENT_EXTENSION(made), d->version);
+    nw_written made = nw_content_write(f.pool, f.pool_bytes, f.tape, f.entries, k->body, sizeof k->body);
+    return !refused("the content table", NW_REFUSAL(made))
+        && cut(k, nw_written_length(made), NW_CONTENT, nw_written_extension(made), d->version);
 }
 
 static int write_file(const struct desk *k, const char *name) {

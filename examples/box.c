@@ -88,16 +88,16 @@ static size_t length_of(const uint8_t *s, size_t n) {
     return stated < n ? stated : n;
 }
 
-static nw_answer judge(const uint8_t *s, size_t n, size_t *length) {
+static nw_heading judge(const uint8_t *s, size_t n, size_t *length) {
     return nw_section_read(s, *length = length_of(s, n));
 }
 
 // Begins a table with a good section that belongs to none so far.
-static nw_answer begin(struct box *b, const uint8_t *s, size_t n, nw_answer heading) {
+static nw_answer begin(struct box *b, const uint8_t *s, size_t n, nw_heading heading) {
     struct table *t = &b->tables[b->count];
-    t->store_bytes = NW_STORE_BYTES(NW_SECTION_LAST(heading));
+    t->store_bytes = NW_STORE_BYTES(nw_heading_last(heading));
     t->store = malloc(t->store_bytes);
-    if (t->store == NULL) return NW_STORE_TOO_SHORT;
+    if (t->store == NULL) return (nw_answer){NW_STORE_TOO_SHORT};
     nw_answer fed = nw_gathering_feed(&t->state, t->store, t->store_bytes, s, n);
     if (NW_REFUSAL(fed) == NW_TAKEN) b->count++;
     else free(t->store);
@@ -105,15 +105,15 @@ static nw_answer begin(struct box *b, const uint8_t *s, size_t n, nw_answer head
 }
 
 // Feeds the good section at a byte of the file to the table it belongs to.
-static void feed(struct box *b, size_t at, size_t n, nw_answer heading) {
+static void feed(struct box *b, size_t at, size_t n, nw_heading heading) {
     const uint8_t *s = b->s + at;
-    nw_answer fed = NW_OTHER_HEADING;
+    nw_answer fed = {NW_OTHER_HEADING};
     for (struct table *t = b->tables; t < b->tables + b->count && NW_REFUSAL(fed) == NW_OTHER_HEADING; t++)
         fed = nw_gathering_feed(&t->state, t->store, t->store_bytes, s, n);
     if (NW_REFUSAL(fed) == NW_OTHER_HEADING && b->count < TABLES) fed = begin(b, s, n, heading);
     unsigned number = NW_REFUSAL(fed);
     if (number == NW_TAKEN) {
-        if (NW_VALUE(fed) == NW_FED_TAKEN) b->taken++;
+        if (nw_value(fed) == NW_FED_TAKEN) b->taken++;
         else b->held++;
         return;
     }
@@ -137,7 +137,7 @@ static bool note_stretch(struct box *b, struct stretch bad) {
 }
 
 // How far the search goes on from where no good section begins: a byte, but past a false section that the purse can't pay.
-static size_t step(struct box *b, nw_answer got, size_t length, size_t at) {
+static size_t step(struct box *b, nw_heading got, size_t length, size_t at) {
     if (NW_REFUSAL(got) != NW_CHECK_NOT_ZERO) return 1;
     if (length <= b->purse) {
         b->purse -= length;
@@ -151,7 +151,7 @@ static size_t step(struct box *b, nw_answer got, size_t length, size_t at) {
 
 // Passes over what begins no good section, to the next that does. A section that only fails its check is passed over by
 // itself, unless a good one begins inside. Answers where to go on.
-static size_t pass_over(struct box *b, size_t at, nw_answer got, size_t length) {
+static size_t pass_over(struct box *b, size_t at, nw_heading got, size_t length) {
     unsigned number = NW_REFUSAL(got);
     size_t end = number == NW_CHECK_NOT_ZERO ? at + length : b->n, next = at + step(b, got, length, at);
     while (next < end) {
@@ -169,7 +169,7 @@ static void gather(struct box *b) {
     b->purse = PURSE * b->n;
     for (size_t at = 0; at < b->n;) {
         size_t length;
-        nw_answer got = judge(b->s + at, b->n - at, &length);
+        nw_heading got = judge(b->s + at, b->n - at, &length);
         if (NW_REFUSAL(got) == NW_TAKEN) {
             feed(b, at, length, got);
             at += length;
@@ -219,7 +219,7 @@ static void hand_out(struct box *b, struct table *t) {
         fault(b, "not whole, %s (refusal %u)", t->body ? nw_refusal_text(number) : "there is no memory for it", number);
         return;
     }
-    t->n = NW_VALUE(got);
+    t->n = nw_value(got);
     got = read_table(t);
     number = NW_REFUSAL(got);
     t->accepted = number == NW_TAKEN;
@@ -337,28 +337,28 @@ static void show_text(const struct box *b, unsigned set, const uint8_t *s, size_
 
 // ---- showing
 
-static void show_language(const struct box *b, const struct table *t, nw_answer part) {
-    size_t at = NW_PART_START(part), length = NW_PART_LENGTH(part);
-    nw_answer letters = nw_language_letters(t->body, t->n, at, length);
-    unsigned set = (unsigned)NW_VALUE(nw_language_character_set(t->body, t->n, at, length));
-    nw_answer text = nw_language_text(t->body, t->n, at, length), agency = nw_language_agency(t->body, t->n, at, length);
-    printf("  text        %.3s, version %u, character set %u (%s), %zu bytes\n", (const char *)t->body + NW_PART_START(letters),
-           t->state.version, set, sets[set].standard, NW_PART_LENGTH(text));
-    show_text(b, set, t->body + NW_PART_START(text), NW_PART_LENGTH(text));
-    if (NW_PART_LENGTH(agency) != 0) {
+static void show_language(const struct box *b, const struct table *t, nw_part part) {
+    size_t at = nw_part_start(part), length = nw_part_length(part);
+    nw_part letters = nw_language_letters(t->body, t->n, at, length);
+    unsigned set = (unsigned)nw_value(nw_language_character_set(t->body, t->n, at, length));
+    nw_part text = nw_language_text(t->body, t->n, at, length), agency = nw_language_agency(t->body, t->n, at, length);
+    printf("  text        %.3s, version %u, character set %u (%s), %zu bytes\n", (const char *)t->body + nw_part_start(letters),
+           t->state.version, set, sets[set].standard, nw_part_length(text));
+    show_text(b, set, t->body + nw_part_start(text), nw_part_length(text));
+    if (nw_part_length(agency) != 0) {
         puts("  agency");
-        show_text(b, set, t->body + NW_PART_START(agency), NW_PART_LENGTH(agency));
+        show_text(b, set, t->body + nw_part_start(agency), nw_part_length(agency));
     }
-    uint64_t files = NW_VALUE(nw_language_auxiliary_count(t->body, t->n, at, length));
+    uint64_t files = nw_value(nw_language_auxiliary_count(t->body, t->n, at, length));
     for (uint64_t i = 0; i < files; i++) {
-        unsigned type = (unsigned)NW_VALUE(nw_language_auxiliary_type(t->body, t->n, at, length, i));
-        nw_answer file = nw_language_auxiliary(t->body, t->n, at, length, i);
-        printf("  file        type %u, %zu bytes, not shown\n", type, NW_PART_LENGTH(file));
+        unsigned type = (unsigned)nw_value(nw_language_auxiliary_type(t->body, t->n, at, length, i));
+        nw_part file = nw_language_auxiliary(t->body, t->n, at, length, i);
+        printf("  file        type %u, %zu bytes, not shown\n", type, nw_part_length(file));
     }
 }
 
 static void show_languages(const struct box *b, const struct table *t) {
-    uint64_t count = NW_VALUE(nw_content_language_count(t->body, t->n));
+    uint64_t count = nw_value(nw_content_language_count(t->body, t->n));
     for (uint64_t i = 0; i < count; i++) show_language(b, t, nw_content_language(t->body, t->n, i));
 }
 
@@ -367,8 +367,8 @@ static void find_text(struct box *b, const uint8_t *identifier, size_t n) {
     bool found = false;
     for (struct table *t = b->tables; t < b->tables + b->count; t++) {
         if (!t->accepted || t->state.kind != NW_CONTENT) continue;
-        nw_answer its = nw_content_identifier(t->body, t->n);
-        if (NW_PART_LENGTH(its) != n || memcmp(t->body + NW_PART_START(its), identifier, n) != 0) continue;
+        nw_part its = nw_content_identifier(t->body, t->n);
+        if (nw_part_length(its) != n || memcmp(t->body + nw_part_start(its), identifier, n) != 0) continue;
         show_languages(b, t);
         t->named = found = true;
     }
@@ -378,31 +378,31 @@ static void find_text(struct box *b, const uint8_t *identifier, size_t n) {
 // A time field at the offset; in UTC where the local day would be out of the range of days.
 static void show_time(const char *what, uint64_t field, int offset) {
     static const char *const days[] = {"Monday", "Tuesday", "Wednesday", "Thursday", "Friday", "Saturday", "Sunday"};
-    nw_answer t = nw_time_unpack(field, offset);
+    nw_time t = nw_time_unpack(field, offset);
     bool outside = NW_REFUSAL(t) != NW_TAKEN;
     if (outside) t = nw_time_unpack(field, offset = 0);
-    nw_answer day = nw_day_of(NW_TIME_YEAR(t), NW_TIME_MONTH(t), NW_TIME_DAY(t));
-    printf("  %s%02u/%02u/%04u %02u:%02u:%02u", what, NW_TIME_DAY(t), NW_TIME_MONTH(t), NW_TIME_YEAR(t), NW_TIME_HOUR(t),
-           NW_TIME_MINUTE(t), NW_TIME_SECOND(t));
-    printf(" %s, UTC", days[NW_VALUE(nw_weekday((uint32_t)NW_VALUE(day))) - 1]);
+    nw_answer day = nw_day_of(nw_time_year(t), nw_time_month(t), nw_time_day(t));
+    printf("  %s%02u/%02u/%04u %02u:%02u:%02u", what, nw_time_day(t), nw_time_month(t), nw_time_year(t), nw_time_hour(t),
+           nw_time_minute(t), nw_time_second(t));
+    printf(" %s, UTC", days[nw_value(nw_weekday((uint32_t)nw_value(day))) - 1]);
     if (offset != 0) printf("%c%02d:%02d", offset < 0 ? '-' : '+', abs(offset) / 60, abs(offset) % 60);
     puts(outside ? ": its local day is out of the range 01/03/1900 to 22/04/2038" : "");
 }
 
 static void show_resources(const struct table *t, size_t at, size_t length) {
-    uint64_t count = NW_VALUE(nw_message_resource_count(t->body, t->n, at, length));
+    uint64_t count = nw_value(nw_message_resource_count(t->body, t->n, at, length));
     for (uint64_t i = 0; i < count; i++) {
         printf("  resource    ");
         for (uint64_t j = 0; j < 23; j++)
-            printf("%u", (unsigned)NW_VALUE(nw_message_resource_digit(t->body, t->n, at, length, i, j)));
+            printf("%u", (unsigned)nw_value(nw_message_resource_digit(t->body, t->n, at, length, i, j)));
         putchar('\n');
     }
     if (count == 0) puts("  resource    none");
 }
 
-static void show_type(const struct table *t, nw_answer part) {
+static void show_type(const struct table *t, nw_part part) {
     printf("  type        ");
-    for (size_t i = 0; i < NW_PART_LENGTH(part); i++) show_character(t->body[NW_PART_START(part) + i]);
+    for (size_t i = 0; i < nw_part_length(part); i++) show_character(t->body[nw_part_start(part) + i]);
     putchar('\n');
 }
 
@@ -411,7 +411,7 @@ static void show_message(struct box *b, const struct table *t, const nw_record *
     static const char *const levels[] = {"", "very grave", "grave", "serious", "ordinary"};
     printf("message ");
     for (uint64_t i = 0; i < 35; i++)
-        printf("%u", (unsigned)NW_VALUE(nw_message_identifier_digit(t->body, t->n, r->at, r->length, i)));
+        printf("%u", (unsigned)nw_value(nw_message_identifier_digit(t->body, t->n, r->at, r->length, i)));
     putchar('\n');
     show_time("start       ", r->start, b->offset);
     if (r->end == NW_LIVE) puts("  end         live, until it is called off");
@@ -420,17 +420,17 @@ static void show_message(struct box *b, const struct table *t, const nw_record *
     printf("  class       %u, %s\n", (unsigned)r->class_, classes[r->class_]);
     printf("  level       %u, %s\n", (unsigned)r->level, levels[r->level]);
     show_type(t, nw_message_type(t->body, t->n, r->at, r->length));
-    printf("  network     %u\n", (unsigned)NW_VALUE(nw_message_network(t->body, t->n, r->at, r->length)));
+    printf("  network     %u\n", (unsigned)nw_value(nw_message_network(t->body, t->n, r->at, r->length)));
     printf("  version     %u\n", t->state.version);
     show_resources(t, r->at, r->length);
-    if (NW_VALUE(nw_message_channel_flag(t->body, t->n, r->at, r->length)) != 0) puts("  channel     given, and not shown");
-    nw_answer identifier = nw_message_identifier(t->body, t->n, r->at, r->length);
-    find_text(b, t->body + NW_PART_START(identifier), NW_PART_LENGTH(identifier));
+    if (nw_value(nw_message_channel_flag(t->body, t->n, r->at, r->length)) != 0) puts("  channel     given, and not shown");
+    nw_part identifier = nw_message_identifier(t->body, t->n, r->at, r->length);
+    find_text(b, t->body + nw_part_start(identifier), nw_part_length(identifier));
 }
 
 static void show_index(struct box *b, const struct table *t) {
     nw_record list[NW_MOST_MESSAGES];
-    uint64_t count = NW_VALUE(nw_index_records(t->state.kind, t->body, t->n, list, NW_MOST_MESSAGES));
+    uint64_t count = nw_value(nw_index_records(t->state.kind, t->body, t->n, list, NW_MOST_MESSAGES));
     if (count == 0) {
         name_table(t);
         puts("it has no message");
@@ -447,7 +447,7 @@ static void show_rest(struct box *b, const struct table *t) {
         return;
     }
     char digits[36] = "";
-    for (size_t i = 0; i < 35; i++) digits[i] = (char)('0' + NW_VALUE(nw_content_identifier_digit(t->body, t->n, i)));
+    for (size_t i = 0; i < 35; i++) digits[i] = (char)('0' + nw_value(nw_content_identifier_digit(t->body, t->n, i)));
     fault(b, "no message %s has come that it would be the text of", digits);
     show_languages(b, t);
 }

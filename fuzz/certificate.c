@@ -11,21 +11,21 @@ static void ask(struct input *in, const uint8_t *body, size_t n, bool accepted) 
     nw_answer lists = nw_certificate_authorization_count(body, n), certificates = nw_certificate_count(body, n);
     hold_number(lists, 255);
     hold_number(certificates, 255);
-    for (uint64_t i = 0; taken(lists) && i < NW_VALUE(lists); i++) hold_part(nw_certificate_authorization(body, n, i), n);
-    for (uint64_t i = 0; taken(certificates) && i < NW_VALUE(certificates); i++) hold_part(nw_certificate_part(body, n, i), n);
+    for (uint64_t i = 0; taken(lists) && i < nw_value(lists); i++) hold_part(nw_certificate_authorization(body, n, i), n);
+    for (uint64_t i = 0; taken(certificates) && i < nw_value(certificates); i++) hold_part(nw_certificate_part(body, n, i), n);
     hold_part(nw_certificate_authorization(body, n, take(in, 8)), n);
     hold_part(nw_certificate_part(body, n, take(in, 8)), n);
-    nw_answer signature = nw_certificate_signature(body, n);
+    nw_part signature = nw_certificate_signature(body, n);
     hold_part(signature, n);
     if (!accepted) return;
     must(taken(lists) && taken(certificates) && taken(signature));
-    must(NW_PART_START(signature) + NW_PART_LENGTH(signature) == n);
-    must(nw_certificate_authorization(body, n, NW_VALUE(lists)) == NW_OUTSIDE_SET);
-    must(nw_certificate_part(body, n, NW_VALUE(certificates)) == NW_OUTSIDE_SET);
+    must(nw_part_start(signature) + nw_part_length(signature) == n);
+    must(refused(nw_certificate_authorization(body, n, nw_value(lists)), NW_OUTSIDE_SET));
+    must(refused(nw_certificate_part(body, n, nw_value(certificates)), NW_OUTSIDE_SET));
 }
 
 static const struct table certificate = {
-    NW_CERTIFICATE, nw_certificate_read, nw_certificate_lay, nw_certificate_write, whole_value, make, ask,
+    NW_CERTIFICATE, nw_certificate_read, nw_certificate_lay, nw_certificate_write, make, ask,
 };
 
 int LLVMFuzzerTestOneInput(const uint8_t *data, size_t size) {

@@ -62,8 +62,8 @@ static void ask_numbers(const uint8_t *body, size_t n, size_t p, nw_answer tag, 
     for (size_t i = 0; i < sizeof numbers / sizeof numbers[0]; i++) {
         nw_answer a = numbers[i].ask(body, n, p);
         hold_number(a, numbers[i].most);
-        must(!taken(a) || (taken(tag) && NW_VALUE(tag) == numbers[i].tag));
-        must(!accepted || taken(a) == (NW_VALUE(tag) == numbers[i].tag));
+        must(!taken(a) || (taken(tag) && nw_value(tag) == numbers[i].tag));
+        must(!accepted || taken(a) == (nw_value(tag) == numbers[i].tag));
     }
 }
 
@@ -78,39 +78,40 @@ static void ask_command(struct input *in, const uint8_t *body, size_t n, size_t 
     must(!taken(nw_command_code_digit(body, n, p, 23 + take(in, 7))));
     hold_number(nw_command_parameter(body, n, p, take(in, 1) % 8), 255);
     hold_number(terminals, 255);
-    for (uint64_t i = 0; taken(terminals) && i <= NW_VALUE(terminals); i++) {
-        nw_answer terminal = nw_command_terminal(body, n, p, i);
+    for (uint64_t i = 0; taken(terminals) && i <= nw_value(terminals); i++) {
+        nw_part terminal = nw_command_terminal(body, n, p, i);
         hold_part(terminal, n);
-        must(!accepted || taken(terminal) == (i < NW_VALUE(terminals)));
+        must(!accepted || taken(terminal) == (i < nw_value(terminals)));
         for (uint64_t j = 0; j < 24; j++) hold_number(nw_command_terminal_digit(body, n, p, i, j), 9);
     }
     must(!taken(nw_command_terminal_digit(body, n, p, take(in, 8), 23)));
 }
 
 static void ask(struct input *in, const uint8_t *body, size_t n, bool accepted) {
-    nw_answer count = nw_configuration_command_count(body, n), signature = nw_configuration_signature(body, n);
+    nw_answer count = nw_configuration_command_count(body, n);
+    nw_part signature = nw_configuration_signature(body, n);
     size_t p = 1;
     hold_number(count, 255);
     hold_part(signature, n);
-    for (uint64_t i = 0; taken(count) && i < NW_VALUE(count); i++) {
-        nw_answer command = nw_configuration_command(body, n, i), content = nw_command_content(body, n, p);
+    for (uint64_t i = 0; taken(count) && i < nw_value(count); i++) {
+        nw_part command = nw_configuration_command(body, n, i), content = nw_command_content(body, n, p);
         hold_part(command, n);
         hold_part(content, n);
         must(!accepted || taken(content));
         ask_command(in, body, n, p, accepted);
         if (!taken(content)) break;
-        must(taken(command) && NW_PART_START(command) == p && NW_PART_START(content) == p + 3);
-        must(NW_PART_LENGTH(command) == 3 + NW_PART_LENGTH(content));
-        p += NW_PART_LENGTH(command);
+        must(taken(command) && nw_part_start(command) == p && nw_part_start(content) == p + 3);
+        must(nw_part_length(command) == 3 + nw_part_length(content));
+        p += nw_part_length(command);
     }
-    must(!taken(nw_configuration_command(body, n, NW_VALUE(count) + take(in, 7))));
+    must(!taken(nw_configuration_command(body, n, nw_value(count) + take(in, 7))));
     ask_command(in, body, n, upto(in, n + 1), false);
     ask_command(in, body, n, (size_t)take(in, 8), false);
-    must(!accepted || (taken(count) && taken(signature) && NW_PART_START(signature) + NW_PART_LENGTH(signature) == n));
+    must(!accepted || (taken(count) && taken(signature) && nw_part_start(signature) + nw_part_length(signature) == n));
 }
 
 static const struct table configuration = {
-    NW_CONFIGURATION, nw_configuration_read, nw_configuration_lay, nw_configuration_write, whole_value, make, ask,
+    NW_CONFIGURATION, nw_configuration_read, nw_configuration_lay, nw_configuration_write, make, ask,
 };
 
 int LLVMFuzzerTestOneInput(const uint8_t *data, size_t size) {

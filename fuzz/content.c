@@ -27,17 +27,24 @@ static void make(struct input *in, nw_form *f) {
 // Read with the extension that the identifier asks for, so as laying does, which does not look at it; another one is 23.
 static nw_answer read_content(uint32_t kind, const uint8_t *body, size_t n) {
     nw_answer extension = nw_content_extension(body, n);
-    uint32_t right = taken(extension) ? (uint32_t)NW_VALUE(extension) : 0;
+    uint32_t right = taken(extension) ? (uint32_t)nw_value(extension) : 0;
     nw_answer a = nw_content_read(kind, right, body, n);
     must(!taken(a) || taken(extension));
-    must(nw_content_read(kind, right ^ 1, body, n) == (taken(a) ? NW_OTHER_CHECKSUM : a));
+    must(refused(nw_content_read(kind, right ^ 1, body, n), taken(a) ? NW_OTHER_CHECKSUM : a.packed));
     return a;
 }
 
-static size_t content_length(nw_answer a) { return NW_CONTENT_LENGTH(a); }
+// The extension is that of the identifier; the answer goes on with the length alone.
+static nw_answer write_content(const uint8_t *pool, size_t pool_bytes, const uint64_t *tape, size_t entries, uint8_t *out,
+                               size_t room) {
+    nw_written a = nw_content_write(pool, pool_bytes, tape, entries, out, room);
+    must(!taken(a) || nw_written_extension(a) == nw_crc16(out, 18));
+    return (nw_answer){taken(a) ? (uint64_t)nw_written_length(a) << 8 : a.packed};
+}
 
 static void ask_language(struct input *in, const uint8_t *body, size_t n, size_t at, size_t length, bool accepted) {
-    nw_answer files = nw_language_auxiliary_count(body, n, at, length), text = nw_language_text(body, n, at, length);
+    nw_answer files = nw_language_auxiliary_count(body, n, at, length);
+    nw_part text = nw_language_text(body, n, at, length);
     hold_part(nw_language_letters(body, n, at, length), n);
     hold_number(nw_language_character_set(body, n, at, length), 4);
     hold_part(text, n);
@@ -45,38 +52,38 @@ static void ask_language(struct input *in, const uint8_t *body, size_t n, size_t
     hold_number(files, 2);
     for (uint64_t i = 0; i < 3; i++) {
         hold_number(nw_language_auxiliary_type(body, n, at, length, i), 255);
-        nw_answer file = nw_language_auxiliary(body, n, at, length, i);
+        nw_part file = nw_language_auxiliary(body, n, at, length, i);
         hold_part(file, n);
-        must(!accepted || taken(file) == (i < NW_VALUE(files)));
+        must(!accepted || taken(file) == (i < nw_value(files)));
     }
     must(!taken(nw_language_auxiliary(body, n, at, length, 3 + take(in, 7))));
     must(!accepted || (taken(text) && taken(files)));
 }
 
 static void ask(struct input *in, const uint8_t *body, size_t n, bool accepted) {
-    nw_answer identifier = nw_content_identifier(body, n), count = nw_content_language_count(body, n);
-    nw_answer signature = nw_content_signature(body, n), extension = nw_content_extension(body, n);
+    nw_part identifier = nw_content_identifier(body, n), signature = nw_content_signature(body, n);
+    nw_answer count = nw_content_language_count(body, n), extension = nw_content_extension(body, n);
     hold_part(identifier, n);
     hold_number(count, 5);
     hold_part(signature, n);
     must(taken(identifier) == taken(extension));
-    must(!taken(extension) || NW_VALUE(extension) == nw_crc16(body, 18));
+    must(!taken(extension) || nw_value(extension) == nw_crc16(body, 18));
     for (uint64_t i = 0; i < 35; i++) hold_number(nw_content_identifier_digit(body, n, i), 9);
     must(!taken(nw_content_identifier_digit(body, n, 35 + take(in, 7))));
-    for (uint64_t i = 0; taken(count) && i <= NW_VALUE(count); i++) {
-        nw_answer language = nw_content_language(body, n, i);
+    for (uint64_t i = 0; taken(count) && i <= nw_value(count); i++) {
+        nw_part language = nw_content_language(body, n, i);
         hold_part(language, n);
-        must(!accepted || taken(language) == (i < NW_VALUE(count)));
-        if (taken(language)) ask_language(in, body, n, NW_PART_START(language), NW_PART_LENGTH(language), accepted);
+        must(!accepted || taken(language) == (i < nw_value(count)));
+        if (taken(language)) ask_language(in, body, n, nw_part_start(language), nw_part_length(language), accepted);
     }
     size_t at = upto(in, n + 1), length = upto(in, n + 1);
     ask_language(in, body, n, at, length, false);
     ask_language(in, body, n, (size_t)take(in, 8), (size_t)take(in, 8), false);
     must(!accepted || (taken(identifier) && taken(count) && taken(signature)));
-    must(!accepted || NW_PART_START(signature) + NW_PART_LENGTH(signature) == n);
+    must(!accepted || nw_part_start(signature) + nw_part_length(signature) == n);
 }
 
-static const struct table content = {NW_CONTENT, read_content, nw_content_lay, nw_content_write, content_length, make, ask};
+static const struct table content = {NW_CONTENT, read_content, nw_content_lay, write_content, make, ask};
 
 int LLVMFuzzerTestOneInput(const uint8_t *data, size_t size) {
     try_table(&content, (struct input){data, size});

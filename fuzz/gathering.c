@@ -12,10 +12,10 @@ struct cuts {
 // A section of the table, of another version of it, or one damaged or not current; answers its length.
 static size_t make_section(struct input *in, const struct cuts *c, uint8_t *out) {
     uint32_t version = now_and_then(in, 8) ? 8 : 7;
-    uint32_t number = (uint32_t)upto(in, NW_VALUE(nw_section_count(c->n)) - 1);
+    uint32_t number = (uint32_t)upto(in, nw_value(nw_section_count(c->n)) - 1);
     nw_answer a = nw_section_cut(c->body, c->n, NW_CONTENT, 0x1234, version, number, out, NW_MOST_SECTION);
     must(taken(a));
-    size_t n = (size_t)NW_VALUE(a);
+    size_t n = (size_t)nw_value(a);
     if (now_and_then(in, 8)) out[upto(in, n - 1)] ^= (uint8_t)(1 + upto(in, 254));
     if (now_and_then(in, 16)) { // another payload or current bit, and a right check
         out[now_and_then(in, 2) && n > 12 ? 8 : 5] ^= 1;
@@ -30,8 +30,8 @@ static void try_feed(struct lent *state, struct lent *store, const uint8_t *sect
     nw_gathering *g = (nw_gathering *)(void *)state->bytes, before = *g;
     uint8_t *s = copy_of(section, n);
     nw_answer fed = nw_gathering_feed(g, store->bytes, store->size, s, n);
-    must(taken(fed) ? NW_VALUE(fed) <= NW_FED_HELD_ALREADY : NW_PLACE(fed) == 0);
-    if (taken(fed) && NW_VALUE(fed) == NW_FED_TAKEN) {
+    must(taken(fed) ? nw_value(fed) <= NW_FED_HELD_ALREADY : NW_PLACE(fed) == 0);
+    if (taken(fed) && nw_value(fed) == NW_FED_TAKEN) {
         size_t at = (size_t)s[6] * NW_MOST_PAYLOAD;
         must(g->held[s[6]] == n - 11 && memcmp(store->bytes + at, s + 8, n - 12) == 0);
         memcpy(store->before + at, s + 8, n - 12);
@@ -50,9 +50,9 @@ static void try_handing_out(struct input *in, struct lent *state, struct lent *s
     const nw_gathering *g = (const nw_gathering *)(const void *)state->bytes;
     nw_answer a = nw_gathering_hand_out(g, store->bytes, store->size, out.bytes, out.size);
     must(kept(state, 0) && kept(store, 0));
-    must(kept(&out, taken(a) ? (size_t)NW_VALUE(a) : 0));
+    must(kept(&out, taken(a) ? (size_t)nw_value(a) : 0));
     must(taken(a) || NW_REFUSAL(a) == NW_MISSING || NW_PLACE(a) == 0);
-    if (clean && taken(a)) must(NW_VALUE(a) == c->n && memcmp(out.bytes, c->body, c->n) == 0);
+    if (clean && taken(a)) must(nw_value(a) == c->n && memcmp(out.bytes, c->body, c->n) == 0);
     give_back(&out);
 }
 
@@ -60,10 +60,10 @@ static void try_handing_out(struct input *in, struct lent *state, struct lent *s
 static void try_whole(struct input *in, struct lent *store, const struct cuts *c) {
     struct lent state = lend(sizeof(nw_gathering), 0);
     uint8_t section[NW_MOST_SECTION];
-    uint32_t count = (uint32_t)NW_VALUE(nw_section_count(c->n)), first = (uint32_t)upto(in, count - 1);
+    uint32_t count = (uint32_t)nw_value(nw_section_count(c->n)), first = (uint32_t)upto(in, count - 1);
     for (uint32_t i = 0; i < count; i++) {
         nw_answer a = nw_section_cut(c->body, c->n, NW_CONTENT, 0x1234, 7, (first + i) % count, section, sizeof section);
-        try_feed(&state, store, section, (size_t)NW_VALUE(a));
+        try_feed(&state, store, section, (size_t)nw_value(a));
     }
     must(store->size < NW_STORE_BYTES(count - 1) || ((nw_gathering *)(void *)state.bytes)->kind == NW_CONTENT);
     try_handing_out(in, &state, store, c, true);

@@ -49,31 +49,31 @@ static void make(struct input *in, nw_form *f) {
 }
 
 // Each descriptor of a part, as far as they can be told.
-static void ask_descriptors(const uint8_t *body, size_t n, nw_answer part) {
+static void ask_descriptors(const uint8_t *body, size_t n, nw_part part) {
     if (!taken(part)) return;
-    size_t end = NW_PART_START(part) + NW_PART_LENGTH(part);
-    for (size_t p = NW_PART_START(part); p < end;) {
+    size_t end = nw_part_start(part) + nw_part_length(part);
+    for (size_t p = nw_part_start(part); p < end;) {
         hold_number(nw_descriptor_tag(body, n, end, p), 255);
-        nw_answer bytes = nw_descriptor_bytes(body, n, end, p);
+        nw_part bytes = nw_descriptor_bytes(body, n, end, p);
         hold_part(bytes, n);
         if (!taken(bytes)) return;
-        must(NW_PART_START(bytes) > p);
-        p = NW_PART_START(bytes) + NW_PART_LENGTH(bytes);
+        must(nw_part_start(bytes) > p);
+        p = nw_part_start(bytes) + nw_part_length(bytes);
     }
 }
 
-static void ask_streams(const uint8_t *body, size_t n, nw_answer part) {
+static void ask_streams(const uint8_t *body, size_t n, nw_part part) {
     if (!taken(part)) return;
-    size_t end = NW_PART_START(part) + NW_PART_LENGTH(part);
-    for (size_t p = NW_PART_START(part); p < end;) {
+    size_t end = nw_part_start(part) + nw_part_length(part);
+    for (size_t p = nw_part_start(part); p < end;) {
         hold_number(nw_stream_type(body, n, end, p), 255);
         hold_number(nw_stream_pid(body, n, end, p), 0x1FFF);
-        nw_answer inner = nw_stream_descriptors(body, n, end, p);
+        nw_part inner = nw_stream_descriptors(body, n, end, p);
         hold_part(inner, n);
         ask_descriptors(body, n, inner);
         if (!taken(inner)) return;
-        must(NW_PART_START(inner) > p);
-        p = NW_PART_START(inner) + NW_PART_LENGTH(inner);
+        must(nw_part_start(inner) > p);
+        p = nw_part_start(inner) + nw_part_length(inner);
     }
 }
 
@@ -82,7 +82,7 @@ static void ask_digits(struct input *in, const uint8_t *body, size_t n, size_t a
     must(!taken(nw_message_identifier_digit(body, n, at, length, 35)));
     nw_answer count = nw_message_resource_count(body, n, at, length);
     hold_number(count, 255);
-    for (uint64_t i = 0; taken(count) && i <= NW_VALUE(count); i++) {
+    for (uint64_t i = 0; taken(count) && i <= nw_value(count); i++) {
         hold_part(nw_message_resource(body, n, at, length, i), n);
         for (uint64_t j = 0; j < 24; j++) hold_number(nw_message_resource_digit(body, n, at, length, i, j), 9);
     }
@@ -105,14 +105,16 @@ static void ask_message(struct input *in, const uint8_t *body, size_t n, size_t 
     hold_number(nw_message_channel_stream(body, n, at, length), 0xFFFF);
     hold_number(nw_message_channel_program(body, n, at, length), 0xFFFF);
     hold_number(nw_message_pcr_pid(body, n, at, length), 0x1FFF);
-    nw_answer descriptors = nw_message_descriptors(body, n, at, length), streams = nw_message_streams(body, n, at, length);
+    nw_part descriptors = nw_message_descriptors(body, n, at, length), streams = nw_message_streams(body, n, at, length);
     hold_part(descriptors, n);
     hold_part(streams, n);
     ask_descriptors(body, n, descriptors);
     ask_streams(body, n, streams);
     int32_t offset = (int32_t)upto(in, 2000) - 800;
-    must(!taken(start) || nw_message_local_start(body, n, at, length, offset) == nw_time_unpack(NW_VALUE(start), offset));
-    must(!taken(end) || nw_message_local_end(body, n, at, length, offset) == nw_time_unpack(NW_VALUE(end), offset));
+    nw_time local_start = nw_message_local_start(body, n, at, length, offset);
+    nw_time local_end = nw_message_local_end(body, n, at, length, offset);
+    must(!taken(start) || local_start.packed == nw_time_unpack(nw_value(start), offset).packed);
+    must(!taken(end) || local_end.packed == nw_time_unpack(nw_value(end), offset).packed);
     must(!accepted || (taken(start) && taken(end)));
 }
 
@@ -121,30 +123,31 @@ static void ask_records(const uint8_t *body, size_t n, bool accepted, size_t roo
     struct lent list = lend(room * sizeof(nw_record), 0x33);
     const nw_record *r = (const nw_record *)(const void *)list.bytes;
     nw_answer count = nw_index_records(NW_INDEX, body, n, (nw_record *)(void *)list.bytes, room);
-    must(taken(count) ? accepted && NW_VALUE(count) <= room : !accepted || count == NW_OUTPUT_TOO_SMALL);
-    must(kept(&list, taken(count) ? (size_t)NW_VALUE(count) * sizeof *r : 0));
-    for (uint64_t i = 0; taken(count) && i < NW_VALUE(count); i++) {
-        nw_answer m = nw_index_message(body, n, i);
-        must(taken(m) && NW_PART_START(m) == r[i].at && NW_PART_LENGTH(m) == r[i].length);
-        must(NW_VALUE(nw_message_start(body, n, r[i].at, r[i].length)) == r[i].start);
-        must(NW_VALUE(nw_message_end(body, n, r[i].at, r[i].length)) == r[i].end);
-        must(NW_VALUE(nw_message_class(body, n, r[i].at, r[i].length)) == r[i].class_);
-        must(NW_VALUE(nw_message_level(body, n, r[i].at, r[i].length)) == r[i].level);
+    must(taken(count) ? accepted && nw_value(count) <= room : !accepted || refused(count, NW_OUTPUT_TOO_SMALL));
+    must(kept(&list, taken(count) ? (size_t)nw_value(count) * sizeof *r : 0));
+    for (uint64_t i = 0; taken(count) && i < nw_value(count); i++) {
+        nw_part m = nw_index_message(body, n, i);
+        must(taken(m) && nw_part_start(m) == r[i].at && nw_part_length(m) == r[i].length);
+        must(nw_value(nw_message_start(body, n, r[i].at, r[i].length)) == r[i].start);
+        must(nw_value(nw_message_end(body, n, r[i].at, r[i].length)) == r[i].end);
+        must(nw_value(nw_message_class(body, n, r[i].at, r[i].length)) == r[i].class_);
+        must(nw_value(nw_message_level(body, n, r[i].at, r[i].length)) == r[i].level);
     }
     give_back(&list);
 }
 
 static void ask(struct input *in, const uint8_t *body, size_t n, bool accepted) {
-    nw_answer count = nw_index_message_count(body, n), signature = nw_index_signature(body, n);
+    nw_answer count = nw_index_message_count(body, n);
+    nw_part signature = nw_index_signature(body, n);
     hold_number(count, 255);
     hold_part(signature, n);
-    must(!accepted || (taken(count) && taken(signature) && NW_PART_START(signature) + NW_PART_LENGTH(signature) == n));
-    for (uint64_t i = 0; taken(count) && i < NW_VALUE(count); i++) {
-        nw_answer m = nw_index_message(body, n, i);
+    must(!accepted || (taken(count) && taken(signature) && nw_part_start(signature) + nw_part_length(signature) == n));
+    for (uint64_t i = 0; taken(count) && i < nw_value(count); i++) {
+        nw_part m = nw_index_message(body, n, i);
         hold_part(m, n);
         must(!accepted || taken(m));
         if (!taken(m)) break;
-        ask_message(in, body, n, NW_PART_START(m), NW_PART_LENGTH(m), accepted);
+        ask_message(in, body, n, nw_part_start(m), nw_part_length(m), accepted);
     }
     size_t at = upto(in, n + 1), length = upto(in, n + 1);
     ask_message(in, body, n, at, length, false);
@@ -155,7 +158,7 @@ static void ask(struct input *in, const uint8_t *body, size_t n, bool accepted) 
     ask_records(body, n, accepted, NW_MOST_MESSAGES);
 }
 
-static const struct table index_table = {NW_INDEX, nw_index_read, nw_index_lay, nw_index_write, whole_value, make, ask};
+static const struct table index_table = {NW_INDEX, nw_index_read, nw_index_lay, nw_index_write, make, ask};
 
 int LLVMFuzzerTestOneInput(const uint8_t *data, size_t size) {
     try_table(&index_table, (struct input){data, size});

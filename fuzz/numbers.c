@@ -22,30 +22,31 @@ static void try_days(struct input *in) {
     uint32_t year = (uint32_t)take(in, 2) % 200 + 1880, month = (uint32_t)take(in, 1) % 14, date = (uint32_t)take(in, 1) % 33;
     nw_answer day = now_and_then(in, 4) ? nw_day_of((uint32_t)take(in, 4), (uint32_t)take(in, 4), (uint32_t)take(in, 4))
                                         : nw_day_of(year, month, date);
-    must(taken(day) ? NW_VALUE(day) >= 15079 && NW_VALUE(day) <= 65535 : day == NW_IMPOSSIBLE_DAY);
-    uint32_t mjd = taken(day) ? (uint32_t)NW_VALUE(day) : (uint32_t)take(in, 3);
-    nw_answer back = nw_date_of(mjd), weekday = nw_weekday(mjd);
+    must(taken(day) ? nw_value(day) >= 15079 && nw_value(day) <= 65535 : refused(day, NW_IMPOSSIBLE_DAY));
+    uint32_t mjd = taken(day) ? (uint32_t)nw_value(day) : (uint32_t)take(in, 3);
+    nw_date back = nw_date_of(mjd);
+    nw_answer weekday = nw_weekday(mjd);
     must(taken(back) == taken(weekday) && taken(back) == (mjd >= 15079 && mjd <= 65535));
     if (!taken(back)) return;
-    must(NW_VALUE(nw_day_of(NW_DATE_YEAR(back), NW_DATE_MONTH(back), NW_DATE_DAY(back))) == mjd);
-    must(NW_VALUE(weekday) == (mjd + 2) % 7 + 1);
+    must(nw_value(nw_day_of(nw_date_year(back), nw_date_month(back), nw_date_day(back))) == mjd);
+    must(nw_value(weekday) == (mjd + 2) % 7 + 1);
 }
 
 // A field that has a local time is packed and printed back to itself.
 static void try_times(struct input *in) {
     uint64_t field = take(in, now_and_then(in, 8) ? 8 : 5);
     int32_t offset = now_and_then(in, 8) ? (int32_t)(uint32_t)take(in, 4) : (int32_t)upto(in, 1600) - 740;
-    nw_answer t = nw_time_unpack(field, offset);
+    nw_time t = nw_time_unpack(field, offset);
     must(taken(t) || (NW_PLACE(t) == 0 && NW_REFUSAL(t) >= NW_DIGIT_ABOVE_NINE && NW_REFUSAL(t) <= NW_IMPOSSIBLE_DAY));
     if (!taken(t)) return;
-    must(NW_VALUE(nw_time_pack(NW_TIME_YEAR(t), NW_TIME_MONTH(t), NW_TIME_DAY(t), NW_TIME_HOUR(t), NW_TIME_MINUTE(t),
-                               NW_TIME_SECOND(t), offset)) == field);
+    must(nw_value(nw_time_pack(nw_time_year(t), nw_time_month(t), nw_time_day(t), nw_time_hour(t), nw_time_minute(t),
+                               nw_time_second(t), offset)) == field);
     char text[64];
-    int n = snprintf(text, sizeof text, "%02u/%02u/%04u %02u:%02u:%02u", NW_TIME_DAY(t), NW_TIME_MONTH(t), NW_TIME_YEAR(t),
-                     NW_TIME_HOUR(t), NW_TIME_MINUTE(t), NW_TIME_SECOND(t));
+    int n = snprintf(text, sizeof text, "%02u/%02u/%04u %02u:%02u:%02u", nw_time_day(t), nw_time_month(t), nw_time_year(t),
+                     nw_time_hour(t), nw_time_minute(t), nw_time_second(t));
     must(n == 19);
     nw_answer read = nw_time_read_text((const uint8_t *)text, 19, offset);
-    must(taken(read) && NW_VALUE(read) == field);
+    must(taken(read) && nw_value(read) == field);
     must(NW_REFUSAL(nw_time_read_text((const uint8_t *)text, 18, offset)) == NW_NOT_OF_THE_FORM);
 }
 
@@ -61,7 +62,7 @@ static void try_text(struct input *in) {
     nw_answer a = nw_time_read_text(text, n, offset);
     unsigned number = NW_REFUSAL(a);
     must(number == NW_TAKEN || number == NW_OUTSIDE_SET || number == NW_NOT_OF_THE_FORM || number == NW_IMPOSSIBLE_DAY);
-    must(taken(a) ? n == 19 && taken(nw_time_unpack(NW_VALUE(a), offset)) : NW_PLACE(a) == 0);
+    must(taken(a) ? n == 19 && taken(nw_time_unpack(nw_value(a), offset)) : NW_PLACE(a) == 0);
     free(text);
 }
 
@@ -69,8 +70,8 @@ static void try_showing(struct input *in) {
     uint64_t start = take(in, 5), end = now_and_then(in, 4) ? NW_LIVE : take(in, 5);
     uint32_t day = (uint32_t)take(in, 2), second = (uint32_t)take(in, 3) % 90000;
     nw_answer a = nw_time_showing(start, end, day, second);
-    must(taken(a) ? NW_VALUE(a) <= NW_ENDED : NW_PLACE(a) == 0);
-    must(!taken(a) || end != NW_LIVE || NW_VALUE(a) != NW_ENDED);
+    must(taken(a) ? nw_value(a) <= NW_ENDED : NW_PLACE(a) == 0);
+    must(!taken(a) || end != NW_LIVE || nw_value(a) != NW_ENDED);
 }
 
 int LLVMFuzzerTestOneInput(const uint8_t *data, size_t size) {

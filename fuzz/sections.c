@@ -3,20 +3,20 @@
 
 static void try_reading(const uint8_t *data, size_t n) {
     uint8_t *s = copy_of(data, n);
-    nw_answer a = nw_section_read(s, n);
+    nw_heading a = nw_section_read(s, n);
     must(NW_REFUSAL(a) <= NW_CHECK_NOT_ZERO && (taken(a) || NW_PLACE(a) == 0));
     if (taken(a)) {
         must(n >= 12 && n <= NW_MOST_SECTION && nw_crc32(s, n) == 0);
-        must(NW_SECTION_KIND(a) == s[0] && NW_SECTION_NUMBER(a) <= NW_SECTION_LAST(a));
+        must(nw_heading_kind(a) == s[0] && nw_heading_number(a) <= nw_heading_last(a));
     }
     free(s);
 }
 
 // A section that was cut is read as what was asked for, and carries its part of the body.
 static void hold_cut(const uint8_t *body, size_t n, const uint8_t *s, size_t length, nw_answer count, uint32_t number) {
-    nw_answer read = nw_section_read(s, length);
-    must(taken(read) && NW_SECTION_CURRENT(read) == 1 && NW_SECTION_NUMBER(read) == number);
-    must(taken(count) && NW_SECTION_LAST(read) + 1 == NW_VALUE(count) && number < NW_VALUE(count));
+    nw_heading read = nw_section_read(s, length);
+    must(taken(read) && nw_heading_current(read) == 1 && nw_heading_number(read) == number);
+    must(taken(count) && nw_heading_last(read) + 1 == nw_value(count) && number < nw_value(count));
     size_t from = (size_t)number * NW_MOST_PAYLOAD, payload = n - from < NW_MOST_PAYLOAD ? n - from : NW_MOST_PAYLOAD;
     must(length == payload + 12 && memcmp(s + 8, body + from, payload) == 0);
 }
@@ -32,11 +32,11 @@ static void try_cutting(struct input *in) {
     for (size_t i = 0; i < n; i++) body[i] = (uint8_t)(in->n > 0 ? in->s[i % in->n] + i / in->n : i);
     nw_answer a = nw_section_cut(body, n, kind, extension, version, number, out.bytes, out.size);
     must(taken(a) || NW_PLACE(a) == 0);
-    must(kept(&out, taken(a) ? (size_t)NW_VALUE(a) : 0));
+    must(kept(&out, taken(a) ? (size_t)nw_value(a) : 0));
     if (taken(a)) {
-        hold_cut(body, n, out.bytes, (size_t)NW_VALUE(a), nw_section_count(n), number);
-        out.bytes[upto(in, (size_t)NW_VALUE(a) - 1)] ^= (uint8_t)(1 << upto(in, 7));
-        must(!taken(nw_section_read(out.bytes, (size_t)NW_VALUE(a))));
+        hold_cut(body, n, out.bytes, (size_t)nw_value(a), nw_section_count(n), number);
+        out.bytes[upto(in, (size_t)nw_value(a) - 1)] ^= (uint8_t)(1 << upto(in, 7));
+        must(!taken(nw_section_read(out.bytes, (size_t)nw_value(a))));
     }
     give_back(&out);
     free(body);
@@ -45,7 +45,7 @@ static void try_cutting(struct input *in) {
 int LLVMFuzzerTestOneInput(const uint8_t *data, size_t size) {
     struct input in = {data, size};
     nw_answer count = nw_section_count((size_t)take(&in, 4));
-    must(taken(count) ? NW_VALUE(count) >= 1 && NW_VALUE(count) <= 256 : NW_PLACE(count) == 0);
+    must(taken(count) ? nw_value(count) >= 1 && nw_value(count) <= 256 : NW_PLACE(count) == 0);
     try_cutting(&in);
     try_reading(in.s, in.n);
     return 0;

@@ -4,24 +4,21 @@
 
 #include "trial.h"
 
-// A table's functions; `length` tells a body's length from the writer's answer.
+// A table's functions; the writer's value is the body's length.
 struct table {
     uint32_t kind;
     nw_answer (*read)(uint32_t kind, const uint8_t *body, size_t n);
     nw_answer (*lay)(uint32_t kind, const uint8_t *body, size_t n, uint64_t *tape, size_t entries);
     nw_answer (*write)(const uint8_t *pool, size_t pool_bytes, const uint64_t *tape, size_t entries, uint8_t *out, size_t room);
-    size_t (*length)(nw_answer answer);
     void (*make)(struct input *in, nw_form *f);
     void (*ask)(struct input *in, const uint8_t *body, size_t n, bool accepted);
 };
-
-static inline size_t whole_value(nw_answer a) { return (size_t)NW_VALUE(a); }
 
 // Writes a form into so much room. A refusal has no place and changes nothing; bytes after a body stay.
 static inline nw_answer write_form(const struct table *t, const nw_form *f, struct lent *out) {
     nw_answer a = t->write(f->pool, f->pool_bytes, f->tape, f->entries, out->bytes, out->size);
     must(taken(a) || (listed(NW_REFUSAL(a)) && NW_PLACE(a) == 0));
-    must(kept(out, taken(a) ? t->length(a) : 0));
+    must(kept(out, taken(a) ? (size_t)nw_value(a) : 0));
     return a;
 }
 
@@ -31,8 +28,8 @@ static inline void write_again(const struct table *t, const uint8_t *body, size_
     nw_form f = {pool, n, n, tape, k, k, 0};
     struct lent out = lend(n, 0x5a), less = lend(n - 1, 0x5a);
     nw_answer a = write_form(t, &f, &out);
-    must(taken(a) && t->length(a) == n && memcmp(out.bytes, body, n) == 0);
-    must(write_form(t, &f, &less) == NW_OUTPUT_TOO_SMALL);
+    must(taken(a) && nw_value(a) == n && memcmp(out.bytes, body, n) == 0);
+    must(refused(write_form(t, &f, &less), NW_OUTPUT_TOO_SMALL));
     give_back(&out);
     give_back(&less);
     free(pool);
@@ -46,13 +43,13 @@ static inline void try_laying(const struct table *t, const uint8_t *body, size_t
     struct lent tape = lend(entries * sizeof(uint64_t), 0x77);
     uint64_t *at = (uint64_t *)(void *)tape.bytes;
     nw_answer a = t->lay(t->kind, body, n, at, entries);
-    if (taken(read)) must(taken(a) ? NW_VALUE(a) <= entries : a == NW_OUTPUT_TOO_SMALL && entries < enough(n));
-    else must(a == read);
-    must(kept(&tape, taken(a) ? (size_t)NW_VALUE(a) * sizeof(uint64_t) : 0));
+    if (taken(read)) must(taken(a) ? nw_value(a) <= entries : refused(a, NW_OUTPUT_TOO_SMALL) && entries < enough(n));
+    else must(a.packed == read.packed);
+    must(kept(&tape, taken(a) ? (size_t)nw_value(a) * sizeof(uint64_t) : 0));
     if (taken(a)) {
-        uint64_t *laid = block_of((size_t)NW_VALUE(a) * sizeof(uint64_t));
-        memcpy(laid, at, (size_t)NW_VALUE(a) * sizeof(uint64_t));
-        write_again(t, body, n, laid, (size_t)NW_VALUE(a));
+        uint64_t *laid = block_of((size_t)nw_value(a) * sizeof(uint64_t));
+        memcpy(laid, at, (size_t)nw_value(a) * sizeof(uint64_t));
+        write_again(t, body, n, laid, (size_t)nw_value(a));
         free(laid);
     }
     give_back(&tape);
@@ -62,8 +59,8 @@ static inline void try_body(const struct table *t, struct input *in, const uint8
     uint8_t *body = copy_of(s, n);
     nw_answer read = t->read(t->kind, body, n);
     hold_refusal(read, n);
-    must(!taken(read) || NW_VALUE(read) == 0);
-    must(t->read(t->kind ^ 1, body, n) == NW_OTHER_KIND && t->read(t->kind + 256, body, n) == NW_OTHER_KIND);
+    must(!taken(read) || nw_value(read) == 0);
+    must(refused(t->read(t->kind ^ 1, body, n), NW_OTHER_KIND) && refused(t->read(t->kind + 256, body, n), NW_OTHER_KIND));
     try_laying(t, body, n, read, upto(in, 64));
     try_laying(t, body, n, read, enough(n));
     t->ask(in, body, n, taken(read));
@@ -89,7 +86,7 @@ static inline void try_table(const struct table *t, struct input in) {
     struct lent out = lend(now_and_then(&in, 16) ? upto(&in, 255) : ROOM, 0x5a);
     nw_answer a = write_form(t, &f, &out);
     if (taken(a)) {
-        size_t n = t->length(a);
+        size_t n = (size_t)nw_value(a);
         must(taken(t->read(t->kind, out.bytes, n)));
         try_body(t, &in, out.bytes, n);
         damage(&in, out.bytes, &n, out.size);

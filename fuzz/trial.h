@@ -99,7 +99,9 @@ static inline void give_back(struct lent *l) {
 
 // ---- what every answer holds to
 
-static inline bool taken(nw_answer a) { return NW_REFUSAL(a) == NW_TAKEN; }
+// Of an answer of any shape: whether it refuses nothing, and whether it refuses with this number at place 0.
+#define taken(answer) (NW_REFUSAL(answer) == NW_TAKEN)
+#define refused(answer, number) ((answer).packed == (number))
 
 // The header has the list, which may have gaps.
 static inline bool listed(unsigned number) { return strcmp(nw_refusal_text(number), "no such refusal") != 0; }
@@ -113,13 +115,13 @@ static inline void hold_refusal(nw_answer a, size_t n) {
 }
 
 // A part that was answered lies in the body.
-static inline void hold_part(nw_answer a, size_t n) {
-    if (taken(a)) must(NW_PART_START(a) <= n && NW_PART_LENGTH(a) <= n - NW_PART_START(a));
+static inline void hold_part(nw_part a, size_t n) {
+    if (taken(a)) must(nw_part_start(a) <= n && nw_part_length(a) <= n - nw_part_start(a));
     else must(listed(NW_REFUSAL(a)));
 }
 
 static inline void hold_number(nw_answer a, uint64_t most) {
-    if (taken(a)) must(NW_VALUE(a) <= most);
+    if (taken(a)) must(nw_value(a) <= most);
     else must(listed(NW_REFUSAL(a)));
 }
 

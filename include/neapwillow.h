@@ -22,13 +22,48 @@ extern "C" {
 
 /* ---- Answers ----------------------------------------------------------------------------------
  *
- * One convention for every function that can refuse: the low byte is the refusal's number, 0 for
- * none; what stands above it is the refusal's place, or, where nothing was refused, the value. */
-typedef uint64_t nw_answer;
+ * A function that can refuse answers with 64 bits: the low byte is the refusal's number, 0 for none;
+ * what stands above it is the refusal's place, or, where nothing was refused, the value. Each shape of
+ * value is a struct of its own, so that a value taken with another shape's function does not compile;
+ * it goes through one register as a number would. */
+typedef struct nw_answer { uint64_t packed; } nw_answer;   /* one number */
+typedef struct nw_part { uint64_t packed; } nw_part;       /* a part of a body */
+typedef struct nw_date { uint64_t packed; } nw_date;       /* a date of the calendar */
+typedef struct nw_time { uint64_t packed; } nw_time;       /* a local date and time */
+typedef struct nw_heading { uint64_t packed; } nw_heading; /* a section's heading */
+typedef struct nw_written { uint64_t packed; } nw_written; /* a content table's extension and length */
 
-#define NW_REFUSAL(answer) ((unsigned)((answer) & 0xFFu))
-#define NW_PLACE(answer) ((uint64_t)(answer) >> 8)
-#define NW_VALUE(answer) ((uint64_t)(answer) >> 8)
+/* Of an answer of any shape: the refusal's number, and its place. */
+#define NW_REFUSAL(answer) ((unsigned)((answer).packed & 0xFFu))
+#define NW_PLACE(answer) ((answer).packed >> 8)
+
+/* Of an answer that refuses nothing: the value. Asked of a refusal, these tell nothing of use. */
+static inline uint64_t nw_value(nw_answer a) { return a.packed >> 8; }
+
+/* Where a part begins in the body, counted from 0, and how many bytes it has. */
+static inline size_t nw_part_start(nw_part a) { return (size_t)(a.packed >> 32); }
+static inline size_t nw_part_length(nw_part a) { return (size_t)(a.packed >> 8 & 0xFFFFFFu); }
+
+static inline unsigned nw_date_year(nw_date a) { return (unsigned)(a.packed >> 24); }
+static inline unsigned nw_date_month(nw_date a) { return (unsigned)(a.packed >> 16 & 0xFFu); }
+static inline unsigned nw_date_day(nw_date a) { return (unsigned)(a.packed >> 8 & 0xFFu); }
+
+static inline unsigned nw_time_year(nw_time a) { return (unsigned)(a.packed >> 48); }
+static inline unsigned nw_time_month(nw_time a) { return (unsigned)(a.packed >> 40 & 0xFFu); }
+static inline unsigned nw_time_day(nw_time a) { return (unsigned)(a.packed >> 32 & 0xFFu); }
+static inline unsigned nw_time_hour(nw_time a) { return (unsigned)(a.packed >> 24 & 0xFFu); }
+static inline unsigned nw_time_minute(nw_time a) { return (unsigned)(a.packed >> 16 & 0xFFu); }
+static inline unsigned nw_time_second(nw_time a) { return (unsigned)(a.packed >> 8 & 0xFFu); }
+
+static inline unsigned nw_heading_kind(nw_heading a) { return (unsigned)(a.packed >> 56); }
+static inline unsigned nw_heading_extension(nw_heading a) { return (unsigned)(a.packed >> 40 & 0xFFFFu); }
+static inline unsigned nw_heading_version(nw_heading a) { return (unsigned)(a.packed >> 32 & 0xFFu); }
+static inline unsigned nw_heading_current(nw_heading a) { return (unsigned)(a.packed >> 24 & 0xFFu); }
+static inline unsigned nw_heading_number(nw_heading a) { return (unsigned)(a.packed >> 16 & 0xFFu); }
+static inline unsigned nw_heading_last(nw_heading a) { return (unsigned)(a.packed >> 8 & 0xFFu); }
+
+static inline unsigned nw_written_extension(nw_written a) { return (unsigned)(a.packed >> 32); }
+static inline size_t nw_written_length(nw_written a) { return (size_t)(a.packed >> 8 & 0xFFFFFFu); }
 
 /* The refusals, by their numbers. A refused call writes nothing. The place is the offset, in the
  * body, of the byte where the refused field begins (14 to 20), the smallest missing section number
@@ -117,11 +152,8 @@ uint16_t nw_crc16(const uint8_t *s, size_t n);
 nw_answer nw_day_of(uint32_t year, uint32_t month, uint32_t day);
 
 /* The date of a day: what nw_day_of turns back into it.
- * Value: see the macros. Refusal 20: a day outside the range. */
-nw_answer nw_date_of(uint32_t day);
-#define NW_DATE_YEAR(answer) ((unsigned)(NW_VALUE(answer) >> 16))
-#define NW_DATE_MONTH(answer) ((unsigned)(NW_VALUE(answer) >> 8 & 0xFFu))
-#define NW_DATE_DAY(answer) ((unsigned)(NW_VALUE(answer) & 0xFFu))
+ * Value: the date. Refusal 20: a day outside the range. */
+nw_date nw_date_of(uint32_t day);
 
 /* The weekday of a day. Value: 1 for Monday to 7 for Sunday. Refusal 20: a day outside the range. */
 nw_answer nw_weekday(uint32_t day);
@@ -139,16 +171,10 @@ nw_answer nw_weekday(uint32_t day);
 nw_answer nw_time_pack(uint32_t year, uint32_t month, uint32_t day, uint32_t hour, uint32_t minute,
                        uint32_t second, int32_t offset);
 
-/* The local date and time of a UTC field. Value: see the macros.
+/* The local date and time of a UTC field. Value: these.
  * Refusals, in this order: 19, the offset is outside its range, or the field has more than 40 bits;
  * 18, a digit is above 9; 20, as for nw_time_pack. */
-nw_answer nw_time_unpack(uint64_t field, int32_t offset);
-#define NW_TIME_YEAR(answer) ((unsigned)(NW_VALUE(answer) >> 40))
-#define NW_TIME_MONTH(answer) ((unsigned)(NW_VALUE(answer) >> 32 & 0xFFu))
-#define NW_TIME_DAY(answer) ((unsigned)(NW_VALUE(answer) >> 24 & 0xFFu))
-#define NW_TIME_HOUR(answer) ((unsigned)(NW_VALUE(answer) >> 16 & 0xFFu))
-#define NW_TIME_MINUTE(answer) ((unsigned)(NW_VALUE(answer) >> 8 & 0xFFu))
-#define NW_TIME_SECOND(answer) ((unsigned)(NW_VALUE(answer) & 0xFFu))
+nw_time nw_time_unpack(uint64_t field, int32_t offset);
 
 /* The UTC field of a local time in text: exactly dd/mm/yyyy hh:mm:ss, 19 bytes, day first.
  * Value: the field. Refusals, in this order: 19, the offset; 24, not of this form; 20, as for
@@ -171,15 +197,9 @@ enum nw_showing { NW_BEFORE = 0, NW_ON = 1, NW_ENDED = 2 };
 
 enum nw_kind { NW_CONFIGURATION = 0xFB, NW_CERTIFICATE = 0xFC, NW_INDEX = 0xFD, NW_CONTENT = 0xFE };
 
-/* Judges any byte string. Value: the heading, see the macros; the payload is the n - 12 bytes from
+/* Judges any byte string. Value: the heading; the payload is the n - 12 bytes from
  * s + 8 on. Refusals 1 to 7, in this order. A section that is not current is good all the same. */
-nw_answer nw_section_read(const uint8_t *s, size_t n);
-#define NW_SECTION_KIND(answer) ((unsigned)(NW_VALUE(answer) >> 48))
-#define NW_SECTION_EXTENSION(answer) ((unsigned)(NW_VALUE(answer) >> 32 & 0xFFFFu))
-#define NW_SECTION_VERSION(answer) ((unsigned)(NW_VALUE(answer) >> 24 & 0xFFu))
-#define NW_SECTION_CURRENT(answer) ((unsigned)(NW_VALUE(answer) >> 16 & 0xFFu))
-#define NW_SECTION_NUMBER(answer) ((unsigned)(NW_VALUE(answer) >> 8 & 0xFFu))
-#define NW_SECTION_LAST(answer) ((unsigned)(NW_VALUE(answer) & 0xFFu))
+nw_heading nw_section_read(const uint8_t *s, size_t n);
 
 /* How many sections a body of so many bytes makes: the ceiling of length / 4,084, 1 to 256.
  * Refusals, in this order: 14, no bytes; 22, more than NW_MOST_BODY. */
@@ -208,7 +228,7 @@ typedef struct nw_gathering {
     uint16_t held[256]; /* by section number: the payload's length + 1, or 0 where it is not held */
 } nw_gathering;
 
-#define NW_FRESH {0}                                              /* a state that holds nothing */
+#define NW_FRESH {0, 0, 0, 0, 0, {0}}                             /* a state that holds nothing */
 #define NW_STORE_BYTES(last) (((size_t)(last) + 1) * NW_MOST_PAYLOAD) /* what a table asks of a store */
 
 /* Feeds one byte string. Value: one of enum nw_fed. A payload that is taken goes to byte
@@ -312,16 +332,13 @@ static inline void nw_form_thing(nw_form *f, size_t list)
 nw_answer nw_certificate_read(uint32_t kind, const uint8_t *body, size_t n);
 
 /* The fields of an accepted body, asked for without reading what stands after them. Value: a count;
- * or the part of the body that the bytes fill, see the macros. Refusal 19: there is no i-th, counted
- * from 0. Of a body that nw_certificate_read refuses they tell the field all the same, where what
+ * or the part of the body that the bytes fill. Refusal 19: there is no i-th, counted from 0. Of a body that nw_certificate_read refuses they tell the field all the same, where what
  * stands before it can be read, and else the refusal of what can't. */
 nw_answer nw_certificate_authorization_count(const uint8_t *body, size_t n);
-nw_answer nw_certificate_authorization(const uint8_t *body, size_t n, uint64_t i);
+nw_part nw_certificate_authorization(const uint8_t *body, size_t n, uint64_t i);
 nw_answer nw_certificate_count(const uint8_t *body, size_t n);
-nw_answer nw_certificate_part(const uint8_t *body, size_t n, uint64_t i);
-nw_answer nw_certificate_signature(const uint8_t *body, size_t n);
-#define NW_PART_START(answer) ((size_t)(NW_VALUE(answer) >> 24))
-#define NW_PART_LENGTH(answer) ((size_t)(NW_VALUE(answer) & 0xFFFFFFu))
+nw_part nw_certificate_part(const uint8_t *body, size_t n, uint64_t i);
+nw_part nw_certificate_signature(const uint8_t *body, size_t n);
 
 /* Writes the table of a form at the start of out; bytes of out after it stay. Value: its length. The
  * tape has the count of authorization lists, for each its start and its length in the pool, the count
@@ -387,13 +404,12 @@ nw_answer nw_index_read(uint32_t kind, const uint8_t *body, size_t n);
 nw_answer nw_index_records(uint32_t kind, const uint8_t *body, size_t n, nw_record *list, size_t room);
 
 /* The messages and the signature, asked for without reading inside a message, whatever else is wrong
- * with the body. Value: a count; or a part of the body, see NW_PART_START and NW_PART_LENGTH: for a
- * message the two numbers of its record. Refusals, in this order: 14, the body is empty (place 0); 19,
+ * with the body. Value: a count; or a part of the body: for a message the two numbers of its record. Refusals, in this order: 14, the body is empty (place 0); 19,
  * there is no i-th, counted from 0 (place 0); 14, a length before the part, or its own, is cut off or
  * passes the body's end, at its place. */
 nw_answer nw_index_message_count(const uint8_t *body, size_t n);
-nw_answer nw_index_message(const uint8_t *body, size_t n, uint64_t i);
-nw_answer nw_index_signature(const uint8_t *body, size_t n);
+nw_part nw_index_message(const uint8_t *body, size_t n, uint64_t i);
+nw_part nw_index_signature(const uint8_t *body, size_t n);
 
 /* The fields of the message of `length` bytes at `at`, each judged as nw_index_read judges this field,
  * whatever else is wrong with the message or the body: so of an accepted body's messages they are told.
@@ -407,17 +423,17 @@ nw_answer nw_index_signature(const uint8_t *body, size_t n);
  * which may lie after the body's end; last, for a digit, 19, there is no such digit (place 0). Class
  * and level share a byte and are judged together; descriptors and streams are not judged with the part
  * that they fill. */
-nw_answer nw_message_identifier(const uint8_t *body, size_t n, size_t at, size_t length);
+nw_part nw_message_identifier(const uint8_t *body, size_t n, size_t at, size_t length);
 nw_answer nw_message_identifier_digit(const uint8_t *body, size_t n, size_t at, size_t length,
                                       uint64_t i);
 nw_answer nw_message_network(const uint8_t *body, size_t n, size_t at, size_t length);
 nw_answer nw_message_start(const uint8_t *body, size_t n, size_t at, size_t length);
 nw_answer nw_message_end(const uint8_t *body, size_t n, size_t at, size_t length);
-nw_answer nw_message_type(const uint8_t *body, size_t n, size_t at, size_t length);
+nw_part nw_message_type(const uint8_t *body, size_t n, size_t at, size_t length);
 nw_answer nw_message_class(const uint8_t *body, size_t n, size_t at, size_t length);
 nw_answer nw_message_level(const uint8_t *body, size_t n, size_t at, size_t length);
 nw_answer nw_message_resource_count(const uint8_t *body, size_t n, size_t at, size_t length);
-nw_answer nw_message_resource(const uint8_t *body, size_t n, size_t at, size_t length, uint64_t i);
+nw_part nw_message_resource(const uint8_t *body, size_t n, size_t at, size_t length, uint64_t i);
 nw_answer nw_message_resource_digit(const uint8_t *body, size_t n, size_t at, size_t length, uint64_t i,
                                     uint64_t j);
 nw_answer nw_message_channel_flag(const uint8_t *body, size_t n, size_t at, size_t length);
@@ -425,17 +441,14 @@ nw_answer nw_message_channel_network(const uint8_t *body, size_t n, size_t at, s
 nw_answer nw_message_channel_stream(const uint8_t *body, size_t n, size_t at, size_t length);
 nw_answer nw_message_channel_program(const uint8_t *body, size_t n, size_t at, size_t length);
 nw_answer nw_message_pcr_pid(const uint8_t *body, size_t n, size_t at, size_t length);
-nw_answer nw_message_descriptors(const uint8_t *body, size_t n, size_t at, size_t length);
-nw_answer nw_message_streams(const uint8_t *body, size_t n, size_t at, size_t length);
+nw_part nw_message_descriptors(const uint8_t *body, size_t n, size_t at, size_t length);
+nw_part nw_message_streams(const uint8_t *body, size_t n, size_t at, size_t length);
 
-/* The local date and time of a message's start or end. Value: as of nw_time_unpack, whose macros take
- * it apart. Refusals, in this order: 19, the offset is outside its range (place 0); those of
+/* The local date and time of a message's start or end. Value: as of nw_time_unpack. Refusals, in this order: 19, the offset is outside its range (place 0); those of
  * nw_message_start or nw_message_end, with their places; 18, a live end, which has no local time, or
  * 20, the local day lies outside the range of days (place 0). */
-nw_answer nw_message_local_start(const uint8_t *body, size_t n, size_t at, size_t length,
-                                 int32_t offset);
-nw_answer nw_message_local_end(const uint8_t *body, size_t n, size_t at, size_t length,
-                               int32_t offset);
+nw_time nw_message_local_start(const uint8_t *body, size_t n, size_t at, size_t length, int32_t offset);
+nw_time nw_message_local_end(const uint8_t *body, size_t n, size_t at, size_t length, int32_t offset);
 
 /* A descriptor or a stream that begins at p in a part that ends at `end`: one that is told by
  * nw_message_descriptors, nw_message_streams or nw_stream_descriptors. The first begins where the part
@@ -445,10 +458,10 @@ nw_answer nw_message_local_end(const uint8_t *body, size_t n, size_t at, size_t 
  * end lies after the body's, or p is not before end (place 0); 14, 15 or 17 of the field, as
  * nw_index_read judges it, at its place, which may lie after the body's end. */
 nw_answer nw_descriptor_tag(const uint8_t *body, size_t n, size_t end, size_t p);
-nw_answer nw_descriptor_bytes(const uint8_t *body, size_t n, size_t end, size_t p);
+nw_part nw_descriptor_bytes(const uint8_t *body, size_t n, size_t end, size_t p);
 nw_answer nw_stream_type(const uint8_t *body, size_t n, size_t end, size_t p);
 nw_answer nw_stream_pid(const uint8_t *body, size_t n, size_t end, size_t p);
-nw_answer nw_stream_descriptors(const uint8_t *body, size_t n, size_t end, size_t p);
+nw_part nw_stream_descriptors(const uint8_t *body, size_t n, size_t end, size_t p);
 
 /* Writes the table of a form at the start of out; bytes of out after it stay. Value: its length. The
  * tape has, where "bytes" are their start and their length in the pool:
@@ -502,18 +515,18 @@ nw_answer nw_content_read(uint32_t kind, uint32_t extension, const uint8_t *body
 
 /* The fields of the body, each judged as nw_content_read judges this field, whatever else is wrong
  * with the body: so of an accepted body they are told. Value: the CRC-16; a digit, 0 to 34; a count;
- * or a part of the body, see NW_PART_START and NW_PART_LENGTH.
+ * or a part of the body.
  * Refusals, in this order: for a language and the signature, those of the language count; for a
  * language, 19, there is no i-th, counted from 0 (place 0); for both, 14, a length before the part, or
  * its own, is cut off or passes the body's end, at its place; for the identifier, its digits and the
  * extension, 14, 17 or 18 of the identifier (place 0), and for the language count 14, 17 or 19 of it
  * (place 18); last, for a digit, 19, there is no such digit (place 0). */
-nw_answer nw_content_identifier(const uint8_t *body, size_t n);
+nw_part nw_content_identifier(const uint8_t *body, size_t n);
 nw_answer nw_content_identifier_digit(const uint8_t *body, size_t n, uint64_t i);
 nw_answer nw_content_extension(const uint8_t *body, size_t n);
 nw_answer nw_content_language_count(const uint8_t *body, size_t n);
-nw_answer nw_content_language(const uint8_t *body, size_t n, uint64_t i);
-nw_answer nw_content_signature(const uint8_t *body, size_t n);
+nw_part nw_content_language(const uint8_t *body, size_t n, uint64_t i);
+nw_part nw_content_signature(const uint8_t *body, size_t n);
 
 /* The fields of the language of `length` bytes at `at`, as nw_content_language tells them, each judged
  * as nw_content_read judges this field, whatever else is wrong with the language or the body. Value:
@@ -524,17 +537,17 @@ nw_answer nw_content_signature(const uint8_t *body, size_t n);
  * those of the auxiliary count, then 19, there is no i-th (place 0), then 14 or 15 of a type or a
  * length before it; last 14 to 19 of the field itself, at its place, which may lie after the body's
  * end. */
-nw_answer nw_language_letters(const uint8_t *body, size_t n, size_t at, size_t length);
+nw_part nw_language_letters(const uint8_t *body, size_t n, size_t at, size_t length);
 nw_answer nw_language_character_set(const uint8_t *body, size_t n, size_t at, size_t length);
-nw_answer nw_language_text(const uint8_t *body, size_t n, size_t at, size_t length);
-nw_answer nw_language_agency(const uint8_t *body, size_t n, size_t at, size_t length);
+nw_part nw_language_text(const uint8_t *body, size_t n, size_t at, size_t length);
+nw_part nw_language_agency(const uint8_t *body, size_t n, size_t at, size_t length);
 nw_answer nw_language_auxiliary_count(const uint8_t *body, size_t n, size_t at, size_t length);
 nw_answer nw_language_auxiliary_type(const uint8_t *body, size_t n, size_t at, size_t length,
                                      uint64_t i);
-nw_answer nw_language_auxiliary(const uint8_t *body, size_t n, size_t at, size_t length, uint64_t i);
+nw_part nw_language_auxiliary(const uint8_t *body, size_t n, size_t at, size_t length, uint64_t i);
 
 /* Writes the table of a form at the start of out; bytes of out after it stay. Value: the extension for
- * its sections, and the body's length, see the macros. The tape has, where "bytes" are their start and
+ * its sections, and the body's length. The tape has, where "bytes" are their start and
  * their length in the pool:
  *   the identifier (18 bytes); the count of languages, and for each its letters (3 bytes), character
  *   set, text (bytes), agency (bytes), the count of auxiliary files, and for each its type and data
@@ -545,10 +558,8 @@ nw_answer nw_language_auxiliary(const uint8_t *body, size_t n, size_t at, size_t
  * stated above, or a number or a letter is outside its set, the two counts too; 18, a digit above 9);
  * 19, the tape has entries left over; 22, a length too large for its field, or more than NW_MOST_BODY
  * bytes; 21, out is too small. */
-nw_answer nw_content_write(const uint8_t *pool, size_t pool_bytes, const uint64_t *tape, size_t entries,
-                           uint8_t *out, size_t room);
-#define NW_CONTENT_EXTENSION(answer) ((unsigned)(NW_VALUE(answer) >> 24))
-#define NW_CONTENT_LENGTH(answer) ((size_t)(NW_VALUE(answer) & 0xFFFFFFu))
+nw_written nw_content_write(const uint8_t *pool, size_t pool_bytes, const uint64_t *tape,
+                            size_t entries, uint8_t *out, size_t room);
 
 /* Lays an accepted body, whatever its extension, onto a tape: the form from which, with the body
  * itself as the pool, nw_content_write writes it again. Value: the entries laid, at most
@@ -608,8 +619,8 @@ nw_answer nw_configuration_read(uint32_t kind, const uint8_t *body, size_t n);
  * (place 0); for a command and the signature, 14, a tag or a length before it, or its own, is cut off
  * or passes the body's end, at its place. Least lengths are not looked at. */
 nw_answer nw_configuration_command_count(const uint8_t *body, size_t n);
-nw_answer nw_configuration_command(const uint8_t *body, size_t n, uint64_t i);
-nw_answer nw_configuration_signature(const uint8_t *body, size_t n);
+nw_part nw_configuration_command(const uint8_t *body, size_t n, uint64_t i);
+nw_part nw_configuration_signature(const uint8_t *body, size_t n);
 
 /* The command whose tag stands at p. These places name a command of the table: 1, if there is one;
  * where a part told by nw_configuration_command begins; and where such a part ends, which is where the
@@ -621,7 +632,7 @@ nw_answer nw_configuration_signature(const uint8_t *body, size_t n);
  * 14, its length is cut off or passes the body's end, or 15, is below the least of the tag, at the
  * length. */
 nw_answer nw_command_tag(const uint8_t *body, size_t n, size_t p);
-nw_answer nw_command_content(const uint8_t *body, size_t n, size_t p);
+nw_part nw_command_content(const uint8_t *body, size_t n, size_t p);
 
 /* The fields of the command whose tag stands at p, each judged as nw_configuration_read judges this
  * field, whatever else is wrong with the command or the body: so of an accepted body's commands they
@@ -641,20 +652,20 @@ nw_answer nw_command_clock_day(const uint8_t *body, size_t n, size_t p);
 nw_answer nw_command_clock_hour(const uint8_t *body, size_t n, size_t p);
 nw_answer nw_command_clock_minute(const uint8_t *body, size_t n, size_t p);
 nw_answer nw_command_clock_second(const uint8_t *body, size_t n, size_t p);
-nw_answer nw_command_code_address(const uint8_t *body, size_t n, size_t p);
-nw_answer nw_command_code_resource(const uint8_t *body, size_t n, size_t p);
+nw_part nw_command_code_address(const uint8_t *body, size_t n, size_t p);
+nw_part nw_command_code_resource(const uint8_t *body, size_t n, size_t p);
 nw_answer nw_command_code_digit(const uint8_t *body, size_t n, size_t p, uint64_t j);
 nw_answer nw_command_frequency(const uint8_t *body, size_t n, size_t p);
 nw_answer nw_command_symbol_rate(const uint8_t *body, size_t n, size_t p);
 nw_answer nw_command_mapping(const uint8_t *body, size_t n, size_t p);
 nw_answer nw_command_return_kind(const uint8_t *body, size_t n, size_t p);
-nw_answer nw_command_return_address(const uint8_t *body, size_t n, size_t p);
+nw_part nw_command_return_address(const uint8_t *body, size_t n, size_t p);
 nw_answer nw_command_period(const uint8_t *body, size_t n, size_t p);
 nw_answer nw_command_volume(const uint8_t *body, size_t n, size_t p);
 nw_answer nw_command_parameter_count(const uint8_t *body, size_t n, size_t p);
 nw_answer nw_command_parameter(const uint8_t *body, size_t n, size_t p, uint64_t i);
 nw_answer nw_command_terminal_count(const uint8_t *body, size_t n, size_t p);
-nw_answer nw_command_terminal(const uint8_t *body, size_t n, size_t p, uint64_t i);
+nw_part nw_command_terminal(const uint8_t *body, size_t n, size_t p, uint64_t i);
 nw_answer nw_command_terminal_digit(const uint8_t *body, size_t n, size_t p, uint64_t i, uint64_t j);
 
 /* Writes the table of a form at the start of out; bytes of out after it stay. Value: its length. The

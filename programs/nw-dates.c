@@ -45,16 +45,16 @@ static void put(struct report *r, const char *form, ...) {
 
 // ---- lines answered one by one
 
-static unsigned weekday(nw_answer local) {
-    nw_answer day = nw_day_of(NW_TIME_YEAR(local), NW_TIME_MONTH(local), NW_TIME_DAY(local));
-    return (unsigned)NW_VALUE(nw_weekday((uint32_t)NW_VALUE(day)));
+static unsigned weekday(nw_time local) {
+    nw_answer day = nw_day_of(nw_time_year(local), nw_time_month(local), nw_time_day(local));
+    return (unsigned)nw_value(nw_weekday((uint32_t)nw_value(day)));
 }
 
 // The field of a local time, with the weekday of the day that the line has.
 static unsigned put_field(struct report *r, const uint8_t *s, size_t n, int offset) {
     nw_answer field = nw_time_read_text(s, n, offset);
     if (NW_REFUSAL(field) != NW_TAKEN) return NW_REFUSAL(field);
-    put(r, "%010llX %u\n", (unsigned long long)NW_VALUE(field), weekday(nw_time_unpack(NW_VALUE(field), offset)));
+    put(r, "%010llX %u\n", (unsigned long long)nw_value(field), weekday(nw_time_unpack(nw_value(field), offset)));
     return NW_TAKEN;
 }
 
@@ -74,10 +74,10 @@ static bool read_field(const uint8_t *s, size_t n, uint64_t *field) {
 static unsigned put_time(struct report *r, const uint8_t *s, size_t n, int offset) {
     uint64_t field;
     if (!read_field(s, n, &field)) return NW_NOT_OF_THE_FORM;
-    nw_answer t = nw_time_unpack(field, offset);
+    nw_time t = nw_time_unpack(field, offset);
     if (NW_REFUSAL(t) != NW_TAKEN) return NW_REFUSAL(t);
-    put(r, "%02u/%02u/%04u %02u:%02u:%02u %u\n", NW_TIME_DAY(t), NW_TIME_MONTH(t), NW_TIME_YEAR(t), NW_TIME_HOUR(t),
-        NW_TIME_MINUTE(t), NW_TIME_SECOND(t), weekday(t));
+    put(r, "%02u/%02u/%04u %02u:%02u:%02u %u\n", nw_time_day(t), nw_time_month(t), nw_time_year(t), nw_time_hour(t),
+        nw_time_minute(t), nw_time_second(t), weekday(t));
     return NW_TAKEN;
 }
 

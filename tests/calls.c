@@ -97,8 +97,10 @@ static void put_records(const nw_record *list, size_t count) {
                r->start, r->end, r->class_, r->level);
 }
 
-// The refusal's number, 0 for none; then its place, or the value.
-static void put_answer(nw_answer a) {
+// Of an answer of any shape: the refusal's number, 0 for none; then its place, or the value.
+#define put_answer(answer) put_packed((answer).packed)
+
+static void put_packed(uint64_t a) {
     put_number(a & 0xff);
     put_number(a >> 8);
 }
@@ -130,17 +132,17 @@ static void call_time_pack(const struct argument *a) {
                             (uint32_t)a[4].number, (uint32_t)a[5].number, (int32_t)a[6].number));
 }
 
-// An answer of parts is printed whole, and then by the header's macros.
+// An answer of several numbers is printed whole, and then as the header takes it apart.
 static void call_time_unpack(const struct argument *a) {
-    nw_answer got = nw_time_unpack(a[0].wide, (int32_t)a[1].number);
+    nw_time got = nw_time_unpack(a[0].wide, (int32_t)a[1].number);
     put_answer(got);
     if (NW_REFUSAL(got)) return;
-    put_number(NW_TIME_YEAR(got));
-    put_number(NW_TIME_MONTH(got));
-    put_number(NW_TIME_DAY(got));
-    put_number(NW_TIME_HOUR(got));
-    put_number(NW_TIME_MINUTE(got));
-    put_number(NW_TIME_SECOND(got));
+    put_number(nw_time_year(got));
+    put_number(nw_time_month(got));
+    put_number(nw_time_day(got));
+    put_number(nw_time_hour(got));
+    put_number(nw_time_minute(got));
+    put_number(nw_time_second(got));
 }
 
 static void call_time_read_text(const struct argument *a) {
@@ -152,15 +154,15 @@ static void call_time_showing(const struct argument *a) {
 }
 
 static void call_section_read(const struct argument *a) {
-    nw_answer got = nw_section_read(a[0].bytes, a[0].length);
+    nw_heading got = nw_section_read(a[0].bytes, a[0].length);
     put_answer(got);
     if (NW_REFUSAL(got)) return;
-    put_number(NW_SECTION_KIND(got));
-    put_number(NW_SECTION_EXTENSION(got));
-    put_number(NW_SECTION_VERSION(got));
-    put_number(NW_SECTION_CURRENT(got));
-    put_number(NW_SECTION_NUMBER(got));
-    put_number(NW_SECTION_LAST(got));
+    put_number(nw_heading_kind(got));
+    put_number(nw_heading_extension(got));
+    put_number(nw_heading_version(got));
+    put_number(nw_heading_current(got));
+    put_number(nw_heading_number(got));
+    put_number(nw_heading_last(got));
 }
 
 static void call_section_count(const struct argument *a) { put_answer(nw_section_count(a[0].wide)); }
@@ -180,8 +182,8 @@ static void call_section_cut_all(const struct argument *a) {
     nw_answer got;
     size_t used = 0;
     for (uint32_t number = 0; NW_REFUSAL(got = cut(a, number, a[4].bytes + used, a[4].length - used)) == 0; number++) {
-        if (NW_VALUE(got) == 0 || NW_VALUE(got) > a[4].length - used) stop("a section of no bytes, or past its room");
-        used += NW_VALUE(got);
+        if (nw_value(got) == 0 || nw_value(got) > a[4].length - used) stop("a section of no bytes, or past its room");
+        used += nw_value(got);
     }
     put_answer(got);
     put_bytes(a[4].bytes, a[4].length);
@@ -260,9 +262,9 @@ static void call_certificate_read(const struct argument *a) {
     put_answer(got);
     if (NW_REFUSAL(got)) return;
     put_answer(got = nw_certificate_authorization_count(body, n));
-    for (uint64_t i = 0; i < NW_VALUE(got); i++) put_answer(nw_certificate_authorization(body, n, i));
+    for (uint64_t i = 0; i < nw_value(got); i++) put_answer(nw_certificate_authorization(body, n, i));
     put_answer(got = nw_certificate_count(body, n));
-    for (uint64_t i = 0; i < NW_VALUE(got); i++) put_answer(nw_certificate_part(body, n, i));
+    for (uint64_t i = 0; i < nw_value(got); i++) put_answer(nw_certificate_part(body, n, i));
     put_answer(nw_certificate_signature(body, n));
 }
 
@@ -287,20 +289,26 @@ static void call_certificate_lay(const struct argument *a) {
 
 // ---- the index table
 
-typedef nw_answer of_part(const uint8_t *body, size_t n, size_t at, size_t length);
+// What a function answers of what stands in a body, told by the words after its name.
+#define ASK(name, ...) put_answer(nw_##name(body->bytes, body->length, __VA_ARGS__))
 
 // What is asked of a message without a further number.
-static of_part *const of_messages[] = {
-    nw_message_identifier,      nw_message_network,        nw_message_start,
-    nw_message_end,             nw_message_type,           nw_message_class,
-    nw_message_level,           nw_message_resource_count, nw_message_channel_flag,
-    nw_message_channel_network, nw_message_channel_stream, nw_message_channel_program,
-    nw_message_pcr_pid,         nw_message_descriptors,    nw_message_streams,
-};
-
 static void put_message(const struct argument *body, size_t at, size_t length) {
-    for (size_t i = 0; i < sizeof of_messages / sizeof of_messages[0]; i++)
-        put_answer(of_messages[i](body->bytes, body->length, at, length));
+    ASK(message_identifier, at, length);
+    ASK(message_network, at, length);
+    ASK(message_start, at, length);
+    ASK(message_end, at, length);
+    ASK(message_type, at, length);
+    ASK(message_class, at, length);
+    ASK(message_level, at, length);
+    ASK(message_resource_count, at, length);
+    ASK(message_channel_flag, at, length);
+    ASK(message_channel_network, at, length);
+    ASK(message_channel_stream, at, length);
+    ASK(message_channel_program, at, length);
+    ASK(message_pcr_pid, at, length);
+    ASK(message_descriptors, at, length);
+    ASK(message_streams, at, length);
 }
 
 static void put_local_times(const struct argument *body, size_t at, size_t length, int32_t offset) {
@@ -310,7 +318,7 @@ static void put_local_times(const struct argument *body, size_t at, size_t lengt
 
 // A digit that was answered, or a sign that none was.
 static void put_digit(nw_answer got) {
-    putchar(NW_REFUSAL(got) == 0 && NW_VALUE(got) < 10 ? (int)('0' + NW_VALUE(got)) : '?');
+    putchar(NW_REFUSAL(got) == 0 && nw_value(got) < 10 ? (int)('0' + nw_value(got)) : '?');
 }
 
 static void put_identifier_digits(const struct argument *body, size_t at, size_t length) {
@@ -320,7 +328,7 @@ static void put_identifier_digits(const struct argument *body, size_t at, size_t
 }
 
 static void put_resources(const struct argument *body, size_t at, size_t length) {
-    uint64_t count = NW_VALUE(nw_message_resource_count(body->bytes, body->length, at, length));
+    uint64_t count = nw_value(nw_message_resource_count(body->bytes, body->length, at, length));
     for (uint64_t i = 0; i < count; i++) {
         put_answer(nw_message_resource(body->bytes, body->length, at, length, i));
         next_item();
@@ -330,8 +338,8 @@ static void put_resources(const struct argument *body, size_t at, size_t length)
 }
 
 // Where a part ends that must lie after p.
-static size_t end_after(size_t p, nw_answer part) {
-    size_t end = NW_PART_START(part) + NW_PART_LENGTH(part);
+static size_t end_after(size_t p, nw_part part) {
+    size_t end = nw_part_start(part) + nw_part_length(part);
     if (NW_REFUSAL(part) || end <= p) stop("a part that leads no further");
     return end;
 }
@@ -347,18 +355,18 @@ static void put_stream(const struct argument *body, size_t end, size_t p) {
     put_answer(nw_stream_descriptors(body->bytes, body->length, end, p));
 }
 
-static void put_descriptors(const struct argument *body, nw_answer part) {
-    size_t end = NW_PART_START(part) + NW_PART_LENGTH(part);
-    for (size_t p = NW_PART_START(part); p < end;) {
+static void put_descriptors(const struct argument *body, nw_part part) {
+    size_t end = nw_part_start(part) + nw_part_length(part);
+    for (size_t p = nw_part_start(part); p < end;) {
         put_descriptor(body, end, p);
         p = end_after(p, nw_descriptor_bytes(body->bytes, body->length, end, p));
     }
 }
 
-static void put_streams(const struct argument *body, nw_answer part) {
-    size_t end = NW_PART_START(part) + NW_PART_LENGTH(part);
-    for (size_t p = NW_PART_START(part); p < end;) {
-        nw_answer descriptors = nw_stream_descriptors(body->bytes, body->length, end, p);
+static void put_streams(const struct argument *body, nw_part part) {
+    size_t end = nw_part_start(part) + nw_part_length(part);
+    for (size_t p = nw_part_start(part); p < end;) {
+        nw_part descriptors = nw_stream_descriptors(body->bytes, body->length, end, p);
         put_stream(body, end, p);
         put_descriptors(body, descriptors);
         p = end_after(p, descriptors);
@@ -366,14 +374,14 @@ static void put_streams(const struct argument *body, nw_answer part) {
 }
 
 // A message, its resources, and what its channel has.
-static void put_whole_message(const struct argument *body, nw_answer part, int32_t offset) {
-    size_t n = body->length, at = NW_PART_START(part), length = NW_PART_LENGTH(part);
+static void put_whole_message(const struct argument *body, nw_part part, int32_t offset) {
+    size_t n = body->length, at = nw_part_start(part), length = nw_part_length(part);
     put_answer(part);
     put_message(body, at, length);
     put_identifier_digits(body, at, length);
     put_local_times(body, at, length, offset);
     put_resources(body, at, length);
-    if (NW_VALUE(nw_message_channel_flag(body->bytes, n, at, length)) == 0) return;
+    if (nw_value(nw_message_channel_flag(body->bytes, n, at, length)) == 0) return;
     put_descriptors(body, nw_message_descriptors(body->bytes, n, at, length));
     put_streams(body, nw_message_streams(body->bytes, n, at, length));
 }
@@ -385,7 +393,7 @@ static void call_index_read(const struct argument *a) {
     put_answer(got);
     if (NW_REFUSAL(got)) return;
     put_answer(got = nw_index_message_count(body->bytes, body->length));
-    for (uint64_t i = 0; i < NW_VALUE(got); i++)
+    for (uint64_t i = 0; i < nw_value(got); i++)
         put_whole_message(body, nw_index_message(body->bytes, body->length, i), (int32_t)a[2].number);
     put_answer(nw_index_signature(body->bytes, body->length));
 }
@@ -439,24 +447,20 @@ static void call_stream_fields(const struct argument *a) { put_stream(&a[0], a[1
 
 // ---- the content table
 
-typedef nw_answer of_body(const uint8_t *body, size_t n);
-
 // What is asked of a body, and of a language, without a further number.
-static of_body *const of_contents[] = {
-    nw_content_identifier, nw_content_extension, nw_content_language_count, nw_content_signature,
-};
-static of_part *const of_languages[] = {
-    nw_language_letters, nw_language_character_set, nw_language_text, nw_language_agency, nw_language_auxiliary_count,
-};
-
 static void put_content(const struct argument *body) {
-    for (size_t i = 0; i < sizeof of_contents / sizeof of_contents[0]; i++)
-        put_answer(of_contents[i](body->bytes, body->length));
+    put_answer(nw_content_identifier(body->bytes, body->length));
+    put_answer(nw_content_extension(body->bytes, body->length));
+    put_answer(nw_content_language_count(body->bytes, body->length));
+    put_answer(nw_content_signature(body->bytes, body->length));
 }
 
 static void put_language(const struct argument *body, size_t at, size_t length) {
-    for (size_t i = 0; i < sizeof of_languages / sizeof of_languages[0]; i++)
-        put_answer(of_languages[i](body->bytes, body->length, at, length));
+    ASK(language_letters, at, length);
+    ASK(language_character_set, at, length);
+    ASK(language_text, at, length);
+    ASK(language_agency, at, length);
+    ASK(language_auxiliary_count, at, length);
 }
 
 static void put_auxiliary(const struct argument *body, size_t at, size_t length, uint64_t i) {
@@ -464,11 +468,11 @@ static void put_auxiliary(const struct argument *body, size_t at, size_t length,
     put_answer(nw_language_auxiliary(body->bytes, body->length, at, length, i));
 }
 
-static void put_whole_language(const struct argument *body, nw_answer part) {
-    size_t at = NW_PART_START(part), length = NW_PART_LENGTH(part);
+static void put_whole_language(const struct argument *body, nw_part part) {
+    size_t at = nw_part_start(part), length = nw_part_length(part);
     put_answer(part);
     put_language(body, at, length);
-    uint64_t count = NW_VALUE(nw_language_auxiliary_count(body->bytes, body->length, at, length));
+    uint64_t count = nw_value(nw_language_auxiliary_count(body->bytes, body->length, at, length));
     for (uint64_t i = 0; i < count; i++) put_auxiliary(body, at, length, i);
 }
 
@@ -481,7 +485,7 @@ static void call_content_read(const struct argument *a) {
     put_content(body);
     next_item();
     for (uint64_t i = 0; i < 35; i++) put_digit(nw_content_identifier_digit(body->bytes, body->length, i));
-    uint64_t count = NW_VALUE(nw_content_language_count(body->bytes, body->length));
+    uint64_t count = nw_value(nw_content_language_count(body->bytes, body->length));
     for (uint64_t i = 0; i < count; i++) put_whole_language(body, nw_content_language(body->bytes, body->length, i));
 }
 
@@ -491,11 +495,11 @@ static void call_content_lay(const struct argument *a) {
 }
 
 static void call_content_write(const struct argument *a) {
-    nw_answer got = nw_content_write(a[0].bytes, a[0].length, a[1].tape, a[1].length, a[2].bytes, a[2].length);
+    nw_written got = nw_content_write(a[0].bytes, a[0].length, a[1].tape, a[1].length, a[2].bytes, a[2].length);
     put_answer(got);
     if (NW_REFUSAL(got) == 0) {
-        put_number(NW_CONTENT_EXTENSION(got));
-        put_number(NW_CONTENT_LENGTH(got));
+        put_number(nw_written_extension(got));
+        put_number(nw_written_length(got));
     }
     put_bytes(a[2].bytes, a[2].length);
 }
@@ -515,29 +519,36 @@ static void call_auxiliary_fields(const struct argument *a) { put_auxiliary(&a[0
 
 // ---- the configuration table
 
-typedef nw_answer of_command(const uint8_t *body, size_t n, size_t p);
-
-// What is asked of a command without a further number.
-static of_command *const of_commands[] = {
-    nw_command_tag,           nw_command_content,         nw_command_clock_year,    nw_command_clock_month,
-    nw_command_clock_day,     nw_command_clock_hour,      nw_command_clock_minute,  nw_command_clock_second,
-    nw_command_code_address,  nw_command_code_resource,   nw_command_frequency,     nw_command_symbol_rate,
-    nw_command_mapping,       nw_command_return_kind,     nw_command_return_address, nw_command_period,
-    nw_command_volume,        nw_command_parameter_count, nw_command_terminal_count,
-};
-
 static void put_configuration(const struct argument *body) {
     put_answer(nw_configuration_command_count(body->bytes, body->length));
     put_answer(nw_configuration_signature(body->bytes, body->length));
 }
 
+// What is asked of a command without a further number.
 static void put_command(const struct argument *body, size_t p) {
-    for (size_t i = 0; i < sizeof of_commands / sizeof of_commands[0]; i++)
-        put_answer(of_commands[i](body->bytes, body->length, p));
+    ASK(command_tag, p);
+    ASK(command_content, p);
+    ASK(command_clock_year, p);
+    ASK(command_clock_month, p);
+    ASK(command_clock_day, p);
+    ASK(command_clock_hour, p);
+    ASK(command_clock_minute, p);
+    ASK(command_clock_second, p);
+    ASK(command_code_address, p);
+    ASK(command_code_resource, p);
+    ASK(command_frequency, p);
+    ASK(command_symbol_rate, p);
+    ASK(command_mapping, p);
+    ASK(command_return_kind, p);
+    ASK(command_return_address, p);
+    ASK(command_period, p);
+    ASK(command_volume, p);
+    ASK(command_parameter_count, p);
+    ASK(command_terminal_count, p);
 }
 
 // So many things of a command; where there are none of these, its count is refused.
-static uint64_t count_of(nw_answer count) { return NW_REFUSAL(count) ? 0 : NW_VALUE(count); }
+static uint64_t count_of(nw_answer count) { return NW_REFUSAL(count) ? 0 : nw_value(count); }
 
 static void put_terminals(const struct argument *body, size_t p) {
     uint64_t count = count_of(nw_command_terminal_count(body->bytes, body->length, p));
@@ -551,7 +562,7 @@ static void put_terminals(const struct argument *body, size_t p) {
 // A command, and what is counted in it.
 static void put_whole_command(const struct argument *body, size_t p) {
     put_command(body, p);
-    if (NW_VALUE(nw_command_tag(body->bytes, body->length, p)) == NW_CODE) {
+    if (nw_value(nw_command_tag(body->bytes, body->length, p)) == NW_CODE) {
         next_item();
         for (uint64_t j = 0; j < 23; j++) put_digit(nw_command_code_digit(body->bytes, body->length, p, j));
     }
@@ -567,7 +578,7 @@ static void call_configuration_read(const struct argument *a) {
     put_answer(got);
     if (NW_REFUSAL(got)) return;
     put_configuration(body);
-    uint64_t count = NW_VALUE(nw_configuration_command_count(body->bytes, body->length));
+    uint64_t count = nw_value(nw_configuration_command_count(body->bytes, body->length));
     size_t p = 1;
     for (uint64_t i = 0; i < count; i++) {
         put_answer(nw_configuration_command(body->bytes, body->length, i));

@@ -37,7 +37,7 @@ static void written_as_by_hand(void) {
     expect(!f.full && f.pool_bytes == POOL && f.entries == ENTRIES, "the form takes 3 bytes and 8 entries");
     memset(out, 0x5a, sizeof out);
     nw_answer answer = nw_certificate_write(f.pool, f.pool_bytes, f.tape, f.entries, out, sizeof out);
-    expect(NW_REFUSAL(answer) == NW_TAKEN && NW_VALUE(answer) == sizeof BODY, "it is written");
+    expect(NW_REFUSAL(answer) == NW_TAKEN && nw_value(answer) == sizeof BODY, "it is written");
     expect(memcmp(out, BODY, sizeof BODY) == 0 && out[sizeof BODY] == 0x5a, "with the bytes made by hand, and none after them");
 }
 
@@ -53,7 +53,7 @@ static void refused_without_room(size_t pool_room, size_t tape_room) {
     memset(out, 0x5a, sizeof out);
     memcpy(before, out, sizeof out);
     nw_answer answer = nw_certificate_write(f.pool, f.pool_bytes, f.tape, f.entries, out, sizeof out);
-    expect(answer == NW_OUTSIDE_SET && memcmp(out, before, sizeof out) == 0, "it is 19, and nothing is written");
+    expect(answer.packed == NW_OUTSIDE_SET && memcmp(out, before, sizeof out) == 0, "it is 19, and nothing is written");
 }
 
 int main(void) {

@@ -1,4 +1,4 @@
-"""The C headers against the source: exports' parameters in number, order and width, lent structs, refusals, macros of answers."""
+"""The C headers against the source: exports' parameters and shapes of answer, lent structs, refusals, what takes answers apart."""
 import glob
 import os
 import re
@@ -11,7 +11,8 @@ RECORDS = 'crates/index_records/src/lib.rt'
 HEADERS = {'neapwillow': 'include/neapwillow.h', 'c_commands': 'programs/c_commands.h'}
 
 # What the commands' header calls a constant of the source.
-CONSTANTS = {'NW_MOST_INPUT': 'program_printing::MOST_INPUT', 'NW_MOST_REPORT': 'program_date_lines::MOST_OUTPUT', 'NW_MOST_LINE': 'program_section_line::MOST_OUTPUT'}
+CONSTANTS = {'NW_MOST_INPUT': 'program_printing::MOST_INPUT', 'NW_MOST_REPORT': 'program_date_lines::MOST_OUTPUT',
+             'NW_MOST_LINE': 'program_section_line::MOST_OUTPUT'}
 
 # What C lends as a struct: its name there, and where the source has it under which name.
 STRUCTS = [('nw_gathering', 'crates/gathering_state/src/lib.rt', 'Gathering'), ('nw_record', RECORDS, 'Record')]
@@ -26,9 +27,14 @@ IN_C = {
 }
 
 
-# The macros that take a value apart, by the record of telling's Taking that says what each finds; and what a cast leaves.
-MACROS = {'TellsDate': 'NW_DATE_', 'TellsTime': 'NW_TIME_', 'TellsHeading': 'NW_SECTION_', 'TellsPart': 'NW_PART_', 'TellsContent': 'NW_CONTENT_'}
-CAST = {'unsigned': 32, 'size_t': 64}
+# The shape of an answer in C, by the definition that an export's contract cites; a number for every other one.
+SHAPES = {'partAnswer': 'nw_part', 'dateAnswer': 'nw_date', 'localAnswer': 'nw_time', 'localFieldAnswer': 'nw_time',
+          'sectionAnswer': 'nw_heading', 'contentAnswer': 'nw_written'}
+
+# The shape that each record of c_answers' Taking says the fields of; and how many bits a type has.
+RECORDS_OF = {'TellsDate': 'nw_date', 'TellsTime': 'nw_time', 'TellsHeading': 'nw_heading', 'TellsPart': 'nw_part',
+              'TellsContent': 'nw_written'}
+BITS = {'unsigned': 32, 'size_t': 64, 'uint64_t': 64}
 
 
 def read(*path):
@@ -46,14 +52,20 @@ def parameter_in_c(kind):
     return ['uint8_t [%s]' % array[1]] if array else IN_C[kind]
 
 
+def result_in_c(kind, contract):
+    """What a result of the source is in C: one that the contract says to be an answer has that answer's shape."""
+    answer = re.search(r'\br ≡ (\w+Answer)\b', contract)
+    return [SHAPES.get(answer[1], 'nw_answer')] if answer else IN_C[kind]
+
+
 def exports(crate):
     """Each exported function of a crate: its result and its parameters, as C has them."""
     found = {}
     for path in sorted(glob.glob(os.path.join(ROOT, 'crates', crate, 'src', '*.rt'))):
-        for name, parameters, result in re.findall(
-                r'pub extern "C" fn (\w+)\(([^)]*)\)\s*->\s*(\w+)', without_comments(read(path))):
+        for name, parameters, result, contract in re.findall(
+                r'pub extern "C" fn (\w+)\(([^)]*)\)\s*->\s*(\w+)(.*?)\n\{', without_comments(read(path)), re.S):
             types = [p.split(':', 1)[1].strip() for p in parameters.split(',') if p.strip()]
-            found[name] = IN_C[result], [c for t in types for c in parameter_in_c(t)]
+            found[name] = result_in_c(result, contract), [c for t in types for c in parameter_in_c(t)]
     return found
 
 
@@ -71,7 +83,6 @@ def declarations(header):
     """Each function that the header declares."""
     found = {}
     for result, name, parameters in re.findall(r'^(\w+) (nw_\w+)\(([^)]*)\);', header, flags=re.M):
-        result = 'uint64_t' if result == 'nw_answer' else result
         found[name] = [result], [in_c(p) for p in re.sub(r'\s+', ' ', parameters).split(',')]
     return found
 
@@ -117,20 +128,36 @@ def header_refusals(header):
     return {name: int(number) for name, number in re.findall(r'(NW_\w+) = (\d+)', body) if number != '0'}
 
 
-def source_macros():
-    """Each field of a value that the definitions name: how many bits stand below it, and how many it has."""
-    found = {}
-    for record, prefix in MACROS.items():
+def source_fields_told():
+    """What takes each field of a value: the shape it is of, how many bits stand below it in the 64, and how many it has."""
+    found = {'nw_value': ('nw_answer', 8, 64)}
+    for record, shape in RECORDS_OF.items():
         body = re.search(r'pub record %s .*?(?=\npub |\Z)' % record, read('crates', 'c_answers', 'specs', 'Taking.antt'), re.S).group(0)
         for field, below, width in re.findall(r'pub (\S+) : fieldTold (\d+) (\d+) a', body):
-            found[prefix + field.removesuffix('-is').upper()] = int(below), int(width)
+            found['%s_%s' % (shape, field.removesuffix('-is'))] = shape, 8 + int(below), int(width)
     return found
 
 
+def header_fields_told(header):
+    """The same of the header's functions of one answer: a mask says the width, or the type of the result."""
+    found = {}
+    for kind, name, shape, body in re.findall(r'static inline (\w+) (nw_\w+)\((nw_\w+) a\) \{ return (.*?); \}', header):
+        form = re.fullmatch(r'(?:\((\w+)\)\()?a\.packed >> (\d+)(?: & 0x(F+)u)?\)?', body)
+        cast, below, mask = form.groups() if form else (None, -1, None)
+        found[name] = shape, int(below), 4 * len(mask) if mask else BITS[cast or kind]
+    return found
+
+
+# The low byte is the refusal, and the place stands above it: Taking's refusalTold and aboveTold.
+MACROS = {'NW_REFUSAL': '((unsigned)((answer).packed & 0xFFu))', 'NW_PLACE': '((answer).packed >> 8)'}
+
+
 def header_macros(header):
-    """The same of the header's macros: a mask says the width, or the type that the value is cast to."""
-    form = r'#define (NW_\w+)\(answer\) \(\((\w+)\)\(NW_VALUE\(answer\)(?: >> (\d+))?(?: & 0x(F+)u)?\)\)'
-    return {name: (int(below or 0), 4 * len(mask) if mask else CAST[cast]) for name, cast, below, mask in re.findall(form, header)}
+    return dict(re.findall(r'#define (\w+)\(answer\) (.*)', header))
+
+
+def shapes(header):
+    return dict(re.findall(r'typedef struct (nw_\w+) \{ (uint64_t packed;) \}', header))
 
 
 def main():
@@ -139,7 +166,8 @@ def main():
     pairs = [functions[0], ('refusal', source_refusals(), header_refusals(header)),
              ('struct', {lent: source_fields(path, name) for lent, path, name in STRUCTS},
               {lent: header_fields(header, lent) for lent, _, _ in STRUCTS}),
-             ('macro', source_macros(), header_macros(header)),
+             ('shape', dict.fromkeys(['nw_answer', *SHAPES.values()], 'uint64_t packed;'), shapes(header)),
+             ('field told', source_fields_told(), header_fields_told(header)), ('macro', MACROS, header_macros(header)),
              functions[1], ('constant', source_constants(), header_constants(commands))]
     wrong = 0
     for what, source, declared in pairs:

@@ -53,46 +53,46 @@ static void put_body(struct writer *w) {
 
 static const struct table table = {NW_CERTIFICATE, take_body, lay_body, form_body, put_body};
 
-nw_answer plain_certificate_read(uint32_t kind, const uint8_t *body, size_t n) {
+plain_answer plain_certificate_read(uint32_t kind, const uint8_t *body, size_t n) {
     return read_table(&table, kind, body, n);
 }
 
-nw_answer plain_certificate_lay(uint32_t kind, const uint8_t *body, size_t n, uint64_t *tape, size_t entries) {
+plain_answer plain_certificate_lay(uint32_t kind, const uint8_t *body, size_t n, uint64_t *tape, size_t entries) {
     return lay_table(&table, kind, body, n, tape, entries);
 }
 
-nw_answer plain_certificate_write(const uint8_t *pool, size_t pool_bytes, const uint64_t *tape, size_t entries,
-                                  uint8_t *out, size_t room) {
+plain_answer plain_certificate_write(const uint8_t *pool, size_t pool_bytes, const uint64_t *tape, size_t entries,
+                                     uint8_t *out, size_t room) {
     return write_table(&table, pool, pool_bytes, tape, entries, out, room);
 }
 
 // ---- fields asked for: what stands before them is passed by its length
 
-nw_answer plain_certificate_authorization_count(const uint8_t *body, size_t n) {
+plain_answer plain_certificate_authorization_count(const uint8_t *body, size_t n) {
     struct reader r = {body, n, n, 0, 0};
     return asked_number(&r, 1);
 }
 
-nw_answer plain_certificate_authorization(const uint8_t *body, size_t n, uint64_t i) {
+plain_answer plain_certificate_authorization(const uint8_t *body, size_t n, uint64_t i) {
     struct reader r = {body, n, n, 0, 0};
     return asked_part_of_list(&r, i, 2);
 }
 
-nw_answer plain_certificate_count(const uint8_t *body, size_t n) {
+plain_answer plain_certificate_count(const uint8_t *body, size_t n) {
     struct reader r = {body, n, n, 0, 0};
-    nw_answer no = skip_list(&r, 2);
+    plain_answer no = skip_list(&r, 2);
     return no ? no : asked_number(&r, 1);
 }
 
-nw_answer plain_certificate_part(const uint8_t *body, size_t n, uint64_t i) {
+plain_answer plain_certificate_part(const uint8_t *body, size_t n, uint64_t i) {
     struct reader r = {body, n, n, 0, 0};
-    nw_answer no = skip_list(&r, 2);
+    plain_answer no = skip_list(&r, 2);
     return no ? no : asked_part_of_list(&r, i, 1);
 }
 
-nw_answer plain_certificate_signature(const uint8_t *body, size_t n) {
+plain_answer plain_certificate_signature(const uint8_t *body, size_t n) {
     struct reader r = {body, n, n, 0, 0};
-    nw_answer no;
+    plain_answer no;
     if ((no = skip_list(&r, 2)) || (no = skip_list(&r, 1))) return no;
     return asked_part(&r, 2);
 }

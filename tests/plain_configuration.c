@@ -254,35 +254,35 @@ static void put_body(struct writer *w) {
 
 static const struct table table = {NW_CONFIGURATION, take_body, lay_body, form_body, put_body};
 
-nw_answer plain_configuration_read(uint32_t kind, const uint8_t *body, size_t n) {
+plain_answer plain_configuration_read(uint32_t kind, const uint8_t *body, size_t n) {
     return read_table(&table, kind, body, n);
 }
 
-nw_answer plain_configuration_lay(uint32_t kind, const uint8_t *body, size_t n, uint64_t *tape, size_t entries) {
+plain_answer plain_configuration_lay(uint32_t kind, const uint8_t *body, size_t n, uint64_t *tape, size_t entries) {
     return lay_table(&table, kind, body, n, tape, entries);
 }
 
-nw_answer plain_configuration_write(const uint8_t *pool, size_t pool_bytes, const uint64_t *tape, size_t entries,
-                                    uint8_t *out, size_t room) {
+plain_answer plain_configuration_write(const uint8_t *pool, size_t pool_bytes, const uint64_t *tape, size_t entries,
+                                       uint8_t *out, size_t room) {
     return write_table(&table, pool, pool_bytes, tape, entries, out, room);
 }
 
 // ---- fields of a body asked for: what stands before them is passed by its length, and not judged
 
-nw_answer plain_configuration_command_count(const uint8_t *body, size_t n) {
+plain_answer plain_configuration_command_count(const uint8_t *body, size_t n) {
     return n == 0 ? PAST_BODY : value(body[0]);
 }
 
-static nw_answer skip_commands(struct reader *r, uint64_t count) {
+static plain_answer skip_commands(struct reader *r, uint64_t count) {
     unsigned no;
     for (; count > 0; count--)
         if ((no = take(r, 1)) || (no = skip_part(r, 2))) return refused(no, r->at);
     return 0;
 }
 
-nw_answer plain_configuration_command(const uint8_t *body, size_t n, uint64_t i) {
+plain_answer plain_configuration_command(const uint8_t *body, size_t n, uint64_t i) {
     struct reader r = {body, n, n, FIRST_AT, 0};
-    nw_answer no;
+    plain_answer no;
     if (n == 0) return PAST_BODY;
     if (i >= body[0]) return OUTSIDE;
     if ((no = skip_commands(&r, i))) return no;
@@ -290,172 +290,174 @@ nw_answer plain_configuration_command(const uint8_t *body, size_t n, uint64_t i)
     return (no = skip_commands(&r, 1)) ? no : part(begin, r.at - begin);
 }
 
-nw_answer plain_configuration_signature(const uint8_t *body, size_t n) {
+plain_answer plain_configuration_signature(const uint8_t *body, size_t n) {
     struct reader r = {body, n, n, FIRST_AT, 0};
     if (n == 0) return PAST_BODY;
-    nw_answer no = skip_commands(&r, body[0]);
+    plain_answer no = skip_commands(&r, body[0]);
     return no ? no : asked_part(&r, 2);
 }
 
 // ---- fields of a command asked for, each at its own place
 
-nw_answer plain_command_tag(const uint8_t *body, size_t n, size_t p) {
+plain_answer plain_command_tag(const uint8_t *body, size_t n, size_t p) {
     return p >= n ? OUTSIDE : value(body[p]);
 }
 
 // The reader at the beginning of a command's content, of which it then has the end.
-static nw_answer enter(struct reader *r, const uint8_t *body, size_t n, size_t p) {
-    nw_answer tag = plain_command_tag(body, n, p);
-    if (NW_REFUSAL(tag)) return tag;
+static plain_answer enter(struct reader *r, const uint8_t *body, size_t n, size_t p) {
+    plain_answer tag = plain_command_tag(body, n, p);
+    if (refusal_of(tag)) return tag;
     size_t length;
     *r = (struct reader){body, n, n, p + 1, 0};
-    unsigned no = take_content_length(r, (unsigned)NW_VALUE(tag), &length);
+    unsigned no = take_content_length(r, (unsigned)value_of(tag), &length);
     r->end = r->at + (no ? 0 : length);
     return no ? refused(no, r->at) : 0;
 }
 
-nw_answer plain_command_content(const uint8_t *body, size_t n, size_t p) {
+plain_answer plain_command_content(const uint8_t *body, size_t n, size_t p) {
     struct reader r;
-    nw_answer no = enter(&r, body, n, p);
+    plain_answer no = enter(&r, body, n, p);
     return no ? no : part(r.at, r.end - r.at);
 }
 
 // The reader at a place of the content of a command of this tag.
-static nw_answer enter_as(struct reader *r, const uint8_t *body, size_t n, size_t p, unsigned tag, size_t place) {
-    nw_answer its = plain_command_tag(body, n, p), no;
-    if (NW_REFUSAL(its)) return its;
-    if (NW_VALUE(its) != tag) return OUTSIDE;
+static plain_answer enter_as(struct reader *r, const uint8_t *body, size_t n, size_t p, unsigned tag, size_t place) {
+    plain_answer its = plain_command_tag(body, n, p), no;
+    if (refusal_of(its)) return its;
+    if (value_of(its) != tag) return OUTSIDE;
     if ((no = enter(r, body, n, p))) return no;
     r->at += place;
     return 0;
 }
 
-static nw_answer asked_day(const uint8_t *body, size_t n, size_t p, size_t place, size_t width) {
+static plain_answer asked_day(const uint8_t *body, size_t n, size_t p, size_t place, size_t width) {
     struct reader r;
-    nw_answer no = enter_as(&r, body, n, p, NW_CLOCK, 0);
+    plain_answer no = enter_as(&r, body, n, p, NW_CLOCK, 0);
     if (no) return no;
     unsigned fault = take_day(&r);
     return fault ? refused(fault, r.at) : value(big_endian(body + r.at - 4 + place, width));
 }
 
-static nw_answer asked_time(const uint8_t *body, size_t n, size_t p, size_t place) {
+static plain_answer asked_time(const uint8_t *body, size_t n, size_t p, size_t place) {
     struct reader r;
-    nw_answer no = enter_as(&r, body, n, p, NW_CLOCK, 4);
+    plain_answer no = enter_as(&r, body, n, p, NW_CLOCK, 4);
     if (no) return no;
     unsigned fault = take_time(&r);
     return fault ? refused(fault, r.at) : value(body[r.at - 3 + place]);
 }
 
-nw_answer plain_command_clock_year(const uint8_t *body, size_t n, size_t p) { return asked_day(body, n, p, 0, 2); }
-nw_answer plain_command_clock_month(const uint8_t *body, size_t n, size_t p) { return asked_day(body, n, p, 2, 1); }
-nw_answer plain_command_clock_day(const uint8_t *body, size_t n, size_t p) { return asked_day(body, n, p, 3, 1); }
-nw_answer plain_command_clock_hour(const uint8_t *body, size_t n, size_t p) { return asked_time(body, n, p, 0); }
-nw_answer plain_command_clock_minute(const uint8_t *body, size_t n, size_t p) { return asked_time(body, n, p, 1); }
-nw_answer plain_command_clock_second(const uint8_t *body, size_t n, size_t p) { return asked_time(body, n, p, 2); }
+plain_answer plain_command_clock_year(const uint8_t *body, size_t n, size_t p) { return asked_day(body, n, p, 0, 2); }
+plain_answer plain_command_clock_month(const uint8_t *body, size_t n, size_t p) { return asked_day(body, n, p, 2, 1); }
+plain_answer plain_command_clock_day(const uint8_t *body, size_t n, size_t p) { return asked_day(body, n, p, 3, 1); }
+plain_answer plain_command_clock_hour(const uint8_t *body, size_t n, size_t p) { return asked_time(body, n, p, 0); }
+plain_answer plain_command_clock_minute(const uint8_t *body, size_t n, size_t p) { return asked_time(body, n, p, 1); }
+plain_answer plain_command_clock_second(const uint8_t *body, size_t n, size_t p) { return asked_time(body, n, p, 2); }
 
-nw_answer plain_command_code_address(const uint8_t *body, size_t n, size_t p) {
+plain_answer plain_command_code_address(const uint8_t *body, size_t n, size_t p) {
     struct reader r;
-    nw_answer no = enter_as(&r, body, n, p, NW_CODE, 0);
+    plain_answer no = enter_as(&r, body, n, p, NW_CODE, 0);
     return no ? no : asked_part(&r, 1);
 }
 
-nw_answer plain_command_code_resource(const uint8_t *body, size_t n, size_t p) {
+plain_answer plain_command_code_resource(const uint8_t *body, size_t n, size_t p) {
     struct reader r;
-    nw_answer no = enter_as(&r, body, n, p, NW_CODE, 0);
+    plain_answer no = enter_as(&r, body, n, p, NW_CODE, 0);
     if (no) return no;
     unsigned fault = skip_part(&r, 1);
     return fault ? refused(fault, r.at) : asked_digits(&r, RESOURCE_BYTES);
 }
 
-nw_answer plain_command_code_digit(const uint8_t *body, size_t n, size_t p, uint64_t j) {
+plain_answer plain_command_code_digit(const uint8_t *body, size_t n, size_t p, uint64_t j) {
     return asked_digit(body, plain_command_code_resource(body, n, p), j);
 }
 
-static nw_answer asked_wide(const uint8_t *body, size_t n, size_t p, unsigned tag, size_t place) {
+static plain_answer asked_wide(const uint8_t *body, size_t n, size_t p, unsigned tag, size_t place) {
     struct reader r;
-    nw_answer no = enter_as(&r, body, n, p, tag, place);
+    plain_answer no = enter_as(&r, body, n, p, tag, place);
     return no ? no : asked_number(&r, 4);
 }
 
-static nw_answer asked_within(const uint8_t *body, size_t n, size_t p, unsigned tag, size_t place, unsigned least,
-                              unsigned most) {
+static plain_answer asked_within(const uint8_t *body, size_t n, size_t p, unsigned tag, size_t place, unsigned least,
+                                 unsigned most) {
     struct reader r;
-    nw_answer no = enter_as(&r, body, n, p, tag, place);
+    plain_answer no = enter_as(&r, body, n, p, tag, place);
     return no ? no : asked_small(&r, 0, least, most);
 }
 
-nw_answer plain_command_frequency(const uint8_t *body, size_t n, size_t p) {
+plain_answer plain_command_frequency(const uint8_t *body, size_t n, size_t p) {
     return asked_wide(body, n, p, NW_FREQUENCY, 0);
 }
 
-nw_answer plain_command_symbol_rate(const uint8_t *body, size_t n, size_t p) {
+plain_answer plain_command_symbol_rate(const uint8_t *body, size_t n, size_t p) {
     return asked_wide(body, n, p, NW_FREQUENCY, 4);
 }
 
-nw_answer plain_command_mapping(const uint8_t *body, size_t n, size_t p) {
+plain_answer plain_command_mapping(const uint8_t *body, size_t n, size_t p) {
     return asked_within(body, n, p, NW_FREQUENCY, 8, 0, MOST_MAPPING);
 }
 
-nw_answer plain_command_return_kind(const uint8_t *body, size_t n, size_t p) {
+plain_answer plain_command_return_kind(const uint8_t *body, size_t n, size_t p) {
     return asked_within(body, n, p, NW_RETURN, 0, 1, 3);
 }
 
-nw_answer plain_command_return_address(const uint8_t *body, size_t n, size_t p) {
+plain_answer plain_command_return_address(const uint8_t *body, size_t n, size_t p) {
     struct reader r;
-    nw_answer no = enter_as(&r, body, n, p, NW_RETURN, 0);
+    plain_answer no = enter_as(&r, body, n, p, NW_RETURN, 0);
     if (no) return no;
     size_t begin = r.at + 2;
     unsigned fault = take_return(&r);
     return fault ? refused(fault, r.at) : part(begin, r.at - begin);
 }
 
-nw_answer plain_command_period(const uint8_t *body, size_t n, size_t p) { return asked_wide(body, n, p, NW_PERIOD, 0); }
+plain_answer plain_command_period(const uint8_t *body, size_t n, size_t p) {
+    return asked_wide(body, n, p, NW_PERIOD, 0);
+}
 
-nw_answer plain_command_volume(const uint8_t *body, size_t n, size_t p) {
+plain_answer plain_command_volume(const uint8_t *body, size_t n, size_t p) {
     return asked_within(body, n, p, NW_VOLUME, 0, 0, MOST_VOLUME);
 }
 
-nw_answer plain_command_parameter_count(const uint8_t *body, size_t n, size_t p) {
+plain_answer plain_command_parameter_count(const uint8_t *body, size_t n, size_t p) {
     struct reader r;
-    nw_answer no = enter_as(&r, body, n, p, NW_QUERY, 0);
+    plain_answer no = enter_as(&r, body, n, p, NW_QUERY, 0);
     return no ? no : asked_number(&r, 1);
 }
 
-nw_answer plain_command_parameter(const uint8_t *body, size_t n, size_t p, uint64_t i) {
+plain_answer plain_command_parameter(const uint8_t *body, size_t n, size_t p, uint64_t i) {
     struct reader r;
-    nw_answer count = plain_command_parameter_count(body, n, p);
-    if (NW_REFUSAL(count)) return count;
-    if (i >= NW_VALUE(count)) return OUTSIDE;
-    nw_answer no = enter_as(&r, body, n, p, NW_QUERY, 1 + i);
+    plain_answer count = plain_command_parameter_count(body, n, p);
+    if (refusal_of(count)) return count;
+    if (i >= value_of(count)) return OUTSIDE;
+    plain_answer no = enter_as(&r, body, n, p, NW_QUERY, 1 + i);
     return no ? no : asked_number(&r, 1);
 }
 
 // The terminal count, with the reader after it.
-static nw_answer count_of(struct reader *r, const uint8_t *body, size_t n, size_t p) {
-    nw_answer tag = plain_command_tag(body, n, p), no;
-    if (NW_REFUSAL(tag)) return tag;
-    if (!has_terminals(NW_VALUE(tag))) return OUTSIDE;
+static plain_answer count_of(struct reader *r, const uint8_t *body, size_t n, size_t p) {
+    plain_answer tag = plain_command_tag(body, n, p), no;
+    if (refusal_of(tag)) return tag;
+    if (!has_terminals(value_of(tag))) return OUTSIDE;
     if ((no = enter(r, body, n, p))) return no;
-    unsigned fault = NW_VALUE(tag) == NW_RETURN ? take_return(r) : 0;
+    unsigned fault = value_of(tag) == NW_RETURN ? take_return(r) : 0;
     if (fault) return refused(fault, r->at);
-    r->at += NW_VALUE(tag) == NW_QUERY ? 1u + body[r->at] : terminals_at[NW_VALUE(tag)];
+    r->at += value_of(tag) == NW_QUERY ? 1u + body[r->at] : terminals_at[value_of(tag)];
     return asked_number(r, 1);
 }
 
-nw_answer plain_command_terminal_count(const uint8_t *body, size_t n, size_t p) {
+plain_answer plain_command_terminal_count(const uint8_t *body, size_t n, size_t p) {
     struct reader r;
     return count_of(&r, body, n, p);
 }
 
-nw_answer plain_command_terminal(const uint8_t *body, size_t n, size_t p, uint64_t i) {
+plain_answer plain_command_terminal(const uint8_t *body, size_t n, size_t p, uint64_t i) {
     struct reader r;
-    nw_answer count = count_of(&r, body, n, p);
-    if (NW_REFUSAL(count)) return count;
-    if (i >= NW_VALUE(count)) return OUTSIDE;
+    plain_answer count = count_of(&r, body, n, p);
+    if (refusal_of(count)) return count;
+    if (i >= value_of(count)) return OUTSIDE;
     r.at += RESOURCE_BYTES * i;
     return asked_digits(&r, RESOURCE_BYTES);
 }
 
-nw_answer plain_command_terminal_digit(const uint8_t *body, size_t n, size_t p, uint64_t i, uint64_t j) {
+plain_answer plain_command_terminal_digit(const uint8_t *body, size_t n, size_t p, uint64_t i, uint64_t j) {
     return asked_digit(body, plain_command_terminal(body, n, p, i), j);
 }

@@ -132,80 +132,80 @@ static void put_body(struct writer *w) {
 
 static const struct table table = {NW_CONTENT, take_body, lay_body, form_body, put_body};
 
-nw_answer plain_content_read(uint32_t kind, uint32_t extension, const uint8_t *body, size_t n) {
-    nw_answer got = read_table(&table, kind, body, n);
+plain_answer plain_content_read(uint32_t kind, uint32_t extension, const uint8_t *body, size_t n) {
+    plain_answer got = read_table(&table, kind, body, n);
     return got ? got : extension == extension_of(body) ? 0 : NW_OTHER_CHECKSUM;
 }
 
-nw_answer plain_content_lay(uint32_t kind, const uint8_t *body, size_t n, uint64_t *tape, size_t entries) {
+plain_answer plain_content_lay(uint32_t kind, const uint8_t *body, size_t n, uint64_t *tape, size_t entries) {
     return lay_table(&table, kind, body, n, tape, entries);
 }
 
-nw_answer plain_content_write(const uint8_t *pool, size_t pool_bytes, const uint64_t *tape, size_t entries,
-                              uint8_t *out, size_t room) {
-    nw_answer got = write_table(&table, pool, pool_bytes, tape, entries, out, room);
-    return NW_REFUSAL(got) ? got : part(extension_of(out), NW_VALUE(got));
+plain_answer plain_content_write(const uint8_t *pool, size_t pool_bytes, const uint64_t *tape, size_t entries,
+                                 uint8_t *out, size_t room) {
+    plain_answer got = write_table(&table, pool, pool_bytes, tape, entries, out, room);
+    return refusal_of(got) ? got : part(extension_of(out), value_of(got));
 }
 
 // ---- fields of a body asked for: what stands before them is passed by its length, and not judged
 
-nw_answer plain_content_identifier(const uint8_t *body, size_t n) {
+plain_answer plain_content_identifier(const uint8_t *body, size_t n) {
     struct reader r = {body, n, n, 0, 0};
     return asked_digits(&r, IDENTIFIER_BYTES);
 }
 
-nw_answer plain_content_identifier_digit(const uint8_t *body, size_t n, uint64_t i) {
+plain_answer plain_content_identifier_digit(const uint8_t *body, size_t n, uint64_t i) {
     return asked_digit(body, plain_content_identifier(body, n), i);
 }
 
-nw_answer plain_content_extension(const uint8_t *body, size_t n) {
-    nw_answer identifier = plain_content_identifier(body, n);
-    return NW_REFUSAL(identifier) ? identifier : value(extension_of(body));
+plain_answer plain_content_extension(const uint8_t *body, size_t n) {
+    plain_answer identifier = plain_content_identifier(body, n);
+    return refusal_of(identifier) ? identifier : value(extension_of(body));
 }
 
-nw_answer plain_content_language_count(const uint8_t *body, size_t n) {
+plain_answer plain_content_language_count(const uint8_t *body, size_t n) {
     struct reader r = {body, n, n, COUNT_AT, 0};
     return asked_small(&r, 0xF0, 1, MOST_LANGUAGES);
 }
 
 // The part that stands after some languages.
-static nw_answer part_after(const uint8_t *body, size_t n, uint64_t languages, size_t width) {
+static plain_answer part_after(const uint8_t *body, size_t n, uint64_t languages, size_t width) {
     struct reader r = {body, n, n, LANGUAGES_AT, 0};
-    nw_answer no = skip_parts(&r, languages, 4);
+    plain_answer no = skip_parts(&r, languages, 4);
     return no ? no : asked_part(&r, width);
 }
 
-nw_answer plain_content_language(const uint8_t *body, size_t n, uint64_t i) {
-    nw_answer count = plain_content_language_count(body, n);
-    if (NW_REFUSAL(count)) return count;
-    return i < NW_VALUE(count) ? part_after(body, n, i, 4) : OUTSIDE;
+plain_answer plain_content_language(const uint8_t *body, size_t n, uint64_t i) {
+    plain_answer count = plain_content_language_count(body, n);
+    if (refusal_of(count)) return count;
+    return i < value_of(count) ? part_after(body, n, i, 4) : OUTSIDE;
 }
 
-nw_answer plain_content_signature(const uint8_t *body, size_t n) {
-    nw_answer count = plain_content_language_count(body, n);
-    return NW_REFUSAL(count) ? count : part_after(body, n, NW_VALUE(count), 2);
+plain_answer plain_content_signature(const uint8_t *body, size_t n) {
+    plain_answer count = plain_content_language_count(body, n);
+    return refusal_of(count) ? count : part_after(body, n, value_of(count), 2);
 }
 
 // ---- fields of a language asked for, each at its own place
 
-nw_answer plain_language_letters(const uint8_t *body, size_t n, size_t at, size_t length) {
+plain_answer plain_language_letters(const uint8_t *body, size_t n, size_t at, size_t length) {
     struct reader r;
     if (!stands(&r, body, n, at, length, 0)) return OUTSIDE;
     unsigned no = take_letters(&r);
     return no ? refused(no, r.at) : part(at, LETTERS);
 }
 
-nw_answer plain_language_character_set(const uint8_t *body, size_t n, size_t at, size_t length) {
+plain_answer plain_language_character_set(const uint8_t *body, size_t n, size_t at, size_t length) {
     struct reader r;
     return stands(&r, body, n, at, length, SET_AT) ? asked_small(&r, 0xF8, 0, MOST_SET) : OUTSIDE;
 }
 
-nw_answer plain_language_text(const uint8_t *body, size_t n, size_t at, size_t length) {
+plain_answer plain_language_text(const uint8_t *body, size_t n, size_t at, size_t length) {
     struct reader r;
     return stands(&r, body, n, at, length, TEXT_AT) ? asked_part(&r, 2) : OUTSIDE;
 }
 
-nw_answer plain_language_agency(const uint8_t *body, size_t n, size_t at, size_t length) {
+plain_answer plain_language_agency(const uint8_t *body, size_t n, size_t at, size_t length) {
     struct reader r;
     if (!stands(&r, body, n, at, length, TEXT_AT)) return OUTSIDE;
     unsigned no = skip_part(&r, 2);
@@ -213,37 +213,37 @@ nw_answer plain_language_agency(const uint8_t *body, size_t n, size_t at, size_t
 }
 
 // The auxiliary count, with the reader after it.
-static nw_answer count_of(struct reader *r, const uint8_t *body, size_t n, size_t at, size_t length) {
+static plain_answer count_of(struct reader *r, const uint8_t *body, size_t n, size_t at, size_t length) {
     if (!stands(r, body, n, at, length, TEXT_AT)) return OUTSIDE;
     unsigned no;
     if ((no = skip_part(r, 2)) || (no = skip_part(r, 1))) return refused(no, r->at);
     return asked_small(r, 0xF0, 0, MOST_FILES);
 }
 
-nw_answer plain_language_auxiliary_count(const uint8_t *body, size_t n, size_t at, size_t length) {
+plain_answer plain_language_auxiliary_count(const uint8_t *body, size_t n, size_t at, size_t length) {
     struct reader r;
     return count_of(&r, body, n, at, length);
 }
 
 // The reader at a file. Answers 0, or what is wrong before it.
-static nw_answer file_of(struct reader *r, const uint8_t *body, size_t n, size_t at, size_t length, uint64_t i) {
-    nw_answer count = count_of(r, body, n, at, length);
-    if (NW_REFUSAL(count)) return count;
-    if (i >= NW_VALUE(count)) return OUTSIDE;
+static plain_answer file_of(struct reader *r, const uint8_t *body, size_t n, size_t at, size_t length, uint64_t i) {
+    plain_answer count = count_of(r, body, n, at, length);
+    if (refusal_of(count)) return count;
+    if (i >= value_of(count)) return OUTSIDE;
     for (unsigned no; i > 0; i--)
         if ((no = take_file(r))) return refused(no, r->at);
     return 0;
 }
 
-nw_answer plain_language_auxiliary_type(const uint8_t *body, size_t n, size_t at, size_t length, uint64_t i) {
+plain_answer plain_language_auxiliary_type(const uint8_t *body, size_t n, size_t at, size_t length, uint64_t i) {
     struct reader r;
-    nw_answer no = file_of(&r, body, n, at, length, i);
+    plain_answer no = file_of(&r, body, n, at, length, i);
     return no ? no : asked_number(&r, 1);
 }
 
-nw_answer plain_language_auxiliary(const uint8_t *body, size_t n, size_t at, size_t length, uint64_t i) {
+plain_answer plain_language_auxiliary(const uint8_t *body, size_t n, size_t at, size_t length, uint64_t i) {
     struct reader r;
-    nw_answer no = file_of(&r, body, n, at, length, i);
+    plain_answer no = file_of(&r, body, n, at, length, i);
     if (no) return no;
     unsigned missing = take(&r, 1);
     return missing ? refused(missing, r.at) : asked_part(&r, 3);

@@ -5,6 +5,7 @@
 #include <string.h>
 
 #include "neapwillow.h"
+#include "plain_answers.h"
 
 enum {
     PAST_BODY = NW_PAST_BODY,
@@ -24,9 +25,9 @@ enum { FIRST_DAY = 15079, LAST_DAY = 65535 };
 // Made part of each caller, where its widths and functions are constants: the C that is measured is as if written out.
 #define INLINED static inline __attribute__((always_inline))
 
-static inline nw_answer refused(unsigned number, size_t place) { return (nw_answer)place << 8 | number; }
-static inline nw_answer value(uint64_t x) { return x << 8; }
-static inline nw_answer part(size_t start, size_t length) { return value((uint64_t)start << 24 | length); }
+static inline plain_answer refused(unsigned number, size_t place) { return (plain_answer)place << 8 | number; }
+static inline plain_answer value(uint64_t x) { return x << 8; }
+static inline plain_answer part(size_t start, size_t length) { return value((uint64_t)start << 24 | length); }
 
 // ---- fields of a body
 
@@ -312,28 +313,28 @@ static inline int stands(struct reader *r, const uint8_t *body, size_t n, size_t
 }
 
 // The number in the next `width` bytes.
-static inline nw_answer asked_number(struct reader *r, size_t width) {
+static inline plain_answer asked_number(struct reader *r, size_t width) {
     unsigned no = take(r, width);
     return no ? refused(no, r->at) : value(big_endian(r->s + r->at - width, width));
 }
 
 // The number of `take_small`.
-static inline nw_answer asked_small(struct reader *r, unsigned mask, unsigned least, unsigned most) {
+static inline plain_answer asked_small(struct reader *r, unsigned mask, unsigned least, unsigned most) {
     unsigned no = take_small(r, mask, least, most);
     return no ? refused(no, r->at) : value(r->s[r->at - 1] & ~mask);
 }
 
-static inline nw_answer asked_digits(struct reader *r, size_t width) {
+static inline plain_answer asked_digits(struct reader *r, size_t width) {
     unsigned no = take_digits(r, width);
     return no ? refused(no, r->at) : part(r->at - width, width);
 }
 
-static inline nw_answer asked_digit(const uint8_t *body, nw_answer digits, uint64_t i) {
-    if (NW_REFUSAL(digits)) return digits;
-    return i < 2 * NW_PART_LENGTH(digits) - 1 ? value(digit_of(body + NW_PART_START(digits), i)) : OUTSIDE;
+static inline plain_answer asked_digit(const uint8_t *body, plain_answer digits, uint64_t i) {
+    if (refusal_of(digits)) return digits;
+    return i < 2 * part_length(digits) - 1 ? value(digit_of(body + part_start(digits), i)) : OUTSIDE;
 }
 
-static inline nw_answer asked_part(struct reader *r, size_t width) {
+static inline plain_answer asked_part(struct reader *r, size_t width) {
     size_t length;
     unsigned no = take_length(r, width, &length);
     return no ? refused(no, r->at) : part(r->at, length);
@@ -341,23 +342,23 @@ static inline nw_answer asked_part(struct reader *r, size_t width) {
 
 // ---- parts passed by their lengths, to what stands after them
 
-static inline nw_answer skip_parts(struct reader *r, uint64_t count, size_t width) {
+static inline plain_answer skip_parts(struct reader *r, uint64_t count, size_t width) {
     for (unsigned no; count > 0; count--)
         if ((no = skip_part(r, width))) return refused(no, r->at);
     return 0;
 }
 
 // A count in a byte, and so many parts.
-static inline nw_answer skip_list(struct reader *r, size_t width) {
-    nw_answer count = asked_number(r, 1);
-    return NW_REFUSAL(count) ? count : skip_parts(r, NW_VALUE(count), width);
+static inline plain_answer skip_list(struct reader *r, size_t width) {
+    plain_answer count = asked_number(r, 1);
+    return refusal_of(count) ? count : skip_parts(r, value_of(count), width);
 }
 
 // The i-th part of the list at which the reader stands.
-static inline nw_answer asked_part_of_list(struct reader *r, uint64_t i, size_t width) {
-    nw_answer count = asked_number(r, 1), no;
-    if (NW_REFUSAL(count)) return count;
-    if (i >= NW_VALUE(count)) return OUTSIDE;
+static inline plain_answer asked_part_of_list(struct reader *r, uint64_t i, size_t width) {
+    plain_answer count = asked_number(r, 1), no;
+    if (refusal_of(count)) return count;
+    if (i >= value_of(count)) return OUTSIDE;
     return (no = skip_parts(r, i, width)) ? no : asked_part(r, width);
 }
 

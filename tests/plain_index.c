@@ -293,13 +293,13 @@ static void put_body(struct writer *w) {
 
 static const struct table table = {NW_INDEX, take_body, lay_body, form_body, put_body};
 
-nw_answer plain_index_read(uint32_t kind, const uint8_t *body, size_t n) {
+plain_answer plain_index_read(uint32_t kind, const uint8_t *body, size_t n) {
     return read_table(&table, kind, body, n);
 }
 
-nw_answer plain_index_records(uint32_t kind, const uint8_t *body, size_t n, nw_record *list, size_t room) {
-    nw_answer got = plain_index_read(kind, body, n);
-    if (NW_REFUSAL(got)) return got;
+plain_answer plain_index_records(uint32_t kind, const uint8_t *body, size_t n, nw_record *list, size_t room) {
+    plain_answer got = plain_index_read(kind, body, n);
+    if (refusal_of(got)) return got;
     size_t count = body[0], at = 1;
     if (count > room) return NW_OUTPUT_TOO_SMALL;
     for (size_t i = 0; i < count; i++) {
@@ -312,73 +312,73 @@ nw_answer plain_index_records(uint32_t kind, const uint8_t *body, size_t n, nw_r
     return value(count);
 }
 
-nw_answer plain_index_lay(uint32_t kind, const uint8_t *body, size_t n, uint64_t *tape, size_t entries) {
+plain_answer plain_index_lay(uint32_t kind, const uint8_t *body, size_t n, uint64_t *tape, size_t entries) {
     return lay_table(&table, kind, body, n, tape, entries);
 }
 
-nw_answer plain_index_write(const uint8_t *pool, size_t pool_bytes, const uint64_t *tape, size_t entries, uint8_t *out,
-                            size_t room) {
+plain_answer plain_index_write(const uint8_t *pool, size_t pool_bytes, const uint64_t *tape, size_t entries,
+                               uint8_t *out, size_t room) {
     return write_table(&table, pool, pool_bytes, tape, entries, out, room);
 }
 
 // ---- fields of a body asked for: what stands before them is passed by its length, and not judged
 
-nw_answer plain_index_message_count(const uint8_t *body, size_t n) { return n == 0 ? PAST_BODY : value(body[0]); }
+plain_answer plain_index_message_count(const uint8_t *body, size_t n) { return n == 0 ? PAST_BODY : value(body[0]); }
 
-nw_answer plain_index_message(const uint8_t *body, size_t n, uint64_t i) {
+plain_answer plain_index_message(const uint8_t *body, size_t n, uint64_t i) {
     struct reader r = {body, n, n, 0, 0};
     return asked_part_of_list(&r, i, 2);
 }
 
-nw_answer plain_index_signature(const uint8_t *body, size_t n) {
+plain_answer plain_index_signature(const uint8_t *body, size_t n) {
     struct reader r = {body, n, n, 0, 0};
-    nw_answer no = skip_list(&r, 2);
+    plain_answer no = skip_list(&r, 2);
     return no ? no : asked_part(&r, 2);
 }
 
 // ---- fields of a message asked for, each at its own place
 
-static nw_answer asked_pid(struct reader *r) {
+static plain_answer asked_pid(struct reader *r) {
     unsigned no = take_pid(r);
     return no ? refused(no, r->at) : value(big_endian(r->s + r->at - 2, 2) & 0x1FFF);
 }
 
-static nw_answer asked_short_part(struct reader *r) {
+static plain_answer asked_short_part(struct reader *r) {
     size_t length;
     unsigned no = take_short_length(r, &length);
     return no ? refused(no, r->at) : part(r->at, length);
 }
 
-static nw_answer asked_time(struct reader *r, int is_end) {
+static plain_answer asked_time(struct reader *r, int is_end) {
     unsigned no = take_time(r, is_end);
     return no ? refused(no, r->at) : value(big_endian(r->s + r->at - 5, 5));
 }
 
-nw_answer plain_message_identifier(const uint8_t *body, size_t n, size_t at, size_t length) {
+plain_answer plain_message_identifier(const uint8_t *body, size_t n, size_t at, size_t length) {
     struct reader r;
     return stands(&r, body, n, at, length, 0) ? asked_digits(&r, IDENTIFIER_BYTES) : OUTSIDE;
 }
 
-nw_answer plain_message_identifier_digit(const uint8_t *body, size_t n, size_t at, size_t length, uint64_t i) {
+plain_answer plain_message_identifier_digit(const uint8_t *body, size_t n, size_t at, size_t length, uint64_t i) {
     return asked_digit(body, plain_message_identifier(body, n, at, length), i);
 }
 
-nw_answer plain_message_network(const uint8_t *body, size_t n, size_t at, size_t length) {
+plain_answer plain_message_network(const uint8_t *body, size_t n, size_t at, size_t length) {
     struct reader r;
     return stands(&r, body, n, at, length, NETWORK_AT) ? asked_number(&r, 2) : OUTSIDE;
 }
 
-nw_answer plain_message_start(const uint8_t *body, size_t n, size_t at, size_t length) {
+plain_answer plain_message_start(const uint8_t *body, size_t n, size_t at, size_t length) {
     struct reader r;
     return stands(&r, body, n, at, length, START_AT) ? asked_time(&r, 0) : OUTSIDE;
 }
 
-nw_answer plain_message_end(const uint8_t *body, size_t n, size_t at, size_t length) {
+plain_answer plain_message_end(const uint8_t *body, size_t n, size_t at, size_t length) {
     struct reader r;
     return stands(&r, body, n, at, length, END_AT) ? asked_time(&r, 1) : OUTSIDE;
 }
 
-nw_answer plain_message_type(const uint8_t *body, size_t n, size_t at, size_t length) {
+plain_answer plain_message_type(const uint8_t *body, size_t n, size_t at, size_t length) {
     struct reader r;
     if (!stands(&r, body, n, at, length, TYPE_AT)) return OUTSIDE;
     unsigned no = take_type(&r);
@@ -386,7 +386,7 @@ nw_answer plain_message_type(const uint8_t *body, size_t n, size_t at, size_t le
 }
 
 // Class and level share a byte, and are judged together.
-static nw_answer half_of_class(const uint8_t *body, size_t n, size_t at, size_t length, unsigned shift) {
+static plain_answer half_of_class(const uint8_t *body, size_t n, size_t at, size_t length, unsigned shift) {
     struct reader r;
     if (!stands(&r, body, n, at, length, CLASS_AT)) return OUTSIDE;
     unsigned no = need(&r, 1);
@@ -395,115 +395,116 @@ static nw_answer half_of_class(const uint8_t *body, size_t n, size_t at, size_t 
     return in_set(both >> 4) && in_set(both & 15u) ? value(both >> shift & 15u) : refused(OUTSIDE, r.at);
 }
 
-nw_answer plain_message_class(const uint8_t *body, size_t n, size_t at, size_t length) {
+plain_answer plain_message_class(const uint8_t *body, size_t n, size_t at, size_t length) {
     return half_of_class(body, n, at, length, 4);
 }
 
-nw_answer plain_message_level(const uint8_t *body, size_t n, size_t at, size_t length) {
+plain_answer plain_message_level(const uint8_t *body, size_t n, size_t at, size_t length) {
     return half_of_class(body, n, at, length, 0);
 }
 
-nw_answer plain_message_resource_count(const uint8_t *body, size_t n, size_t at, size_t length) {
+plain_answer plain_message_resource_count(const uint8_t *body, size_t n, size_t at, size_t length) {
     struct reader r;
     return stands(&r, body, n, at, length, COUNT_AT) ? asked_number(&r, 1) : OUTSIDE;
 }
 
-nw_answer plain_message_resource(const uint8_t *body, size_t n, size_t at, size_t length, uint64_t i) {
-    nw_answer count = plain_message_resource_count(body, n, at, length);
-    if (NW_REFUSAL(count)) return count;
-    if (i >= NW_VALUE(count)) return OUTSIDE;
+plain_answer plain_message_resource(const uint8_t *body, size_t n, size_t at, size_t length, uint64_t i) {
+    plain_answer count = plain_message_resource_count(body, n, at, length);
+    if (refusal_of(count)) return count;
+    if (i >= value_of(count)) return OUTSIDE;
     struct reader r = {body, n, at + length, at + RESOURCES_AT + RESOURCE_BYTES * i, 0};
     return asked_digits(&r, RESOURCE_BYTES);
 }
 
-nw_answer plain_message_resource_digit(const uint8_t *body, size_t n, size_t at, size_t length, uint64_t i,
-                                       uint64_t j) {
+plain_answer plain_message_resource_digit(const uint8_t *body, size_t n, size_t at, size_t length, uint64_t i,
+                                          uint64_t j) {
     return asked_digit(body, plain_message_resource(body, n, at, length, i), j);
 }
 
 // The channel flag, with the reader at it.
-static nw_answer flag_of(struct reader *r, const uint8_t *body, size_t n, size_t at, size_t length) {
-    nw_answer count = plain_message_resource_count(body, n, at, length);
-    if (NW_REFUSAL(count)) return count;
-    *r = (struct reader){body, n, at + length, at + RESOURCES_AT + RESOURCE_BYTES * NW_VALUE(count), 0};
+static plain_answer flag_of(struct reader *r, const uint8_t *body, size_t n, size_t at, size_t length) {
+    plain_answer count = plain_message_resource_count(body, n, at, length);
+    if (refusal_of(count)) return count;
+    *r = (struct reader){body, n, at + length, at + RESOURCES_AT + RESOURCE_BYTES * value_of(count), 0};
     unsigned no = reserved(r, 0xFE);
     return no ? refused(no, r->at) : value(body[r->at] & 1);
 }
 
 // The reader at a place of the channel. Answers 0, what is wrong before it, or 19 where there is no channel.
-static nw_answer channel_of(struct reader *r, const uint8_t *body, size_t n, size_t at, size_t length, size_t place) {
-    nw_answer flag = flag_of(r, body, n, at, length);
-    if (NW_REFUSAL(flag)) return flag;
+static plain_answer channel_of(struct reader *r, const uint8_t *body, size_t n, size_t at, size_t length,
+                               size_t place) {
+    plain_answer flag = flag_of(r, body, n, at, length);
+    if (refusal_of(flag)) return flag;
     r->at += 1 + place;
-    return NW_VALUE(flag) ? 0 : OUTSIDE;
+    return value_of(flag) ? 0 : OUTSIDE;
 }
 
-nw_answer plain_message_channel_flag(const uint8_t *body, size_t n, size_t at, size_t length) {
+plain_answer plain_message_channel_flag(const uint8_t *body, size_t n, size_t at, size_t length) {
     struct reader r;
     return flag_of(&r, body, n, at, length);
 }
 
-nw_answer plain_message_channel_network(const uint8_t *body, size_t n, size_t at, size_t length) {
+plain_answer plain_message_channel_network(const uint8_t *body, size_t n, size_t at, size_t length) {
     struct reader r;
-    nw_answer no = channel_of(&r, body, n, at, length, 0);
+    plain_answer no = channel_of(&r, body, n, at, length, 0);
     return no ? no : asked_number(&r, 2);
 }
 
-nw_answer plain_message_channel_stream(const uint8_t *body, size_t n, size_t at, size_t length) {
+plain_answer plain_message_channel_stream(const uint8_t *body, size_t n, size_t at, size_t length) {
     struct reader r;
-    nw_answer no = channel_of(&r, body, n, at, length, STREAM_AT);
+    plain_answer no = channel_of(&r, body, n, at, length, STREAM_AT);
     return no ? no : asked_number(&r, 2);
 }
 
-nw_answer plain_message_channel_program(const uint8_t *body, size_t n, size_t at, size_t length) {
+plain_answer plain_message_channel_program(const uint8_t *body, size_t n, size_t at, size_t length) {
     struct reader r;
-    nw_answer no = channel_of(&r, body, n, at, length, PROGRAM_AT);
+    plain_answer no = channel_of(&r, body, n, at, length, PROGRAM_AT);
     return no ? no : asked_number(&r, 2);
 }
 
-nw_answer plain_message_pcr_pid(const uint8_t *body, size_t n, size_t at, size_t length) {
+plain_answer plain_message_pcr_pid(const uint8_t *body, size_t n, size_t at, size_t length) {
     struct reader r;
-    nw_answer no = channel_of(&r, body, n, at, length, PCR_AT);
+    plain_answer no = channel_of(&r, body, n, at, length, PCR_AT);
     return no ? no : asked_pid(&r);
 }
 
-nw_answer plain_message_descriptors(const uint8_t *body, size_t n, size_t at, size_t length) {
+plain_answer plain_message_descriptors(const uint8_t *body, size_t n, size_t at, size_t length) {
     struct reader r;
-    nw_answer no = channel_of(&r, body, n, at, length, DESCRIPTORS_AT);
+    plain_answer no = channel_of(&r, body, n, at, length, DESCRIPTORS_AT);
     return no ? no : asked_short_part(&r);
 }
 
 // The streams stand where the descriptors end.
-nw_answer plain_message_streams(const uint8_t *body, size_t n, size_t at, size_t length) {
-    nw_answer descriptors = plain_message_descriptors(body, n, at, length);
-    if (NW_REFUSAL(descriptors)) return descriptors;
-    struct reader r = {body, n, at + length, NW_PART_START(descriptors) + NW_PART_LENGTH(descriptors), 0};
+plain_answer plain_message_streams(const uint8_t *body, size_t n, size_t at, size_t length) {
+    plain_answer descriptors = plain_message_descriptors(body, n, at, length);
+    if (refusal_of(descriptors)) return descriptors;
+    struct reader r = {body, n, at + length, part_start(descriptors) + part_length(descriptors), 0};
     return asked_part(&r, 2);
 }
 
 // ---- descriptors and streams asked for, in a part that ends at `end`
 
-nw_answer plain_descriptor_tag(const uint8_t *body, size_t n, size_t end, size_t p) {
+plain_answer plain_descriptor_tag(const uint8_t *body, size_t n, size_t end, size_t p) {
     return end > n || p >= end ? OUTSIDE : value(body[p]);
 }
 
-nw_answer plain_descriptor_bytes(const uint8_t *body, size_t n, size_t end, size_t p) {
+plain_answer plain_descriptor_bytes(const uint8_t *body, size_t n, size_t end, size_t p) {
     if (end > n || p >= end) return OUTSIDE;
     struct reader r = {body, n, end, p + 1, 0};
     return asked_part(&r, 1);
 }
 
-nw_answer plain_stream_type(const uint8_t *body, size_t n, size_t end, size_t p) {
+plain_answer plain_stream_type(const uint8_t *body, size_t n, size_t end, size_t p) {
     return plain_descriptor_tag(body, n, end, p);
 }
 
-nw_answer plain_stream_pid(const uint8_t *body, size_t n, size_t end, size_t p) {
+plain_answer plain_stream_pid(const uint8_t *body, size_t n, size_t end, size_t p) {
     if (end > n || p >= end) return OUTSIDE;
     struct reader r = {body, n, end, p + 1, 0};
     return asked_pid(&r);
 }
 
-nw_answer plain_stream_descriptors(const uint8_t *body, size_t n, size_t end, size_t p) {
+plain_answer plain_stream_descriptors(const uint8_t *body, size_t n, size_t end, size_t p) {
     if (end > n || p >= end) return OUTSIDE;
     struct reader r = {body, n, end, p + 3, 0};
     return asked_short_part(&r);
@@ -511,15 +512,15 @@ nw_answer plain_stream_descriptors(const uint8_t *body, size_t n, size_t end, si
 
 // ---- local times
 
-static nw_answer local_time(nw_answer field, int32_t offset) {
+static plain_answer local_time(plain_answer field, int32_t offset) {
     if (!plain_is_offset(offset)) return OUTSIDE;
-    return NW_REFUSAL(field) ? field : plain_time_unpack(NW_VALUE(field), offset);
+    return refusal_of(field) ? field : plain_time_unpack(value_of(field), offset);
 }
 
-nw_answer plain_message_local_start(const uint8_t *body, size_t n, size_t at, size_t length, int32_t offset) {
+plain_answer plain_message_local_start(const uint8_t *body, size_t n, size_t at, size_t length, int32_t offset) {
     return local_time(plain_message_start(body, n, at, length), offset);
 }
 
-nw_answer plain_message_local_end(const uint8_t *body, size_t n, size_t at, size_t length, int32_t offset) {
+plain_answer plain_message_local_end(const uint8_t *body, size_t n, size_t at, size_t length, int32_t offset) {
     return local_time(plain_message_end(body, n, at, length), offset);
 }

@@ -73,14 +73,14 @@ int plain_is_day(uint32_t year, uint32_t month, uint32_t day) {
     return date >= (FIRST_YEAR << 16 | 3 << 8 | 1) && date <= (LAST_YEAR << 16 | 4 << 8 | 22);
 }
 
-nw_answer plain_day_of(uint32_t year, uint32_t month, uint32_t day) {
+plain_answer plain_day_of(uint32_t year, uint32_t month, uint32_t day) {
     if (!plain_is_day(year, month, day)) return IMPOSSIBLE;
     uint32_t number = new_year(year) + day - 1;
     for (uint32_t m = 1; m < month; m++) number += days_of(year, m);
     return value(number);
 }
 
-nw_answer plain_date_of(uint32_t day) {
+plain_answer plain_date_of(uint32_t day) {
     if (!is_in_range(day)) return IMPOSSIBLE;
     uint32_t year = FIRST_YEAR + (day - FIRST_DAY) / 366, month = 1;
     while (new_year(year + 1) <= day) year++;
@@ -89,7 +89,7 @@ nw_answer plain_date_of(uint32_t day) {
     return value((uint64_t)year << 16 | month << 8 | (left + 1));
 }
 
-nw_answer plain_weekday(uint32_t day) { return is_in_range(day) ? value((day + 2) % 7 + 1) : IMPOSSIBLE; }
+plain_answer plain_weekday(uint32_t day) { return is_in_range(day) ? value((day + 2) % 7 + 1) : IMPOSSIBLE; }
 
 // ---- times
 
@@ -99,12 +99,12 @@ int plain_is_offset(int32_t offset) { return offset >= LEAST_OFFSET && offset <=
 static uint64_t two_digits(uint64_t x) { return x / 10 << 4 | x % 10; }
 static uint64_t decimal(uint64_t digits) { return (digits >> 4 & 15) * 10 + (digits & 15); }
 
-nw_answer plain_time_pack(uint32_t year, uint32_t month, uint32_t day, uint32_t hour, uint32_t minute, uint32_t second,
-                          int32_t offset) {
+plain_answer plain_time_pack(uint32_t year, uint32_t month, uint32_t day, uint32_t hour, uint32_t minute,
+                             uint32_t second, int32_t offset) {
     if (!plain_is_offset(offset)) return OUTSIDE;
-    nw_answer local = plain_day_of(year, month, day);
-    if (NW_REFUSAL(local) || !is_time(hour, minute, second)) return IMPOSSIBLE;
-    uint64_t at = NW_VALUE(local) * MINUTES + hour * 60 + minute - (uint64_t)(int64_t)offset;
+    plain_answer local = plain_day_of(year, month, day);
+    if (refusal_of(local) || !is_time(hour, minute, second)) return IMPOSSIBLE;
+    uint64_t at = value_of(local) * MINUTES + hour * 60 + minute - (uint64_t)(int64_t)offset;
     if (!is_in_range(at / MINUTES)) return IMPOSSIBLE;
     return value(at / MINUTES << 24 | two_digits(at / 60 % 24) << 16 | two_digits(at % 60) << 8 | two_digits(second));
 }
@@ -112,17 +112,17 @@ nw_answer plain_time_pack(uint32_t year, uint32_t month, uint32_t day, uint32_t 
 // 0, 19, 18 or 20 of any number as a time field that is not live.
 static unsigned field_fault(uint64_t field) { return field >> 40 ? OUTSIDE : time_fault(field); }
 
-nw_answer plain_time_unpack(uint64_t field, int32_t offset) {
+plain_answer plain_time_unpack(uint64_t field, int32_t offset) {
     if (!plain_is_offset(offset)) return OUTSIDE;
     unsigned no = field_fault(field);
     if (no) return no;
     uint64_t at = (field >> 24) * MINUTES + decimal(field >> 16) * 60 + decimal(field >> 8) + (uint64_t)(int64_t)offset;
-    nw_answer date = plain_date_of((uint32_t)(at / MINUTES));
-    if (NW_REFUSAL(date)) return date;
-    return value(NW_VALUE(date) << 24 | at / 60 % 24 << 16 | at % 60 << 8 | decimal(field));
+    plain_answer date = plain_date_of((uint32_t)(at / MINUTES));
+    if (refusal_of(date)) return date;
+    return value(value_of(date) << 24 | at / 60 % 24 << 16 | at % 60 << 8 | decimal(field));
 }
 
-nw_answer plain_time_read_text(const uint8_t *text, size_t n, int32_t offset) {
+plain_answer plain_time_read_text(const uint8_t *text, size_t n, int32_t offset) {
     static const char form[] = "dd/mm/yyyy hh:mm:ss";
     uint32_t numbers[6] = {0};
     size_t k = 0;
@@ -145,7 +145,7 @@ static uint64_t instant(uint64_t field) {
     return (field >> 24) * 86400 + decimal(field >> 16) * 3600 + decimal(field >> 8) * 60 + decimal(field);
 }
 
-nw_answer plain_time_showing(uint64_t start, uint64_t end, uint32_t day, uint32_t second) {
+plain_answer plain_time_showing(uint64_t start, uint64_t end, uint32_t day, uint32_t second) {
     unsigned no;
     if (!is_in_range(day) || second > 86399) return IMPOSSIBLE;
     if ((no = field_fault(start)) || (end != NW_LIVE && (no = field_fault(end)))) return no;

@@ -3,6 +3,7 @@
 #define PLAIN_NUMBERS_H
 
 #include "neapwillow.h"
+#include "plain_answers.h"
 
 // Fills the tables of CRC_32, once, before it is first asked for.
 void plain_fill_tables(void);
@@ -16,17 +17,17 @@ uint16_t plain_crc16(const uint8_t *s, size_t n);
 // Whether there is such a day from 1 March 1900 to 22 April 2038.
 int plain_is_day(uint32_t year, uint32_t month, uint32_t day);
 
-nw_answer plain_day_of(uint32_t year, uint32_t month, uint32_t day);
-nw_answer plain_date_of(uint32_t day);
-nw_answer plain_weekday(uint32_t day);
+plain_answer plain_day_of(uint32_t year, uint32_t month, uint32_t day);
+plain_answer plain_date_of(uint32_t day);
+plain_answer plain_weekday(uint32_t day);
 
 // Whether an offset is one of -720 to 840 minutes.
 int plain_is_offset(int32_t offset);
 
-nw_answer plain_time_pack(uint32_t year, uint32_t month, uint32_t day, uint32_t hour, uint32_t minute, uint32_t second,
-                          int32_t offset);
-nw_answer plain_time_unpack(uint64_t field, int32_t offset);
-nw_answer plain_time_read_text(const uint8_t *text, size_t n, int32_t offset);
-nw_answer plain_time_showing(uint64_t start, uint64_t end, uint32_t day, uint32_t second);
+plain_answer plain_time_pack(uint32_t year, uint32_t month, uint32_t day, uint32_t hour, uint32_t minute,
+                             uint32_t second, int32_t offset);
+plain_answer plain_time_unpack(uint64_t field, int32_t offset);
+plain_answer plain_time_read_text(const uint8_t *text, size_t n, int32_t offset);
+plain_answer plain_time_showing(uint64_t start, uint64_t end, uint32_t day, uint32_t second);
 
 #endif

@@ -8,7 +8,7 @@ enum { HEADING = 8, CHECK = 4, FRAME = HEADING + CHECK, MOST_VERSION = 31 };
 
 static int is_kind(uint32_t kind) { return kind >= NW_CONFIGURATION && kind <= NW_CONTENT; }
 
-nw_answer plain_section_read(const uint8_t *s, size_t n) {
+plain_answer plain_section_read(const uint8_t *s, size_t n) {
     if (n < FRAME) return NW_SECTION_TOO_SHORT;
     if (!is_kind(s[0])) return NW_OTHER_KIND;
     if (s[1] >> 4 != 15 || s[5] >> 6 != 3) return NW_FIXED_BIT_ZERO;
@@ -23,7 +23,7 @@ nw_answer plain_section_read(const uint8_t *s, size_t n) {
 
 // ---- cutting
 
-nw_answer plain_section_count(size_t length) {
+plain_answer plain_section_count(size_t length) {
     if (length == 0) return PAST_BODY;
     return length > NW_MOST_BODY ? NW_TOO_LARGE : value((length + NW_MOST_PAYLOAD - 1) / NW_MOST_PAYLOAD);
 }
@@ -39,8 +39,8 @@ void plain_section_put(uint8_t *out, const struct plain_heading *h, const uint8_
     put(out + HEADING + n, plain_crc32(out, HEADING + n), CHECK);
 }
 
-nw_answer plain_section_cut(const uint8_t *body, size_t n, uint32_t kind, uint32_t extension, uint32_t version,
-                            uint32_t number, uint8_t *out, size_t room) {
+plain_answer plain_section_cut(const uint8_t *body, size_t n, uint32_t kind, uint32_t extension, uint32_t version,
+                               uint32_t number, uint8_t *out, size_t room) {
     if (!is_kind(kind)) return NW_OTHER_KIND;
     if (version > MOST_VERSION || extension > 65535) return OUTSIDE;
     if (n == 0) return PAST_BODY;
@@ -65,20 +65,20 @@ static int is_possible(const nw_gathering *g) {
            most <= NW_MOST_PAYLOAD + 1 && above == 0;
 }
 
-static int is_other_heading(const nw_gathering *g, nw_answer read) {
-    return g->kind != NW_SECTION_KIND(read) || g->extension != NW_SECTION_EXTENSION(read) ||
-           g->version != NW_SECTION_VERSION(read) || g->last != NW_SECTION_LAST(read);
+static int is_other_heading(const nw_gathering *g, plain_answer read) {
+    return g->kind != heading_kind(read) || g->extension != heading_extension(read) ||
+           g->version != heading_version(read) || g->last != heading_last(read);
 }
 
-nw_answer plain_gathering_feed(nw_gathering *g, uint8_t *store, size_t store_bytes, const uint8_t *s, size_t n) {
+plain_answer plain_gathering_feed(nw_gathering *g, uint8_t *store, size_t store_bytes, const uint8_t *s, size_t n) {
     if (!is_possible(g)) return NW_IMPOSSIBLE_STATE;
-    nw_answer read = plain_section_read(s, n);
-    if (NW_REFUSAL(read)) return read;
-    if (!NW_SECTION_CURRENT(read)) return NW_NOT_CURRENT;
+    plain_answer read = plain_section_read(s, n);
+    if (refusal_of(read)) return read;
+    if (!heading_current(read)) return NW_NOT_CURRENT;
     if (g->kind != 0 && is_other_heading(g, read)) return NW_OTHER_HEADING;
-    if (store_bytes < NW_STORE_BYTES(NW_SECTION_LAST(read))) return NW_STORE_TOO_SHORT;
+    if (store_bytes < NW_STORE_BYTES(heading_last(read))) return NW_STORE_TOO_SHORT;
     if (g->spoiled) return NW_CONTRADICTION;
-    size_t number = NW_SECTION_NUMBER(read), length = n - FRAME;
+    size_t number = heading_number(read), length = n - FRAME;
     uint8_t *place = store + number * NW_MOST_PAYLOAD;
     if (g->held[number] == length + 1 && memcmp(place, s + HEADING, length) == 0) return value(NW_FED_HELD_ALREADY);
     if (g->held[number] != 0) {
@@ -86,17 +86,17 @@ nw_answer plain_gathering_feed(nw_gathering *g, uint8_t *store, size_t store_byt
         return NW_CONTRADICTION;
     }
     memcpy(place, s + HEADING, length);
-    g->extension = (uint16_t)NW_SECTION_EXTENSION(read);
-    g->kind = (uint8_t)NW_SECTION_KIND(read);
-    g->version = (uint8_t)NW_SECTION_VERSION(read);
-    g->last = (uint8_t)NW_SECTION_LAST(read);
+    g->extension = (uint16_t)heading_extension(read);
+    g->kind = (uint8_t)heading_kind(read);
+    g->version = (uint8_t)heading_version(read);
+    g->last = (uint8_t)heading_last(read);
     g->held[number] = (uint16_t)(length + 1);
     return value(NW_FED_TAKEN);
 }
 
 // 25 does not come: 256 payloads of 4,084 bytes are no longer than the longest body.
-nw_answer plain_gathering_hand_out(const nw_gathering *g, const uint8_t *store, size_t store_bytes, uint8_t *out,
-                                   size_t out_bytes) {
+plain_answer plain_gathering_hand_out(const nw_gathering *g, const uint8_t *store, size_t store_bytes, uint8_t *out,
+                                      size_t out_bytes) {
     if (!is_possible(g)) return NW_IMPOSSIBLE_STATE;
     if (g->kind == 0) return NW_MISSING;
     if (store_bytes < NW_STORE_BYTES(g->last)) return NW_STORE_TOO_SHORT;

@@ -3,6 +3,7 @@
 #define PLAIN_SECTIONS_H
 
 #include "neapwillow.h"
+#include "plain_answers.h"
 
 // The fields of a section's heading.
 struct plain_heading {
@@ -12,13 +13,13 @@ struct plain_heading {
 // Writes a section with this heading and payload, whatever they are. Its bytes are n + 12.
 void plain_section_put(uint8_t *out, const struct plain_heading *h, const uint8_t *payload, size_t n);
 
-nw_answer plain_section_read(const uint8_t *s, size_t n);
-nw_answer plain_section_count(size_t length);
-nw_answer plain_section_cut(const uint8_t *body, size_t n, uint32_t kind, uint32_t extension, uint32_t version,
-                            uint32_t number, uint8_t *out, size_t room);
+plain_answer plain_section_read(const uint8_t *s, size_t n);
+plain_answer plain_section_count(size_t length);
+plain_answer plain_section_cut(const uint8_t *body, size_t n, uint32_t kind, uint32_t extension, uint32_t version,
+                               uint32_t number, uint8_t *out, size_t room);
 
-nw_answer plain_gathering_feed(nw_gathering *g, uint8_t *store, size_t store_bytes, const uint8_t *s, size_t n);
-nw_answer plain_gathering_hand_out(const nw_gathering *g, const uint8_t *store, size_t store_bytes, uint8_t *out,
-                                   size_t out_bytes);
+plain_answer plain_gathering_feed(nw_gathering *g, uint8_t *store, size_t store_bytes, const uint8_t *s, size_t n);
+plain_answer plain_gathering_hand_out(const nw_gathering *g, const uint8_t *store, size_t store_bytes, uint8_t *out,
+                                      size_t out_bytes);
 
 #endif

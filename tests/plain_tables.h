@@ -14,7 +14,7 @@ struct table {
 };
 
 // Judges a body; the reader then has the entries of its form.
-INLINED nw_answer judge(const struct table *t, uint32_t kind, struct reader *r) {
+INLINED plain_answer judge(const struct table *t, uint32_t kind, struct reader *r) {
     if (kind != t->kind) return NW_OTHER_KIND;
     if (r->n > NW_MOST_BODY) return NW_TOO_LARGE;
     unsigned no = t->take(r);
@@ -22,35 +22,35 @@ INLINED nw_answer judge(const struct table *t, uint32_t kind, struct reader *r) 
     return no ? refused(no, r->at) : 0;
 }
 
-INLINED nw_answer read_table(const struct table *t, uint32_t kind, const uint8_t *body, size_t n) {
+INLINED plain_answer read_table(const struct table *t, uint32_t kind, const uint8_t *body, size_t n) {
     struct reader r = {body, n, n, 0, 0};
     return judge(t, kind, &r);
 }
 
-INLINED nw_answer lay_table(const struct table *t, uint32_t kind, const uint8_t *body, size_t n, uint64_t *tape,
-                            size_t entries) {
+INLINED plain_answer lay_table(const struct table *t, uint32_t kind, const uint8_t *body, size_t n, uint64_t *tape,
+                               size_t entries) {
     struct reader r = {body, n, n, 0, 0};
-    nw_answer got = judge(t, kind, &r);
-    if (NW_REFUSAL(got)) return got;
+    plain_answer got = judge(t, kind, &r);
+    if (refusal_of(got)) return got;
     if (r.entries > entries) return NW_OUTPUT_TOO_SMALL;
     t->lay(&(struct layer){body, 0, tape});
     return value(r.entries);
 }
 
 // What is wrong with a form, or its body's length.
-INLINED nw_answer measure(const struct table *t, struct form *f) {
+INLINED plain_answer measure(const struct table *t, struct form *f) {
     unsigned no = t->form(f);
     if (no) return no;
     if (f->left > 0) return OUTSIDE;
     return f->large || f->bytes > NW_MOST_BODY ? NW_TOO_LARGE : value(f->bytes);
 }
 
-INLINED nw_answer write_table(const struct table *t, const uint8_t *pool, size_t pool_bytes, const uint64_t *tape,
-                              size_t entries, uint8_t *out, size_t room) {
+INLINED plain_answer write_table(const struct table *t, const uint8_t *pool, size_t pool_bytes, const uint64_t *tape,
+                                 size_t entries, uint8_t *out, size_t room) {
     struct form f = {tape, entries, pool, pool_bytes, 0, 0};
-    nw_answer got = measure(t, &f);
-    if (NW_REFUSAL(got)) return got;
-    if (NW_VALUE(got) > room) return NW_OUTPUT_TOO_SMALL;
+    plain_answer got = measure(t, &f);
+    if (refusal_of(got)) return got;
+    if (value_of(got) > room) return NW_OUTPUT_TOO_SMALL;
     t->put(&(struct writer){tape, pool, out});
     return got;
 }

@@ -121,14 +121,14 @@ void wrong(const char *what) {
     exit(1);
 }
 
-nw_answer same(nw_answer library, nw_answer plain) {
+plain_answer same(plain_answer library, plain_answer plain) {
     char what[120];
-    if (library == plain && NW_REFUSAL(plain) < REFUSALS) {
-        answered[trying][NW_REFUSAL(plain)]++;
+    if (library == plain && refusal_of(plain) < REFUSALS) {
+        answered[trying][refusal_of(plain)]++;
         return library;
     }
-    snprintf(what, sizeof what, "the library answers %u, %#" PRIx64 ", plain C %u, %#" PRIx64, NW_REFUSAL(library),
-             NW_VALUE(library), NW_REFUSAL(plain), NW_VALUE(plain));
+    snprintf(what, sizeof what, "the library answers %u, %#" PRIx64 ", plain C %u, %#" PRIx64, refusal_of(library),
+             value_of(library), refusal_of(plain), value_of(plain));
     wrong(what);
     return library;
 }
@@ -138,9 +138,9 @@ void lend_outputs(size_t bytes) {
     lend(&output_plain, noise(), bytes);
 }
 
-nw_answer same_outputs(nw_answer library, nw_answer plain) {
+plain_answer same_outputs(plain_answer library, plain_answer plain) {
     same(library, plain);
-    unchanged(&output_plain, NW_REFUSAL(plain) ? noise() : NULL);
+    unchanged(&output_plain, refusal_of(plain) ? noise() : NULL);
     unchanged(&output_library, output_plain.at);
     return library;
 }
@@ -153,9 +153,9 @@ static void try_checksums(void) {
         if (one_in(1000)) n = below(MOST_LENT / 2);
         const uint8_t *s = lend(&input, noise() + from, n);
         trying = F_crc32;
-        same((nw_answer)nw_crc32(s, n) << 8, (nw_answer)plain_crc32(s, n) << 8);
+        same((plain_answer)nw_crc32(s, n) << 8, (plain_answer)plain_crc32(s, n) << 8);
         trying = F_crc16;
-        same((nw_answer)nw_crc16(s, n) << 8, (nw_answer)plain_crc16(s, n) << 8);
+        same((plain_answer)nw_crc16(s, n) << 8, (plain_answer)plain_crc16(s, n) << 8);
         unchanged(&input, noise() + from);
     }
 }
@@ -216,8 +216,8 @@ static void try_times(void) {
         uint32_t day = some_day(), hour = (uint32_t)around(below(24)), minute = (uint32_t)around(below(60));
         uint32_t second = (uint32_t)around(below(60)), of_day = (uint32_t)around(below(86401));
         int32_t offset = some_offset();
-        nw_answer date = TRY(date_of, day);
-        TRY(time_pack, NW_DATE_YEAR(date), NW_DATE_MONTH(date), NW_DATE_DAY(date), hour, minute, second, offset);
+        plain_answer date = TRY(date_of, day);
+        TRY(time_pack, date_year(date), date_month(date), date_day(date), hour, minute, second, offset);
         uint64_t start = some_field(), end = one_in(2) ? start + below(3) : some_field();
         TRY(time_unpack, start, offset);
         if (one_in(2)) day = (uint32_t)(start >> 24);
@@ -294,18 +294,18 @@ static void feed(const uint8_t *section, size_t n, size_t store_bytes) {
     lend(&output_library, store, store_bytes);
     lend(&output_plain, store, store_bytes);
     trying = F_gathering_feed;
-    nw_answer got = same(nw_gathering_feed(library, output_library.at, store_bytes, s, n),
-                         plain_gathering_feed(plain, output_plain.at, store_bytes, s, n));
+    plain_answer got = same(nw_gathering_feed(library, output_library.at, store_bytes, s, n).packed,
+                            plain_gathering_feed(plain, output_plain.at, store_bytes, s, n));
     unchanged(&input, section);
-    unchanged(&output_plain, NW_REFUSAL(got) ? store : NULL);
+    unchanged(&output_plain, refusal_of(got) ? store : NULL);
     unchanged(&output_library, output_plain.at);
     nw_gathering before = state;
     memcpy(&state, plain, sizeof state);
     unchanged(&state_library, &state);
     unchanged(&state_plain, NULL);
     memcpy(store, output_plain.at, store_bytes);
-    before.spoiled = NW_REFUSAL(got) == NW_CONTRADICTION ? 1 : before.spoiled;
-    if (NW_REFUSAL(got) && memcmp(&before, &state, sizeof state) != 0) wrong("a refused call changes the state");
+    before.spoiled = refusal_of(got) == NW_CONTRADICTION ? 1 : before.spoiled;
+    if (refusal_of(got) && memcmp(&before, &state, sizeof state) != 0) wrong("a refused call changes the state");
 }
 
 static void hand_out(size_t store_bytes) {

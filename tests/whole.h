@@ -85,18 +85,18 @@ void unchanged(const struct box *b, const void *from);
 
 extern int trying;
 
-nw_answer same(nw_answer library, nw_answer plain);
+plain_answer same(plain_answer library, plain_answer plain);
 void lend_outputs(size_t bytes);
-nw_answer same_outputs(nw_answer library, nw_answer plain); // nothing may be written by a refused call
+plain_answer same_outputs(plain_answer library, plain_answer plain); // nothing may be written by a refused call
 void wrong(const char *what);                               // says it and ends
 
 // The words after the name are taken twice, and must come out the same.
-#define TRY(name, ...) (trying = F_##name, same(nw_##name(__VA_ARGS__), plain_##name(__VA_ARGS__)))
+#define TRY(name, ...) (trying = F_##name, same(nw_##name(__VA_ARGS__).packed, plain_##name(__VA_ARGS__)))
 
 // For functions whose last two words are an output and its size, in units of so many bytes.
 #define TRY_OUTPUT(name, size, unit, ...)                                                                            \
     (trying = F_##name, lend_outputs((size) * (unit)),                                                               \
-     same_outputs(nw_##name(__VA_ARGS__, (void *)output_library.at, size),                                           \
+     same_outputs(nw_##name(__VA_ARGS__, (void *)output_library.at, size).packed,                                    \
                   plain_##name(__VA_ARGS__, (void *)output_plain.at, size)))
 
 void try_tables(void); // in whole_tables.c

@@ -66,12 +66,12 @@ static uint64_t identifiers, at_an_end, on_leap_day, at_month_end;
 // Counts an identifier made as good, whose day plain C's calendar must have.
 static void hold_real_day(const uint8_t *s) {
     struct real_day d = day_in(s);
-    nw_answer day = plain_day_of(d.year, d.month, d.day), next = plain_date_of((uint32_t)NW_VALUE(day) + 1);
-    if (NW_REFUSAL(day)) wrong("an identifier made as good has no real day");
+    plain_answer day = plain_day_of(d.year, d.month, d.day), next = plain_date_of((uint32_t)value_of(day) + 1);
+    if (refusal_of(day)) wrong("an identifier made as good has no real day");
     identifiers++;
-    at_an_end += NW_VALUE(day) == 15079 || NW_VALUE(day) == 65535;
+    at_an_end += value_of(day) == 15079 || value_of(day) == 65535;
     if (d.month == 2 && d.day == 29) on_leap_day++;
-    else at_month_end += NW_REFUSAL(next) == 0 && NW_DATE_DAY(next) == 1;
+    else at_month_end += refusal_of(next) == 0 && date_day(next) == 1;
 }
 
 static void identifier(nw_form *f) {
@@ -209,10 +209,10 @@ static void return_address(nw_form *f) {
 }
 
 static void clock_fields(nw_form *f) {
-    nw_answer date = plain_date_of(one_in(100) ? 15079 : 15079 + (uint32_t)below(50457));
-    nw_form_number(f, NW_DATE_YEAR(date));
-    nw_form_number(f, NW_DATE_MONTH(date));
-    nw_form_number(f, NW_DATE_DAY(date) + (uint64_t)at_fault(10));
+    plain_answer date = plain_date_of(one_in(100) ? 15079 : 15079 + (uint32_t)below(50457));
+    nw_form_number(f, date_year(date));
+    nw_form_number(f, date_month(date));
+    nw_form_number(f, date_day(date) + (uint64_t)at_fault(10));
     nw_form_number(f, below(24));
     nw_form_number(f, below(60));
     nw_form_number(f, below(at_fault(10) ? 80 : 60));
@@ -300,12 +300,12 @@ static void configuration_longest(nw_form *f, size_t more) {
 static uint32_t mostly(uint32_t kind) { return one_in(8) ? (uint32_t)around(0xFB + below(4)) : kind; }
 
 // The number of one of the things that were counted, mostly.
-static uint64_t one_of(nw_answer count) { return around(below(NW_VALUE(count) % 256 + 1)); }
+static uint64_t one_of(plain_answer count) { return around(below(value_of(count) % 256 + 1)); }
 
 static void ask_certificate(const uint8_t *body, size_t n) {
     uint32_t kind = mostly(NW_CERTIFICATE);
     TRY(certificate_read, kind, body, n);
-    nw_answer lists = TRY(certificate_authorization_count, body, n), parts = TRY(certificate_count, body, n);
+    plain_answer lists = TRY(certificate_authorization_count, body, n), parts = TRY(certificate_count, body, n);
     for (int left = 4; left > 0; left--) {
         uint64_t i = one_of(lists), j = one_of(parts);
         TRY(certificate_authorization, body, n, i);
@@ -316,15 +316,15 @@ static void ask_certificate(const uint8_t *body, size_t n) {
 
 // ---- parts of a body asked
 
-static size_t end_of(nw_answer part) { return NW_PART_START(part) + NW_PART_LENGTH(part); }
+static size_t end_of(plain_answer part) { return part_start(part) + part_length(part); }
 
 typedef void asks_part(const uint8_t *body, size_t n, size_t at, size_t length);
 
 // A part that was answered, and what begins and ends near it.
-static void ask_near(asks_part *ask, const uint8_t *body, size_t n, nw_answer part) {
-    if (NW_REFUSAL(part)) return;
-    ask(body, n, NW_PART_START(part), NW_PART_LENGTH(part));
-    ask(body, n, around(NW_PART_START(part)), around(NW_PART_LENGTH(part)));
+static void ask_near(asks_part *ask, const uint8_t *body, size_t n, plain_answer part) {
+    if (refusal_of(part)) return;
+    ask(body, n, part_start(part), part_length(part));
+    ask(body, n, around(part_start(part)), around(part_length(part)));
 }
 
 // What begins anywhere, and ends about the body's end.
@@ -340,14 +340,14 @@ static size_t ask_placed(const uint8_t *body, size_t n, size_t end, size_t p, in
     TRY(descriptor_tag, body, n, end, p);
     TRY(stream_type, body, n, end, p);
     TRY(stream_pid, body, n, end, p);
-    nw_answer bytes = TRY(descriptor_bytes, body, n, end, p), inner = TRY(stream_descriptors, body, n, end, p);
-    nw_answer next = is_stream ? inner : bytes;
-    return NW_REFUSAL(next) ? end : end_of(next);
+    plain_answer bytes = TRY(descriptor_bytes, body, n, end, p), inner = TRY(stream_descriptors, body, n, end, p);
+    plain_answer next = is_stream ? inner : bytes;
+    return refusal_of(next) ? end : end_of(next);
 }
 
-static void ask_part(const uint8_t *body, size_t n, nw_answer part, int is_stream) {
-    if (NW_REFUSAL(part)) return;
-    size_t end = end_of(part), p = NW_PART_START(part);
+static void ask_part(const uint8_t *body, size_t n, plain_answer part, int is_stream) {
+    if (refusal_of(part)) return;
+    size_t end = end_of(part), p = part_start(part);
     for (int left = 6; left > 0 && p < end; left--) {
         if (is_stream) ask_part(body, n, TRY(stream_descriptors, body, n, end, p), 0);
         p = ask_placed(body, n, end, p, is_stream);
@@ -378,7 +378,7 @@ static void ask_message(const uint8_t *body, size_t n, size_t at, size_t length)
     TRY(message_type, body, n, at, length);
     TRY(message_class, body, n, at, length);
     TRY(message_level, body, n, at, length);
-    nw_answer count = TRY(message_resource_count, body, n, at, length);
+    plain_answer count = TRY(message_resource_count, body, n, at, length);
     for (int left = 3; left > 0; left--) {
         uint64_t i = one_of(count), j = around(below(24));
         TRY(message_resource, body, n, at, length, i);
@@ -390,8 +390,8 @@ static void ask_message(const uint8_t *body, size_t n, size_t at, size_t length)
 static void ask_index(const uint8_t *body, size_t n) {
     uint32_t kind = mostly(NW_INDEX);
     TRY(index_read, kind, body, n);
-    nw_answer count = TRY(index_message_count, body, n);
-    size_t messages = NW_VALUE(count) % 256, room = one_in(4) ? below(258) : messages + 1 - below(messages ? 3 : 2);
+    plain_answer count = TRY(index_message_count, body, n);
+    size_t messages = value_of(count) % 256, room = one_in(4) ? below(258) : messages + 1 - below(messages ? 3 : 2);
     TRY_OUTPUT(index_records, room, sizeof(nw_record), kind, body, n);
     TRY(index_signature, body, n);
     for (int left = 4; left > 0; left--) {
@@ -408,7 +408,7 @@ static void ask_language(const uint8_t *body, size_t n, size_t at, size_t length
     TRY(language_character_set, body, n, at, length);
     TRY(language_text, body, n, at, length);
     TRY(language_agency, body, n, at, length);
-    nw_answer count = TRY(language_auxiliary_count, body, n, at, length);
+    plain_answer count = TRY(language_auxiliary_count, body, n, at, length);
     for (int left = 3; left > 0; left--) {
         uint64_t i = one_of(count);
         TRY(language_auxiliary_type, body, n, at, length, i);
@@ -417,13 +417,13 @@ static void ask_language(const uint8_t *body, size_t n, size_t at, size_t length
 }
 
 static void ask_content(const uint8_t *body, size_t n) {
-    uint32_t kind = mostly(NW_CONTENT), extension = (uint32_t)around(NW_VALUE(TRY(content_extension, body, n)));
+    uint32_t kind = mostly(NW_CONTENT), extension = (uint32_t)around(value_of(TRY(content_extension, body, n)));
     uint64_t digit = around(below(36));
     if (one_in(8)) extension += (uint32_t)below(3) << 16;
     TRY(content_read, kind, extension, body, n);
     TRY(content_identifier, body, n);
     TRY(content_identifier_digit, body, n, digit);
-    nw_answer count = TRY(content_language_count, body, n);
+    plain_answer count = TRY(content_language_count, body, n);
     TRY(content_signature, body, n);
     for (int left = 4; left > 0; left--) {
         uint64_t i = one_of(count);
@@ -458,27 +458,27 @@ static void ask_fixed(const uint8_t *body, size_t n, size_t p) {
 // Answers where the next command begins, or n.
 static size_t ask_command(const uint8_t *body, size_t n, size_t p) {
     ask_fixed(body, n, p);
-    nw_answer parameters = TRY(command_parameter_count, body, n, p);
-    nw_answer terminals = TRY(command_terminal_count, body, n, p);
+    plain_answer parameters = TRY(command_parameter_count, body, n, p);
+    plain_answer terminals = TRY(command_terminal_count, body, n, p);
     for (int left = 3; left > 0; left--) {
         uint64_t parameter = one_of(parameters), terminal = one_of(terminals), digit = around(below(24));
         TRY(command_parameter, body, n, p, parameter);
         TRY(command_terminal, body, n, p, terminal);
         TRY(command_terminal_digit, body, n, p, terminal, digit);
     }
-    nw_answer content = TRY(command_content, body, n, p);
-    return NW_REFUSAL(content) ? n : end_of(content);
+    plain_answer content = TRY(command_content, body, n, p);
+    return refusal_of(content) ? n : end_of(content);
 }
 
 static void ask_configuration(const uint8_t *body, size_t n) {
     uint32_t kind = mostly(NW_CONFIGURATION);
     TRY(configuration_read, kind, body, n);
-    nw_answer count = TRY(configuration_command_count, body, n);
+    plain_answer count = TRY(configuration_command_count, body, n);
     TRY(configuration_signature, body, n);
     for (int left = 4; left > 0; left--) {
         uint64_t i = one_of(count);
-        nw_answer command = TRY(configuration_command, body, n, i);
-        if (!NW_REFUSAL(command)) ask_command(body, n, NW_PART_START(command));
+        plain_answer command = TRY(configuration_command, body, n, i);
+        if (!refusal_of(command)) ask_command(body, n, part_start(command));
     }
     size_t p = 1;
     for (int left = 10; left > 0 && p < n; left--) p = ask_command(body, n, p);
@@ -487,9 +487,24 @@ static void ask_configuration(const uint8_t *body, size_t n) {
 
 // ---- a table tried
 
-typedef nw_answer writes(const uint8_t *pool, size_t pool_bytes, const uint64_t *tape, size_t entries, uint8_t *out,
-                         size_t room);
-typedef nw_answer lays(uint32_t kind, const uint8_t *body, size_t n, uint64_t *tape, size_t entries);
+typedef plain_answer writes(const uint8_t *pool, size_t pool_bytes, const uint64_t *tape, size_t entries, uint8_t *out,
+                            size_t room);
+typedef plain_answer lays(uint32_t kind, const uint8_t *body, size_t n, uint64_t *tape, size_t entries);
+
+// The library's, whose answers have different shapes, as plain C's.
+#define LIBRARYS(name)                                                                                               \
+    static plain_answer writes_##name(const uint8_t *s, size_t n, const uint64_t *its, size_t entries, uint8_t *out, \
+                                      size_t room) {                                                                 \
+        return nw_##name##_write(s, n, its, entries, out, room).packed;                                              \
+    }                                                                                                                \
+    static plain_answer lays_##name(uint32_t kind, const uint8_t *s, size_t n, uint64_t *its, size_t entries) {      \
+        return nw_##name##_lay(kind, s, n, its, entries).packed;                                                     \
+    }
+
+LIBRARYS(certificate)
+LIBRARYS(index)
+LIBRARYS(content)
+LIBRARYS(configuration)
 
 struct table {
     uint32_t kind;
@@ -501,18 +516,18 @@ struct table {
 
 #define TABLE(name, kind)                                                                                            \
     {kind, name##_form, name##_longest, ask_##name, F_##name##_write, F_##name##_lay,                                \
-     nw_##name##_write, plain_##name##_write, nw_##name##_lay, plain_##name##_lay}
+     writes_##name, plain_##name##_write, lays_##name, plain_##name##_lay}
 
 static const struct table tables[] = {TABLE(certificate, NW_CERTIFICATE), TABLE(index, NW_INDEX),
                                       TABLE(content, NW_CONTENT), TABLE(configuration, NW_CONFIGURATION)};
 
-static nw_answer try_write(const struct table *t, const nw_form *f, size_t room) {
+static plain_answer try_write(const struct table *t, const nw_form *f, size_t room) {
     const uint8_t *s = lend(&input, f->pool, f->pool_bytes);
     const uint64_t *its = lend(&tape_input, f->tape, f->entries * sizeof(uint64_t));
     lend_outputs(room);
     trying = t->write;
-    nw_answer got = same_outputs(t->writes_library(s, f->pool_bytes, its, f->entries, output_library.at, room),
-                                 t->writes_plain(s, f->pool_bytes, its, f->entries, output_plain.at, room));
+    plain_answer got = same_outputs(t->writes_library(s, f->pool_bytes, its, f->entries, output_library.at, room),
+                                    t->writes_plain(s, f->pool_bytes, its, f->entries, output_plain.at, room));
     unchanged(&input, f->pool);
     unchanged(&tape_input, f->tape);
     return got;
@@ -520,16 +535,16 @@ static nw_answer try_write(const struct table *t, const nw_form *f, size_t room)
 
 // Writes a form at sizes of the output about the body's. Answers the body's length, and 0 for a refusal.
 static size_t try_form(const struct table *t, const nw_form *f, uint8_t *body) {
-    nw_answer got = try_write(t, f, f->pool_bytes < 10000 ? 8000 : MOST_TRIED);
-    if (NW_REFUSAL(got)) return 0;
-    size_t n = NW_VALUE(got) & 0xFFFFFF;
+    plain_answer got = try_write(t, f, f->pool_bytes < 10000 ? 8000 : MOST_TRIED);
+    if (refusal_of(got)) return 0;
+    size_t n = value_of(got) & 0xFFFFFF;
     memcpy(body, output_library.at, n);
     for (size_t room = n - (n < 3 ? n : 3); room < n + 3; room++) try_write(t, f, room);
     try_write(t, f, below(n + 1));
     return n;
 }
 
-static nw_answer try_lay(const struct table *t, const uint8_t *body, size_t n, size_t entries) {
+static plain_answer try_lay(const struct table *t, const uint8_t *body, size_t n, size_t entries) {
     uint32_t kind = mostly(t->kind);
     lend_outputs(entries * sizeof(uint64_t));
     trying = t->lay;
@@ -541,9 +556,9 @@ static nw_answer try_lay(const struct table *t, const uint8_t *body, size_t n, s
 static void try_body(const struct table *t, const uint8_t *bytes, size_t n) {
     const uint8_t *body = lend(&input, bytes, n);
     t->ask(body, n);
-    nw_answer got = try_lay(t, body, n, n < 10000 ? 600 : MOST_ENTRIES);
-    size_t entries = NW_VALUE(got);
-    for (size_t least = entries - 1; NW_REFUSAL(got) == 0 && least < entries + 2; least++) try_lay(t, body, n, least);
+    plain_answer got = try_lay(t, body, n, n < 10000 ? 600 : MOST_ENTRIES);
+    size_t entries = value_of(got);
+    for (size_t least = entries - 1; refusal_of(got) == 0 && least < entries + 2; least++) try_lay(t, body, n, least);
     unchanged(&input, bytes);
 }
 
