@@ -24,8 +24,10 @@ static void ask(struct input *in, const uint8_t *body, size_t n, bool accepted) 
     must(refused(nw_certificate_part(body, n, nw_value(certificates)), NW_OUTSIDE_SET));
 }
 
+static size_t enough(size_t n) { return NW_CERTIFICATE_ENTRIES(n); }
+
 static const struct table certificate = {
-    NW_CERTIFICATE, nw_certificate_read, nw_certificate_lay, nw_certificate_write, make, ask,
+    NW_CERTIFICATE, nw_certificate_read, nw_certificate_lay, nw_certificate_write, enough, make, ask,
 };
 
 int LLVMFuzzerTestOneInput(const uint8_t *data, size_t size) {

@@ -110,8 +110,10 @@ static void ask(struct input *in, const uint8_t *body, size_t n, bool accepted) 
     must(!accepted || (taken(count) && taken(signature) && nw_part_start(signature) + nw_part_length(signature) == n));
 }
 
+static size_t enough(size_t n) { return NW_CONFIGURATION_ENTRIES(n); }
+
 static const struct table configuration = {
-    NW_CONFIGURATION, nw_configuration_read, nw_configuration_lay, nw_configuration_write, make, ask,
+    NW_CONFIGURATION, nw_configuration_read, nw_configuration_lay, nw_configuration_write, enough, make, ask,
 };
 
 int LLVMFuzzerTestOneInput(const uint8_t *data, size_t size) {

@@ -83,7 +83,9 @@ static void ask(struct input *in, const uint8_t *body, size_t n, bool accepted) 
     must(!accepted || nw_part_start(signature) + nw_part_length(signature) == n);
 }
 
-static const struct table content = {NW_CONTENT, read_content, nw_content_lay, write_content, make, ask};
+static size_t enough(size_t n) { return (void)n, NW_CONTENT_ENTRIES; }
+
+static const struct table content = {NW_CONTENT, read_content, nw_content_lay, write_content, enough, make, ask};
 
 int LLVMFuzzerTestOneInput(const uint8_t *data, size_t size) {
     try_table(&content, (struct input){data, size});

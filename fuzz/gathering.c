@@ -25,12 +25,21 @@ static size_t make_section(struct input *in, const struct cuts *c, uint8_t *out)
     return now_and_then(in, 16) ? upto(in, n) : n;
 }
 
+// Without a store, at NULL, a feed is refused with 10, or as before where its refusal stands before 10; it changes nothing.
+static void try_no_store(const nw_gathering *g, const uint8_t *s, size_t n, unsigned refusal) {
+    nw_gathering after = *g;
+    bool earlier = refusal != NW_TAKEN && refusal != NW_STORE_TOO_SHORT && refusal != NW_CONTRADICTION;
+    must(refused(nw_gathering_feed(&after, NULL, 0, s, n), earlier ? refusal : NW_STORE_TOO_SHORT));
+    must(memcmp(&after, g, sizeof after) == 0);
+}
+
 // A refused feed changes nothing, but that a contradiction spoils; a taken one changes its own place only.
 static void try_feed(struct lent *state, struct lent *store, const uint8_t *section, size_t n) {
     nw_gathering *g = (nw_gathering *)(void *)state->bytes, before = *g;
     uint8_t *s = copy_of(section, n);
     nw_answer fed = nw_gathering_feed(g, store->bytes, store->size, s, n);
     must(taken(fed) ? nw_value(fed) <= NW_FED_HELD_ALREADY : NW_PLACE(fed) == 0);
+    try_no_store(&before, s, n, NW_REFUSAL(fed));
     if (taken(fed) && nw_value(fed) == NW_FED_TAKEN) {
         size_t at = (size_t)s[6] * NW_MOST_PAYLOAD;
         must(g->held[s[6]] == n - 11 && memcmp(store->bytes + at, s + 8, n - 12) == 0);
@@ -52,6 +61,9 @@ static void try_handing_out(struct input *in, struct lent *state, struct lent *s
     must(kept(state, 0) && kept(store, 0));
     must(kept(&out, taken(a) ? (size_t)nw_value(a) : 0));
     must(taken(a) || NW_REFUSAL(a) == NW_MISSING || NW_PLACE(a) == 0);
+    nw_answer none = nw_gathering_hand_out(g, store->bytes, store->size, NULL, 0);
+    must(refused(none, taken(a) && nw_value(a) != 0 ? NW_OUTPUT_TOO_SMALL : a.packed));
+    must(!taken(nw_gathering_hand_out(g, NULL, 0, NULL, 0)));
     if (clean && taken(a)) must(nw_value(a) == c->n && memcmp(out.bytes, c->body, c->n) == 0);
     give_back(&out);
 }

@@ -118,7 +118,7 @@ static void ask_message(struct input *in, const uint8_t *body, size_t n, size_t 
     must(!accepted || (taken(start) && taken(end)));
 }
 
-// The records of an accepted body are its messages; a list without room for them stays as it is.
+// The records of an accepted body are its messages; a list without room for them stays as it is, and can be NULL.
 static void ask_records(const uint8_t *body, size_t n, bool accepted, size_t room) {
     struct lent list = lend(room * sizeof(nw_record), 0x33);
     const nw_record *r = (const nw_record *)(const void *)list.bytes;
@@ -133,6 +133,8 @@ static void ask_records(const uint8_t *body, size_t n, bool accepted, size_t roo
         must(nw_value(nw_message_class(body, n, r[i].at, r[i].length)) == r[i].class_);
         must(nw_value(nw_message_level(body, n, r[i].at, r[i].length)) == r[i].level);
     }
+    nw_answer none = nw_index_records(NW_INDEX, body, n, NULL, 0);
+    must(taken(none) == (accepted && body[0] == 0) && (!accepted || taken(none) || refused(none, NW_OUTPUT_TOO_SMALL)));
     give_back(&list);
 }
 
@@ -158,7 +160,9 @@ static void ask(struct input *in, const uint8_t *body, size_t n, bool accepted) 
     ask_records(body, n, accepted, NW_MOST_MESSAGES);
 }
 
-static const struct table index_table = {NW_INDEX, nw_index_read, nw_index_lay, nw_index_write, make, ask};
+static size_t enough(size_t n) { return NW_INDEX_ENTRIES(n); }
+
+static const struct table index_table = {NW_INDEX, nw_index_read, nw_index_lay, nw_index_write, enough, make, ask};
 
 int LLVMFuzzerTestOneInput(const uint8_t *data, size_t size) {
     try_table(&index_table, (struct input){data, size});

@@ -33,6 +33,8 @@ static void try_cutting(struct input *in) {
     nw_answer a = nw_section_cut(body, n, kind, extension, version, number, out.bytes, out.size);
     must(taken(a) || NW_PLACE(a) == 0);
     must(kept(&out, taken(a) ? (size_t)nw_value(a) : 0));
+    nw_answer none = nw_section_cut(body, n, kind, extension, version, number, NULL, 0);
+    must(refused(none, taken(a) ? NW_OUTPUT_TOO_SMALL : a.packed));
     if (taken(a)) {
         hold_cut(body, n, out.bytes, (size_t)nw_value(a), nw_section_count(n), number);
         out.bytes[upto(in, (size_t)nw_value(a) - 1)] ^= (uint8_t)(1 << upto(in, 7));

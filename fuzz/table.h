@@ -4,21 +4,25 @@
 
 #include "trial.h"
 
-// A table's functions; the writer's value is the body's length.
+// A table's functions; the writer's value is the body's length, and so many entries are enough to lay n bytes.
 struct table {
     uint32_t kind;
     nw_answer (*read)(uint32_t kind, const uint8_t *body, size_t n);
     nw_answer (*lay)(uint32_t kind, const uint8_t *body, size_t n, uint64_t *tape, size_t entries);
     nw_answer (*write)(const uint8_t *pool, size_t pool_bytes, const uint64_t *tape, size_t entries, uint8_t *out, size_t room);
+    size_t (*enough)(size_t n);
     void (*make)(struct input *in, nw_form *f);
     void (*ask)(struct input *in, const uint8_t *body, size_t n, bool accepted);
 };
 
-// Writes a form into so much room. A refusal has no place and changes nothing; bytes after a body stay.
+// Writes a form into so much room. A refusal has no place and changes nothing; bytes after a body stay. No room at all can
+// be NULL.
 static inline nw_answer write_form(const struct table *t, const nw_form *f, struct lent *out) {
     nw_answer a = t->write(f->pool, f->pool_bytes, f->tape, f->entries, out->bytes, out->size);
     must(taken(a) || (listed(NW_REFUSAL(a)) && NW_PLACE(a) == 0));
     must(kept(out, taken(a) ? (size_t)nw_value(a) : 0));
+    nw_answer none = t->write(f->pool, f->pool_bytes, f->tape, f->entries, NULL, 0);
+    must(refused(none, taken(a) ? NW_OUTPUT_TOO_SMALL : a.packed));
     return a;
 }
 
@@ -35,16 +39,14 @@ static inline void write_again(const struct table *t, const uint8_t *body, size_
     free(pool);
 }
 
-// Entries that any body of n bytes can be laid on.
-static inline size_t enough(size_t n) { return 2 * n + 8; }
-
-// Lays a body onto so many entries, which is as good as reading it.
+// Lays a body onto so many entries, which is as good as reading it; and onto none, at NULL.
 static inline void try_laying(const struct table *t, const uint8_t *body, size_t n, nw_answer read, size_t entries) {
     struct lent tape = lend(entries * sizeof(uint64_t), 0x77);
     uint64_t *at = (uint64_t *)(void *)tape.bytes;
     nw_answer a = t->lay(t->kind, body, n, at, entries);
-    if (taken(read)) must(taken(a) ? nw_value(a) <= entries : refused(a, NW_OUTPUT_TOO_SMALL) && entries < enough(n));
+    if (taken(read)) must(taken(a) ? nw_value(a) <= entries : refused(a, NW_OUTPUT_TOO_SMALL) && entries < t->enough(n));
     else must(a.packed == read.packed);
+    must(refused(t->lay(t->kind, body, n, NULL, 0), taken(read) ? NW_OUTPUT_TOO_SMALL : read.packed));
     must(kept(&tape, taken(a) ? (size_t)nw_value(a) * sizeof(uint64_t) : 0));
     if (taken(a)) {
         uint64_t *laid = block_of((size_t)nw_value(a) * sizeof(uint64_t));
@@ -62,9 +64,9 @@ static inline void try_body(const struct table *t, struct input *in, const uint8
     must(!taken(read) || nw_value(read) == 0);
     must(refused(t->read(t->kind ^ 1, body, n), NW_OTHER_KIND) && refused(t->read(t->kind + 256, body, n), NW_OTHER_KIND));
     try_laying(t, body, n, read, upto(in, 64));
-    try_laying(t, body, n, read, enough(n));
+    try_laying(t, body, n, read, t->enough(n));
     t->ask(in, body, n, taken(read));
-    must(memcmp(body, s, n) == 0);
+    must(n == 0 || memcmp(body, s, n) == 0);
     free(body);
 }
 

@@ -53,11 +53,10 @@ static inline size_t upto(struct input *in, size_t most) { return (size_t)(take(
 // True about once in `often` times.
 static inline bool now_and_then(struct input *in, unsigned often) { return take(in, 1) % often == often - 1; }
 
-// A copy of bytes in a block of exactly their number, so that a byte read past them is seen.
+// A copy of bytes in a block of exactly their number, so that a byte read past them is seen; of none, NULL.
 static inline uint8_t *copy_of(const uint8_t *s, size_t n) {
-    uint8_t *copy = block_of(n);
-    if (n > 0) memcpy(copy, s, n);
-    return copy;
+    if (n == 0) return NULL;
+    return memcpy(block_of(n), s, n);
 }
 
 // ---- what is lent

@@ -1,11 +1,16 @@
-/* neapwillow.h: the emergency tables of GD/J 086-2018 for adapters and set-top boxes.
+/* neapwillow.h: the emergency tables of GD/J 086-2018 for adapters and set-top boxes, in C99 and
+ * later, and in C++11 and later.
  *
  * Every function declared here takes every input of every length, finishes, keeps nothing between
  * calls and allocates nothing. It is proved (in Rattle) to do what the comment above it says; this file
  * itself is not, nor are the few helpers that are written out in it, so tests hold each declaration to
  * the source and the helpers to tables made by hand.
  *
- * A byte string goes in as a pointer and a length; with length 0 nothing is read behind the pointer.
+ * All memory is the caller's. A byte string, a tape, a list and an output are a pointer and how many
+ * bytes, entries or records it has: with 0 of them nothing is read or written behind the pointer, which
+ * may then be NULL. What a call may write must not overlap anything else that it is lent; what it only
+ * reads may overlap. A refused call writes nothing, but that a contradiction spoils a gathering. Where
+ * an output is too small (21), the comment above the function says what tells the room it needs.
  *
  * Link with libneapwillow.a (x86-64 Linux). */
 #ifndef NEAPWILLOW_H
@@ -65,7 +70,7 @@ static inline unsigned nw_heading_last(nw_heading a) { return (unsigned)(a.packe
 static inline unsigned nw_written_extension(nw_written a) { return (unsigned)(a.packed >> 32); }
 static inline size_t nw_written_length(nw_written a) { return (size_t)(a.packed >> 8 & 0xFFFFFFu); }
 
-/* The refusals, by their numbers. A refused call writes nothing. The place is the offset, in the
+/* The refusals, by their numbers. The place is the offset, in the
  * body, of the byte where the refused field begins (14 to 20), the smallest missing section number
  * (13), and else 0. */
 enum nw_refusal {
@@ -81,7 +86,7 @@ enum nw_refusal {
     NW_OTHER_HEADING = 9,           /* the heading differs from the gathering's */
     NW_STORE_TOO_SHORT = 10,        /* the store is shorter than (last + 1) x 4,084 bytes */
     NW_CONTRADICTION = 11,          /* same heading and number, other payload; or spoiled already */
-    NW_IMPOSSIBLE_STATE = 12,       /* not a possible gathering state */
+    NW_IMPOSSIBLE_STATE = 12,       /* not a possible gathering state: see nw_gathering */
     NW_MISSING = 13,                /* a section is missing; the place is the smallest number */
     NW_PAST_BODY = 14,              /* the body ends inside a field or part; the cutter's is empty */
     NW_PAST_PART = 15,              /* a field passes the end of its part, or bytes are left in it */
@@ -190,7 +195,10 @@ enum nw_showing { NW_BEFORE = 0, NW_ON = 1, NW_ENDED = 2 };
 
 /* ---- Sections ---------------------------------------------------------------------------------
  *
- * A section is 12 to 4,096 bytes: eight of heading, the payload, four of check. */
+ * A section is 12 to 4,096 bytes: eight of heading, the payload, four of check. The extension in the
+ * heading is by GD/J 086-2018 for a content table the CRC-16 of its message's identifier (6.3), which
+ * nw_content_write answers; for an index table it is not used (6.2), and for the other two it has no
+ * stated value (7, 8.1): cut these with 0. Only a content table's reader judges it. */
 #define NW_MOST_SECTION 4096u   /* bytes of the longest section */
 #define NW_MOST_PAYLOAD 4084u   /* bytes of its payload */
 #define NW_MOST_BODY 1045504u   /* bytes of the longest body: 256 such payloads */
@@ -209,7 +217,8 @@ nw_answer nw_section_count(size_t length);
  * bytes of the body, and each is current. Value: the bytes written, at most NW_MOST_SECTION; the
  * bytes of out after them stay. Refusals, in this order, with nothing written: 2, no such kind; 19,
  * a version above 31 or an extension above 65,535; 14, an empty body; 22, more than NW_MOST_BODY
- * bytes; 6, a number past the last; 21, out is too small for the section. */
+ * bytes; 6, a number past the last; 21, out is too small for the section: NW_MOST_SECTION bytes are
+ * enough for any. The body must not overlap out. */
 nw_answer nw_section_cut(const uint8_t *body, size_t n, uint32_t kind, uint32_t extension,
                          uint32_t version, uint32_t number, uint8_t *out, size_t room);
 
@@ -218,7 +227,11 @@ nw_answer nw_section_cut(const uint8_t *body, size_t n, uint32_t kind, uint32_t 
  * Good, current sections of one table, fed in any order, repeats and damage among them, become its
  * body. The caller lends one state, at first all zeros, and one store; each call updates them and
  * keeps nothing else. The first section taken fixes the table: its kind, extension, version and last
- * number. State, store, section and output must not overlap, and the state is never null. */
+ * number. State, store, section and output must not overlap, and the state is never NULL.
+ *
+ * A state is possible if all of it is zeros, or if its kind is one of enum nw_kind, its version at most
+ * 31, spoiled 0 or 1, at least one number held, none above last, and each held length at most
+ * NW_MOST_PAYLOAD. Feeds leave no other state of one that was zeros. */
 typedef struct nw_gathering {
     uint16_t extension;
     uint8_t kind;       /* table_id; 0 while nothing is begun */
@@ -246,8 +259,8 @@ enum nw_fed { NW_FED_TAKEN = 0, NW_FED_HELD_ALREADY = 1 };
  * bytes of out after it stay, and so do store and state. It is written exactly when every number is
  * held and no contradiction was fed. Refusals, in this order, with nothing written: 12, not a
  * possible state; 13, nothing is begun (place 0); 10, the store is too short; 11, spoiled; 13, with
- * the smallest missing number as its place; 25, a body above NW_MOST_BODY bytes; 21, out is too
- * small. */
+ * the smallest missing number as its place; 25, a body above NW_MOST_BODY bytes; 21, out is too small:
+ * NW_STORE_BYTES(g->last) are enough. */
 nw_answer nw_gathering_hand_out(const nw_gathering *g, const uint8_t *store, size_t store_bytes,
                                 uint8_t *out, size_t out_bytes);
 
@@ -326,14 +339,18 @@ static inline void nw_form_thing(nw_form *f, size_t list)
  * Its body is a list of certificate authorization lists, a list of certificates and a signature, all
  * of them opaque bytes. */
 
+/* Entries that are enough to lay a body of so many bytes: counted by hand and tested, not proved. */
+#define NW_CERTIFICATE_ENTRIES(bytes) ((size_t)(bytes) + 255)
+
 /* Judges a body. Value: 0. Refusals, in this order: 2, the kind is not NW_CERTIFICATE; 22, more than
  * NW_MOST_BODY bytes; 14, the first field that passes the body's end, at its place; 16, bytes after
  * the signature, at the first of them. */
 nw_answer nw_certificate_read(uint32_t kind, const uint8_t *body, size_t n);
 
 /* The fields of an accepted body, asked for without reading what stands after them. Value: a count;
- * or the part of the body that the bytes fill. Refusal 19: there is no i-th, counted from 0. Of a body that nw_certificate_read refuses they tell the field all the same, where what
- * stands before it can be read, and else the refusal of what can't. */
+ * or the part of the body that the bytes fill. Refusal 19: there is no i-th, counted from 0. Of a
+ * body that nw_certificate_read refuses they tell the field all the same, where what stands before it
+ * can be read, and else the refusal of what can't. */
 nw_answer nw_certificate_authorization_count(const uint8_t *body, size_t n);
 nw_part nw_certificate_authorization(const uint8_t *body, size_t n, uint64_t i);
 nw_answer nw_certificate_count(const uint8_t *body, size_t n);
@@ -345,14 +362,14 @@ nw_part nw_certificate_signature(const uint8_t *body, size_t n);
  * of certificates, for each the same, and the signature's start and length. Refusals, in this order,
  * with nothing written and place 0: 19, the tape is too short, has entries left over, or a span that is
  * not in the pool; 22, a count or length too large for its field, or more than NW_MOST_BODY bytes; 21,
- * out is too small. */
+ * out is too small: nw_certificate_measure tells the room. Out must overlap neither pool nor tape. */
 nw_answer nw_certificate_write(const uint8_t *pool, size_t pool_bytes, const uint64_t *tape,
                                size_t entries, uint8_t *out, size_t room);
 
 /* Lays an accepted body onto a tape: the form from which, with the body itself as the pool,
  * nw_certificate_write writes it again. Value: the entries laid, two for each part and one for each
  * count; entries after them stay. Refusals, with nothing laid: those of nw_certificate_read, then 21,
- * the tape is too short. */
+ * the tape is too short: NW_CERTIFICATE_ENTRIES(n) are enough. The tape must not overlap the body. */
 nw_answer nw_certificate_lay(uint32_t kind, const uint8_t *body, size_t n, uint64_t *tape,
                              size_t entries);
 
@@ -399,14 +416,15 @@ nw_answer nw_index_read(uint32_t kind, const uint8_t *body, size_t n);
 
 /* Judges a body and writes a record for each message at the start of list, which has room for so many;
  * records after them stay. Value: the count of messages. Refusals, with no record written: those of
- * nw_index_read, then 21, the list has less room than there are messages. The list must not overlap
- * the body. */
+ * nw_index_read, then 21, the list has less room than there are messages: nw_index_message_count tells
+ * how many, and NW_MOST_MESSAGES are always enough. The list must not overlap the body. */
 nw_answer nw_index_records(uint32_t kind, const uint8_t *body, size_t n, nw_record *list, size_t room);
 
 /* The messages and the signature, asked for without reading inside a message, whatever else is wrong
- * with the body. Value: a count; or a part of the body: for a message the two numbers of its record. Refusals, in this order: 14, the body is empty (place 0); 19,
- * there is no i-th, counted from 0 (place 0); 14, a length before the part, or its own, is cut off or
- * passes the body's end, at its place. */
+ * with the body. Value: a count; or a part of the body: for a message the two numbers of its record.
+ * Refusals, in this order: 14, the body is empty (place 0); 19, there is no i-th, counted from 0
+ * (place 0); 14, a length before the part, or its own, is cut off or passes the body's end, at its
+ * place. */
 nw_answer nw_index_message_count(const uint8_t *body, size_t n);
 nw_part nw_index_message(const uint8_t *body, size_t n, uint64_t i);
 nw_part nw_index_signature(const uint8_t *body, size_t n);
@@ -444,9 +462,10 @@ nw_answer nw_message_pcr_pid(const uint8_t *body, size_t n, size_t at, size_t le
 nw_part nw_message_descriptors(const uint8_t *body, size_t n, size_t at, size_t length);
 nw_part nw_message_streams(const uint8_t *body, size_t n, size_t at, size_t length);
 
-/* The local date and time of a message's start or end. Value: as of nw_time_unpack. Refusals, in this order: 19, the offset is outside its range (place 0); those of
- * nw_message_start or nw_message_end, with their places; 18, a live end, which has no local time, or
- * 20, the local day lies outside the range of days (place 0). */
+/* The local date and time of a message's start or end. Value: as of nw_time_unpack. Refusals, in this
+ * order: 19, the offset is outside its range (place 0); those of nw_message_start or nw_message_end,
+ * with their places; 18, a live end, which has no local time, or 20, the local day lies outside the
+ * range of days (place 0). */
 nw_time nw_message_local_start(const uint8_t *body, size_t n, size_t at, size_t length, int32_t offset);
 nw_time nw_message_local_end(const uint8_t *body, size_t n, size_t at, size_t length, int32_t offset);
 
@@ -477,13 +496,14 @@ nw_part nw_stream_descriptors(const uint8_t *body, size_t n, size_t end, size_t 
  * stated above, or a number is outside its set or has more bits than its field; 18, a digit above 9;
  * 20, an impossible day or time); 19, the tape has entries left over; 22, a count or length too large
  * for its field (descriptors: more than 1,023 bytes together), or more than NW_MOST_BODY bytes; 21, out
- * is too small. */
+ * is too small: nw_index_measure tells the room. Out must overlap neither pool nor tape. */
 nw_answer nw_index_write(const uint8_t *pool, size_t pool_bytes, const uint64_t *tape, size_t entries,
                          uint8_t *out, size_t room);
 
 /* Lays an accepted body onto a tape: the form from which, with the body itself as the pool,
- * nw_index_write writes it again. Value: the entries laid, at most NW_INDEX_ENTRIES(n); entries after
- * them stay. Refusals, with nothing laid: those of nw_index_read, then 21, the tape is too short. */
+ * nw_index_write writes it again. Value: the entries laid; entries after them stay. Refusals, with
+ * nothing laid: those of nw_index_read, then 21, the tape is too short: NW_INDEX_ENTRIES(n) are enough.
+ * The tape must not overlap the body. */
 nw_answer nw_index_lay(uint32_t kind, const uint8_t *body, size_t n, uint64_t *tape, size_t entries);
 
 /* ---- The content table ------------------------------------------------------------------------
@@ -557,14 +577,15 @@ nw_part nw_language_auxiliary(const uint8_t *body, size_t n, size_t at, size_t l
  * the order of the tape (19, the tape is too short, a span is not in the pool or has not the length
  * stated above, or a number or a letter is outside its set, the two counts too; 18, a digit above 9);
  * 19, the tape has entries left over; 22, a length too large for its field, or more than NW_MOST_BODY
- * bytes; 21, out is too small. */
+ * bytes; 21, out is too small: nw_content_measure tells the room. Out must overlap neither pool nor
+ * tape. */
 nw_written nw_content_write(const uint8_t *pool, size_t pool_bytes, const uint64_t *tape,
                             size_t entries, uint8_t *out, size_t room);
 
 /* Lays an accepted body, whatever its extension, onto a tape: the form from which, with the body
- * itself as the pool, nw_content_write writes it again. Value: the entries laid, at most
- * NW_CONTENT_ENTRIES; entries after them stay. Refusals, with nothing laid: those of nw_content_read
- * but 23, then 21, the tape is too short. */
+ * itself as the pool, nw_content_write writes it again. Value: the entries laid; entries after them
+ * stay. Refusals, with nothing laid: those of nw_content_read but 23, then 21, the tape is too short:
+ * NW_CONTENT_ENTRIES are enough for any body. The tape must not overlap the body. */
 nw_answer nw_content_lay(uint32_t kind, const uint8_t *body, size_t n, uint64_t *tape, size_t entries);
 
 /* ---- The configuration table ------------------------------------------------------------------
@@ -688,14 +709,15 @@ nw_answer nw_command_terminal_digit(const uint8_t *body, size_t n, size_t p, uin
  * return address is not of its kind's form; 15, a return address of kind 1 or 2 has another length;
  * 18, a digit above 9; 20, an impossible day, once its three numbers are taken, or time, once its
  * three are, however large they are); 19, the tape has entries left over; 22, a count or length too
- * large for its field, or more than NW_MOST_BODY bytes; 21, out is too small. */
+ * large for its field, or more than NW_MOST_BODY bytes; 21, out is too small: nw_configuration_measure
+ * tells the room. Out must overlap neither pool nor tape. */
 nw_answer nw_configuration_write(const uint8_t *pool, size_t pool_bytes, const uint64_t *tape,
                                  size_t entries, uint8_t *out, size_t room);
 
 /* Lays an accepted body onto a tape: the form from which, with the body itself as the pool,
- * nw_configuration_write writes it again. Value: the entries laid, at most
- * NW_CONFIGURATION_ENTRIES(n); entries after them stay. Refusals, with nothing laid: those of
- * nw_configuration_read, then 21, the tape is too short. */
+ * nw_configuration_write writes it again. Value: the entries laid; entries after them stay. Refusals,
+ * with nothing laid: those of nw_configuration_read, then 21, the tape is too short:
+ * NW_CONFIGURATION_ENTRIES(n) are enough. The tape must not overlap the body. */
 nw_answer nw_configuration_lay(uint32_t kind, const uint8_t *body, size_t n, uint64_t *tape,
                                size_t entries);
 

@@ -129,9 +129,10 @@ def layings():
     for kind, body in [(KIND, body) for small in SMALL for body in (small, small[:-1], small + b'\0')] + list(kinds())[:300]:
         for entries in range(24):
             yield 'certificate_lay', kind, body, [2**64 - 1 - k for k in range(entries)]
-    for body in MANY:
+    for body in (*MANY, bytes(4)):
         lists, certificates, _ = second.fields(KIND, body)
         needed = 2 * (len(lists) + len(certificates)) + 4
+        assert needed <= len(body) + 255  # NW_CERTIFICATE_ENTRIES
         for entries in needed - 1, needed, needed + 2:
             yield 'certificate_lay', KIND, body, [7] * entries
 
