@@ -80,12 +80,12 @@ static void fault(struct box *b, const char *form, ...) {
 
 // ---- gathering
 
-// The length of the section that begins at s, by its own heading: at least 12 bytes, so that its kind is looked at first,
-// but no more than the n that there are.
+// The length of the section that begins at s, as it states: 12 bytes where it states none, so that its kind is looked at
+// first, but no more than the n that there are.
 static size_t length_of(const uint8_t *s, size_t n) {
-    size_t stated = n < 3 ? n : ((size_t)s[1] << 8 & 0xF00) + s[2] + 3;
-    if (stated < 12) stated = 12;
-    return stated < n ? stated : n;
+    nw_answer stated = nw_section_length(s, n);
+    size_t length = NW_REFUSAL(stated) == NW_TAKEN ? (size_t)nw_value(stated) : 12;
+    return length < n ? length : n;
 }
 
 static nw_heading judge(const uint8_t *s, size_t n, size_t *length) {

@@ -5,7 +5,10 @@ static void try_reading(const uint8_t *data, size_t n) {
     uint8_t *s = copy_of(data, n);
     nw_heading a = nw_section_read(s, n);
     must(NW_REFUSAL(a) <= NW_CHECK_NOT_ZERO && (taken(a) || NW_PLACE(a) == 0));
+    nw_answer length = nw_section_length(s, n);
+    must(taken(length) ? nw_value(length) >= 12 && nw_value(length) <= NW_MOST_SECTION : NW_PLACE(length) == 0);
     if (taken(a)) {
+        must(taken(length) && nw_value(length) == n);
         must(n >= 12 && n <= NW_MOST_SECTION && nw_crc32(s, n) == 0);
         must(nw_heading_kind(a) == s[0] && nw_heading_number(a) <= nw_heading_last(a));
     }

@@ -209,6 +209,12 @@ enum nw_kind { NW_CONFIGURATION = 0xFB, NW_CERTIFICATE = 0xFC, NW_INDEX = 0xFD, 
  * s + 8 on. Refusals 1 to 7, in this order. A section that is not current is good all the same. */
 nw_heading nw_section_read(const uint8_t *s, size_t n);
 
+/* The stated length of the section that begins at s, where n bytes are at hand: so many are
+ * nw_section_read's to judge, and the next section of a stream begins after them. Value:
+ * section_length + 3, 12 to 4,096, which may be more than n. Refusals, in this order: 1, fewer than 3
+ * bytes; 4, section_length below 9 or above 4,093. Nothing else is looked at. */
+nw_answer nw_section_length(const uint8_t *s, size_t n);
+
 /* How many sections a body of so many bytes makes: the ceiling of length / 4,084, 1 to 256.
  * Refusals, in this order: 14, no bytes; 22, more than NW_MOST_BODY. */
 nw_answer nw_section_count(size_t length);

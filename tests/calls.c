@@ -165,6 +165,7 @@ static void call_section_read(const struct argument *a) {
     put_number(nw_heading_last(got));
 }
 
+static void call_section_length(const struct argument *a) { put_answer(nw_section_length(a[0].bytes, a[0].length)); }
 static void call_section_count(const struct argument *a) { put_answer(nw_section_count(a[0].wide)); }
 
 static nw_answer cut(const struct argument *a, uint32_t number, uint8_t *out, size_t room) {
@@ -632,6 +633,7 @@ static const struct call calls[] = {
     {"time_read_text", "bi", call_time_read_text},
     {"time_showing", "wwuu", call_time_showing},
     {"section_read", "b", call_section_read},
+    {"section_length", "b", call_section_length},
     {"section_count", "w", call_section_count},
     {"section_cut", "buuuuo", call_section_cut},
     {"section_cut_all", "buuuo", call_section_cut_all},

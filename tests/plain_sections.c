@@ -21,6 +21,12 @@ plain_answer plain_section_read(const uint8_t *s, size_t n) {
     return value((uint64_t)s[0] << 48 | extension << 32 | version << 24 | current << 16 | (uint64_t)s[6] << 8 | s[7]);
 }
 
+plain_answer plain_section_length(const uint8_t *s, size_t n) {
+    if (n < 3) return NW_SECTION_TOO_SHORT;
+    size_t length = ((size_t)s[1] * 256 + s[2]) % 4096;
+    return length >= 9 && length <= 4093 ? value(length + 3) : NW_SECTION_LENGTH_OUTSIDE;
+}
+
 // ---- cutting
 
 plain_answer plain_section_count(size_t length) {

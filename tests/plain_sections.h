@@ -14,6 +14,7 @@ struct plain_heading {
 void plain_section_put(uint8_t *out, const struct plain_heading *h, const uint8_t *payload, size_t n);
 
 plain_answer plain_section_read(const uint8_t *s, size_t n);
+plain_answer plain_section_length(const uint8_t *s, size_t n);
 plain_answer plain_section_count(size_t length);
 plain_answer plain_section_cut(const uint8_t *body, size_t n, uint32_t kind, uint32_t extension, uint32_t version,
                                uint32_t number, uint8_t *out, size_t room);

@@ -77,6 +77,16 @@ def section_read(s):
     return int('%02X%04X%02X%02X%02X%02X' % parts, 16), *parts
 
 
+def section_length(s):
+    """By the heading that the bytes at hand would begin, filled up with zeros."""
+    if len(s) < 3:
+        raise Refused(1)
+    length = list(fields_of(s[:8].ljust(8, b'\0')))[2]
+    if not 9 <= length <= 4093:
+        raise Refused(4)
+    return length + 3
+
+
 def section_count(length):
     if length == 0:
         raise Refused(14)

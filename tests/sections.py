@@ -1,4 +1,4 @@
-"""Sections good, damaged in one or two ways, and made by chance: as the library reads them and a second program."""
+"""Sections good, damaged in one or two ways, and made by chance: read and measured as a second program does it."""
 import itertools
 import random
 
@@ -116,12 +116,21 @@ def by_chance():
         yield longer(65536)(good(length))
 
 
+def lengths():
+    """Every two bytes that have section_length, few bytes and more; all of the strings above begin a section too."""
+    for high, low in itertools.product(range(256), range(256)):
+        yield bytes((chance.randrange(256), high, low)) + chance.randbytes(chance.choice((0, 0, 0, 1, 9, 30)))
+    for length in range(4):
+        yield chance.randbytes(length)
+
+
 def main():
     for number, damage in DAMAGES:
         s = damage(good(30))
         assert calls.told(second.section_read, rechecked(s) if number < 5 else s) == '%d 0' % number
     strings = [*map(good, range(4085)), *damaged_twice(), *bits_turned(), *headings(), *by_chance()]
     calls.compare('a second program', second, [('section_read', s) for s in strings])
+    calls.compare('a second program', second, [('section_length', s) for s in [*strings, *lengths()]])
 
 
 main()

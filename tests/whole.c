@@ -256,6 +256,7 @@ static void try_sections(void) {
         size_t n = one_in(20) ? below(sizeof bytes) : some_section(bytes, some_heading((uint32_t)below(256)));
         const uint8_t *s = lend(&input, bytes, n);
         TRY(section_read, s, n);
+        TRY(section_length, s, n);
         unchanged(&input, bytes);
         size_t length = i < 10000 ? i : around(one_in(2) ? NW_MOST_BODY : below(256) * NW_MOST_PAYLOAD);
         TRY(section_count, length);

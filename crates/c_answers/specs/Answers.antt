@@ -26,6 +26,8 @@ use Rattle.time_local.specs.declared.Unpacked.the-variants as unpacked
 use Rattle.section_reader.specs.declared.Heading.{Heading}
 use Rattle.section_reader.specs.declared.Sectioned.{Sectioned}
 use Rattle.section_reader.specs.declared.Sectioned.the-variants as section
+use Rattle.section_reader.specs.declared.Stated.{Stated}
+use Rattle.section_reader.specs.declared.Stated.the-variants as stated
 use Rattle.section_cutter.specs.declared.Counted.{Counted}
 use Rattle.section_cutter.specs.declared.Counted.the-variants as counted
 use Rattle.section_cutter.specs.declared.Cut.{Cut}
@@ -102,6 +104,10 @@ headingFields h =
 abbrev pub sectionAnswer : Sectioned → ℕ
 sectionAnswer (section.Good h n) = answerOf 0 (packed (headingFields h))
 sectionAnswer (section.Refused why) = refusedOf why
+
+abbrev pub statedAnswer : Stated → ℕ
+statedAnswer (stated.Length n) = answerOf 0 n
+statedAnswer (stated.Refused why) = refusedOf why
 
 abbrev pub countAnswer : Counted → ℕ
 countAnswer (counted.Sections n) = answerOf 0 n

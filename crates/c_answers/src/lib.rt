@@ -10,6 +10,7 @@ use section_cutter::Counted;
 use section_cutter::Cut;
 use section_reader::Heading;
 use section_reader::Sectioned;
+use section_reader::Stated;
 use time_days::Date;
 use time_days::DateAnswer;
 use time_days::DayAnswer;
@@ -22,7 +23,7 @@ ghost use mathlib.Core.Path.{_≡_};
 ghost use Prim.Native.Nat.{_≤_};
 ghost use Rattle.crc.specs.Crc.{digit};
 ghost use Rattle.c_answers.specs.Packing.{packed};
-ghost use Rattle.c_answers.specs.Answers.{answerOf, refusedOf, dayAnswer, dateFields, dateAnswer, weekdayAnswer, fieldAnswer, timeFields, localAnswer, showingAnswer, headingFields, sectionAnswer, countAnswer, lengthAnswer, feedAnswer, handAnswer, readAnswer, numberAnswer, partAnswer, writtenAnswer, contentAnswer, localFieldAnswer};
+ghost use Rattle.c_answers.specs.Answers.{answerOf, refusedOf, dayAnswer, dateFields, dateAnswer, weekdayAnswer, fieldAnswer, timeFields, localAnswer, showingAnswer, headingFields, sectionAnswer, statedAnswer, countAnswer, lengthAnswer, feedAnswer, handAnswer, readAnswer, numberAnswer, partAnswer, writtenAnswer, contentAnswer, localFieldAnswer};
 
 // What an answer holds above its low byte: 56 bits.
 const ABOVE: u64 = 0x0100_0000_0000_0000;
@@ -140,6 +141,15 @@ pub fn section_answer(a: Sectioned) -> u64
     match a {
         Sectioned::Good(h, _length) => answered(packed_heading(h)),
         Sectioned::Refused(why) => refused(why),
+    }
+}
+
+pub fn stated_answer(a: Stated) -> u64
+    ensures { λ r. ⌜ r ≡ statedAnswer a ⌝ }
+{
+    match a {
+        Stated::Length(length) => answered(length as u64),
+        Stated::Refused(why) => refused(why),
     }
 }
 

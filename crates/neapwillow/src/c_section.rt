@@ -1,14 +1,21 @@
-// Sections for C: one read, and a body cut.
+// Sections for C: one read, its length looked up, and a body cut.
 ghost use mathlib.Core.Path.{_≡_};
-ghost use Rattle.section_reader.specs.Section.{readSection};
+ghost use Rattle.section_reader.specs.Section.{readSection, statedLength};
 ghost use Rattle.section_cutter.specs.Cutting.{countedOf, cutAnswer, cutOutput};
-ghost use Rattle.c_answers.specs.Answers.{sectionAnswer, countAnswer, lengthAnswer};
+ghost use Rattle.c_answers.specs.Answers.{sectionAnswer, statedAnswer, countAnswer, lengthAnswer};
 
 #[no_mangle]
 pub extern "C" fn nw_section_read(s: &[u8]) -> u64
     ensures { λ r. ⌜ r ≡ sectionAnswer (readSection (now (s .entry))) ⌝ }
 {
     c_answers::section_answer(section_reader::read_section(s))
+}
+
+#[no_mangle]
+pub extern "C" fn nw_section_length(s: &[u8]) -> u64
+    ensures { λ r. ⌜ r ≡ statedAnswer (statedLength (now (s .entry))) ⌝ }
+{
+    c_answers::stated_answer(section_reader::stated_length(s))
 }
 
 #[no_mangle]

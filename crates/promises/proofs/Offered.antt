@@ -15,6 +15,7 @@ offered =
       nw-time-unpack = λ field offset. one;
       nw-time-showing = λ start end day second. one;
       nw-section-read = λ s. one;
+      nw-section-length = λ s. one;
       nw-section-count = λ length. one;
       nw-section-cut = λ body kind extension version number out. two;
       nw-gathering-feed = λ g store s. three;

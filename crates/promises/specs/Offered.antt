@@ -10,7 +10,7 @@ use Rattle.time_days.specs.Calendar.{dayOf, dateOf, weekdayOf}
 use Rattle.time_fields.specs.Showing.{showing}
 use Rattle.time_local.specs.Clock.{packOf, unpackOf}
 use Rattle.time_local.specs.Text.{readText}
-use Rattle.section_reader.specs.Section.{readSection}
+use Rattle.section_reader.specs.Section.{readSection, statedLength}
 use Rattle.section_cutter.specs.Cutting.{countedOf, cutAnswer, cutOutput}
 use Rattle.gathering_state.specs.declared.Gathering.{Gathering}
 use Rattle.gathering_feed.specs.Feeding.{fedOf, storeAfter}
@@ -38,8 +38,8 @@ use Rattle.configuration_fields.specs.Asked as configuration-fields
 use Rattle.configuration_fields.specs.Asked.{commandCount, commandPart, commandTag, commandContent, clockYear, clockMonth, clockDay, clockHour, clockMinute}
 use Rattle.configuration_fields.specs.Asked.{clockSecond, codeAddress, codeResource, codeDigit, frequency, symbolRate, mapping, returnKind, returnAddress}
 use Rattle.configuration_fields.specs.Asked.{period, volume, parameterCount, parameter, terminalCount, terminal, terminalDigit}
-use Rattle.c_answers.specs.Answers.{dayAnswer, dateAnswer, weekdayAnswer, fieldAnswer, localAnswer, showingAnswer, sectionAnswer, countAnswer, lengthAnswer}
-use Rattle.c_answers.specs.Answers.{feedAnswer, handAnswer, readAnswer, numberAnswer, partAnswer, writtenAnswer, localFieldAnswer, contentAnswer}
+use Rattle.c_answers.specs.Answers.{dayAnswer, dateAnswer, weekdayAnswer, fieldAnswer, localAnswer, showingAnswer, sectionAnswer, statedAnswer, countAnswer}
+use Rattle.c_answers.specs.Answers.{lengthAnswer, feedAnswer, handAnswer, readAnswer, numberAnswer, partAnswer, writtenAnswer, localFieldAnswer, contentAnswer}
 use Rattle.promises.specs.Determined.{Determined, Determined₂, Determined₃}
 
 pub record Offered : Type 0 where
@@ -56,8 +56,9 @@ pub record Offered : Type 0 where
   pub nw-time-read-text : (text : List ℕ) (offset : ℤ) → Determined (λ r. r ≡ fieldAnswer (readText text offset))
   pub nw-time-unpack : (field : ℕ) (offset : ℤ) → Determined (λ r. r ≡ localAnswer (unpackOf field offset))
   pub nw-time-showing : (start end day second : ℕ) → Determined (λ r. r ≡ showingAnswer (showing start end (record { day = day; second = second })))
-  -- Sections for C: one read, and a body cut.
+  -- Sections for C: one read, its length looked up, and a body cut.
   pub nw-section-read : (s : List ℕ) → Determined (λ r. r ≡ sectionAnswer (readSection s))
+  pub nw-section-length : (s : List ℕ) → Determined (λ r. r ≡ statedAnswer (statedLength s))
   pub nw-section-count : (length : ℕ) → Determined (λ r. r ≡ countAnswer (countedOf length))
   pub nw-section-cut : (body : List ℕ) (kind extension version number : ℕ) (out : List ℕ) →
       Determined₂ (λ r out′. (r ≡ lengthAnswer (cutAnswer body kind extension version number out)) × (out′ ≡ cutOutput body kind extension version number out))

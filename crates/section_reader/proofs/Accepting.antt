@@ -1,21 +1,22 @@
 -- What is known of a section that the judgement takes.
-use Prim.Native.Nat.{ℕ, _+_, _-_, _≤_}
+use Prim.Native.Nat.{ℕ, _+_, _-_, _≤_, _<_}
 use mathlib.Core.Bool.{Bool, true, false, not, _&&_}
-use mathlib.Core.List.{List}
-use mathlib.Core.Path.{_≡_, refl, sym, _∙_}
+use mathlib.Core.List.{List, _++_}
+use mathlib.Core.Path.{_≡_, refl, sym, ap, _∙_}
 use native.Mathlib.Omega.{arith}
 use borrow.Author.Tests.{not-false, ltb-false, eqb-true}
 use lib.Dec.{eqb, leb, ltb}
-use lib.ListN.{length, getD, drop, length-drop}
+use lib.ListN.{length, getD, drop, length-drop, length-append, List·getD-append}
 use lib.Seq.{length-take-le}
 use Rattle.crc.specs.Crc.{crc32Of}
 use Rattle.ground_refusal.specs.declared.Refusal.{Refusal}
 use Rattle.ground_choices.specs.Choice.{if_then_else_}
-use Rattle.section_reader.specs.Section.{isKind, fixedBits, sectionLength, headingOf, payloadOf, readSection}
+use Rattle.section_reader.specs.Section.{isKind, word, fixedBits, sectionLength, lengthInRange, headingOf, payloadOf, readSection, statedLength}
 use Rattle.section_reader.specs.declared.Heading.{Heading}
 use Rattle.section_reader.specs.declared.Sectioned.{Sectioned}
 use Rattle.section_reader.specs.declared.Sectioned.the-variants.{Good, Refused}
-use Rattle.section_reader.proofs.Reading.{Framed, within-known, good}
+use Rattle.section_reader.specs.declared.Stated.the-variants.{Length}
+use Rattle.section_reader.proofs.Reading.{Framed, within-known, good, states}
 
 -- none of refusals 1 to 7 applies
 pub record Accepted (s : List ℕ) (h : Heading) (n : ℕ) : Type 0 where
@@ -79,3 +80,15 @@ module _ (s : List ℕ) (h : Heading) (n : ℕ) (a : Accepted s h n) where
   payload-length =
       let l = accepted-length in
       length-take-le (length s - 12) (drop 8 s) (rw length-drop (omega arith)) ∙ sym (a .size)
+
+-- ---- the stated length
+
+-- a good section states its length, whatever stands after it
+pub good-states : (s t : List ℕ) (h : Heading) (n : ℕ) → readSection s ≡ Good h n → statedLength (s ++ t) ≡ Length (length s)
+unfolding sectionLength word
+good-states s t h n e =
+    let f = accepted s h n e .framed in
+    let byte : (i : ℕ) → i < 12 → getD (s ++ t) i 0 ≡ getD s i 0 = λ i k. List·getD-append s t 0 i (omega (arith, f .long)) in
+    let same : sectionLength (s ++ t) ≡ sectionLength s = rw (byte 1 (omega arith), byte 2 (omega arith)) in
+    states (s ++ t) (rw (length-append s t) (omega (arith, f .long))) (ap lengthInRange same ∙ f .counted)
+    ∙ ap Length (ap (λ (k : ℕ). k + 3) same ∙ sym (f .whole))

@@ -9,9 +9,10 @@ use lib.Dec.{eqb, leb}
 use lib.ListN.{length, getD}
 use Rattle.crc.specs.Crc.{crc32Of}
 use Rattle.ground_refusal.specs.declared.Refusal.the-variants.{SectionTooShort, OtherKind, FixedBitZero, SectionLengthOutside, OtherLength, NumberAboveLast, CheckNotZero}
-use Rattle.section_reader.specs.Section.{isKind, word, fixedBits, sectionLength, headingOf, readSection}
+use Rattle.section_reader.specs.Section.{isKind, word, fixedBits, sectionLength, lengthInRange, headingOf, readSection, statedLength}
 use Rattle.section_reader.specs.declared.Heading.{Heading}
 use Rattle.section_reader.specs.declared.Sectioned.the-variants.{Good, Refused}
+use Rattle.section_reader.specs.declared.Stated.the-variants as stated
 
 -- ---- two tests in one
 
@@ -134,3 +135,19 @@ module _ (s : List ℕ) (f : Framed s) where
           le-ltb (getD s 7 0) (getD s 6 0) ordered,
           eq-eqb (crc32Of s) 0 e,
         ))
+
+-- ---- the stated length
+
+module _ (s : List ℕ) where
+  pub cut-off : length s < 3 → statedLength s ≡ stated.Refused SectionTooShort
+  unfolding statedLength
+  cut-off h = rw (lt-ltb (length s) 3 h)
+
+  module _ (there : 3 ≤ length s) where
+    pub none-stated : lengthInRange (sectionLength s) ≡ false → statedLength s ≡ stated.Refused SectionLengthOutside
+    unfolding statedLength
+    none-stated h = simp (le-ltb (length s) 3 there, h)
+
+    pub states : lengthInRange (sectionLength s) ≡ true → statedLength s ≡ stated.Length (sectionLength s + 3)
+    unfolding statedLength
+    states h = simp (le-ltb (length s) 3 there, h)

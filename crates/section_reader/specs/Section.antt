@@ -11,6 +11,8 @@ use Rattle.ground_refusal.specs.declared.Refusal.the-variants.{SectionTooShort,
 use Rattle.section_reader.specs.declared.Heading.{Heading}
 use Rattle.section_reader.specs.declared.Sectioned.{Sectioned}
 use Rattle.section_reader.specs.declared.Sectioned.the-variants.{Good, Refused}
+use Rattle.section_reader.specs.declared.Stated.{Stated}
+use Rattle.section_reader.specs.declared.Stated.the-variants as stated
 
 -- ---- the fields of a byte string
 
@@ -25,6 +27,10 @@ word s i = getD s i 0 * 256 + getD s (i + 1) 0
 -- "four one bits, section_length: 4 + 12 bits"
 unfoldable pub sectionLength : List ℕ → ℕ
 sectionLength s = word s 1 % 4096
+
+-- "counts all bytes after itself, 9 to 4,093"
+abbrev pub lengthInRange : ℕ → Bool
+lengthInRange n = leb 9 n && leb n 4093
 
 -- the six fixed bits: four before section_length, two before the version
 unfoldable pub fixedBits : List ℕ → Bool
@@ -54,11 +60,18 @@ readSection s =
     if ltb (length s) 12 then Refused SectionTooShort else
     if not (isKind (getD s 0 0)) then Refused OtherKind else
     if not (fixedBits s) then Refused FixedBitZero else
-    if not (leb 9 (sectionLength s) && leb (sectionLength s) 4093) then Refused SectionLengthOutside else
+    if not (lengthInRange (sectionLength s)) then Refused SectionLengthOutside else
     if not (eqb (length s) (sectionLength s + 3)) then Refused OtherLength else
     if ltb (getD s 7 0) (getD s 6 0) then Refused NumberAboveLast else
     if not (eqb (crc32Of s) 0) then Refused CheckNotZero else
     Good (headingOf s) (length s - 12)
+
+-- how many bytes a section that begins the byte string has, by its first three: 1 where section_length is cut off, 4 where it is outside its range
+unfoldable pub statedLength : List ℕ → Stated
+statedLength s =
+    if ltb (length s) 3 then stated.Refused SectionTooShort else
+    if not (lengthInRange (sectionLength s)) then stated.Refused SectionLengthOutside else
+    stated.Length (sectionLength s + 3)
 
 -- ---- the good section printed
 

@@ -5,7 +5,7 @@ ghost use mathlib.Core.Bool.{_&&_};
 ghost use Prim.Native.Nat.{_+_, _*_, _≤_};
 ghost use lib.Dec.{leb};
 ghost use lib.ListN.{length};
-ghost use Rattle.section_reader.specs.Section.{isKind, fixedBits, sectionLength, headingOf, readSection};
+ghost use Rattle.section_reader.specs.Section.{isKind, fixedBits, sectionLength, lengthInRange, headingOf, readSection, statedLength};
 
 // What a section says before its payload.
 pub struct Heading {
@@ -21,6 +21,12 @@ pub struct Heading {
 // A byte string judged: a good section's heading and the length of its payload, which begins at byte 8; or the first rule that it breaks.
 pub enum Sectioned {
     Good(Heading, usize),
+    Refused(Refusal),
+}
+
+// The length that a section states, all its bytes together; or why none is stated.
+pub enum Stated {
+    Length(usize),
     Refused(Refusal),
 }
 
@@ -66,9 +72,16 @@ fn fixed_bits(s: &[u8]) -> bool
     s[5] / 64 == 3
 }
 
+// Is it a section_length that a section may have?
+fn length_in_range(length: u32) -> bool
+    ensures { λ r. ⌜ r ≡ lengthInRange length ⌝ }
+{
+    within(9, length, 4093)
+}
+
 // The field section_length.
 fn section_length(s: &[u8]) -> u32
-    requires { ⌜ 12 ≤ length (now s) ⌝ }
+    requires { ⌜ 3 ≤ length (now s) ⌝ }
     ensures { λ r. ⌜ r ≡ sectionLength (now (s .entry)) ⌝ }
 {
     word_of(s[1], s[2]) % 4096
@@ -103,7 +116,7 @@ pub fn read_section(s: &[u8]) -> Sectioned
         return Sectioned::Refused(Refusal::FixedBitZero);
     }
     let length = section_length(s);
-    if !within(9, length, 4093) {
+    if !length_in_range(length) {
         return Sectioned::Refused(Refusal::SectionLengthOutside);
     }
     if s.len() != length as usize + 3 {
@@ -117,4 +130,18 @@ pub fn read_section(s: &[u8]) -> Sectioned
         return Sectioned::Refused(Refusal::CheckNotZero);
     }
     Sectioned::Good(heading_of(s), s.len() - 12)
+}
+
+// The length of the section that begins a byte string, which may be cut off or go on after it; nothing else of it is judged.
+pub fn stated_length(s: &[u8]) -> Stated
+    ensures { λ r. ⌜ r ≡ statedLength (now (s .entry)) ⌝ }
+{
+    if s.len() < 3 {
+        return Stated::Refused(Refusal::SectionTooShort);
+    }
+    let length = section_length(s);
+    if !length_in_range(length) {
+        return Stated::Refused(Refusal::SectionLengthOutside);
+    }
+    Stated::Length(length as usize + 3)
 }

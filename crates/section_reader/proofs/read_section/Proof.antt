@@ -1,14 +1,12 @@
 -- `section_reader::read_section` meets its contract: each refusal in its turn, and then the heading and the length of the payload.
-use Prim.Native.Nat.{ℕ}
-use mathlib.Core.Bool.{Bool, true, _&&_}
+use mathlib.Core.Bool.{true}
 use mathlib.Core.Path.{_≡_, sym, ap, _∙_}
 use native.Mathlib.Omega.{arith}
 use borrow.Author.Needs.{needs}
 use borrow.Author.Tests.{not-true, not-false}
 use denote.Ref.{now}
-use lib.Dec.{leb}
 use lib.ListN.{getD}
-use Rattle.section_reader.specs.Section.{isKind, fixedBits, sectionLength}
+use Rattle.section_reader.specs.Section.{isKind, fixedBits, sectionLength, lengthInRange}
 use Rattle.section_reader.proofs.Reading.{too-short, other-kind, fixed-bit-zero, length-outside, other-length, Framed, number-above, check-not-zero, good}
 use Rattle.section_reader.proofs.read_section.Statement.{statement}
 use Rattle.section_reader.proofs.read_section.Tie as tie
@@ -23,13 +21,10 @@ kind-known c = sym (kind-tested (c .before)) ∙ not-false _ (c .if2 .left)
 fixed-known : (c : tie.Else3) → fixedBits (now (c .before .before .before .before .before .before .before .before .args .s)) ≡ true
 fixed-known c = sym (c .before .fixed-bits .ensures) ∙ not-false _ (c .if3 .left)
 
-abbrev inRange : ℕ → Bool
-inRange n = leb 9 n && leb n 4093
+length-tested : (c : tie.After-length-in-range) → c .length-in-range .result ≡ lengthInRange (sectionLength (now (c .before .before .before .before .before .before .before .before .before .before .args .s)))
+length-tested c = c .length-in-range .ensures ∙ ap lengthInRange (c .before .section-length .ensures)
 
-length-tested : (c : tie.After-within) → c .within .result ≡ inRange (sectionLength (now (c .before .before .before .before .before .before .before .before .before .before .args .s)))
-length-tested c = c .within .ensures ∙ ap inRange (c .before .section-length .ensures)
-
-length-known : (c : tie.Else4) → inRange (sectionLength (now (c .before .before .before .before .before .before .before .before .before .before .before .args .s))) ≡ true
+length-known : (c : tie.Else4) → lengthInRange (sectionLength (now (c .before .before .before .before .before .before .before .before .before .before .before .args .s))) ≡ true
 length-known c = sym (length-tested (c .before)) ∙ not-false _ (c .if4 .left)
 
 framed : (c : tie.Else5) → Framed (now (c .before .before .before .before .before .before .before .before .before .before .before .before .args .s))
