@@ -359,8 +359,8 @@ nw_answer nw_certificate_read(uint32_t kind, const uint8_t *body, size_t n);
  * can be read, and else the refusal of what can't. */
 nw_answer nw_certificate_authorization_count(const uint8_t *body, size_t n);
 nw_part nw_certificate_authorization(const uint8_t *body, size_t n, uint64_t i);
-nw_answer nw_certificate_count(const uint8_t *body, size_t n);
-nw_part nw_certificate_part(const uint8_t *body, size_t n, uint64_t i);
+nw_answer nw_certificate_certificate_count(const uint8_t *body, size_t n);
+nw_part nw_certificate_certificate(const uint8_t *body, size_t n, uint64_t i);
 nw_part nw_certificate_signature(const uint8_t *body, size_t n);
 
 /* Writes the table of a form at the start of out; bytes of out after it stay. Value: its length. The

@@ -264,8 +264,8 @@ static void call_certificate_read(const struct argument *a) {
     if (NW_REFUSAL(got)) return;
     put_answer(got = nw_certificate_authorization_count(body, n));
     for (uint64_t i = 0; i < nw_value(got); i++) put_answer(nw_certificate_authorization(body, n, i));
-    put_answer(got = nw_certificate_count(body, n));
-    for (uint64_t i = 0; i < nw_value(got); i++) put_answer(nw_certificate_part(body, n, i));
+    put_answer(got = nw_certificate_certificate_count(body, n));
+    for (uint64_t i = 0; i < nw_value(got); i++) put_answer(nw_certificate_certificate(body, n, i));
     put_answer(nw_certificate_signature(body, n));
 }
 
@@ -273,8 +273,8 @@ static void call_certificate_authorization(const struct argument *a) {
     put_answer(nw_certificate_authorization(a[0].bytes, a[0].length, a[1].wide));
 }
 
-static void call_certificate_part(const struct argument *a) {
-    put_answer(nw_certificate_part(a[0].bytes, a[0].length, a[1].wide));
+static void call_certificate_certificate(const struct argument *a) {
+    put_answer(nw_certificate_certificate(a[0].bytes, a[0].length, a[1].wide));
 }
 
 static void call_certificate_write(const struct argument *a) {
@@ -644,7 +644,7 @@ static const struct call calls[] = {
     {"gathering_show", "", call_gathering_show},
     {"certificate_read", "ub", call_certificate_read},
     {"certificate_authorization", "bw", call_certificate_authorization},
-    {"certificate_part", "bw", call_certificate_part},
+    {"certificate_certificate", "bw", call_certificate_certificate},
     {"certificate_write", "bto", call_certificate_write},
     {"certificate_lay", "ubl", call_certificate_lay},
     {"index_read", "ubi", call_index_read},

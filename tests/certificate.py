@@ -118,7 +118,7 @@ def readings():
 def askings():
     """Fields that are there and that aren't, the latter with numbers that end in the bits of one that is."""
     for body in (*SMALL, *MANY, b'\x3F' * 1040386):
-        for call, found in zip(('certificate_authorization', 'certificate_part'), second.fields(KIND, body)):
+        for call, found in zip(('certificate_authorization', 'certificate_certificate'), second.fields(KIND, body)):
             last = len(found) - 1
             for i in {0, 1, max(last, 0), last + 1, 255, 256, 2**8 + 1, 2**16, 2**32, 2**32 + 1, 2**63, 2**64 - 1}:
                 yield call, body, i
@@ -285,7 +285,7 @@ def main():
     cases = others + writes
     got = calls.compare('a second program', second, cases)
     assert checks.by_refusal(cases, got) == {
-        'certificate_read': {0, 2, 14, 16, 22}, 'certificate_authorization': {0, 19}, 'certificate_part': {0, 19},
+        'certificate_read': {0, 2, 14, 16, 22}, 'certificate_authorization': {0, 19}, 'certificate_certificate': {0, 19},
         'certificate_lay': {0, 2, 14, 16, 21}, 'certificate_write': {0, 19, 21, 22}}
     assert len(got) > 20000
     read_back(writes, got[-len(writes):])

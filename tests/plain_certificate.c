@@ -78,13 +78,13 @@ plain_answer plain_certificate_authorization(const uint8_t *body, size_t n, uint
     return asked_part_of_list(&r, i, 2);
 }
 
-plain_answer plain_certificate_count(const uint8_t *body, size_t n) {
+plain_answer plain_certificate_certificate_count(const uint8_t *body, size_t n) {
     struct reader r = {body, n, n, 0, 0};
     plain_answer no = skip_list(&r, 2);
     return no ? no : asked_number(&r, 1);
 }
 
-plain_answer plain_certificate_part(const uint8_t *body, size_t n, uint64_t i) {
+plain_answer plain_certificate_certificate(const uint8_t *body, size_t n, uint64_t i) {
     struct reader r = {body, n, n, 0, 0};
     plain_answer no = skip_list(&r, 2);
     return no ? no : asked_part_of_list(&r, i, 1);

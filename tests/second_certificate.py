@@ -122,7 +122,7 @@ def certificate_authorization(body, i):
     return one_of(fields(KIND, body)[0], i)
 
 
-def certificate_part(body, i):
+def certificate_certificate(body, i):
     return one_of(fields(KIND, body)[1], i)
 
 

@@ -18,7 +18,7 @@
     X(section_cut, "2 6 14 19 21 22")                                                                                \
     X(gathering_feed, "1 2 3 4 5 6 7 8 9 10 11 12") X(gathering_hand_out, "10 11 12 13 21")                          \
     X(certificate_read, "2 14 16 22") X(certificate_authorization_count, "14") X(certificate_authorization, "14 19") \
-    X(certificate_count, "14") X(certificate_part, "14 19") X(certificate_signature, "14")                           \
+    X(certificate_certificate_count, "14") X(certificate_certificate, "14 19") X(certificate_signature, "14")        \
     X(certificate_write, "19 21 22") X(certificate_lay, "2 14 16 21 22")                                             \
     X(index_read, "2 14 15 16 17 18 19 20 22") X(index_records, "2 14 15 16 17 18 19 20 21 22")                      \
     X(index_message_count, "14") X(index_message, "14 19") X(index_signature, "14")                                  \

@@ -305,11 +305,11 @@ static uint64_t one_of(plain_answer count) { return around(below(value_of(count)
 static void ask_certificate(const uint8_t *body, size_t n) {
     uint32_t kind = mostly(NW_CERTIFICATE);
     TRY(certificate_read, kind, body, n);
-    plain_answer lists = TRY(certificate_authorization_count, body, n), parts = TRY(certificate_count, body, n);
+    plain_answer lists = TRY(certificate_authorization_count, body, n), parts = TRY(certificate_certificate_count, body, n);
     for (int left = 4; left > 0; left--) {
         uint64_t i = one_of(lists), j = one_of(parts);
         TRY(certificate_authorization, body, n, i);
-        TRY(certificate_part, body, n, j);
+        TRY(certificate_certificate, body, n, j);
     }
     TRY(certificate_signature, body, n);
 }

@@ -30,7 +30,7 @@ pub fn certificate_count(s: &[u8]) -> Number
 }
 
 // The part of the body that the i-th certificate fills.
-pub fn certificate_part(s: &[u8], i: u64) -> Part
+pub fn certificate(s: &[u8], i: u64) -> Part
     ensures { λ r. ⌜ r ≡ certificatePart (now (s .entry)) i ⌝ }
 {
     match body_fields::skip_list(s, s.len(), 0, 1, 2) {

@@ -28,17 +28,17 @@ pub extern "C" fn nw_certificate_authorization(body: &[u8], i: u64) -> u64
 }
 
 #[no_mangle]
-pub extern "C" fn nw_certificate_count(body: &[u8]) -> u64
+pub extern "C" fn nw_certificate_certificate_count(body: &[u8]) -> u64
     ensures { λ r. ⌜ r ≡ numberAnswer (certificateCount (now (body .entry))) ⌝ }
 {
     c_answers::number_answer(certificate_fields::certificate_count(body))
 }
 
 #[no_mangle]
-pub extern "C" fn nw_certificate_part(body: &[u8], i: u64) -> u64
+pub extern "C" fn nw_certificate_certificate(body: &[u8], i: u64) -> u64
     ensures { λ r. ⌜ r ≡ partAnswer (certificatePart (now (body .entry)) i) ⌝ }
 {
-    c_answers::part_answer(certificate_fields::certificate_part(body, i))
+    c_answers::part_answer(certificate_fields::certificate(body, i))
 }
 
 #[no_mangle]

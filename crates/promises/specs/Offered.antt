@@ -71,8 +71,8 @@ pub record Offered : Type 0 where
   pub nw-certificate-read : (kind : ℕ) (body : List ℕ) → Determined (λ r. r ≡ readAnswer (bodyRead certificate certificateKind kind body))
   pub nw-certificate-authorization-count : (body : List ℕ) → Determined (λ r. r ≡ numberAnswer (authorizationCount body))
   pub nw-certificate-authorization : (body : List ℕ) (i : ℕ) → Determined (λ r. r ≡ partAnswer (authorizationPart body i))
-  pub nw-certificate-count : (body : List ℕ) → Determined (λ r. r ≡ numberAnswer (certificateCount body))
-  pub nw-certificate-part : (body : List ℕ) (i : ℕ) → Determined (λ r. r ≡ partAnswer (certificatePart body i))
+  pub nw-certificate-certificate-count : (body : List ℕ) → Determined (λ r. r ≡ numberAnswer (certificateCount body))
+  pub nw-certificate-certificate : (body : List ℕ) (i : ℕ) → Determined (λ r. r ≡ partAnswer (certificatePart body i))
   pub nw-certificate-signature : (body : List ℕ) → Determined (λ r. r ≡ partAnswer (certificate-fields.signaturePart body))
   pub nw-certificate-write : (pool tape out : List ℕ) →
       Determined₂ (λ r out′. (r ≡ writtenAnswer (bodyWritten certificate pool tape (length out))) × (out′ ≡ outputWritten certificate pool tape out))

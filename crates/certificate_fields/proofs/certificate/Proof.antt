@@ -1,12 +1,12 @@
--- `certificate_fields::certificate_part` meets its contract: the certificates follow the first list.
+-- `certificate_fields::certificate` meets its contract: the certificates follow the first list.
 use mathlib.Core.Path.{sym, _∙_}
 use Rattle.certificate_fields.proofs.Answers.{part-no, part-is}
 use borrow.Author.Needs.{needs}
-use Rattle.certificate_fields.proofs.certificate_part.Statement.{statement}
-use Rattle.certificate_fields.proofs.certificate_part.Tie as tie
+use Rattle.certificate_fields.proofs.certificate.Statement.{statement}
+use Rattle.certificate_fields.proofs.certificate.Tie as tie
 
-pub certificate-part-spec : {M : Type 1} → statement M
-certificate-part-spec =
+pub certificate-spec : {M : Type 1} → statement M
+certificate-spec =
     tie.close
     (tie.spec
     (λ c κs. search needs)
