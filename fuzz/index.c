@@ -51,29 +51,31 @@ static void make(struct input *in, nw_form *f) {
 // Each descriptor of a part, as far as they can be told.
 static void ask_descriptors(const uint8_t *body, size_t n, nw_part part) {
     if (!taken(part)) return;
-    size_t end = nw_part_start(part) + nw_part_length(part);
-    for (size_t p = nw_part_start(part); p < end;) {
-        hold_number(nw_descriptor_tag(body, n, end, p), 255);
-        nw_part bytes = nw_descriptor_bytes(body, n, end, p);
+    size_t at = nw_part_start(part), length = nw_part_length(part);
+    for (size_t size; length > 0; at += size, length -= size) {
+        hold_number(nw_descriptor_tag(body, n, at, length), 255);
+        nw_part bytes = nw_descriptor_bytes(body, n, at, length);
         hold_part(bytes, n);
         if (!taken(bytes)) return;
-        must(nw_part_start(bytes) > p);
-        p = nw_part_start(bytes) + nw_part_length(bytes);
+        must(nw_part_start(bytes) > at);
+        size = nw_part_start(bytes) + nw_part_length(bytes) - at;
+        must(size <= length);
     }
 }
 
 static void ask_streams(const uint8_t *body, size_t n, nw_part part) {
     if (!taken(part)) return;
-    size_t end = nw_part_start(part) + nw_part_length(part);
-    for (size_t p = nw_part_start(part); p < end;) {
-        hold_number(nw_stream_type(body, n, end, p), 255);
-        hold_number(nw_stream_pid(body, n, end, p), 0x1FFF);
-        nw_part inner = nw_stream_descriptors(body, n, end, p);
+    size_t at = nw_part_start(part), length = nw_part_length(part);
+    for (size_t size; length > 0; at += size, length -= size) {
+        hold_number(nw_stream_type(body, n, at, length), 255);
+        hold_number(nw_stream_pid(body, n, at, length), 0x1FFF);
+        nw_part inner = nw_stream_descriptors(body, n, at, length);
         hold_part(inner, n);
         ask_descriptors(body, n, inner);
         if (!taken(inner)) return;
-        must(nw_part_start(inner) > p);
-        p = nw_part_start(inner) + nw_part_length(inner);
+        must(nw_part_start(inner) > at);
+        size = nw_part_start(inner) + nw_part_length(inner) - at;
+        must(size <= length);
     }
 }
 

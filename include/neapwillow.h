@@ -340,6 +340,15 @@ static inline void nw_form_thing(nw_form *f, size_t list)
         f->tape[list]++;
 }
 
+/* ---- Things of a body -------------------------------------------------------------------------
+ *
+ * A thing of a body is told by `at`, the offset of the byte where it begins, and, where it does not
+ * carry its length, by `length`: a message and a language by their own length, as the part that is
+ * answered for them has it; a descriptor and a stream by how many bytes their part has from there on,
+ * so that at + length is the part's end. A command carries its length. The sum at + length is taken
+ * without overflow: whatever lies after the body's end is refused (19), however large. After the thing
+ * come the numbers of what is asked for in it, counted from 0. */
+
 /* ---- The certificate table --------------------------------------------------------------------
  *
  * Its body is a list of certificate authorization lists, a list of certificates and a signature, all
@@ -475,18 +484,19 @@ nw_part nw_message_streams(const uint8_t *body, size_t n, size_t at, size_t leng
 nw_time nw_message_local_start(const uint8_t *body, size_t n, size_t at, size_t length, int32_t offset);
 nw_time nw_message_local_end(const uint8_t *body, size_t n, size_t at, size_t length, int32_t offset);
 
-/* A descriptor or a stream that begins at p in a part that ends at `end`: one that is told by
- * nw_message_descriptors, nw_message_streams or nw_stream_descriptors. The first begins where the part
- * does; the next one where this one's bytes, or this stream's descriptors, end, if that is before the
- * part's end. In a body that was not accepted, look at the refusal before going on to the next.
+/* A descriptor or a stream that begins at `at`, in a part that has `length` bytes from there on. The
+ * first one is told by its part, as nw_message_descriptors, nw_message_streams or nw_stream_descriptors
+ * answer it; the next one begins where this one's bytes, or this stream's descriptors, end. So a loop
+ * goes on by this one's size, at += size and length -= size, as long as length is not 0. In a body that
+ * was not accepted, look at the refusal before going on.
  * Value: the number, or the part that the bytes or the descriptors fill. Refusals, in this order: 19,
- * end lies after the body's, or p is not before end (place 0); 14, 15 or 17 of the field, as
+ * length is 0, or at + length lies after the body's end (place 0); 14, 15 or 17 of the field, as
  * nw_index_read judges it, at its place, which may lie after the body's end. */
-nw_answer nw_descriptor_tag(const uint8_t *body, size_t n, size_t end, size_t p);
-nw_part nw_descriptor_bytes(const uint8_t *body, size_t n, size_t end, size_t p);
-nw_answer nw_stream_type(const uint8_t *body, size_t n, size_t end, size_t p);
-nw_answer nw_stream_pid(const uint8_t *body, size_t n, size_t end, size_t p);
-nw_part nw_stream_descriptors(const uint8_t *body, size_t n, size_t end, size_t p);
+nw_answer nw_descriptor_tag(const uint8_t *body, size_t n, size_t at, size_t length);
+nw_part nw_descriptor_bytes(const uint8_t *body, size_t n, size_t at, size_t length);
+nw_answer nw_stream_type(const uint8_t *body, size_t n, size_t at, size_t length);
+nw_answer nw_stream_pid(const uint8_t *body, size_t n, size_t at, size_t length);
+nw_part nw_stream_descriptors(const uint8_t *body, size_t n, size_t at, size_t length);
 
 /* Writes the table of a form at the start of out; bytes of out after it stay. Value: its length. The
  * tape has, where "bytes" are their start and their length in the pool:
@@ -649,19 +659,19 @@ nw_answer nw_configuration_command_count(const uint8_t *body, size_t n);
 nw_part nw_configuration_command(const uint8_t *body, size_t n, uint64_t i);
 nw_part nw_configuration_signature(const uint8_t *body, size_t n);
 
-/* The command whose tag stands at p. These places name a command of the table: 1, if there is one;
+/* The command whose tag stands at `at`. These places name a command of the table: 1, if there is one;
  * where a part told by nw_configuration_command begins; and where such a part ends, which is where the
  * command's content ends, if it is not the last command's. So a caller who goes on at each end asks
  * about all commands in one way over the body. The count ends the row: after the last command stands
  * the signature, and at any other place whatever stands there is read as a command. In a body that
  * was not accepted, look at the refusal before going on to the next. Value: the tag; or the part that
- * the content fills. Refusals, in this order: 19, the body has no byte at p (place 0); for the content,
+ * the content fills. Refusals, in this order: 19, the body has no byte there (place 0); for the content,
  * 14, its length is cut off or passes the body's end, or 15, is below the least of the tag, at the
  * length. */
-nw_answer nw_command_tag(const uint8_t *body, size_t n, size_t p);
-nw_part nw_command_content(const uint8_t *body, size_t n, size_t p);
+nw_answer nw_command_tag(const uint8_t *body, size_t n, size_t at);
+nw_part nw_command_content(const uint8_t *body, size_t n, size_t at);
 
-/* The fields of the command whose tag stands at p, each judged as nw_configuration_read judges this
+/* The fields of the command whose tag stands at `at`, each judged as nw_configuration_read judges this
  * field, whatever else is wrong with the command or the body: so of an accepted body's commands they
  * are told. Value: the number; a digit, 0 to 22; or the part of the body that the bytes fill
  * (addresses, resource and terminals). Parameters, terminals and digits are counted from 0.
@@ -673,27 +683,27 @@ nw_part nw_command_content(const uint8_t *body, size_t n, size_t p);
  * the field itself, at its place, which may lie after the body's end; last, for a digit, 19, there is
  * no such digit (place 0). Year, month and day are judged together, and so are hour, minute and
  * second, whether or not the day is good. */
-nw_answer nw_command_clock_year(const uint8_t *body, size_t n, size_t p);
-nw_answer nw_command_clock_month(const uint8_t *body, size_t n, size_t p);
-nw_answer nw_command_clock_day(const uint8_t *body, size_t n, size_t p);
-nw_answer nw_command_clock_hour(const uint8_t *body, size_t n, size_t p);
-nw_answer nw_command_clock_minute(const uint8_t *body, size_t n, size_t p);
-nw_answer nw_command_clock_second(const uint8_t *body, size_t n, size_t p);
-nw_part nw_command_code_address(const uint8_t *body, size_t n, size_t p);
-nw_part nw_command_code_resource(const uint8_t *body, size_t n, size_t p);
-nw_answer nw_command_code_digit(const uint8_t *body, size_t n, size_t p, uint64_t j);
-nw_answer nw_command_frequency(const uint8_t *body, size_t n, size_t p);
-nw_answer nw_command_symbol_rate(const uint8_t *body, size_t n, size_t p);
-nw_answer nw_command_mapping(const uint8_t *body, size_t n, size_t p);
-nw_answer nw_command_return_kind(const uint8_t *body, size_t n, size_t p);
-nw_part nw_command_return_address(const uint8_t *body, size_t n, size_t p);
-nw_answer nw_command_period(const uint8_t *body, size_t n, size_t p);
-nw_answer nw_command_volume(const uint8_t *body, size_t n, size_t p);
-nw_answer nw_command_parameter_count(const uint8_t *body, size_t n, size_t p);
-nw_answer nw_command_parameter(const uint8_t *body, size_t n, size_t p, uint64_t i);
-nw_answer nw_command_terminal_count(const uint8_t *body, size_t n, size_t p);
-nw_part nw_command_terminal(const uint8_t *body, size_t n, size_t p, uint64_t i);
-nw_answer nw_command_terminal_digit(const uint8_t *body, size_t n, size_t p, uint64_t i, uint64_t j);
+nw_answer nw_command_clock_year(const uint8_t *body, size_t n, size_t at);
+nw_answer nw_command_clock_month(const uint8_t *body, size_t n, size_t at);
+nw_answer nw_command_clock_day(const uint8_t *body, size_t n, size_t at);
+nw_answer nw_command_clock_hour(const uint8_t *body, size_t n, size_t at);
+nw_answer nw_command_clock_minute(const uint8_t *body, size_t n, size_t at);
+nw_answer nw_command_clock_second(const uint8_t *body, size_t n, size_t at);
+nw_part nw_command_code_address(const uint8_t *body, size_t n, size_t at);
+nw_part nw_command_code_resource(const uint8_t *body, size_t n, size_t at);
+nw_answer nw_command_code_digit(const uint8_t *body, size_t n, size_t at, uint64_t j);
+nw_answer nw_command_frequency(const uint8_t *body, size_t n, size_t at);
+nw_answer nw_command_symbol_rate(const uint8_t *body, size_t n, size_t at);
+nw_answer nw_command_mapping(const uint8_t *body, size_t n, size_t at);
+nw_answer nw_command_return_kind(const uint8_t *body, size_t n, size_t at);
+nw_part nw_command_return_address(const uint8_t *body, size_t n, size_t at);
+nw_answer nw_command_period(const uint8_t *body, size_t n, size_t at);
+nw_answer nw_command_volume(const uint8_t *body, size_t n, size_t at);
+nw_answer nw_command_parameter_count(const uint8_t *body, size_t n, size_t at);
+nw_answer nw_command_parameter(const uint8_t *body, size_t n, size_t at, uint64_t i);
+nw_answer nw_command_terminal_count(const uint8_t *body, size_t n, size_t at);
+nw_part nw_command_terminal(const uint8_t *body, size_t n, size_t at, uint64_t i);
+nw_answer nw_command_terminal_digit(const uint8_t *body, size_t n, size_t at, uint64_t i, uint64_t j);
 
 /* Writes the table of a form at the start of out; bytes of out after it stay. Value: its length. The
  * tape has, where "bytes" are their start and their length in the pool:

@@ -345,32 +345,32 @@ static size_t end_after(size_t p, nw_part part) {
     return end;
 }
 
-static void put_descriptor(const struct argument *body, size_t end, size_t p) {
-    put_answer(nw_descriptor_tag(body->bytes, body->length, end, p));
-    put_answer(nw_descriptor_bytes(body->bytes, body->length, end, p));
+static void put_descriptor(const struct argument *body, size_t at, size_t length) {
+    put_answer(nw_descriptor_tag(body->bytes, body->length, at, length));
+    put_answer(nw_descriptor_bytes(body->bytes, body->length, at, length));
 }
 
-static void put_stream(const struct argument *body, size_t end, size_t p) {
-    put_answer(nw_stream_type(body->bytes, body->length, end, p));
-    put_answer(nw_stream_pid(body->bytes, body->length, end, p));
-    put_answer(nw_stream_descriptors(body->bytes, body->length, end, p));
+static void put_stream(const struct argument *body, size_t at, size_t length) {
+    put_answer(nw_stream_type(body->bytes, body->length, at, length));
+    put_answer(nw_stream_pid(body->bytes, body->length, at, length));
+    put_answer(nw_stream_descriptors(body->bytes, body->length, at, length));
 }
 
 static void put_descriptors(const struct argument *body, nw_part part) {
-    size_t end = nw_part_start(part) + nw_part_length(part);
-    for (size_t p = nw_part_start(part); p < end;) {
-        put_descriptor(body, end, p);
-        p = end_after(p, nw_descriptor_bytes(body->bytes, body->length, end, p));
+    size_t at = nw_part_start(part), length = nw_part_length(part);
+    for (size_t size; length > 0; at += size, length -= size) {
+        put_descriptor(body, at, length);
+        size = end_after(at, nw_descriptor_bytes(body->bytes, body->length, at, length)) - at;
     }
 }
 
 static void put_streams(const struct argument *body, nw_part part) {
-    size_t end = nw_part_start(part) + nw_part_length(part);
-    for (size_t p = nw_part_start(part); p < end;) {
-        nw_part descriptors = nw_stream_descriptors(body->bytes, body->length, end, p);
-        put_stream(body, end, p);
+    size_t at = nw_part_start(part), length = nw_part_length(part);
+    for (size_t size; length > 0; at += size, length -= size) {
+        nw_part descriptors = nw_stream_descriptors(body->bytes, body->length, at, length);
+        put_stream(body, at, length);
         put_descriptors(body, descriptors);
-        p = end_after(p, descriptors);
+        size = end_after(at, descriptors) - at;
     }
 }
 
@@ -526,50 +526,50 @@ static void put_configuration(const struct argument *body) {
 }
 
 // What is asked of a command without a further number.
-static void put_command(const struct argument *body, size_t p) {
-    ASK(command_tag, p);
-    ASK(command_content, p);
-    ASK(command_clock_year, p);
-    ASK(command_clock_month, p);
-    ASK(command_clock_day, p);
-    ASK(command_clock_hour, p);
-    ASK(command_clock_minute, p);
-    ASK(command_clock_second, p);
-    ASK(command_code_address, p);
-    ASK(command_code_resource, p);
-    ASK(command_frequency, p);
-    ASK(command_symbol_rate, p);
-    ASK(command_mapping, p);
-    ASK(command_return_kind, p);
-    ASK(command_return_address, p);
-    ASK(command_period, p);
-    ASK(command_volume, p);
-    ASK(command_parameter_count, p);
-    ASK(command_terminal_count, p);
+static void put_command(const struct argument *body, size_t at) {
+    ASK(command_tag, at);
+    ASK(command_content, at);
+    ASK(command_clock_year, at);
+    ASK(command_clock_month, at);
+    ASK(command_clock_day, at);
+    ASK(command_clock_hour, at);
+    ASK(command_clock_minute, at);
+    ASK(command_clock_second, at);
+    ASK(command_code_address, at);
+    ASK(command_code_resource, at);
+    ASK(command_frequency, at);
+    ASK(command_symbol_rate, at);
+    ASK(command_mapping, at);
+    ASK(command_return_kind, at);
+    ASK(command_return_address, at);
+    ASK(command_period, at);
+    ASK(command_volume, at);
+    ASK(command_parameter_count, at);
+    ASK(command_terminal_count, at);
 }
 
 // So many things of a command; where there are none of these, its count is refused.
 static uint64_t count_of(nw_answer count) { return NW_REFUSAL(count) ? 0 : nw_value(count); }
 
-static void put_terminals(const struct argument *body, size_t p) {
-    uint64_t count = count_of(nw_command_terminal_count(body->bytes, body->length, p));
+static void put_terminals(const struct argument *body, size_t at) {
+    uint64_t count = count_of(nw_command_terminal_count(body->bytes, body->length, at));
     for (uint64_t i = 0; i < count; i++) {
-        put_answer(nw_command_terminal(body->bytes, body->length, p, i));
+        put_answer(nw_command_terminal(body->bytes, body->length, at, i));
         next_item();
-        for (uint64_t j = 0; j < 23; j++) put_digit(nw_command_terminal_digit(body->bytes, body->length, p, i, j));
+        for (uint64_t j = 0; j < 23; j++) put_digit(nw_command_terminal_digit(body->bytes, body->length, at, i, j));
     }
 }
 
 // A command, and what is counted in it.
-static void put_whole_command(const struct argument *body, size_t p) {
-    put_command(body, p);
-    if (nw_value(nw_command_tag(body->bytes, body->length, p)) == NW_CODE) {
+static void put_whole_command(const struct argument *body, size_t at) {
+    put_command(body, at);
+    if (nw_value(nw_command_tag(body->bytes, body->length, at)) == NW_CODE) {
         next_item();
-        for (uint64_t j = 0; j < 23; j++) put_digit(nw_command_code_digit(body->bytes, body->length, p, j));
+        for (uint64_t j = 0; j < 23; j++) put_digit(nw_command_code_digit(body->bytes, body->length, at, j));
     }
-    uint64_t parameters = count_of(nw_command_parameter_count(body->bytes, body->length, p));
-    for (uint64_t i = 0; i < parameters; i++) put_answer(nw_command_parameter(body->bytes, body->length, p, i));
-    put_terminals(body, p);
+    uint64_t parameters = count_of(nw_command_parameter_count(body->bytes, body->length, at));
+    for (uint64_t i = 0; i < parameters; i++) put_answer(nw_command_parameter(body->bytes, body->length, at, i));
+    put_terminals(body, at);
 }
 
 // An accepted body's fields follow, each as it is answered.
@@ -580,11 +580,11 @@ static void call_configuration_read(const struct argument *a) {
     if (NW_REFUSAL(got)) return;
     put_configuration(body);
     uint64_t count = nw_value(nw_configuration_command_count(body->bytes, body->length));
-    size_t p = 1;
+    size_t at = 1;
     for (uint64_t i = 0; i < count; i++) {
         put_answer(nw_configuration_command(body->bytes, body->length, i));
-        put_whole_command(body, p);
-        p = end_after(p, nw_command_content(body->bytes, body->length, p));
+        put_whole_command(body, at);
+        at = end_after(at, nw_command_content(body->bytes, body->length, at));
     }
 }
 

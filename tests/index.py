@@ -94,25 +94,27 @@ def of_body(body):
 
 
 def parts_of(body, table):
-    """Where each descriptor or stream of an accepted body begins, and where the part that it is in ends."""
+    """Where each descriptor or stream of an accepted body begins, and how many bytes its part has from there on."""
     for (at, _, *_), message in zip(table['records'], table['messages']):
         if message['channel']:
             begin = at + 48 + 12 * len(message['resources'])
             end = begin + second_index_calls.size_of(message['channel']['descriptors'])
             for descriptor in message['channel']['descriptors']:
-                yield end, descriptor['data'][0] - 2
+                yield descriptor['data'][0] - 2, end - descriptor['data'][0] + 2
             begin = end + 2
             end = begin + int.from_bytes(body[end:begin], 'big')
             for stream in message['channel']['streams']:
-                yield end, begin
+                yield begin, end - begin
                 begin += 5 + second_index_calls.size_of(stream['descriptors'])
                 for descriptor in stream['descriptors']:
-                    yield begin, descriptor['data'][0] - 2
+                    yield descriptor['data'][0] - 2, begin - descriptor['data'][0] + 2
 
 
-def of_part(body, end, p):
+def of_part(body, at, length):
     """What begins there, and what begins or ends elsewhere, as a descriptor and as a stream."""
-    for near in (end, p), (end - 1, p), (end, p + 1), (p + chance.randrange(6), p), (len(body), p), (end, end):
+    rest = len(body) - at
+    lengths = length, length - 1, chance.randrange(6), rest, rest + 1
+    for near in (*((at, size) for size in lengths), (at + 1, length - 1), (at + length, 0)):
         yield 'descriptor_fields', body, *near
         yield 'stream_fields', body, *near
 
@@ -125,7 +127,7 @@ def damaged_near(body, p):
 
 
 def of_sample(body):
-    """One body in every way: each message with every length, each place as a message, each end with each beginning."""
+    """One body in every way: each message with every length, each place as a message, each beginning with each end."""
     for at, length in lengths_of(body):
         for size in range(length + 4):
             yield 'message_fields', body, at, size
@@ -142,10 +144,12 @@ def of_sample(body):
         yield 'message_fields', body, at, max(len(body) - at, 0)
     for at, length in checks.NOT_IN_BODY:
         yield from of_message(body, at, length)
+    begins = (*range(0, len(body) + 1, 2), 2**32, 2**63, TOP - 2, TOP - 1)
     ends = (*range(1, len(body) + 2, 3), len(body), len(body) + 1, 2**32, 2**63, TOP - 1)
-    for end, p in itertools.product(ends, (*range(0, len(body) + 1, 2), 2**32, 2**63, TOP - 2, TOP - 1)):
-        yield 'descriptor_fields', body, end, p
-        yield 'stream_fields', body, end, p
+    parts = [(at, max(end - at, 0)) for at, end in itertools.product(begins, ends)]
+    for at, length in [*parts, *checks.NOT_IN_BODY]:
+        yield 'descriptor_fields', body, at, length
+        yield 'stream_fields', body, at, length
 
 
 def askings(bodies, tables):
@@ -159,9 +163,9 @@ def askings(bodies, tables):
     good = [(body, tables[kind, body]) for kind, body in small if (kind, body) in tables and len(body) > 60]
     for body, table in chance.sample(good, 400):
         places = list(parts_of(body, table))
-        for end, p in chance.sample(places, min(len(places), 4)):
-            yield from of_part(body, end, p)
-            yield from of_part(damaged_near(body, p), end, p)
+        for at, length in chance.sample(places, min(len(places), 4)):
+            yield from of_part(body, at, length)
+            yield from of_part(damaged_near(body, at), at, length)
     for body in bytes(MOST_BODY + 1), b'\1' * (MOST_BODY + 1):
         yield from of_body(body)
 

@@ -482,32 +482,35 @@ plain_answer plain_message_streams(const uint8_t *body, size_t n, size_t at, siz
     return asked_part(&r, 2);
 }
 
-// ---- descriptors and streams asked for, in a part that ends at `end`
+// ---- descriptors and streams asked for, in a part that has `length` bytes from there on
 
-plain_answer plain_descriptor_tag(const uint8_t *body, size_t n, size_t end, size_t p) {
-    return end > n || p >= end ? OUTSIDE : value(body[p]);
+// A reader at a place of such a thing; 0 where its part lies outside the body or has no byte left.
+static int in_part(struct reader *r, const uint8_t *body, size_t n, size_t at, size_t length, size_t place) {
+    return length > 0 && stands(r, body, n, at, length, place);
 }
 
-plain_answer plain_descriptor_bytes(const uint8_t *body, size_t n, size_t end, size_t p) {
-    if (end > n || p >= end) return OUTSIDE;
-    struct reader r = {body, n, end, p + 1, 0};
-    return asked_part(&r, 1);
+plain_answer plain_descriptor_tag(const uint8_t *body, size_t n, size_t at, size_t length) {
+    struct reader r;
+    return in_part(&r, body, n, at, length, 0) ? value(body[at]) : OUTSIDE;
 }
 
-plain_answer plain_stream_type(const uint8_t *body, size_t n, size_t end, size_t p) {
-    return plain_descriptor_tag(body, n, end, p);
+plain_answer plain_descriptor_bytes(const uint8_t *body, size_t n, size_t at, size_t length) {
+    struct reader r;
+    return in_part(&r, body, n, at, length, 1) ? asked_part(&r, 1) : OUTSIDE;
 }
 
-plain_answer plain_stream_pid(const uint8_t *body, size_t n, size_t end, size_t p) {
-    if (end > n || p >= end) return OUTSIDE;
-    struct reader r = {body, n, end, p + 1, 0};
-    return asked_pid(&r);
+plain_answer plain_stream_type(const uint8_t *body, size_t n, size_t at, size_t length) {
+    return plain_descriptor_tag(body, n, at, length);
 }
 
-plain_answer plain_stream_descriptors(const uint8_t *body, size_t n, size_t end, size_t p) {
-    if (end > n || p >= end) return OUTSIDE;
-    struct reader r = {body, n, end, p + 3, 0};
-    return asked_short_part(&r);
+plain_answer plain_stream_pid(const uint8_t *body, size_t n, size_t at, size_t length) {
+    struct reader r;
+    return in_part(&r, body, n, at, length, 1) ? asked_pid(&r) : OUTSIDE;
+}
+
+plain_answer plain_stream_descriptors(const uint8_t *body, size_t n, size_t at, size_t length) {
+    struct reader r;
+    return in_part(&r, body, n, at, length, 3) ? asked_short_part(&r) : OUTSIDE;
 }
 
 // ---- local times

@@ -37,10 +37,10 @@ plain_answer plain_message_streams(const uint8_t *body, size_t n, size_t at, siz
 plain_answer plain_message_local_start(const uint8_t *body, size_t n, size_t at, size_t length, int32_t offset);
 plain_answer plain_message_local_end(const uint8_t *body, size_t n, size_t at, size_t length, int32_t offset);
 
-plain_answer plain_descriptor_tag(const uint8_t *body, size_t n, size_t end, size_t p);
-plain_answer plain_descriptor_bytes(const uint8_t *body, size_t n, size_t end, size_t p);
-plain_answer plain_stream_type(const uint8_t *body, size_t n, size_t end, size_t p);
-plain_answer plain_stream_pid(const uint8_t *body, size_t n, size_t end, size_t p);
-plain_answer plain_stream_descriptors(const uint8_t *body, size_t n, size_t end, size_t p);
+plain_answer plain_descriptor_tag(const uint8_t *body, size_t n, size_t at, size_t length);
+plain_answer plain_descriptor_bytes(const uint8_t *body, size_t n, size_t at, size_t length);
+plain_answer plain_stream_type(const uint8_t *body, size_t n, size_t at, size_t length);
+plain_answer plain_stream_pid(const uint8_t *body, size_t n, size_t at, size_t length);
+plain_answer plain_stream_descriptors(const uint8_t *body, size_t n, size_t at, size_t length);
 
 #endif

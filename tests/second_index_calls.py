@@ -195,21 +195,21 @@ def message_resource_digit(body, at, length, i, j):
     return digit(resource(body, at, length, i)[2], j)
 
 
-def in_part(body, end, p, place):
-    """At a place of a descriptor or a stream."""
-    if end > len(body) or p >= end:
+def in_part(body, at, length, place):
+    """At a place of a descriptor or a stream, in a part that has so many bytes from there on."""
+    if length == 0:
         refuse(19, 'part')
-    return Part(body, p + place, end)
+    return inside(body, at, length, place)
 
 
-def descriptor_fields(body, end, p):
-    return joined((answered(lambda: in_part(body, end, p, 0).number('tag', 1)),
-                   answered(lambda: in_part(body, end, p, 1).counted('descriptor length', 1))))
+def descriptor_fields(body, at, length):
+    return joined((answered(lambda: in_part(body, at, length, 0).number('tag', 1)),
+                   answered(lambda: in_part(body, at, length, 1).counted('descriptor length', 1))))
 
 
-def stream_fields(body, end, p):
+def stream_fields(body, at, length):
     def its_descriptors():
-        reader = in_part(body, end, p, 3)
+        reader = in_part(body, at, length, 3)
         return reader.span(reader.short_length('ES info length'))
-    return joined((answered(lambda: in_part(body, end, p, 0).number('stream type', 1)),
-                   answered(lambda: in_part(body, end, p, 1).pid('stream PID')), answered(its_descriptors)))
+    return joined((answered(lambda: in_part(body, at, length, 0).number('stream type', 1)),
+                   answered(lambda: in_part(body, at, length, 1).pid('stream PID')), answered(its_descriptors)))

@@ -305,7 +305,8 @@ static uint64_t one_of(plain_answer count) { return around(below(value_of(count)
 static void ask_certificate(const uint8_t *body, size_t n) {
     uint32_t kind = mostly(NW_CERTIFICATE);
     TRY(certificate_read, kind, body, n);
-    plain_answer lists = TRY(certificate_authorization_count, body, n), parts = TRY(certificate_certificate_count, body, n);
+    plain_answer lists = TRY(certificate_authorization_count, body, n);
+    plain_answer parts = TRY(certificate_certificate_count, body, n);
     for (int left = 4; left > 0; left--) {
         uint64_t i = one_of(lists), j = one_of(parts);
         TRY(certificate_authorization, body, n, i);
@@ -335,24 +336,27 @@ static void ask_anywhere(asks_part *ask, const uint8_t *body, size_t n) {
 
 // ---- the index table asked
 
-// What begins at p in a part that ends at `end`. Answers where the next one begins.
-static size_t ask_placed(const uint8_t *body, size_t n, size_t end, size_t p, int is_stream) {
-    TRY(descriptor_tag, body, n, end, p);
-    TRY(stream_type, body, n, end, p);
-    TRY(stream_pid, body, n, end, p);
-    plain_answer bytes = TRY(descriptor_bytes, body, n, end, p), inner = TRY(stream_descriptors, body, n, end, p);
+// What begins at a place of a part that has so many bytes from there on. Answers how many of them it has.
+static size_t ask_placed(const uint8_t *body, size_t n, size_t at, size_t length, int is_stream) {
+    TRY(descriptor_tag, body, n, at, length);
+    TRY(stream_type, body, n, at, length);
+    TRY(stream_pid, body, n, at, length);
+    plain_answer bytes = TRY(descriptor_bytes, body, n, at, length);
+    plain_answer inner = TRY(stream_descriptors, body, n, at, length);
     plain_answer next = is_stream ? inner : bytes;
-    return refusal_of(next) ? end : end_of(next);
+    return refusal_of(next) ? length : end_of(next) - at;
 }
 
 static void ask_part(const uint8_t *body, size_t n, plain_answer part, int is_stream) {
     if (refusal_of(part)) return;
-    size_t end = end_of(part), p = part_start(part);
-    for (int left = 6; left > 0 && p < end; left--) {
-        if (is_stream) ask_part(body, n, TRY(stream_descriptors, body, n, end, p), 0);
-        p = ask_placed(body, n, end, p, is_stream);
+    size_t at = part_start(part), length = part_length(part);
+    for (int left = 6; left > 0 && length > 0; left--) {
+        if (is_stream) ask_part(body, n, TRY(stream_descriptors, body, n, at, length), 0);
+        size_t size = ask_placed(body, n, at, length, is_stream);
+        at += size;
+        length -= size;
     }
-    ask_placed(body, n, around(end), around(p), is_stream);
+    ask_placed(body, n, around(at), around(length), is_stream);
 }
 
 static void ask_channel(const uint8_t *body, size_t n, size_t at, size_t length) {

@@ -38,10 +38,10 @@ needed t r x e = rw e
 pub not-needed : {A : Type 0} (t : Bool) (r : Refusal) (x : Reading A) → t ≡ false → refused r ≡ need t r x
 not-needed t r x e = rw e
 
-pub in-part : (s : List ℕ) (l p : ℕ) → (ltb p l && leb l (length s)) ≡ true → (p < l) × (l ≤ length s)
-in-part s l p e =
-    let t = both (ltb p l) (leb l (length s)) e in
-    (ltb-true p l (t .0), leb-true l (length s) (t .1))
+pub in-part : (s : List ℕ) (at n : ℕ) → (ltb 0 n && leb (at + n) (length s)) ≡ true → (0 < n) × (at + n ≤ length s)
+in-part s at n e =
+    let t = both (ltb 0 n) (leb (at + n) (length s)) e in
+    (ltb-true 0 n (t .0), leb-true (at + n) (length s) (t .1))
 
 -- ---- numbers
 

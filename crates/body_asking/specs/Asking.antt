@@ -25,11 +25,11 @@ abbrev pub askedAt : {A : Type 0} → Reading A → (ℕ → Number) → Number
 askedAt (found a p) k = k p
 askedAt (refused r) k = NoNumber r
 
--- ---- a thing at p, in the part that ends at l
+-- ---- a thing of several that fill a part, told by where it begins and how many bytes the part has from there on
 
--- "one that isn't there is 19, place 0": a part that does not lie in the body, or has no byte at p
-abbrev pub inPart : {A : Type 0} → List ℕ → ℕ → ℕ → Reading A → Reading A
-inPart s l p x = need (ltb p l && leb l (length s)) (OutsideSet 0) x
+-- "one that isn't there is 19, place 0": these bytes do not lie in the body, or are none
+abbrev pub inPart : {A : Type 0} → List ℕ → ℕ → ℕ → (ℕ → Reading A) → Reading A
+inPart s at n k = need (ltb 0 n && leb (at + n) (length s)) (OutsideSet 0) (k (at + n))
 
 -- ---- one of several
 

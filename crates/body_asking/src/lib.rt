@@ -23,12 +23,12 @@ pub fn in_body(s: &[u8], at: usize, n: usize) -> bool
     n <= l - at
 }
 
-// Whether a byte stands at p in the part that ends at l, in the body.
-pub fn in_part(s: &[u8], l: usize, p: usize) -> bool
-    ensures { λ r. ⌜ r ≡ (ltb p l && leb l (length (now (s .entry)))) ⌝ }
+// Whether the n bytes from at on lie in the body, and are at least one.
+pub fn in_part(s: &[u8], at: usize, n: usize) -> bool
+    ensures { λ r. ⌜ r ≡ (ltb 0 n && leb (at + n) (length (now (s .entry)))) ⌝ }
 {
-    if p < l {
-        return l <= s.len();
+    if 0 < n {
+        return in_body(s, at, n);
     }
     false
 }

@@ -10,7 +10,7 @@ use lib.Dec.{ltb, leb}
 use borrow.Author.Tests.{le-leb, lt-leb, lt-ltb, le-ltb}
 use Rattle.ground_choices.proofs.Tests.{and-of}
 use Rattle.ground_refusal.specs.declared.Refusal.the-variants.{LeftOver, PastPart, OutsideSet}
-use Rattle.body_formats.specs.Reading.{found, refused}
+use Rattle.body_formats.specs.Reading.{Reading, found, refused}
 use Rattle.body_formats.specs.Format.{count, number, nibblesAmong, bytesAmong, reserved, Under, under, _▷_, listOf, many, opaque, rest, lengthOf, length12, counted, repeat}
 use Rattle.body_formats.specs.Time.{time, endTime}
 use Rattle.body_formats.specs.Body.{reading}
@@ -20,7 +20,7 @@ use Rattle.body_formats.proofs.Classes.{Bytes}
 use Rattle.body_formats.proofs.Elements.{exact-found, view-found, followed-found, list-found}
 use Rattle.body_formats.proofs.RoundTrips as trips
 use Rattle.body_formats.specs.Resource.{resource}
-use Rattle.body_asking.specs.Asking.{fieldIn}
+use Rattle.body_asking.specs.Asking.{fieldIn, inPart}
 use Rattle.body_asking.proofs.Sizes.{count-sized, number-sized, number-inside, time-sized, end-sized, nibbles-among-sized, bytes-are, bytes-sized, reserved-sized, digits-sized, next, repeat-sized, nth-sized}
 use Rattle.body_asking.proofs.Answers.{asked}
 use Rattle.body_asking.proofs.Entries.{after-all, all-same}
@@ -31,39 +31,47 @@ use Rattle.index_fields.specs.Asked.{messageCount, messagePart, signatur
 use Rattle.index_fields.specs.Agreement.{DescriptorAsked, NoDescriptor, DescriptorsAsked, StreamAsked, NoStream, ChannelAsked, NoChannel, UnderFlag, FieldsAsked, NoMessage, MessageAsked, IndexAsked}
 use Rattle.index.proofs.Lawful.{all-descriptors-filling, all-streams-filling, inner-filling, index-filling}
 
--- ---- descriptors and streams, each at p in a part that ends at l
+-- ---- descriptors and streams, told by where they begin and how many bytes their part has from there on
 
-module _ (s : List ℕ) (l p : ℕ) where
-  no-descriptor : (ltb p l && leb l (length s)) ≡ false → NoDescriptor s l p
+module _ (s : List ℕ) (at n : ℕ) where
+  no-descriptor : (ltb 0 n && leb (at + n) (length s)) ≡ false → NoDescriptor s at n
   unfolding firstByte descriptorTag descriptorPart
   no-descriptor t = record { no-tag = rw t; no-bytes = rw t }
 
-  no-stream : (ltb p l && leb l (length s)) ≡ false → NoStream s l p
+  no-stream : (ltb 0 n && leb (at + n) (length s)) ≡ false → NoStream s at n
   unfolding firstByte streamType streamPid streamDescriptors
   no-stream t = record { no-type = rw t; no-pid = rw t; no-descriptors = rw t }
 
-  past-end : l ≤ p → (ltb p l && leb l (length s)) ≡ false
-  past-end h = rw (le-ltb p l h)
+  past-end : n ≤ 0 → (ltb 0 n && leb (at + n) (length s)) ≡ false
+  past-end h = rw (le-ltb 0 n h)
 
-  past-body : length s < l → (ltb p l && leb l (length s)) ≡ false
-  past-body h = rw (lt-leb l (length s) h) (go (ltb p l))
+  past-body : length s < at + n → (ltb 0 n && leb (at + n) (length s)) ≡ false
+  past-body h = rw (lt-leb (at + n) (length s) h) (go (ltb 0 n))
     where
       go : (t : Bool) → (t && false) ≡ false
       go true = refl
       go false = refl
 
+-- in a part that ends at l both begin with a byte, so what is asked there is read in the part
+in-its-part : {A : Type 0} (s : List ℕ) (l p v : ℕ) → l ≤ length s → number 1 .parse s l p ≡ found v (p + 1) → (k : ℕ → Reading A) → inPart s p (l - p) k ≡ k l
+in-its-part s l p v inside e k =
+    let more = number-inside 1 s l p v (p + 1) e in
+    let ends : p + (l - p) ≡ l = omega (arith, more) in
+    let t = and-of (lt-ltb 0 (l - p) (omega (arith, more))) (le-leb (p + (l - p)) (length s) (omega (arith, ends, inside))) in
+    rw t (ap k ends)
+
 module _ (s : List ℕ) (b : Bytes s) (l : ℕ) (inside : l ≤ length s) (p q : ℕ) where
-  -- both begin with a byte, which stands in the part
-  byte-there : (v : ℕ) → number 1 .parse s l p ≡ found v (p + 1) → (ltb p l && leb l (length s)) ≡ true
-  byte-there v e = and-of (lt-ltb p l (omega (arith, number-inside 1 s l p v (p + 1) e))) (le-leb l (length s) inside)
 
   descriptor-fields : (x : ℕ × List ℕ) → (number 1 ▷ opaque 1) .parse s l p ≡ found x q → DescriptorAsked s l (record { tag = x .0; bytes = x .1 }) p q
   unfolding firstByte descriptorTag descriptorPart
   descriptor-fields x e =
       let f = next (number 1) (opaque 1) 1 (number-sized 1) s l p (p + 1) x q refl e in
-      let t = byte-there (x .0) (f .0) in
       let g = opaque-fills-at s b l inside 1 (p + 1) (p + 2) (omega arith) (x .1) q (f .1) in
-      record { tag-is = rw (t, f .0); bytes-fill = rw t (g .0); ends = g .1 }
+      record {
+        tag-is = ap numberOf (in-its-part s l p (x .0) inside (f .0) (λ m. number 1 .parse s m p) ∙ f .0);
+        bytes-fill = rw (in-its-part s l p (x .0) inside (f .0) (λ m. opaque 1 .parse s m (p + 1))) (g .0);
+        ends = g .1;
+      }
 
   descriptor-asked : (d : Descriptor) → descriptor .parse s l p ≡ found d q → DescriptorAsked s l d p q
   unfolding descriptor
@@ -92,11 +100,11 @@ module _ (s : List ℕ) (b : Bytes s) (l : ℕ) (inside : l ≤ length s) (p q :
   stream-fields x e =
       let f = next (number 1) (reserved 3 1 ▷ descriptors) 1 (number-sized 1) s l p (p + 1) x q refl e in
       let g = next (reserved 3 1) descriptors 2 (reserved-sized 3 1) s l (p + 1) (p + 3) (x .1) q (omega arith) (f .1) in
-      let t = byte-there s b l inside p q (x .0) (f .0) in
       record {
-        type-is = rw (t, f .0);
-        pid-is = rw (t, g .0);
-        descriptors-asked = rw t (descriptors-asked s b l (p + 3) (p + 5) (omega arith) (x .1 .1) q (g .1));
+        type-is = ap numberOf (in-its-part s l p (x .0) inside (f .0) (λ m. number 1 .parse s m p) ∙ f .0);
+        pid-is = ap numberOf (in-its-part s l p (x .0) inside (f .0) (λ m. reserved 3 1 .parse s m (p + 1)) ∙ g .0);
+        descriptors-asked = rw (in-its-part s l p (x .0) inside (f .0) (λ m. counted length12 rest .parse s m (p + 3)))
+            (descriptors-asked s b l (p + 3) (p + 5) (omega arith) (x .1 .1) q (g .1));
       }
 
   stream-asked : (t : Stream) → stream .parse s l p ≡ found t q → StreamAsked s l t p q
@@ -302,10 +310,10 @@ module _ (s : List ℕ) (b : Bytes s) (x : List Message × List ℕ) (q : ℕ) (
         signature-fills = rw (messages .0, all-same message (opaque 2) s (length s) same (length (x .0)) 1 (x .0) (two .0) (messages .1) .1)
             (opaque-fills-at s b (length s) (le-refl (length s)) 2 (two .0) (two .0 + 2) refl (x .1) q (two .2) .0);
         message-outside = no-message s;
-        descriptor-outside = λ l p h. no-descriptor s l p (past-body s l p h);
-        descriptor-past = λ l p h. no-descriptor s l p (past-end s l p h);
-        stream-outside = λ l p h. no-stream s l p (past-body s l p h);
-        stream-past = λ l p h. no-stream s l p (past-end s l p h);
+        descriptor-outside = λ at n h. no-descriptor s at n (past-body s at n h);
+        descriptor-past = λ at. no-descriptor s at 0 (past-end s at 0 (omega arith));
+        stream-outside = λ at n h. no-stream s at n (past-body s at n h);
+        stream-past = λ at. no-stream s at 0 (past-end s at 0 (omega arith));
       }
 
 pub index-asked : (kind : ℕ) (s : List ℕ) → Bytes s → (t : Index) (q : ℕ) → reading index indexKind kind s ≡ found t q → IndexAsked s t

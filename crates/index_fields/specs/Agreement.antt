@@ -1,5 +1,5 @@
 -- What a reader has to believe of the fields asked for of an accepted index table: each is the table's own, and what isn't there is refused.
-use Prim.Native.Nat.{ℕ, zero, suc, _+_, _*_, _/_, _≤_, _<_}
+use Prim.Native.Nat.{ℕ, zero, suc, _+_, _-_, _*_, _/_, _≤_, _<_}
 use mathlib.Core.Path.{_≡_}
 use mathlib.Core.List.{List, []}
 use lib.ListN.{length, getD, take, drop}
@@ -15,17 +15,17 @@ use Rattle.index_fields.specs.Asked.{messageCount, messagePart, signatur
 -- "Every field of an accepted table can be asked for, opaque bytes as the part of the body they fill; one that isn't there is 19, place 0":
 -- a number is answered with the position after it, a digit with that of its byte, a part with where it begins and how many bytes it has.
 
--- ---- descriptors and streams, in a part that ends at l
+-- ---- descriptors and streams, in a part that ends at l: one that begins at p is told by p and the bytes that the part has from there on
 
 -- a descriptor that stands from p to q
 pub record DescriptorAsked (s : List ℕ) (l : ℕ) (d : Descriptor) (p q : ℕ) : Type 0 where
-  pub tag-is : descriptorTag s l p ≡ Is (d .tag) (p + 1)
-  pub bytes-fill : FillsAt s (p + 2) (descriptorPart s l p) (d .bytes)
+  pub tag-is : descriptorTag s p (l - p) ≡ Is (d .tag) (p + 1)
+  pub bytes-fill : FillsAt s (p + 2) (descriptorPart s p (l - p)) (d .bytes)
   pub ends : p + 2 + length (d .bytes) ≡ q
 
-pub record NoDescriptor (s : List ℕ) (l p : ℕ) : Type 0 where
-  pub no-tag : NoNumberThere (descriptorTag s l p)
-  pub no-bytes : NoPartThere (descriptorPart s l p)
+pub record NoDescriptor (s : List ℕ) (at n : ℕ) : Type 0 where
+  pub no-tag : NoNumberThere (descriptorTag s at n)
+  pub no-bytes : NoPartThere (descriptorPart s at n)
 
 -- the part answered goes from p to q, and all of its descriptors are ds, in order
 abbrev pub DescriptorsAsked : List ℕ → Part → ℕ → List Descriptor → ℕ → Type 0
@@ -33,14 +33,14 @@ DescriptorsAsked s part p ds q = HoldsInTurn (λ i. DescriptorAsked s q) s part 
 
 -- a stream that stands from p to q: its descriptors follow their length, and end where it ends
 pub record StreamAsked (s : List ℕ) (l : ℕ) (t : Stream) (p q : ℕ) : Type 0 where
-  pub type-is : streamType s l p ≡ Is (t .type) (p + 1)
-  pub pid-is : streamPid s l p ≡ Is (t .pid) (p + 3)
-  pub descriptors-asked : DescriptorsAsked s (streamDescriptors s l p) (p + 5) (t .descriptors) q
+  pub type-is : streamType s p (l - p) ≡ Is (t .type) (p + 1)
+  pub pid-is : streamPid s p (l - p) ≡ Is (t .pid) (p + 3)
+  pub descriptors-asked : DescriptorsAsked s (streamDescriptors s p (l - p)) (p + 5) (t .descriptors) q
 
-pub record NoStream (s : List ℕ) (l p : ℕ) : Type 0 where
-  pub no-type : NoNumberThere (streamType s l p)
-  pub no-pid : NoNumberThere (streamPid s l p)
-  pub no-descriptors : NoPartThere (streamDescriptors s l p)
+pub record NoStream (s : List ℕ) (at n : ℕ) : Type 0 where
+  pub no-type : NoNumberThere (streamType s at n)
+  pub no-pid : NoNumberThere (streamPid s at n)
+  pub no-descriptors : NoPartThere (streamDescriptors s at n)
 
 -- ---- the channel of a message that begins at `at` and has n bytes
 
@@ -124,9 +124,9 @@ pub record IndexAsked (s : List ℕ) (t : Index) : Type 0 where
   pub messages-asked : InTurn (MessageAsked s) 0 (t .messages) 1 messages-end
   pub message-past : (i : ℕ) → length (t .messages) ≤ i → NoPartThere (messagePart s i)
   pub signature-fills : FillsAt s (messages-end + 2) (signaturePart s) (t .signature)
-  -- nothing is there in a part that does not lie in the body, and no descriptor or stream past the end l of its part
+  -- nothing is there in a part that does not lie in the body, and no descriptor or stream where its part has no byte left
   pub message-outside : (at n : ℕ) → length s < at + n → NoMessage s at n
-  pub descriptor-outside : (l p : ℕ) → length s < l → NoDescriptor s l p
-  pub descriptor-past : (l p : ℕ) → l ≤ p → NoDescriptor s l p
-  pub stream-outside : (l p : ℕ) → length s < l → NoStream s l p
-  pub stream-past : (l p : ℕ) → l ≤ p → NoStream s l p
+  pub descriptor-outside : (at n : ℕ) → length s < at + n → NoDescriptor s at n
+  pub descriptor-past : (at : ℕ) → NoDescriptor s at 0
+  pub stream-outside : (at n : ℕ) → length s < at + n → NoStream s at n
+  pub stream-past : (at : ℕ) → NoStream s at 0

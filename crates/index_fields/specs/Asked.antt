@@ -100,23 +100,23 @@ descriptorsPart s at n = partOf (inChannel (counted length12 rest) 8 s at n)
 unfoldable pub streamsPart : List ℕ → ℕ → ℕ → Part
 streamsPart s at n = partOf (andThen (inChannel (counted length12 rest) 8 s at n) (λ xs q. counted (lengthOf 2) rest .parse s (at + n) q))
 
--- ---- a descriptor or a stream at p, in the part that ends at l: the next one begins where it ends
+-- ---- a descriptor or a stream, told by where it begins and how many bytes its part has from there on: the next one begins where it ends
 
 -- both begin with a byte
 unfoldable pub firstByte : List ℕ → ℕ → ℕ → Number
-firstByte s l p = numberOf (inPart s l p (number 1 .parse s l p))
+firstByte s at n = numberOf (inPart s at n (λ l. number 1 .parse s l at))
 
 unfoldable pub descriptorTag : List ℕ → ℕ → ℕ → Number
-descriptorTag s l p = firstByte s l p
+descriptorTag s at n = firstByte s at n
 
 unfoldable pub descriptorPart : List ℕ → ℕ → ℕ → Part
-descriptorPart s l p = partOf (inPart s l p (opaque 1 .parse s l (p + 1)))
+descriptorPart s at n = partOf (inPart s at n (λ l. opaque 1 .parse s l (at + 1)))
 
 unfoldable pub streamType : List ℕ → ℕ → ℕ → Number
-streamType s l p = firstByte s l p
+streamType s at n = firstByte s at n
 
 unfoldable pub streamPid : List ℕ → ℕ → ℕ → Number
-streamPid s l p = numberOf (inPart s l p (reserved 3 1 .parse s l (p + 1)))
+streamPid s at n = numberOf (inPart s at n (λ l. reserved 3 1 .parse s l (at + 1)))
 
 unfoldable pub streamDescriptors : List ℕ → ℕ → ℕ → Part
-streamDescriptors s l p = partOf (inPart s l p (counted length12 rest .parse s l (p + 3)))
+streamDescriptors s at n = partOf (inPart s at n (λ l. counted length12 rest .parse s l (at + 3)))

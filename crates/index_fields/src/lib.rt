@@ -1,4 +1,5 @@
-// The fields of an index table, asked for one by one: of the body, of a message told by where it begins and its length, of a descriptor or a stream at p in a part that ends at l.
+// The fields of an index table, asked for one by one: of the body, of a message, and of a descriptor or a stream in its part.
+// A message is told by where it begins and its length; a descriptor or a stream by where it begins and how many bytes its part has from there on.
 use body_formats::Number;
 use body_formats::Part;
 use body_formats::Step;
@@ -269,53 +270,53 @@ pub fn streams(s: &[u8], at: usize, n: usize) -> Part
     }
 }
 
-// The byte at p: a descriptor's tag, or a stream's type.
-fn first_byte(s: &[u8], l: usize, p: usize) -> Number
-    ensures { λ r. ⌜ r ≡ firstByte (now (s .entry)) l p ⌝ }
+// The byte at `at`: a descriptor's tag, or a stream's type.
+fn first_byte(s: &[u8], at: usize, n: usize) -> Number
+    ensures { λ r. ⌜ r ≡ firstByte (now (s .entry)) at n ⌝ }
 {
-    if body_asking::in_part(s, l, p) {
-        return body_fields::read_number(s, l, p, 1);
+    if body_asking::in_part(s, at, n) {
+        return body_fields::read_number(s, at + n, at, 1);
     }
     Number::Refused(Refusal::OutsideSet(0))
 }
 
-pub fn descriptor_tag(s: &[u8], l: usize, p: usize) -> Number
-    ensures { λ r. ⌜ r ≡ descriptorTag (now (s .entry)) l p ⌝ }
+pub fn descriptor_tag(s: &[u8], at: usize, n: usize) -> Number
+    ensures { λ r. ⌜ r ≡ descriptorTag (now (s .entry)) at n ⌝ }
 {
-    first_byte(s, l, p)
+    first_byte(s, at, n)
 }
 
 // The part of the body that the descriptor's data fill.
-pub fn descriptor_part(s: &[u8], l: usize, p: usize) -> Part
-    ensures { λ r. ⌜ r ≡ descriptorPart (now (s .entry)) l p ⌝ }
+pub fn descriptor_part(s: &[u8], at: usize, n: usize) -> Part
+    ensures { λ r. ⌜ r ≡ descriptorPart (now (s .entry)) at n ⌝ }
 {
-    if body_asking::in_part(s, l, p) {
-        return body_fields::read_part(s, l, p + 1, 1);
+    if body_asking::in_part(s, at, n) {
+        return body_fields::read_part(s, at + n, at + 1, 1);
     }
     Part::Refused(Refusal::OutsideSet(0))
 }
 
-pub fn stream_type(s: &[u8], l: usize, p: usize) -> Number
-    ensures { λ r. ⌜ r ≡ streamType (now (s .entry)) l p ⌝ }
+pub fn stream_type(s: &[u8], at: usize, n: usize) -> Number
+    ensures { λ r. ⌜ r ≡ streamType (now (s .entry)) at n ⌝ }
 {
-    first_byte(s, l, p)
+    first_byte(s, at, n)
 }
 
-pub fn stream_pid(s: &[u8], l: usize, p: usize) -> Number
-    ensures { λ r. ⌜ r ≡ streamPid (now (s .entry)) l p ⌝ }
+pub fn stream_pid(s: &[u8], at: usize, n: usize) -> Number
+    ensures { λ r. ⌜ r ≡ streamPid (now (s .entry)) at n ⌝ }
 {
-    if body_asking::in_part(s, l, p) {
-        return body_fields::read_reserved(s, l, p + 1, 3, 1);
+    if body_asking::in_part(s, at, n) {
+        return body_fields::read_reserved(s, at + n, at + 1, 3, 1);
     }
     Number::Refused(Refusal::OutsideSet(0))
 }
 
 // The part of the body that the stream's descriptors fill.
-pub fn stream_descriptors(s: &[u8], l: usize, p: usize) -> Part
-    ensures { λ r. ⌜ r ≡ streamDescriptors (now (s .entry)) l p ⌝ }
+pub fn stream_descriptors(s: &[u8], at: usize, n: usize) -> Part
+    ensures { λ r. ⌜ r ≡ streamDescriptors (now (s .entry)) at n ⌝ }
 {
-    if body_asking::in_part(s, l, p) {
-        return body_fields::read_part12(s, l, p + 3);
+    if body_asking::in_part(s, at, n) {
+        return body_fields::read_part12(s, at + n, at + 3);
     }
     Part::Refused(Refusal::OutsideSet(0))
 }

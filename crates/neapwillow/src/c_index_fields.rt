@@ -157,38 +157,38 @@ pub extern "C" fn nw_message_streams(body: &[u8], at: usize, length: usize) -> u
 }
 
 #[no_mangle]
-pub extern "C" fn nw_descriptor_tag(body: &[u8], end: usize, p: usize) -> u64
-    ensures { λ r. ⌜ r ≡ numberAnswer (descriptorTag (now (body .entry)) end p) ⌝ }
+pub extern "C" fn nw_descriptor_tag(body: &[u8], at: usize, length: usize) -> u64
+    ensures { λ r. ⌜ r ≡ numberAnswer (descriptorTag (now (body .entry)) at length) ⌝ }
 {
-    c_answers::number_answer(index_fields::descriptor_tag(body, end, p))
+    c_answers::number_answer(index_fields::descriptor_tag(body, at, length))
 }
 
 #[no_mangle]
-pub extern "C" fn nw_descriptor_bytes(body: &[u8], end: usize, p: usize) -> u64
-    ensures { λ r. ⌜ r ≡ partAnswer (descriptorPart (now (body .entry)) end p) ⌝ }
+pub extern "C" fn nw_descriptor_bytes(body: &[u8], at: usize, length: usize) -> u64
+    ensures { λ r. ⌜ r ≡ partAnswer (descriptorPart (now (body .entry)) at length) ⌝ }
 {
-    c_answers::part_answer(index_fields::descriptor_part(body, end, p))
+    c_answers::part_answer(index_fields::descriptor_part(body, at, length))
 }
 
 #[no_mangle]
-pub extern "C" fn nw_stream_type(body: &[u8], end: usize, p: usize) -> u64
-    ensures { λ r. ⌜ r ≡ numberAnswer (streamType (now (body .entry)) end p) ⌝ }
+pub extern "C" fn nw_stream_type(body: &[u8], at: usize, length: usize) -> u64
+    ensures { λ r. ⌜ r ≡ numberAnswer (streamType (now (body .entry)) at length) ⌝ }
 {
-    c_answers::number_answer(index_fields::stream_type(body, end, p))
+    c_answers::number_answer(index_fields::stream_type(body, at, length))
 }
 
 #[no_mangle]
-pub extern "C" fn nw_stream_pid(body: &[u8], end: usize, p: usize) -> u64
-    ensures { λ r. ⌜ r ≡ numberAnswer (streamPid (now (body .entry)) end p) ⌝ }
+pub extern "C" fn nw_stream_pid(body: &[u8], at: usize, length: usize) -> u64
+    ensures { λ r. ⌜ r ≡ numberAnswer (streamPid (now (body .entry)) at length) ⌝ }
 {
-    c_answers::number_answer(index_fields::stream_pid(body, end, p))
+    c_answers::number_answer(index_fields::stream_pid(body, at, length))
 }
 
 #[no_mangle]
-pub extern "C" fn nw_stream_descriptors(body: &[u8], end: usize, p: usize) -> u64
-    ensures { λ r. ⌜ r ≡ partAnswer (streamDescriptors (now (body .entry)) end p) ⌝ }
+pub extern "C" fn nw_stream_descriptors(body: &[u8], at: usize, length: usize) -> u64
+    ensures { λ r. ⌜ r ≡ partAnswer (streamDescriptors (now (body .entry)) at length) ⌝ }
 {
-    c_answers::part_answer(index_fields::stream_descriptors(body, end, p))
+    c_answers::part_answer(index_fields::stream_descriptors(body, at, length))
 }
 
 #[no_mangle]
