@@ -7,7 +7,7 @@
 //   start       dd/mm/yyyy hh:mm:ss, local and day first, from 01/03/1900 to 22/04/2038, in UTC too
 //   end         the same, after the start; or the word live, until it is called off
 //   type        five ASCII characters, none of them a space
-//   class       1, drill of the sender; 2, simulated drill; 3, drill; 4, emergency: this one is remarked on
+//   class       1, drill of the issuing system; 2, simulated drill; 3, actual drill; 4, emergency broadcast: remarked on
 //   level       1, very grave, to 4, ordinary
 //   network     0 to 65535
 //   version     0 to 31
@@ -29,7 +29,7 @@
 #include <string.h>
 
 enum { FORM = 1 << 20, RESOURCES = 255, LANGUAGES = 5, TEXT = 65535, POOL = 400000, ENTRIES = 600 };
-enum { ID_BYTES = 18, RESOURCE_BYTES = 12, TYPE_BYTES = 5 };
+enum { TYPE_BYTES = 5 };
 enum { MADE = 0, REFUSED = 1, UNUSABLE = 2 }; // exit statuses
 
 enum word { IDENTIFIER, OFFSET, START, END, TYPE, CLASS, LEVEL, NETWORK, VERSION, RESOURCE, LANGUAGE, WORD_TEXT, WORDS };
@@ -57,8 +57,8 @@ struct drill {
     unsigned faults;
     int offset, class_, level, network, version;
     uint64_t start, end;
-    uint8_t identifier[ID_BYTES];
-    uint8_t resources[RESOURCES][RESOURCE_BYTES];
+    uint8_t identifier[NW_IDENTIFIER_BYTES];
+    uint8_t resources[RESOURCES][NW_RESOURCE_BYTES];
     unsigned resource_lines[RESOURCES];
     size_t resource_count;
     struct language languages[LANGUAGES];
@@ -127,17 +127,15 @@ static void take_number(struct drill *d, const struct line *l, int least, int mo
     if (!read_number(l->value, least, most, out)) fault(d, l, "it has to be a whole number from %d to %d", least, most);
 }
 
-// Decimal digits, two to a byte, after four reserved one bits: 35 in an identifier's bytes, 23 in a resource's.
-static void take_digits(struct drill *d, const struct line *l, uint8_t *out, size_t bytes) {
-    const char *s = l->value;
-    size_t wanted = 2 * bytes - 1, digits = strspn(s, "0123456789");
-    if (digits != wanted || s[digits] != '\0') {
-        if (s[digits] == '\0') fault(d, l, "it has to be %zu digits, and has %zu", wanted, digits);
-        else fault(d, l, "it has to be %zu digits, and byte %zu of it is none", wanted, digits + 1);
-        return;
-    }
-    out[0] = (uint8_t)(0xF0 | (s[0] - '0'));
-    for (size_t i = 1; i < bytes; i++) out[i] = (uint8_t)((s[2 * i - 1] - '0') << 4 | (s[2 * i] - '0'));
+// Why a value is not as many digits as wanted.
+static void fault_digits(struct drill *d, const struct line *l, unsigned wanted) {
+    size_t digits = strspn(l->value, "0123456789");
+    if (l->value[digits] == '\0') fault(d, l, "it has to be %u digits, and has %zu", wanted, digits);
+    else fault(d, l, "it has to be %u digits, and byte %zu of it is none", wanted, digits + 1);
+}
+
+static void take_identifier(struct drill *d, const struct line *l) {
+    if (!nw_identifier_bytes(l->value, d->identifier)) fault_digits(d, l, NW_IDENTIFIER_DIGITS);
 }
 
 static void take_type(struct drill *d, const struct line *l) {
@@ -151,13 +149,17 @@ static void take_resource(struct drill *d, const struct line *l) {
         fault(d, l, "there are %d resources already, the most a message can have", RESOURCES);
         return;
     }
-    unsigned faults = d->faults;
     uint8_t *mine = d->resources[d->resource_count];
-    take_digits(d, l, mine, RESOURCE_BYTES);
-    for (size_t i = 0; i < d->resource_count && d->faults == faults; i++)
-        if (memcmp(d->resources[i], mine, RESOURCE_BYTES) == 0)
+    if (!nw_resource_bytes(l->value, mine)) {
+        fault_digits(d, l, NW_RESOURCE_DIGITS);
+        return;
+    }
+    for (size_t i = 0; i < d->resource_count; i++)
+        if (memcmp(d->resources[i], mine, NW_RESOURCE_BYTES) == 0) {
             fault(d, l, "the same resource stands at line %u already", d->resource_lines[i]);
-    if (d->faults == faults) d->resource_lines[d->resource_count++] = l->number;
+            return;
+        }
+    d->resource_lines[d->resource_count++] = l->number;
 }
 
 // ---- languages and text
@@ -251,7 +253,7 @@ static void take_text(struct drill *d, const struct line *l) {
 
 static void take(struct drill *d, const struct line *l, enum word w) {
     switch (w) {
-    case IDENTIFIER: take_digits(d, l, d->identifier, ID_BYTES); break;
+    case IDENTIFIER: take_identifier(d, l); break;
     case OFFSET: take_number(d, l, -720, 840, &d->offset); break;
     case TYPE: take_type(d, l); break;
     case CLASS: take_number(d, l, 1, 4, &d->class_); break;
@@ -378,7 +380,7 @@ static int read_drill(struct drill *d) {
     read_lines(d);
     judge_whole(d);
     if (d->faults != 0) return complain("%u fault%s: nothing is written", d->faults, d->faults == 1 ? "" : "s"), REFUSED;
-    if (d->class_ == 4) complain("line %u, class 4: this is an emergency and no drill", d->first[CLASS].number);
+    if (d->class_ == NW_CLASS_EMERGENCY) complain("line %u, class 4: this is an emergency and no drill", d->first[CLASS].number);
     return MADE;
 }
 
@@ -392,7 +394,7 @@ static bool refused(const char *what, unsigned number) {
 
 static void index_form(const struct drill *d, nw_form *f) {
     nw_form_number(f, 1); // message
-    nw_form_bytes(f, d->identifier, ID_BYTES);
+    nw_form_bytes(f, d->identifier, NW_IDENTIFIER_BYTES);
     nw_form_number(f, (uint64_t)d->network);
     nw_form_number(f, d->start);
     nw_form_number(f, d->end);
@@ -400,13 +402,13 @@ static void index_form(const struct drill *d, nw_form *f) {
     nw_form_number(f, (uint64_t)d->class_);
     nw_form_number(f, (uint64_t)d->level);
     nw_form_number(f, d->resource_count);
-    for (size_t i = 0; i < d->resource_count; i++) nw_form_bytes(f, d->resources[i], RESOURCE_BYTES);
+    for (size_t i = 0; i < d->resource_count; i++) nw_form_bytes(f, d->resources[i], NW_RESOURCE_BYTES);
     nw_form_number(f, 0); // no channel
     nw_form_bytes(f, NULL, 0); // no signature
 }
 
 static void content_form(const struct drill *d, nw_form *f) {
-    nw_form_bytes(f, d->identifier, ID_BYTES);
+    nw_form_bytes(f, d->identifier, NW_IDENTIFIER_BYTES);
     nw_form_number(f, d->language_count);
     for (const struct language *l = d->languages; l < d->languages + d->language_count; l++) {
         nw_form_bytes(f, (const uint8_t *)l->letters, 3);

@@ -252,14 +252,8 @@ static void show_stretch(struct box *b, const struct stretch *bad) {
 
 // ---- text
 
-struct set {
-    const char *standard, *conversion;
-};
-static const struct set sets[] = {{"GB/T 2312-1980", "GB2312"},
-                                  {"GB/T 18030-2005", "GB18030"},
-                                  {"GB/T 13000-2010, read as UTF-8", "UTF-8"},
-                                  {"GB/T 21669-2008", NULL},
-                                  {"GB 16959-1997", NULL}};
+// What the C library calls a character set, where it knows it. GB/T 13000 is read as UTF-8.
+static const char *const conversions[] = {"GB2312", "GB18030", "UTF-8", NULL, NULL};
 #define BYTE UINT32_C(0x80000000) // marks a byte that is no character
 
 // Decodes a character at a time, for room for one is lent; what is none is a byte. Answers how many there are, at most n.
@@ -321,7 +315,7 @@ static void show_text(const struct box *b, unsigned set, const uint8_t *s, size_
         puts("    (not shown: there is no memory for it)");
         return;
     }
-    iconv_t none = (iconv_t)-1, way = sets[set].conversion ? iconv_open("WCHAR_T", sets[set].conversion) : none;
+    iconv_t none = (iconv_t)-1, way = conversions[set] ? iconv_open("WCHAR_T", conversions[set]) : none;
     size_t count = way != none ? decode(way, s, n, c) : undecoded(s, n, c), bytes = 0;
     for (size_t i = 0; i < count; i++) bytes += (c[i] & BYTE) != 0;
     bool hidden = show_lines(b, c, count);
@@ -342,8 +336,9 @@ static void show_language(const struct box *b, const struct table *t, nw_part pa
     nw_part letters = nw_language_letters(t->body, t->n, at, length);
     unsigned set = (unsigned)nw_value(nw_language_character_set(t->body, t->n, at, length));
     nw_part text = nw_language_text(t->body, t->n, at, length), agency = nw_language_agency(t->body, t->n, at, length);
-    printf("  text        %.3s, version %u, character set %u (%s), %zu bytes\n", (const char *)t->body + nw_part_start(letters),
-           t->state.version, set, sets[set].standard, nw_part_length(text));
+    printf("  text        %.3s, version %u, character set %u (%s%s), %zu bytes\n",
+           (const char *)t->body + nw_part_start(letters), t->state.version, set, nw_character_set_text(set),
+           set == NW_SET_GB_13000 ? ", read as UTF-8" : "", nw_part_length(text));
     show_text(b, set, t->body + nw_part_start(text), nw_part_length(text));
     if (nw_part_length(agency) != 0) {
         puts("  agency");
@@ -390,12 +385,11 @@ static void show_time(const char *what, uint64_t field, int offset) {
 }
 
 static void show_resources(const struct table *t, size_t at, size_t length) {
+    char digits[NW_RESOURCE_DIGITS + 1];
     uint64_t count = nw_value(nw_message_resource_count(t->body, t->n, at, length));
     for (uint64_t i = 0; i < count; i++) {
-        printf("  resource    ");
-        for (uint64_t j = 0; j < 23; j++)
-            printf("%u", (unsigned)nw_value(nw_message_resource_digit(t->body, t->n, at, length, i, j)));
-        putchar('\n');
+        nw_part resource = nw_message_resource(t->body, t->n, at, length, i);
+        printf("  resource    %s\n", nw_resource_text(t->body + nw_part_start(resource), digits));
     }
     if (count == 0) puts("  resource    none");
 }
@@ -407,24 +401,20 @@ static void show_type(const struct table *t, nw_part part) {
 }
 
 static void show_message(struct box *b, const struct table *t, const nw_record *r) {
-    static const char *const classes[] = {"", "drill of the sender", "simulated drill", "drill", "emergency"};
-    static const char *const levels[] = {"", "very grave", "grave", "serious", "ordinary"};
-    printf("message ");
-    for (uint64_t i = 0; i < 35; i++)
-        printf("%u", (unsigned)nw_value(nw_message_identifier_digit(t->body, t->n, r->at, r->length, i)));
-    putchar('\n');
+    char digits[NW_IDENTIFIER_DIGITS + 1];
+    nw_part identifier = nw_message_identifier(t->body, t->n, r->at, r->length);
+    printf("message %s\n", nw_identifier_text(t->body + nw_part_start(identifier), digits));
     show_time("start       ", r->start, b->offset);
     if (r->end == NW_LIVE) puts("  end         live, until it is called off");
     else show_time("end         ", r->end, b->offset);
     if (r->end <= r->start) puts("  (its end is not after its start: it is never shown)");
-    printf("  class       %u, %s\n", (unsigned)r->class_, classes[r->class_]);
-    printf("  level       %u, %s\n", (unsigned)r->level, levels[r->level]);
+    printf("  class       %u, %s\n", (unsigned)r->class_, nw_class_text(r->class_));
+    printf("  level       %u, %s\n", (unsigned)r->level, nw_level_text(r->level));
     show_type(t, nw_message_type(t->body, t->n, r->at, r->length));
     printf("  network     %u\n", (unsigned)nw_value(nw_message_network(t->body, t->n, r->at, r->length)));
     printf("  version     %u\n", t->state.version);
     show_resources(t, r->at, r->length);
     if (nw_value(nw_message_channel_flag(t->body, t->n, r->at, r->length)) != 0) puts("  channel     given, and not shown");
-    nw_part identifier = nw_message_identifier(t->body, t->n, r->at, r->length);
     find_text(b, t->body + nw_part_start(identifier), nw_part_length(identifier));
 }
 
@@ -446,8 +436,8 @@ static void show_rest(struct box *b, const struct table *t) {
         printf("whole and accepted, %zu bytes, not shown\n", t->n);
         return;
     }
-    char digits[36] = "";
-    for (size_t i = 0; i < 35; i++) digits[i] = (char)('0' + nw_value(nw_content_identifier_digit(t->body, t->n, i)));
+    char digits[NW_IDENTIFIER_DIGITS + 1];
+    nw_identifier_text(t->body + nw_part_start(nw_content_identifier(t->body, t->n)), digits);
     fault(b, "no message %s has come that it would be the text of", digits);
     show_languages(b, t);
 }

@@ -68,7 +68,7 @@ static void ask(struct input *in, const uint8_t *body, size_t n, bool accepted) 
     hold_part(signature, n);
     must(taken(identifier) == taken(extension));
     must(!taken(extension) || nw_value(extension) == nw_crc16(body, 18));
-    for (uint64_t i = 0; i < 35; i++) hold_number(nw_content_identifier_digit(body, n, i), 9);
+    for (uint64_t i = 0; i < 35; i++) hold_digit(nw_content_identifier_digit(body, n, i), body, identifier, i);
     must(!taken(nw_content_identifier_digit(body, n, 35 + take(in, 7))));
     for (uint64_t i = 0; taken(count) && i <= nw_value(count); i++) {
         nw_part language = nw_content_language(body, n, i);

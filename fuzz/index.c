@@ -80,13 +80,16 @@ static void ask_streams(const uint8_t *body, size_t n, nw_part part) {
 }
 
 static void ask_digits(struct input *in, const uint8_t *body, size_t n, size_t at, size_t length) {
-    for (uint64_t i = 0; i < 35; i++) hold_number(nw_message_identifier_digit(body, n, at, length, i), 9);
+    nw_part identifier = nw_message_identifier(body, n, at, length);
+    for (uint64_t i = 0; i < 35; i++) hold_digit(nw_message_identifier_digit(body, n, at, length, i), body, identifier, i);
     must(!taken(nw_message_identifier_digit(body, n, at, length, 35)));
     nw_answer count = nw_message_resource_count(body, n, at, length);
     hold_number(count, 255);
     for (uint64_t i = 0; taken(count) && i <= nw_value(count); i++) {
-        hold_part(nw_message_resource(body, n, at, length, i), n);
-        for (uint64_t j = 0; j < 24; j++) hold_number(nw_message_resource_digit(body, n, at, length, i, j), 9);
+        nw_part resource = nw_message_resource(body, n, at, length, i);
+        hold_part(resource, n);
+        for (uint64_t j = 0; j < 24; j++)
+            hold_digit(nw_message_resource_digit(body, n, at, length, i, j), body, resource, j);
     }
     hold_number(nw_message_identifier_digit(body, n, at, length, take(in, 8)), 9);
     hold_number(nw_message_resource_digit(body, n, at, length, take(in, 8), take(in, 8)), 9);

@@ -1,4 +1,4 @@
-// The target of checksums, days, times and the words of refusals.
+// The target of checksums, days, times, and the header's own texts: digits, and the words of refusals.
 #include "trial.h"
 
 // A checksum of so many bits by its definition, bit after bit.
@@ -66,6 +66,21 @@ static void try_text(struct input *in) {
     free(text);
 }
 
+// A text of 35 digits, and no other one, becomes bytes, and these the text again.
+static void try_digits(struct input *in) {
+    size_t n = now_and_then(in, 4) ? upto(in, 40) : 35;
+    char *text = block_of(n + 1), back[36];
+    for (size_t i = 0; i < n; i++) text[i] = (char)(now_and_then(in, 128) ? take(in, 1) : '0' + take(in, 1) % 10);
+    text[n] = '\0';
+    struct lent bytes = lend(18, 0x5a);
+    bool good = strspn(text, "0123456789") == 35 && strlen(text) == 35;
+    must(nw_identifier_bytes(text, bytes.bytes) == good);
+    if (good) must(bytes.bytes[0] >> 4 == 15 && strcmp(nw_identifier_text(bytes.bytes, back), text) == 0);
+    else must(kept(&bytes, 0));
+    give_back(&bytes);
+    free(text);
+}
+
 static void try_showing(struct input *in) {
     uint64_t start = take(in, 5), end = now_and_then(in, 4) ? NW_LIVE : take(in, 5);
     uint32_t day = (uint32_t)take(in, 2), second = (uint32_t)take(in, 3) % 90000;
@@ -80,6 +95,7 @@ int LLVMFuzzerTestOneInput(const uint8_t *data, size_t size) {
     try_times(&in);
     try_text(&in);
     try_showing(&in);
+    try_digits(&in);
     unsigned number = (unsigned)take(&in, 4);
     must(number < 256 || !listed(number));
     try_checksums(in.s, in.n);

@@ -124,6 +124,16 @@ static inline void hold_number(nw_answer a, uint64_t most) {
     else must(listed(NW_REFUSAL(a)));
 }
 
+// A digit that was answered is the one of the text that the header makes of the bytes which were answered for all digits.
+static inline void hold_digit(nw_answer digit, const uint8_t *body, nw_part digits, uint64_t i) {
+    char text[NW_IDENTIFIER_DIGITS + 1];
+    hold_number(digit, 9);
+    if (!taken(digit)) return;
+    must(taken(digits) && i < 2 * nw_part_length(digits) - 1);
+    nw_digits_text(body + nw_part_start(digits), nw_part_length(digits), text);
+    must((uint64_t)(text[i] - '0') == nw_value(digit));
+}
+
 // ---- forms made up from an input: mostly good ones
 
 static inline void put_bytes(struct input *in, nw_form *f, size_t n) {

@@ -205,8 +205,8 @@ enum nw_showing { NW_BEFORE = 0, NW_ON = 1, NW_ENDED = 2 };
 
 enum nw_kind { NW_CONFIGURATION = 0xFB, NW_CERTIFICATE = 0xFC, NW_INDEX = 0xFD, NW_CONTENT = 0xFE };
 
-/* Judges any byte string. Value: the heading; the payload is the n - 12 bytes from
- * s + 8 on. Refusals 1 to 7, in this order. A section that is not current is good all the same. */
+/* Judges any byte string. Value: the heading; the payload is the n - 12 bytes from s + 8 on. Refusals 1
+ * to 7, in this order. A section that is not current is good all the same. */
 nw_heading nw_section_read(const uint8_t *s, size_t n);
 
 /* The stated length of the section that begins at s, where n bytes are at hand: so many are
@@ -237,7 +237,7 @@ nw_answer nw_section_cut(const uint8_t *body, size_t n, uint32_t kind, uint32_t 
  *
  * A state is possible if all of it is zeros, or if its kind is one of enum nw_kind, its version at most
  * 31, spoiled 0 or 1, at least one number held, none above last, and each held length at most
- * NW_MOST_PAYLOAD. Feeds leave no other state of one that was zeros. */
+ * NW_MOST_PAYLOAD. From a fresh state on, feeds leave only possible ones. */
 typedef struct nw_gathering {
     uint16_t extension;
     uint8_t kind;       /* table_id; 0 while nothing is begun */
@@ -340,6 +340,64 @@ static inline void nw_form_thing(nw_form *f, size_t list)
         f->tape[list]++;
 }
 
+/* ---- Identifiers and resources ----------------------------------------------------------------
+ *
+ * A message's identifier is 35 decimal digits in 18 bytes; a resource, and a terminal is one, has 23 in
+ * 12 bytes. Each digit has four bits, and before the first stand four reserved ones. The helpers here
+ * are plain C, tested and not proved. */
+#define NW_IDENTIFIER_BYTES 18u
+#define NW_IDENTIFIER_DIGITS 35u
+#define NW_RESOURCE_BYTES 12u
+#define NW_RESOURCE_DIGITS 23u
+
+/* The digits of n bytes, 1 or more, as a text of 2n - 1 characters and a NUL, with `?` for one above 9.
+ * Answers the text. */
+static inline char *nw_digits_text(const uint8_t *bytes, size_t n, char *text)
+{
+    size_t i;
+    for (i = 0; i < 2 * n - 1; i++)
+        text[i] = "0123456789??????"[i % 2 ? bytes[(i + 1) / 2] >> 4 : bytes[i / 2] & 15];
+    text[2 * n - 1] = '\0';
+    return text;
+}
+
+/* The n bytes, 1 or more, of a text of exactly 2n - 1 digits and a NUL, the reserved bits as ones.
+ * Answers 1, and for any other text 0 with nothing written. */
+static inline int nw_digits_bytes(const char *text, uint8_t *bytes, size_t n)
+{
+    size_t i;
+    for (i = 0; i < 2 * n - 1; i++)
+        if (text[i] < '0' || text[i] > '9')
+            return 0;
+    if (text[2 * n - 1] != '\0')
+        return 0;
+    bytes[0] = (uint8_t)(0xF0 | (text[0] - '0'));
+    for (i = 1; i < n; i++)
+        bytes[i] = (uint8_t)((text[2 * i - 1] - '0') << 4 | (text[2 * i] - '0'));
+    return 1;
+}
+
+/* The same of an identifier, 18 bytes and a text of 36, and of a resource, 12 bytes and a text of 24. */
+static inline char *nw_identifier_text(const uint8_t bytes[18], char text[36])
+{
+    return nw_digits_text(bytes, NW_IDENTIFIER_BYTES, text);
+}
+
+static inline char *nw_resource_text(const uint8_t bytes[12], char text[24])
+{
+    return nw_digits_text(bytes, NW_RESOURCE_BYTES, text);
+}
+
+static inline int nw_identifier_bytes(const char *text, uint8_t bytes[18])
+{
+    return nw_digits_bytes(text, bytes, NW_IDENTIFIER_BYTES);
+}
+
+static inline int nw_resource_bytes(const char *text, uint8_t bytes[12])
+{
+    return nw_digits_bytes(text, bytes, NW_RESOURCE_BYTES);
+}
+
 /* ---- Things of a body -------------------------------------------------------------------------
  *
  * A thing of a body is told by `at`, the offset of the byte where it begins, and, where it does not
@@ -403,6 +461,34 @@ nw_answer nw_certificate_lay(uint32_t kind, const uint8_t *body, size_t n, uint6
  * A message is told by where it begins in the body, the byte after its length, and that length
  * (EBM_length), as a record has them. A descriptor's bytes and the signature are opaque. */
 #define NW_MOST_MESSAGES 255u   /* records that are always enough */
+
+/* The classes and levels of a message, and the standard's words for them (6.2, tables 2 and 3). The
+ * texts are plain C, tested and not proved. */
+enum nw_class {
+    NW_CLASS_SYSTEM_DRILL = 1,
+    NW_CLASS_SIMULATED_DRILL = 2,
+    NW_CLASS_ACTUAL_DRILL = 3,
+    NW_CLASS_EMERGENCY = 4
+};
+enum nw_level {
+    NW_LEVEL_VERY_GRAVE = 1,
+    NW_LEVEL_GRAVE = 2,
+    NW_LEVEL_SERIOUS = 3,
+    NW_LEVEL_ORDINARY = 4
+};
+
+static inline const char *nw_class_text(uint64_t number)
+{
+    static const char *const texts[] = {
+        "drill of the issuing system", "simulated drill", "actual drill", "emergency broadcast"};
+    return number >= 1 && number <= 4 ? texts[number - 1] : "no such class";
+}
+
+static inline const char *nw_level_text(uint64_t number)
+{
+    static const char *const texts[] = {"very grave", "grave", "serious", "ordinary"};
+    return number >= 1 && number <= 4 ? texts[number - 1] : "no such level";
+}
 
 /* Entries that are enough to lay a body of so many bytes: counted by hand and tested, not proved. */
 #define NW_INDEX_ENTRIES(bytes) ((size_t)(bytes) / 2 * 3 + 1)
@@ -537,6 +623,23 @@ nw_answer nw_index_lay(uint32_t kind, const uint8_t *body, size_t n, uint64_t *t
 
 /* Entries that are always enough to lay a body: counted by hand and tested, not proved. */
 #define NW_CONTENT_ENTRIES 75u
+
+/* The character sets of a language, and the standards that define them (6.3, table 5). The texts are
+ * plain C, tested and not proved. */
+enum nw_character_set {
+    NW_SET_GB_2312 = 0,
+    NW_SET_GB_18030 = 1,
+    NW_SET_GB_13000 = 2,
+    NW_SET_GB_21669 = 3,
+    NW_SET_GB_16959 = 4
+};
+
+static inline const char *nw_character_set_text(uint64_t number)
+{
+    static const char *const texts[] = {
+        "GB/T 2312-1980", "GB/T 18030-2005", "GB/T 13000-2010", "GB/T 21669-2008", "GB 16959-1997"};
+    return number <= 4 ? texts[number] : "no such character set";
+}
 
 /* Judges a body and the extension that its sections had. Value: 0. Refusals, in this order: 2, the
  * kind is not NW_CONTENT; 22, more than NW_MOST_BODY bytes; then that of the first field that is

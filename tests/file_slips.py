@@ -89,7 +89,7 @@ def whole():
     later = printed(INDEX, 0, 1, 0, 0, 0, b'\0\0\0')
     yield DRILL + later, ['section at byte %d: not taken, the section is not current (refusal 8)' % len(DRILL), *SHOWN]
     (newer,) = index(message(class_level=0x24), version=1)
-    yield ONE + newer + TWO, ['  class       3, drill', '  version     0', '  class       2, simulated drill', '  version     1']
+    yield ONE + newer + TWO, ['  class       3, actual drill', '  version     0', '  class       2, simulated drill', '  version     1']
     yield index()[0], ['index table, extension 0000, version 0: it has no message']
     certificate, = table(CERTIFICATE, b'\0\0\0\0')
     setting, = table(CONFIGURATION, b'\x01\x06\0\x02\x64\0\0\0', 0xBEEF, 3)

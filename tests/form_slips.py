@@ -179,11 +179,11 @@ SAME = [
 # Other good forms: the lines in the place of the good form's, what the box shows of them at 480 minutes, what is remarked.
 OTHERS = [
     ({}, ['  start       03/11/2024 07:45:00 Sunday, UTC+08:00', '  end         03/11/2024 08:15:00 Sunday, UTC+08:00',
-          '  class       3, drill', '  level       4, ordinary', '  type        11A01', '  network     1', '  version     0',
+          '  class       3, actual drill', '  level       4, ordinary', '  type        11A01', '  network     1', '  version     0',
           '  resource    36543200000000303010103', '    | This is a drill.'], []),
     ({END: b'end live'}, ['  end         live, until it is called off'], []),
-    ({CLASS: b'class 4'}, ['  class       4, emergency'], ['line 6, class 4: this is an emergency and no drill']),
-    ({CLASS: b'class 1', LEVEL: b'level 1'}, ['  class       1, drill of the sender', '  level       1, very grave'], []),
+    ({CLASS: b'class 4'}, ['  class       4, emergency broadcast'], ['line 6, class 4: this is an emergency and no drill']),
+    ({CLASS: b'class 1', LEVEL: b'level 1'}, ['  class       1, drill of the issuing system', '  level       1, very grave'], []),
     ({CLASS: b'class 2', LEVEL: b'level 2'}, ['  class       2, simulated drill', '  level       2, grave'], []),
     ({NETWORK: b'network 65535', VERSION: b'version 31', TYPE: b'type ~!azZ'},
      ['  type        ~!azZ', '  network     65535', '  version     31'], []),

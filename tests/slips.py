@@ -176,7 +176,7 @@ def try_cable():
             wrong.append('the cable on %.60r passes on %.200r' % (data, got[1]))
         write('received', got[1])
         expect('the box after the cable on %.60r' % data, run('box', ['received']), status)
-    for name, shown in (('drill.txt', '  class       3, drill'), ('short.txt', '  end         live, until it is called off')):
+    for name, shown in (('drill.txt', '  class       3, actual drill'), ('short.txt', '  end         live, until it is called off')):
         expect(name, run('adapter', ['sent'], read(os.path.join(os.path.dirname(CABLE), name))), 0, exactly=[])
         write('received', run('cable', [], read('sent'))[1])
         expect('the box on ' + name, run('box', ['received']), 0, [shown])
