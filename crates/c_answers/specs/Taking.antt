@@ -1,4 +1,4 @@
--- What a reader has to believe of an answer that C takes apart: what the macros of include/neapwillow.h do, and what they are to find.
+-- What a reader has to believe of an answer that C takes apart: what include/neapwillow.h takes from it, and what that is to be.
 use Prim.Native.Nat.{ℕ, _/_, _%_, _^_, _<_}
 use mathlib.Core.Path.{_≡_}
 use Rattle.ground_refusal.specs.Numbers.{refusalNumber, refusalPlace}
@@ -8,15 +8,15 @@ use Rattle.time_days.specs.declared.Date.{Date}
 use Rattle.time_local.specs.declared.LocalTime.{LocalTime}
 use Rattle.section_reader.specs.declared.Heading.{Heading}
 
--- NW_REFUSAL: `answer & 0xFF`
+-- NW_REFUSAL: `packed & 0xFF`
 abbrev pub refusalTold : ℕ → ℕ
 refusalTold a = a % 256
 
--- NW_PLACE and NW_VALUE: `answer >> 8`
+-- NW_PLACE and nw_value: `packed >> 8`
 abbrev pub aboveTold : ℕ → ℕ
 aboveTold a = a / 256
 
--- `NW_VALUE(answer) >> below & mask`, a mask of so many bits; without one, it is cast to a type of so many: 32 for unsigned, 64 for size_t
+-- `packed >> (8 + below) & mask`, a mask of so many bits; without one, it is cast to a type of so many: 32 for unsigned, 64 for size_t
 abbrev pub fieldTold : ℕ → ℕ → ℕ → ℕ
 fieldTold below width a = aboveTold a / 2 ^ below % 2 ^ width
 
@@ -29,14 +29,14 @@ pub record TellsValue (a value : ℕ) : Type 0 where
   pub no-refusal : refusalTold a ≡ 0
   pub is : aboveTold a ≡ value
 
--- NW_DATE_YEAR, NW_DATE_MONTH, NW_DATE_DAY
+-- nw_date_year, nw_date_month, nw_date_day
 pub record TellsDate (a : ℕ) (d : Date) : Type 0 where
   pub no-refusal : refusalTold a ≡ 0
   pub year : fieldTold 16 32 a ≡ d .year
   pub month : fieldTold 8 8 a ≡ d .month
   pub day : fieldTold 0 8 a ≡ d .day
 
--- NW_TIME_YEAR to NW_TIME_SECOND
+-- nw_time_year to nw_time_second
 pub record TellsTime (a : ℕ) (t : LocalTime) : Type 0 where
   pub no-refusal : refusalTold a ≡ 0
   pub year : fieldTold 40 32 a ≡ t .year
@@ -46,7 +46,7 @@ pub record TellsTime (a : ℕ) (t : LocalTime) : Type 0 where
   pub minute : fieldTold 8 8 a ≡ t .minute
   pub second : fieldTold 0 8 a ≡ t .second
 
--- NW_SECTION_KIND to NW_SECTION_LAST
+-- nw_heading_kind to nw_heading_last
 pub record TellsHeading (a : ℕ) (h : Heading) : Type 0 where
   pub no-refusal : refusalTold a ≡ 0
   pub kind : fieldTold 48 32 a ≡ h .kind
@@ -56,13 +56,13 @@ pub record TellsHeading (a : ℕ) (h : Heading) : Type 0 where
   pub number : fieldTold 8 8 a ≡ h .number
   pub last : fieldTold 0 8 a ≡ h .last
 
--- NW_PART_START, NW_PART_LENGTH
+-- nw_part_start, nw_part_length
 pub record TellsPart (a start length : ℕ) : Type 0 where
   pub no-refusal : refusalTold a ≡ 0
   pub start-is : fieldTold 24 64 a ≡ start
   pub length-is : fieldTold 0 24 a ≡ length
 
--- NW_CONTENT_EXTENSION, NW_CONTENT_LENGTH
+-- nw_written_extension, nw_written_length
 pub record TellsContent (a extension length : ℕ) : Type 0 where
   pub no-refusal : refusalTold a ≡ 0
   pub extension-is : fieldTold 24 32 a ≡ extension

@@ -1,4 +1,4 @@
--- What C takes from an answer is what went in: by the header's macros (telling's `Taking`), of everything that the library answers.
+-- What C takes from an answer is what went in: by what the header takes from it (c_answers' `Taking`), of everything that the library answers.
 use Prim.Native.Nat.{ℕ, _+_, _^_, _≤_, _<_}
 use mathlib.Core.Path.{_≡_}
 use mathlib.Core.Bool.{true, false}
