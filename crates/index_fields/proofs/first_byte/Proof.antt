@@ -14,9 +14,9 @@ first-byte-spec =
     (tie.spec
     (λ c κs. search needs)
     (λ c. let a = c .before .before .before .args in
-        omega (arith, in-part (a .s .now) (a .at) (a .n) (sym (c .before .in-part .ensures) ∙ c .if1 .taken)))
+    omega (arith, in-part (a .s .now) (a .at) (a .n) (sym (c .before .in-part .ensures) ∙ c .if1 .taken)))
     (λ c κs. search needs)
     (λ c. unfold numberRead firstByte in
-        c .read-number .ensures ∙ count-number 1 _ _ _ (λ i. c .before .before .before .shared-slice-known .given i .fits)
-        ∙ ap numberOf (needed _ _ _ (sym (c .before .before .in-part .ensures) ∙ c .before .if1 .taken)))
+    c .read-number .ensures ∙ count-number 1 _ _ _ (λ i. c .before .before .before .shared-slice-known .given i .fits)
+    ∙ ap numberOf (needed _ _ _ (sym (c .before .before .in-part .ensures) ∙ c .before .if1 .taken)))
     (λ c. unfold firstByte in ap numberOf (not-needed _ _ _ (sym (c .before .in-part .ensures) ∙ c .if1 .left))))
