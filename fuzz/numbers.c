@@ -91,6 +91,7 @@ static void try_showing(struct input *in) {
 
 int LLVMFuzzerTestOneInput(const uint8_t *data, size_t size) {
     struct input in = {data, size};
+    must(nw_version() == NW_VERSION_NUMBER);
     try_days(&in);
     try_times(&in);
     try_text(&in);

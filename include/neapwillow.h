@@ -23,7 +23,16 @@
 extern "C" {
 #endif
 
+/* The version that this header is of: as text, its three numbers, and these as one, two decimal digits
+ * for each but the first. */
 #define NW_VERSION "0.1.0"
+#define NW_VERSION_MAJOR 0
+#define NW_VERSION_MINOR 1
+#define NW_VERSION_PATCH 0
+#define NW_VERSION_NUMBER (NW_VERSION_MAJOR * 10000 + NW_VERSION_MINOR * 100 + NW_VERSION_PATCH)
+
+/* The version of the library that is linked, as NW_VERSION_NUMBER has that of the header. */
+uint32_t nw_version(void);
 
 /* ---- Answers ----------------------------------------------------------------------------------
  *

@@ -48,11 +48,14 @@ def main():
     page, header = read(FOLDER, 'neapwillow.3'), read(ROOT, 'include', 'neapwillow.h')
     said = read(FOLDER, 'installed').splitlines(keepends=True)
     listed = set(re.findall(r'= (\d+)', re.search(r'enum nw_refusal \{(.*?)\};', header, re.S)[1]))
-    refusals = [line for line in said[2:] if line.split(' ')[0] in listed]
-    others = [line.split(' ', 1)[1] for line in said[2:] if line not in refusals]
+    refusals = [line for line in said[3:] if line.split(' ')[0] in listed]
+    others = [line.split(' ', 1)[1] for line in said[3:] if line not in refusals]
+    major, minor, patch = map(int, version.split('.'))
+    number = major * 10000 + minor * 100 + patch
     expect('NW_VERSION', said[0], version)
+    expect('NW_VERSION_NUMBER and nw_version', said[1], '%d %d\n' % (number, number))
     expect("pkg-config's version", read(FOLDER, 'modversion'), version)
-    expect('the CRC_32 of 123456789', said[1], '0376E6E7\n')
+    expect('the CRC_32 of 123456789', said[2], '0376E6E7\n')
     expect("the man page's refusals", words_of_page(page), ''.join(refusals))
     expect('other refusals', ''.join(others), 'no such refusal\n' * len(others))
     expect("the README's drill", shown_after(readme, DRILL), read(FOLDER, 'shown'))

@@ -83,8 +83,21 @@ def declarations(header):
     """Each function that the header declares."""
     found = {}
     for result, name, parameters in re.findall(r'^(\w+) (nw_\w+)\(([^)]*)\);', header, flags=re.M):
-        found[name] = [result], [in_c(p) for p in re.sub(r'\s+', ' ', parameters).split(',')]
+        found[name] = [result], [in_c(p) for p in re.sub(r'\s+', ' ', parameters).split(',') if p != 'void']
     return found
+
+
+def source_version():
+    """The version by the file VERSION, the text and then each number, which the definition must have too."""
+    text = read('VERSION').strip()
+    numbers = [int(n) for n in re.search(r'^version = versionNumber (\d+) (\d+) (\d+)$', read('crates', 'c_answers', 'specs', 'Version.antt'), re.M).groups()]
+    return {'text': text, **dict(zip(['MAJOR', 'MINOR', 'PATCH'], map(int, text.split('.')))), 'defined': numbers}
+
+
+def header_version(header):
+    """The same of the header's macros."""
+    found = {name: int(number) for name, number in re.findall(r'^#define NW_VERSION_(MAJOR|MINOR|PATCH) (\d+)$', header, re.M)}
+    return {'text': re.search(r'^#define NW_VERSION "(.*)"$', header, re.M)[1], **found, 'defined': list(found.values())}
 
 
 def source_constants():
@@ -163,7 +176,7 @@ def shapes(header):
 def main():
     header, commands = (without_comments(read(path)) for path in HEADERS.values())
     functions = [('function of ' + crate, exports(crate), declarations(text)) for crate, text in zip(HEADERS, (header, commands))]
-    pairs = [functions[0], ('refusal', source_refusals(), header_refusals(header)),
+    pairs = [functions[0], ('version', source_version(), header_version(header)), ('refusal', source_refusals(), header_refusals(header)),
              ('struct', {lent: source_fields(path, name) for lent, path, name in STRUCTS},
               {lent: header_fields(header, lent) for lent, _, _ in STRUCTS}),
              ('shape', dict.fromkeys(['nw_answer', *SHAPES.values()], 'uint64_t packed;'), shapes(header)),

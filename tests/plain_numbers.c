@@ -1,7 +1,14 @@
-// plain_numbers: checksums, days and times in plain C, made from document 01 and the header alone.
+// plain_numbers: the version, checksums, days and times in plain C, made from document 01 and the header alone.
 #include "plain_numbers.h"
 
+#include <stdio.h>
+
 #include "plain_fields.h"
+
+uint32_t plain_version(void) {
+    unsigned major, minor, patch;
+    return sscanf(NW_VERSION, "%u.%u.%u", &major, &minor, &patch) == 3 ? major * 10000 + minor * 100 + patch : 0;
+}
 
 // ---- checksums
 

@@ -8,6 +8,9 @@
 // Fills the tables of CRC_32, once, before it is first asked for.
 void plain_fill_tables(void);
 
+// By its text.
+uint32_t plain_version(void);
+
 // Eight bytes at a time by eight tables; and, to measure by, a byte at a time by one.
 uint32_t plain_crc32(const uint8_t *s, size_t n);
 uint32_t plain_crc32_byte_table(const uint8_t *s, size_t n);

@@ -147,6 +147,11 @@ plain_answer same_outputs(plain_answer library, plain_answer plain) {
 
 // ---- numbers
 
+static void try_version(void) {
+    trying = F_version;
+    same((plain_answer)nw_version() << 8, (plain_answer)plain_version() << 8);
+}
+
 static void try_checksums(void) {
     for (size_t i = 0; i < 12000; i++) {
         size_t n = i % 1200, from = below(1000);
@@ -420,6 +425,7 @@ int main(int count, char **words) {
     signal(SIGSEGV, end_on_signal);
     signal(SIGBUS, end_on_signal);
     plain_fill_tables();
+    try_version();
     try_checksums();
     try_days();
     try_times();

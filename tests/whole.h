@@ -12,7 +12,7 @@
 
 // Every function of the header, and the refusals that it can give: each must be met, and no other.
 #define FUNCTIONS(X)                                                                                                 \
-    X(crc32, "") X(crc16, "") X(day_of, "20") X(date_of, "20") X(weekday, "20")                                      \
+    X(version, "") X(crc32, "") X(crc16, "") X(day_of, "20") X(date_of, "20") X(weekday, "20")                       \
     X(time_pack, "19 20") X(time_unpack, "18 19 20") X(time_read_text, "19 20 24") X(time_showing, "18 19 20")       \
     X(section_read, "1 2 3 4 5 6 7") X(section_length, "1 4") X(section_count, "14 22")                              \
     X(section_cut, "2 6 14 19 21 22")                                                                                \

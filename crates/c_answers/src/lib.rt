@@ -1,4 +1,5 @@
 // How each answer of the library becomes one number for C: the refusal's number in the low byte, and above it its place or the value.
+// The library's version too, as one number.
 use body_formats::Number;
 use body_formats::Part;
 use body_formats::Step;
@@ -23,6 +24,7 @@ ghost use mathlib.Core.Path.{_≡_};
 ghost use Prim.Native.Nat.{_≤_};
 ghost use Rattle.crc.specs.Crc.{digit};
 ghost use Rattle.c_answers.specs.Packing.{packed};
+ghost use Rattle.c_answers.specs.Version.{version};
 ghost use Rattle.c_answers.specs.Answers.{answerOf, refusedOf, dayAnswer, dateFields, dateAnswer, weekdayAnswer, fieldAnswer, timeFields, localAnswer, showingAnswer, headingFields, sectionAnswer, statedAnswer, countAnswer, lengthAnswer, feedAnswer, handAnswer, readAnswer, numberAnswer, partAnswer, writtenAnswer, contentAnswer, localFieldAnswer};
 
 // What an answer holds above its low byte: 56 bits.
@@ -40,6 +42,19 @@ fn answered(value: u64) -> u64
     ensures { λ a. ⌜ a ≡ answerOf 0 value ⌝ }
 {
     256 * (value % ABOVE)
+}
+
+// The three numbers of the file VERSION.
+const MAJOR: u32 = 0;
+
+const MINOR: u32 = 1;
+
+const PATCH: u32 = 0;
+
+pub fn version() -> u32
+    ensures { λ r. ⌜ r ≡ version ⌝ }
+{
+    MAJOR * 10_000 + MINOR * 100 + PATCH
 }
 
 pub fn day_answer(a: DayAnswer) -> u64

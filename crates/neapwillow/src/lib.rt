@@ -12,3 +12,4 @@ mod c_index_records;
 mod c_section;
 mod c_time;
 mod c_time_days;
+mod c_version;

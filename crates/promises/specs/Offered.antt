@@ -40,6 +40,7 @@ use Rattle.configuration_fields.specs.Asked.{clockSecond, codeAddress, codeReso
 use Rattle.configuration_fields.specs.Asked.{period, volume, parameterCount, parameter, terminalCount, terminal, terminalDigit}
 use Rattle.c_answers.specs.Answers.{dayAnswer, dateAnswer, weekdayAnswer, fieldAnswer, localAnswer, showingAnswer, sectionAnswer, statedAnswer, countAnswer}
 use Rattle.c_answers.specs.Answers.{lengthAnswer, feedAnswer, handAnswer, readAnswer, numberAnswer, partAnswer, writtenAnswer, localFieldAnswer, contentAnswer}
+use Rattle.c_answers.specs.Version.{version}
 use Rattle.promises.specs.Determined.{Determined, Determined₂, Determined₃}
 
 pub record Offered : Type 0 where
@@ -172,6 +173,8 @@ pub record Offered : Type 0 where
   pub nw-command-terminal-count : (body : List ℕ) (at : ℕ) → Determined (λ r. r ≡ numberAnswer (terminalCount body at))
   pub nw-command-terminal : (body : List ℕ) (at i : ℕ) → Determined (λ r. r ≡ partAnswer (terminal body at i))
   pub nw-command-terminal-digit : (body : List ℕ) (at i j : ℕ) → Determined (λ r. r ≡ numberAnswer (terminalDigit body at i j))
+  -- The library's version for C.
+  pub nw-version :  → Determined (λ r. r ≡ version)
   -- What the commands nw-dates and nw-section call from C: the report and the line of the programs `dates` and `section`.
   pub nw-dates-report : (input out : List ℕ) → Determined₂ (λ r out′. (r ≡ length (reportOf input)) × (out′ ≡ reportOf input ++ drop r out))
   pub nw-section-line : (input out : List ℕ) → Determined₂ (λ r out′. (r ≡ length (lineOf input)) × (out′ ≡ lineOf input ++ drop r out))
