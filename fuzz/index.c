@@ -52,21 +52,31 @@ static void make(struct input *in, nw_form *f) {
 static void ask_descriptors(const uint8_t *body, size_t n, nw_part part) {
     if (!taken(part)) return;
     size_t at = nw_part_start(part), length = nw_part_length(part);
-    for (size_t size; length > 0; at += size, length -= size) {
+    nw_answer count = nw_descriptor_count(body, n, at, length);
+    uint64_t met = 0;
+    hold_number(count, length / 2);
+    for (size_t size; length > 0; at += size, length -= size, met++) {
         hold_number(nw_descriptor_tag(body, n, at, length), 255);
         nw_part bytes = nw_descriptor_bytes(body, n, at, length);
         hold_part(bytes, n);
-        if (!taken(bytes)) return;
+        if (!taken(bytes)) {
+            must(!taken(count));
+            return;
+        }
         must(nw_part_start(bytes) > at);
         size = nw_part_start(bytes) + nw_part_length(bytes) - at;
         must(size <= length);
     }
+    must(taken(count) && nw_value(count) == met);
 }
 
 static void ask_streams(const uint8_t *body, size_t n, nw_part part) {
     if (!taken(part)) return;
     size_t at = nw_part_start(part), length = nw_part_length(part);
-    for (size_t size; length > 0; at += size, length -= size) {
+    nw_answer count = nw_stream_count(body, n, at, length);
+    uint64_t met = 0;
+    hold_number(count, length / 5);
+    for (size_t size; length > 0; at += size, length -= size, met++) {
         hold_number(nw_stream_type(body, n, at, length), 255);
         hold_number(nw_stream_pid(body, n, at, length), 0x1FFF);
         nw_part inner = nw_stream_descriptors(body, n, at, length);
@@ -77,6 +87,7 @@ static void ask_streams(const uint8_t *body, size_t n, nw_part part) {
         size = nw_part_start(inner) + nw_part_length(inner) - at;
         must(size <= length);
     }
+    must(!taken(count) || nw_value(count) == met);
 }
 
 static void ask_digits(struct input *in, const uint8_t *body, size_t n, size_t at, size_t length) {

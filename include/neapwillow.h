@@ -593,6 +593,14 @@ nw_answer nw_stream_type(const uint8_t *body, size_t n, size_t at, size_t length
 nw_answer nw_stream_pid(const uint8_t *body, size_t n, size_t at, size_t length);
 nw_part nw_stream_descriptors(const uint8_t *body, size_t n, size_t at, size_t length);
 
+/* How many descriptors, or streams, fill the part of `length` bytes at `at`, as nw_message_descriptors,
+ * nw_stream_descriptors or nw_message_streams answer it; 0 for no bytes. Each is judged as nw_index_read
+ * judges it, a stream with its descriptors, in one way over the part. Refusals, in this order: 19, the
+ * part does not lie in the body (place 0); 14, 15 or 17 of the first field that is wrong, at its
+ * place. */
+nw_answer nw_descriptor_count(const uint8_t *body, size_t n, size_t at, size_t length);
+nw_answer nw_stream_count(const uint8_t *body, size_t n, size_t at, size_t length);
+
 /* Writes the table of a form at the start of out; bytes of out after it stay. Value: its length. The
  * tape has, where "bytes" are their start and their length in the pool:
  *   the count of messages; for each the identifier (18 bytes), network, start, end, type (5 bytes),

@@ -356,8 +356,10 @@ static void put_stream(const struct argument *body, size_t at, size_t length) {
     put_answer(nw_stream_descriptors(body->bytes, body->length, at, length));
 }
 
+// The count stands before what is counted.
 static void put_descriptors(const struct argument *body, nw_part part) {
     size_t at = nw_part_start(part), length = nw_part_length(part);
+    put_answer(nw_descriptor_count(body->bytes, body->length, at, length));
     for (size_t size; length > 0; at += size, length -= size) {
         put_descriptor(body, at, length);
         size = end_after(at, nw_descriptor_bytes(body->bytes, body->length, at, length)) - at;
@@ -366,6 +368,7 @@ static void put_descriptors(const struct argument *body, nw_part part) {
 
 static void put_streams(const struct argument *body, nw_part part) {
     size_t at = nw_part_start(part), length = nw_part_length(part);
+    put_answer(nw_stream_count(body->bytes, body->length, at, length));
     for (size_t size; length > 0; at += size, length -= size) {
         nw_part descriptors = nw_stream_descriptors(body->bytes, body->length, at, length);
         put_stream(body, at, length);
@@ -445,6 +448,14 @@ static void call_message_resource_digit(const struct argument *a) {
 
 static void call_descriptor_fields(const struct argument *a) { put_descriptor(&a[0], a[1].wide, a[2].wide); }
 static void call_stream_fields(const struct argument *a) { put_stream(&a[0], a[1].wide, a[2].wide); }
+
+static void call_descriptor_count(const struct argument *a) {
+    put_answer(nw_descriptor_count(a[0].bytes, a[0].length, a[1].wide, a[2].wide));
+}
+
+static void call_stream_count(const struct argument *a) {
+    put_answer(nw_stream_count(a[0].bytes, a[0].length, a[1].wide, a[2].wide));
+}
 
 // ---- the content table
 
@@ -661,6 +672,8 @@ static const struct call calls[] = {
     {"message_resource_digit", "bwwww", call_message_resource_digit},
     {"descriptor_fields", "bww", call_descriptor_fields},
     {"stream_fields", "bww", call_stream_fields},
+    {"descriptor_count", "bww", call_descriptor_count},
+    {"stream_count", "bww", call_stream_count},
     {"content_read", "uub", call_content_read},
     {"content_lay", "ubl", call_content_lay},
     {"content_write", "bto", call_content_write},

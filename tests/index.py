@@ -110,13 +110,18 @@ def parts_of(body, table):
                     yield descriptor['data'][0] - 2, begin - descriptor['data'][0] + 2
 
 
+def of_things(body, at, length):
+    """A descriptor and a stream there, and as many of them as fill the part."""
+    for call in 'descriptor_fields', 'stream_fields', 'descriptor_count', 'stream_count':
+        yield call, body, at, length
+
+
 def of_part(body, at, length):
     """What begins there, and what begins or ends elsewhere, as a descriptor and as a stream."""
     rest = len(body) - at
     lengths = length, length - 1, chance.randrange(6), rest, rest + 1
     for near in (*((at, size) for size in lengths), (at + 1, length - 1), (at + length, 0)):
-        yield 'descriptor_fields', body, *near
-        yield 'stream_fields', body, *near
+        yield from of_things(body, *near)
 
 
 def damaged_near(body, p):
@@ -148,8 +153,7 @@ def of_sample(body):
     ends = (*range(1, len(body) + 2, 3), len(body), len(body) + 1, 2**32, 2**63, TOP - 1)
     parts = [(at, max(end - at, 0)) for at, end in itertools.product(begins, ends)]
     for at, length in [*parts, *checks.NOT_IN_BODY]:
-        yield 'descriptor_fields', body, at, length
-        yield 'stream_fields', body, at, length
+        yield from of_things(body, at, length)
 
 
 def askings(bodies, tables):
@@ -190,6 +194,7 @@ def main():
     digits = {0, 14, 15, 17, 18, 19}
     assert told['message_fields'] == told['message_resource'] == told['message_resource_digit'] == digits
     assert told['message_local_times'] == {0, 14, 15, 18, 19, 20}
+    assert told['descriptor_count'] == {0, 14, 15, 19} and told['stream_count'] == {0, 14, 15, 17, 19}
     assert len(cases) > COUNT
     checks.days_made()
 

@@ -513,6 +513,24 @@ plain_answer plain_stream_descriptors(const uint8_t *body, size_t n, size_t at, 
     return in_part(&r, body, n, at, length, 3) ? asked_short_part(&r) : OUTSIDE;
 }
 
+// Things one after the other, as many as the part holds.
+static plain_answer counted(const uint8_t *body, size_t n, size_t at, size_t length, taker *one) {
+    struct reader r;
+    if (!stands(&r, body, n, at, length, 0)) return OUTSIDE;
+    uint64_t count = 0;
+    for (unsigned no; r.at < r.end; count++)
+        if ((no = one(&r))) return refused(no, r.at);
+    return value(count);
+}
+
+plain_answer plain_descriptor_count(const uint8_t *body, size_t n, size_t at, size_t length) {
+    return counted(body, n, at, length, take_descriptor);
+}
+
+plain_answer plain_stream_count(const uint8_t *body, size_t n, size_t at, size_t length) {
+    return counted(body, n, at, length, take_stream);
+}
+
 // ---- local times
 
 static plain_answer local_time(plain_answer field, int32_t offset) {

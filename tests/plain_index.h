@@ -42,5 +42,7 @@ plain_answer plain_descriptor_bytes(const uint8_t *body, size_t n, size_t at, si
 plain_answer plain_stream_type(const uint8_t *body, size_t n, size_t at, size_t length);
 plain_answer plain_stream_pid(const uint8_t *body, size_t n, size_t at, size_t length);
 plain_answer plain_stream_descriptors(const uint8_t *body, size_t n, size_t at, size_t length);
+plain_answer plain_descriptor_count(const uint8_t *body, size_t n, size_t at, size_t length);
+plain_answer plain_stream_count(const uint8_t *body, size_t n, size_t at, size_t length);
 
 #endif

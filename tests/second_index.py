@@ -70,11 +70,12 @@ def read_stream(reader):
         'descriptors': read_descriptors(reader, 'ES')}
 
 
+def read_descriptor(reader, whose):
+    return {'tag': reader.number(whose + ' descriptor tag', 1), 'data': reader.opaque(whose + ' descriptor length', 1)}
+
+
 def read_descriptors(reader, whose):
-    def one():
-        return {'tag': reader.number(whose + ' descriptor tag', 1),
-                'data': reader.opaque(whose + ' descriptor length', 1)}
-    return reader.repeated(reader.short_length(whose + ' info length'), one)
+    return reader.repeated(reader.short_length(whose + ' info length'), lambda: read_descriptor(reader, whose))
 
 
 # ---- forms

@@ -56,9 +56,10 @@ def channel_items(at, channel):
 
 
 def things_in(at, channel):
-    """The channel's descriptors and streams."""
+    """The channel's descriptors and streams, each list after its count."""
     found = descriptor_items(channel['descriptors'])
     at += 12 + size_of(channel['descriptors'])
+    found += unrefused(len(channel['streams']))
     for stream in channel['streams']:
         size = size_of(stream['descriptors'])
         found += unrefused(stream['type'], stream['PID'], part(at + 5, size)) + descriptor_items(stream['descriptors'])
@@ -67,7 +68,7 @@ def things_in(at, channel):
 
 
 def descriptor_items(descriptors):
-    return [item for one in descriptors for item in unrefused(one['tag'], span(one['data']))]
+    return unrefused(len(descriptors)) + [item for one in descriptors for item in unrefused(one['tag'], span(one['data']))]
 
 
 def index_records(kind, body, numbers):
@@ -213,3 +214,13 @@ def stream_fields(body, at, length):
         return reader.span(reader.short_length('ES info length'))
     return joined((answered(lambda: in_part(body, at, length, 0).number('stream type', 1)),
                    answered(lambda: in_part(body, at, length, 1).pid('stream PID')), answered(its_descriptors)))
+
+
+def descriptor_count(body, at, length):
+    reader = inside(body, at, length, 0)
+    return len(reader.repeated(length, lambda: second_index.read_descriptor(reader, 'asked')))
+
+
+def stream_count(body, at, length):
+    reader = inside(body, at, length, 0)
+    return len(reader.repeated(length, lambda: second_index.read_stream(reader)))

@@ -32,7 +32,8 @@
     X(message_descriptors, "14 15 17 19") X(message_streams, "14 15 17 19")                                          \
     X(message_local_start, "14 15 18 19 20") X(message_local_end, "14 15 18 19 20")                                  \
     X(descriptor_tag, "19") X(descriptor_bytes, "14 15 19") X(stream_type, "19") X(stream_pid, "14 15 17 19")        \
-    X(stream_descriptors, "14 15 17 19") X(index_write, "18 19 20 21 22")                                            \
+    X(stream_descriptors, "14 15 17 19") X(descriptor_count, "14 15 19") X(stream_count, "14 15 17 19")              \
+    X(index_write, "18 19 20 21 22")                                                                                 \
     X(index_lay, "2 14 15 16 17 18 19 20 21 22")                                                                     \
     X(content_read, "2 14 15 16 17 18 19 22 23") X(content_identifier, "14 17 18")                                   \
     X(content_identifier_digit, "14 17 18 19") X(content_extension, "14 17 18")                                      \

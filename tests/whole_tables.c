@@ -341,6 +341,8 @@ static size_t ask_placed(const uint8_t *body, size_t n, size_t at, size_t length
     TRY(descriptor_tag, body, n, at, length);
     TRY(stream_type, body, n, at, length);
     TRY(stream_pid, body, n, at, length);
+    TRY(descriptor_count, body, n, at, length);
+    TRY(stream_count, body, n, at, length);
     plain_answer bytes = TRY(descriptor_bytes, body, n, at, length);
     plain_answer inner = TRY(stream_descriptors, body, n, at, length);
     plain_answer next = is_stream ? inner : bytes;

@@ -10,25 +10,27 @@ use lib.Dec.{ltb, leb}
 use borrow.Author.Tests.{le-leb, lt-leb, lt-ltb, le-ltb}
 use Rattle.ground_choices.proofs.Tests.{and-of}
 use Rattle.ground_refusal.specs.declared.Refusal.the-variants.{LeftOver, PastPart, OutsideSet}
-use Rattle.body_formats.specs.Reading.{Reading, found, refused}
-use Rattle.body_formats.specs.Format.{count, number, nibblesAmong, bytesAmong, reserved, Under, under, _▷_, listOf, many, opaque, rest, lengthOf, length12, counted, repeat}
+use Rattle.body_formats.specs.Reading.{Reading, found, refused, need}
+use Rattle.body_formats.specs.Format.{Format, Length, count, number, nibblesAmong, bytesAmong, reserved, Under, under, _▷_, listOf, many, opaque, rest, lengthOf, length12, counted, repeat}
 use Rattle.body_formats.specs.Time.{time, endTime}
 use Rattle.body_formats.specs.Body.{reading}
 use Rattle.body_formats.specs.Answers.{numberOf, partOf, numberRead, partListed, thingListed}
+use Rattle.body_formats.specs.declared.Number.the-variants.{Is}
 use Rattle.body_formats.specs.declared.Part.the-variants.{Of}
-use Rattle.body_formats.proofs.Classes.{Bytes}
+use Rattle.body_formats.proofs.Classes.{Bytes, Filling}
 use Rattle.body_formats.proofs.Elements.{exact-found, view-found, followed-found, list-found}
 use Rattle.body_formats.proofs.RoundTrips as trips
 use Rattle.body_formats.specs.Resource.{resource}
-use Rattle.body_asking.specs.Asking.{fieldIn, inPart}
-use Rattle.body_asking.proofs.Sizes.{count-sized, number-sized, number-inside, time-sized, end-sized, nibbles-among-sized, bytes-are, bytes-sized, reserved-sized, digits-sized, next, repeat-sized, nth-sized}
+use Rattle.body_asking.specs.Asking.{inBody, fieldIn, inPart}
+use Rattle.body_asking.specs.Agreement.{NoNumberThere}
+use Rattle.body_asking.proofs.Sizes.{Sized, count-sized, number-sized, number-inside, time-sized, end-sized, nibbles-among-sized, bytes-are, bytes-sized, reserved-sized, digits-sized, next, repeat-sized, nth-sized}
 use Rattle.body_asking.proofs.Answers.{asked}
 use Rattle.body_asking.proofs.Entries.{after-all, all-same}
-use Rattle.body_asking.proofs.Parts.{length-sized, length12-sized, bytes-hold, digit-there, digit-past, digits-bytes, depending-found}
+use Rattle.body_asking.proofs.Parts.{length-sized, length12-sized, part-holds, part-after, bytes-hold, digit-there, digit-past, digits-bytes, depending-found}
 use Rattle.body_asking.proofs.Turns.{ReadAt, read-in-turn, holds-in-turn, opaque-fills-at, follows-length}
 use Rattle.index.specs.Index.{Descriptor, descriptor, descriptors, Stream, streamFields, stream, streams, Channel, ChannelFields, channelFields, channel, flagged, identifier, Message, HeadFields, MessageFields, head, messageFields, named, unnamed, message, Index, fields, index, indexKind}
-use Rattle.index_fields.specs.Asked.{messageCount, messagePart, signaturePart, identifierPart, identifierDigit, network, start, end, typePart, class, level, resourceCount, resourceAt, resourcePart, resourceDigit, flagAt, flag, channelAt, channelNetwork, channelStream, channelProgram, pcrPid, descriptorsPart, streamsPart, firstByte, descriptorTag, descriptorPart, streamType, streamPid, streamDescriptors}
-use Rattle.index_fields.specs.Agreement.{DescriptorAsked, NoDescriptor, DescriptorsAsked, StreamAsked, NoStream, ChannelAsked, NoChannel, UnderFlag, FieldsAsked, NoMessage, MessageAsked, IndexAsked}
+use Rattle.index_fields.specs.Asked.{messageCount, messagePart, signaturePart, identifierPart, identifierDigit, network, start, end, typePart, class, level, resourceCount, resourceAt, resourcePart, resourceDigit, flagAt, flag, channelAt, channelNetwork, channelStream, channelProgram, pcrPid, descriptorsPart, streamsPart, firstByte, descriptorTag, descriptorPart, streamType, streamPid, streamDescriptors, countOf, descriptorCount, streamCount}
+use Rattle.index_fields.specs.Agreement.{DescriptorAsked, NoDescriptor, DescriptorsAsked, StreamAsked, StreamsAsked, NoStream, ChannelAsked, NoChannel, UnderFlag, FieldsAsked, NoMessage, MessageAsked, IndexAsked}
 use Rattle.index.proofs.Lawful.{all-descriptors-filling, all-streams-filling, inner-filling, index-filling}
 
 -- ---- descriptors and streams, told by where they begin and how many bytes their part has from there on
@@ -61,7 +63,6 @@ in-its-part s l p v inside e k =
     rw t (ap k ends)
 
 module _ (s : List ℕ) (b : Bytes s) (l : ℕ) (inside : l ≤ length s) (p q : ℕ) where
-
   descriptor-fields : (x : ℕ × List ℕ) → (number 1 ▷ opaque 1) .parse s l p ≡ found x q → DescriptorAsked s l (record { tag = x .0; bytes = x .1 }) p q
   unfolding firstByte descriptorTag descriptorPart
   descriptor-fields x e =
@@ -79,13 +80,27 @@ module _ (s : List ℕ) (b : Bytes s) (l : ℕ) (inside : l ≤ length s) (p q :
       let v = view-found _ _ (number 1 ▷ opaque 1) s l p d q e in
       subst (λ (y : Descriptor). DescriptorAsked s l y p q) (v .2) (descriptor-fields (v .0) (v .1))
 
+-- as many things are counted in a part as are read in it
+all-counted : {A : Type 0} (L : Length) (k : ℕ) → Sized (L .field) k → (F : Format A) → Filling (many F) → (s : List ℕ) → Bytes s
+    → (l p at : ℕ) → at ≡ p + k → (xs : List A) (q : ℕ) → counted L (many F) .parse s l p ≡ found xs q
+    → numberOf (countOf (inBody s at (q - at) (λ m. many F .parse s m at))) ≡ Is (length xs) q
+all-counted L k z F f s b l p at from xs q e =
+    let h = part-holds L (many F) f s b l p xs q e in
+    let begins : h .at ≡ at = part-after L k z (many F) f s b l p xs q e ∙ sym from in
+    let ends : at + (q - at) ≡ q = omega (arith, begins, h .ends) in
+    let inner : many F .parse s q at ≡ found xs q = ap (many F .parse s q) (sym begins) ∙ h .inner in
+    ap (λ (m : ℕ). numberOf (countOf (need (leb m (length s)) (OutsideSet 0) (many F .parse s m at)))) ends ∙ rw (le-leb q (length s) (h .in-body), inner)
+
 -- the descriptors after their 12-bit length at p
 descriptors-asked : (s : List ℕ) → Bytes s → (l p at : ℕ) → at ≡ p + 2 → (ds : List Descriptor) (q : ℕ) → descriptors .parse s l p ≡ found ds q
     → DescriptorsAsked s (partOf (counted length12 rest .parse s l p)) at ds q
-unfolding descriptors
+unfolding descriptors descriptorCount
 descriptors-asked s b l p at from ds q e =
-    holds-in-turn length12 2 length12-sized descriptor all-descriptors-filling s b l p at from ds q e (DescriptorAsked s q)
-    (λ inside d a r h. descriptor-asked s b q inside a r d h)
+    record {
+      in-turn = holds-in-turn length12 2 length12-sized descriptor all-descriptors-filling s b l p at from ds q e (DescriptorAsked s q)
+          (λ inside d a r h. descriptor-asked s b q inside a r d h);
+      counted = all-counted length12 2 length12-sized descriptor all-descriptors-filling s b l p at from ds q e;
+    }
 
 -- they end where as many bytes do
 descriptors-end : (s : List ℕ) → Bytes s → (l p : ℕ) (ds : List Descriptor) (q : ℕ) → descriptors .parse s l p ≡ found ds q
@@ -113,6 +128,17 @@ module _ (s : List ℕ) (b : Bytes s) (l : ℕ) (inside : l ≤ length s) (p q :
       let v = view-found _ _ streamFields s l p t q e in
       subst (λ (y : Stream). StreamAsked s l y p q) (v .2) (stream-fields (v .0) (v .1))
 
+-- the streams after their length at p
+streams-asked : (s : List ℕ) → Bytes s → (l p at : ℕ) → at ≡ p + 2 → (ts : List Stream) (q : ℕ) → streams .parse s l p ≡ found ts q
+    → StreamsAsked s (partOf (counted (lengthOf 2) rest .parse s l p)) at ts q
+unfolding streams streamCount
+streams-asked s b l p at from ts q e =
+    record {
+      in-turn = holds-in-turn (lengthOf 2) 2 (length-sized 2) stream all-streams-filling s b l p at from ts q e (StreamAsked s q)
+          (λ inside t a r m. stream-asked s b q inside a r t m);
+      counted = all-counted (lengthOf 2) 2 (length-sized 2) stream all-streams-filling s b l p at from ts q e;
+    }
+
 -- ---- the channel, which begins at p and ends at q
 
 no-channel : (s : List ℕ) (at n : ℕ) → channelAt s at n ≡ refused (OutsideSet 0) → NoChannel s at n
@@ -122,7 +148,7 @@ no-channel s at n e = record { no-network = rw e; no-stream = rw e; no-program =
 module _ (s : List ℕ) (at n : ℕ) (b : Bytes s) (f p : ℕ) (begins : channelAt s at n ≡ found f p) (q : ℕ) where
   channel-fields : (x : ChannelFields) → channelFields .parse s (at + n) p ≡ found x q
       → ChannelAsked s at n (record { network = x .0; stream = x .1 .0; program = x .1 .1 .0; pcrPid = x .1 .1 .1 .0; descriptors = x .1 .1 .1 .1 .0; streams = x .1 .1 .1 .1 .1 }) p q
-  unfolding channelFields streams channelNetwork channelStream channelProgram pcrPid descriptorsPart streamsPart
+  unfolding channelFields channelNetwork channelStream channelProgram pcrPid descriptorsPart streamsPart
   channel-fields x e =
       let l = at + n in
       let g = next (number 2) _ 2 (number-sized 2) s l p (p + 2) x q refl e in
@@ -139,8 +165,7 @@ module _ (s : List ℕ) (at n : ℕ) (b : Bytes s) (f p : ℕ) (begins : channel
         middle = k .0;
         descriptors-asked = rw begins (descriptors-asked s b l (p + 8) (p + 10) (omega arith) ds (k .0) (k .1));
         streams-asked = rw (begins, descriptors-end s b l (p + 8) ds (k .0) (k .1) .1)
-            (holds-in-turn (lengthOf 2) 2 (length-sized 2) stream all-streams-filling s b l (k .0) (k .0 + 2) refl (x .1 .1 .1 .1 .1) q (k .2) (StreamAsked s q)
-            (λ inside t a r m. stream-asked s b q inside a r t m));
+            (streams-asked s b l (k .0) (k .0 + 2) refl (x .1 .1 .1 .1 .1) q (k .2));
       }
 
   channel-asked : (c : Channel) → channel .parse s (at + n) p ≡ found c q → ChannelAsked s at n c p q
@@ -268,6 +293,11 @@ no-message s at n h =
       no-channel = no-channel s at n (rw t);
     }
 
+-- and nothing is counted in it
+none-counted : (s : List ℕ) (at n : ℕ) → length s < at + n → NoNumberThere (descriptorCount s at n) × NoNumberThere (streamCount s at n)
+unfolding descriptorCount streamCount
+none-counted s at n h = let t = lt-leb (at + n) (length s) h in (rw t, rw t)
+
 -- ---- the table
 
 module _ (s : List ℕ) (b : Bytes s) (x : List Message × List ℕ) (q : ℕ) (e : fields .parse s (length s) 0 ≡ found x q) where
@@ -314,6 +344,8 @@ module _ (s : List ℕ) (b : Bytes s) (x : List Message × List ℕ) (q : ℕ) (
         descriptor-past = λ at. no-descriptor s at 0 (past-end s at 0 (omega arith));
         stream-outside = λ at n h. no-stream s at n (past-body s at n h);
         stream-past = λ at. no-stream s at 0 (past-end s at 0 (omega arith));
+        descriptors-outside = λ at n h. none-counted s at n h .0;
+        streams-outside = λ at n h. none-counted s at n h .1;
       }
 
 pub index-asked : (kind : ℕ) (s : List ℕ) → Bytes s → (t : Index) (q : ℕ) → reading index indexKind kind s ≡ found t q → IndexAsked s t

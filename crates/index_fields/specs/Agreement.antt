@@ -10,7 +10,7 @@ use Rattle.body_formats.specs.declared.Part.{Part}
 use Rattle.body_formats.specs.declared.Part.the-variants.{Of}
 use Rattle.body_asking.specs.Agreement.{NoNumberThere, NoPartThere, FillsAt, FollowsLength, InTurn, HoldsInTurn}
 use Rattle.index.specs.Index.{Descriptor, Stream, Channel, identifier, Message, message, Index}
-use Rattle.index_fields.specs.Asked.{messageCount, messagePart, signaturePart, identifierPart, identifierDigit, network, start, end, typePart, class, level, resourceCount, resourcePart, resourceDigit, flag, channelNetwork, channelStream, channelProgram, pcrPid, descriptorsPart, streamsPart, descriptorTag, descriptorPart, streamType, streamPid, streamDescriptors}
+use Rattle.index_fields.specs.Asked.{messageCount, messagePart, signaturePart, identifierPart, identifierDigit, network, start, end, typePart, class, level, resourceCount, resourcePart, resourceDigit, flag, channelNetwork, channelStream, channelProgram, pcrPid, descriptorsPart, streamsPart, descriptorTag, descriptorPart, streamType, streamPid, streamDescriptors, descriptorCount, streamCount}
 
 -- "Every field of an accepted table can be asked for, opaque bytes as the part of the body they fill; one that isn't there is 19, place 0":
 -- a number is answered with the position after it, a digit with that of its byte, a part with where it begins and how many bytes it has.
@@ -27,15 +27,21 @@ pub record NoDescriptor (s : List ℕ) (at n : ℕ) : Type 0 where
   pub no-tag : NoNumberThere (descriptorTag s at n)
   pub no-bytes : NoPartThere (descriptorPart s at n)
 
--- the part answered goes from p to q, and all of its descriptors are ds, in order
-abbrev pub DescriptorsAsked : List ℕ → Part → ℕ → List Descriptor → ℕ → Type 0
-DescriptorsAsked s part p ds q = HoldsInTurn (λ i. DescriptorAsked s q) s part p ds q
+-- the part answered goes from p to q, all of its descriptors are ds, in order, and so many are counted in it
+pub record DescriptorsAsked (s : List ℕ) (part : Part) (p : ℕ) (ds : List Descriptor) (q : ℕ) : Type 0 where
+  pub in-turn : HoldsInTurn (λ i. DescriptorAsked s q) s part p ds q
+  pub counted : descriptorCount s p (q - p) ≡ Is (length ds) q
 
 -- a stream that stands from p to q: its descriptors follow their length, and end where it ends
 pub record StreamAsked (s : List ℕ) (l : ℕ) (t : Stream) (p q : ℕ) : Type 0 where
   pub type-is : streamType s p (l - p) ≡ Is (t .type) (p + 1)
   pub pid-is : streamPid s p (l - p) ≡ Is (t .pid) (p + 3)
   pub descriptors-asked : DescriptorsAsked s (streamDescriptors s p (l - p)) (p + 5) (t .descriptors) q
+
+-- the part answered goes from p to q, all of its streams are ts, in order, and so many are counted in it
+pub record StreamsAsked (s : List ℕ) (part : Part) (p : ℕ) (ts : List Stream) (q : ℕ) : Type 0 where
+  pub in-turn : HoldsInTurn (λ i. StreamAsked s q) s part p ts q
+  pub counted : streamCount s p (q - p) ≡ Is (length ts) q
 
 pub record NoStream (s : List ℕ) (at n : ℕ) : Type 0 where
   pub no-type : NoNumberThere (streamType s at n)
@@ -53,7 +59,7 @@ pub record ChannelAsked (s : List ℕ) (at n : ℕ) (c : Channel) (p q : ℕ) : 
   -- where the descriptors end: there stands the length of the streams
   pub middle : ℕ
   pub descriptors-asked : DescriptorsAsked s (descriptorsPart s at n) (p + 10) (c .descriptors) middle
-  pub streams-asked : HoldsInTurn (λ i. StreamAsked s q) s (streamsPart s at n) (middle + 2) (c .streams) q
+  pub streams-asked : StreamsAsked s (streamsPart s at n) (middle + 2) (c .streams) q
 
 pub record NoChannel (s : List ℕ) (at n : ℕ) : Type 0 where
   pub no-network : NoNumberThere (channelNetwork s at n)
@@ -130,3 +136,5 @@ pub record IndexAsked (s : List ℕ) (t : Index) : Type 0 where
   pub descriptor-past : (at : ℕ) → NoDescriptor s at 0
   pub stream-outside : (at n : ℕ) → length s < at + n → NoStream s at n
   pub stream-past : (at : ℕ) → NoStream s at 0
+  pub descriptors-outside : (at n : ℕ) → length s < at + n → NoNumberThere (descriptorCount s at n)
+  pub streams-outside : (at n : ℕ) → length s < at + n → NoNumberThere (streamCount s at n)

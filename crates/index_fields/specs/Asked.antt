@@ -5,14 +5,14 @@ use lib.ListN.{length}
 use lib.Dec.{ltb}
 use Rattle.ground_refusal.specs.declared.Refusal.the-variants.{OutsideSet}
 use Rattle.body_formats.specs.Reading.{Reading, found, andThen, need}
-use Rattle.body_formats.specs.Format.{Format, count, number, reserved, nibblesAmong, bytesAmong, listOf, opaque, rest, counted, lengthOf, length12}
+use Rattle.body_formats.specs.Format.{Format, count, number, reserved, nibblesAmong, bytesAmong, listOf, many, opaque, rest, counted, lengthOf, length12}
 use Rattle.body_formats.specs.Time.{time, endTime}
 use Rattle.body_formats.specs.Answers.{numberOf, partOf, fieldPart, numberRead, partListed, digitRead}
 use Rattle.body_formats.specs.declared.Number.{Number}
 use Rattle.body_formats.specs.declared.Part.{Part}
 use Rattle.body_formats.specs.Resource.{resource}
 use Rattle.body_asking.specs.Asking.{inBody, fieldIn, askedAt, inPart}
-use Rattle.index.specs.Index.{identifier}
+use Rattle.index.specs.Index.{descriptor, stream, identifier}
 
 -- ---- the table
 
@@ -120,3 +120,14 @@ streamPid s at n = numberOf (inPart s at n (λ l. reserved 3 1 .parse s l (at + 
 
 unfoldable pub streamDescriptors : List ℕ → ℕ → ℕ → Part
 streamDescriptors s at n = partOf (inPart s at n (λ l. counted length12 rest .parse s l (at + 3)))
+
+-- ---- how many descriptors or streams fill a part: "descriptors and streams repeat to the end of their part", and the first bad one is refused
+
+abbrev pub countOf : {A : Type 0} → Reading (List A) → Reading ℕ
+countOf x = andThen x (λ xs q. found (length xs) q)
+
+unfoldable pub descriptorCount : List ℕ → ℕ → ℕ → Number
+descriptorCount s at n = numberOf (countOf (inBody s at n (λ l. many descriptor .parse s l at)))
+
+unfoldable pub streamCount : List ℕ → ℕ → ℕ → Number
+streamCount s at n = numberOf (countOf (inBody s at n (λ l. many stream .parse s l at)))

@@ -6,13 +6,15 @@ use body_formats::Step;
 use ground_refusal::Refusal;
 ghost use mathlib.Core.Path.{_≡_};
 ghost use mathlib.Core.Bool.{_&&_};
-ghost use Prim.Native.Nat.{_+_, _*_, _/_, _%_, _≤_};
+ghost use Prim.Native.Nat.{_+_, _*_, _/_, _%_, _≤_, _<_};
 ghost use lib.Dec.{leb};
+ghost use lib.ListN.{length};
 ghost use Rattle.body_formats.specs.Reading.{found, andThen};
-ghost use Rattle.body_formats.specs.Format.{number, nibblesAmong};
-ghost use Rattle.body_formats.specs.Answers.{numberOf};
+ghost use Rattle.body_formats.specs.Format.{number, nibblesAmong, many};
+ghost use Rattle.body_formats.specs.Answers.{numberOf, ended};
 ghost use Rattle.body_asking.specs.Asking.{fieldIn};
-ghost use Rattle.index_fields.specs.Asked.{messageCount, messagePart, signaturePart, identifierPart, identifierDigit, network, start, end, typePart, class, level, resourceCount, resourceAt, resourcePart, resourceDigit, flag, channelAt, inChannel, channelNetwork, channelStream, channelProgram, pcrPid, descriptorsPart, streamsPart, firstByte, descriptorTag, descriptorPart, streamType, streamPid, streamDescriptors};
+ghost use Rattle.index.specs.Index.{descriptor, descriptors, stream};
+ghost use Rattle.index_fields.specs.Asked.{messageCount, messagePart, signaturePart, identifierPart, identifierDigit, network, start, end, typePart, class, level, resourceCount, resourceAt, resourcePart, resourceDigit, flag, channelAt, inChannel, channelNetwork, channelStream, channelProgram, pcrPid, descriptorsPart, streamsPart, firstByte, descriptorTag, descriptorPart, streamType, streamPid, streamDescriptors, countOf, descriptorCount, streamCount};
 
 // How many messages there are.
 pub fn message_count(s: &[u8]) -> Number
@@ -319,4 +321,101 @@ pub fn stream_descriptors(s: &[u8], at: usize, n: usize) -> Part
         return body_fields::read_part12(s, at + n, at + 3);
     }
     Part::Refused(Refusal::OutsideSet(0))
+}
+
+// Past the descriptor at p, whose tag stands in the part.
+fn skip_descriptor(s: &[u8], l: usize, p: usize) -> Step
+    requires { ⌜ (p < l) × (l ≤ length (now s)) ⌝ }
+    ensures { λ r. ⌜ r ≡ ended descriptor (now (s .entry)) l p ⌝ }
+{
+    match body_fields::read_part(s, l, p + 1, 1) {
+        Part::Refused(r) => Step::Refused(r),
+        Part::Of(a, m) => Step::At(a + m),
+    }
+}
+
+// How many descriptors fill the part from p to l.
+fn descriptors_in(s: &[u8], l: usize, p: usize) -> Number
+    requires { ⌜ l ≤ length (now s) ⌝ }
+    ensures { λ r. ⌜ r ≡ numberOf (countOf (many descriptor .parse (now (s .entry)) l p)) ⌝ }
+{
+    let mut at = p;
+    let mut m: u64 = 0;
+    while at < l {
+        match skip_descriptor(s, l, at) {
+            Step::Refused(r) => {
+                return Number::Refused(r);
+            }
+            Step::At(q) => {
+                at = q;
+            }
+        }
+        m = m + 1;
+    }
+    Number::Is(m, at)
+}
+
+// How many descriptors the part of n bytes from at on has.
+pub fn descriptor_count(s: &[u8], at: usize, n: usize) -> Number
+    ensures { λ r. ⌜ r ≡ descriptorCount (now (s .entry)) at n ⌝ }
+{
+    if body_asking::in_body(s, at, n) {
+        return descriptors_in(s, at + n, at);
+    }
+    Number::Refused(Refusal::OutsideSet(0))
+}
+
+// Past the descriptors after their 12-bit length at p, each of them looked at.
+fn skip_descriptors(s: &[u8], l: usize, p: usize) -> Step
+    ensures { λ r. ⌜ r ≡ ended descriptors (now (s .entry)) l p ⌝ }
+{
+    match body_fields::read_part12(s, l, p) {
+        Part::Refused(r) => Step::Refused(r),
+        Part::Of(a, m) => match descriptors_in(s, a + m, a) {
+            Number::Refused(r) => Step::Refused(r),
+            Number::Is(k, q) => Step::At(q),
+        },
+    }
+}
+
+// Past the stream at p, whose type stands in the part.
+fn skip_stream(s: &[u8], l: usize, p: usize) -> Step
+    requires { ⌜ (p < l) × (l ≤ length (now s)) ⌝ }
+    ensures { λ r. ⌜ r ≡ ended stream (now (s .entry)) l p ⌝ }
+{
+    match body_fields::read_reserved(s, l, p + 1, 3, 1) {
+        Number::Refused(r) => Step::Refused(r),
+        Number::Is(v, q) => skip_descriptors(s, l, q),
+    }
+}
+
+// How many streams fill the part from p to l.
+fn streams_in(s: &[u8], l: usize, p: usize) -> Number
+    requires { ⌜ l ≤ length (now s) ⌝ }
+    ensures { λ r. ⌜ r ≡ numberOf (countOf (many stream .parse (now (s .entry)) l p)) ⌝ }
+{
+    let mut at = p;
+    let mut k: u64 = 0;
+    while at < l {
+        match skip_stream(s, l, at) {
+            Step::Refused(r) => {
+                return Number::Refused(r);
+            }
+            Step::At(q) => {
+                at = q;
+            }
+        }
+        k = k + 1;
+    }
+    Number::Is(k, at)
+}
+
+// How many streams the part of n bytes from at on has.
+pub fn stream_count(s: &[u8], at: usize, n: usize) -> Number
+    ensures { λ r. ⌜ r ≡ streamCount (now (s .entry)) at n ⌝ }
+{
+    if body_asking::in_body(s, at, n) {
+        return streams_in(s, at + n, at);
+    }
+    Number::Refused(Refusal::OutsideSet(0))
 }

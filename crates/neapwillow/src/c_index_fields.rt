@@ -1,6 +1,6 @@
 // The fields of an index table for C, asked for one by one.
 ghost use mathlib.Core.Path.{_≡_};
-ghost use Rattle.index_fields.specs.Asked.{messageCount, messagePart, signaturePart, identifierPart, identifierDigit, network, start, end, typePart, class, level, resourceCount, resourcePart, resourceDigit, flag, channelNetwork, channelStream, channelProgram, pcrPid, descriptorsPart, streamsPart, descriptorTag, descriptorPart, streamType, streamPid, streamDescriptors};
+ghost use Rattle.index_fields.specs.Asked.{messageCount, messagePart, signaturePart, identifierPart, identifierDigit, network, start, end, typePart, class, level, resourceCount, resourcePart, resourceDigit, flag, channelNetwork, channelStream, channelProgram, pcrPid, descriptorsPart, streamsPart, descriptorTag, descriptorPart, streamType, streamPid, streamDescriptors, descriptorCount, streamCount};
 ghost use Rattle.c_answers.specs.Answers.{numberAnswer, partAnswer, localFieldAnswer};
 
 #[no_mangle]
@@ -189,6 +189,20 @@ pub extern "C" fn nw_stream_descriptors(body: &[u8], at: usize, length: usize) -
     ensures { λ r. ⌜ r ≡ partAnswer (streamDescriptors (now (body .entry)) at length) ⌝ }
 {
     c_answers::part_answer(index_fields::stream_descriptors(body, at, length))
+}
+
+#[no_mangle]
+pub extern "C" fn nw_descriptor_count(body: &[u8], at: usize, length: usize) -> u64
+    ensures { λ r. ⌜ r ≡ numberAnswer (descriptorCount (now (body .entry)) at length) ⌝ }
+{
+    c_answers::number_answer(index_fields::descriptor_count(body, at, length))
+}
+
+#[no_mangle]
+pub extern "C" fn nw_stream_count(body: &[u8], at: usize, length: usize) -> u64
+    ensures { λ r. ⌜ r ≡ numberAnswer (streamCount (now (body .entry)) at length) ⌝ }
+{
+    c_answers::number_answer(index_fields::stream_count(body, at, length))
 }
 
 #[no_mangle]

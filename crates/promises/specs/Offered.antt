@@ -25,7 +25,7 @@ use Rattle.index.specs.Index.{index, indexKind}
 use Rattle.index_fields.specs.Asked as index-fields
 use Rattle.index_fields.specs.Asked.{messageCount, messagePart, network, start, end, typePart, class, level, resourceCount, resourcePart, resourceDigit, flag}
 use Rattle.index_fields.specs.Asked.{channelNetwork, channelStream, channelProgram, pcrPid, descriptorsPart, streamsPart, descriptorTag, descriptorPart}
-use Rattle.index_fields.specs.Asked.{streamType, streamPid, streamDescriptors}
+use Rattle.index_fields.specs.Asked.{streamType, streamPid, streamDescriptors, descriptorCount, streamCount}
 use Rattle.index_records.specs.Records.{bodyRecorded, recorded}
 use Rattle.index_records.specs.declared.Record.{Record}
 use Rattle.content.specs.Content.{contentRead, content, contentKind}
@@ -113,6 +113,8 @@ pub record Offered : Type 0 where
   pub nw-stream-type : (body : List ℕ) (at length : ℕ) → Determined (λ r. r ≡ numberAnswer (streamType body at length))
   pub nw-stream-pid : (body : List ℕ) (at length : ℕ) → Determined (λ r. r ≡ numberAnswer (streamPid body at length))
   pub nw-stream-descriptors : (body : List ℕ) (at length : ℕ) → Determined (λ r. r ≡ partAnswer (streamDescriptors body at length))
+  pub nw-descriptor-count : (body : List ℕ) (at length : ℕ) → Determined (λ r. r ≡ numberAnswer (descriptorCount body at length))
+  pub nw-stream-count : (body : List ℕ) (at length : ℕ) → Determined (λ r. r ≡ numberAnswer (streamCount body at length))
   pub nw-message-local-start : (body : List ℕ) (at length : ℕ) (offset : ℤ) → Determined (λ r. r ≡ localFieldAnswer offset (start body at length))
   pub nw-message-local-end : (body : List ℕ) (at length : ℕ) (offset : ℤ) → Determined (λ r. r ≡ localFieldAnswer offset (end body at length))
   -- The message records of an index table for C, which lends the list.

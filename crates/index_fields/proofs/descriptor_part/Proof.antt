@@ -22,5 +22,6 @@ descriptor-part-spec =
     (λ c. omega (arith, there c))
     (λ c. omega (arith, there c))
     (λ c κs. search needs)
-    (λ c. unfold descriptorPart partRead in c .read-part .ensures ∙ ap partOf (needed _ _ _ (sym (c .before .before .in-part .ensures) ∙ c .before .if1 .taken)))
+    (λ c. unfold descriptorPart partRead in
+    c .read-part .ensures ∙ ap partOf (needed _ _ _ (sym (c .before .before .in-part .ensures) ∙ c .before .if1 .taken)))
     (λ c. unfold descriptorPart in ap partOf (not-needed _ _ _ (sym (c .before .in-part .ensures) ∙ c .if1 .left))))
