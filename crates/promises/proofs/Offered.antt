@@ -107,7 +107,7 @@ offered =
       nw-command-terminal-count = λ body at. one;
       nw-command-terminal = λ body at i. one;
       nw-command-terminal-digit = λ body at i j. one;
-      nw-version = λ . one;
+      nw-version = one;
       nw-dates-report = λ input out. following _;
       nw-section-line = λ input out. following _;
     }

@@ -176,7 +176,7 @@ pub record Offered : Type 0 where
   pub nw-command-terminal : (body : List ℕ) (at i : ℕ) → Determined (λ r. r ≡ partAnswer (terminal body at i))
   pub nw-command-terminal-digit : (body : List ℕ) (at i j : ℕ) → Determined (λ r. r ≡ numberAnswer (terminalDigit body at i j))
   -- The library's version for C.
-  pub nw-version :  → Determined (λ r. r ≡ version)
+  pub nw-version : Determined (λ r. r ≡ version)
   -- What the commands nw-dates and nw-section call from C: the report and the line of the programs `dates` and `section`.
   pub nw-dates-report : (input out : List ℕ) → Determined₂ (λ r out′. (r ≡ length (reportOf input)) × (out′ ≡ reportOf input ++ drop r out))
   pub nw-section-line : (input out : List ℕ) → Determined₂ (λ r out′. (r ≡ length (lineOf input)) × (out′ ≡ lineOf input ++ drop r out))
