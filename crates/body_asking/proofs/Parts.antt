@@ -6,20 +6,16 @@ use native.Mathlib.Omega.{arith}
 use native.Mathlib.Nat.{add-sub-cancel, add-sub-cancel-left, le-add-right}
 use lib.ListN.{length, getD, take, drop, length-drop}
 use lib.Seq.{length-take-le}
-use lib.Dec.{eqb}
-use borrow.Author.Tests.{eqb-true, le-leb, lt-ltb, le-ltb}
-use Rattle.ground_choices.proofs.Tests.{both}
+use borrow.Author.Tests.{le-leb, lt-ltb, le-ltb}
 use Rattle.ground_refusal.specs.declared.Refusal.the-variants.{OutsideSet}
 use Rattle.body_formats.specs.Reading.{found, fine}
-use Rattle.body_formats.specs.Format.{Format, decimal, digits, followed, rest, Length, lengthOf, length12, counted}
+use Rattle.body_formats.specs.Format.{Format, followed, rest, Length, lengthOf, length12, counted}
 use Rattle.body_formats.specs.Answers.{partOf, digitRead}
 use Rattle.body_formats.specs.Held.{PartHolds}
 use Rattle.body_formats.specs.declared.Number.the-variants.{Is, Refused as NoNumber}
 use Rattle.body_formats.specs.declared.Part.the-variants.{Of}
 use Rattle.body_formats.proofs.Outcomes.{found-inj, andThen-found, judged-found, within-found}
 use Rattle.body_formats.proofs.Classes.{Bytes, Filling}
-use Rattle.body_formats.proofs.Leaves.{digits-lawful}
-use Rattle.body_formats.proofs.Strings.{digits-part, digits-fill}
 use Rattle.body_asking.proofs.Sizes.{Sized, count-sized, reserved-sized}
 
 -- ---- counted parts
@@ -109,32 +105,15 @@ part-begins w F f s b l p x q e = part-after (lengthOf w) w (length-sized w) F f
 
 -- ---- digits
 
--- digits asked for one by one, and the bytes that hold them
-module _ (s : List ℕ) (l p h : ℕ) (ds : List ℕ) (q : ℕ) (e : digits h .parse s l p ≡ found ds q) where
-  pub digit-is : (i : ℕ) → i < length ds → digitRead h i s l p ≡ Is (getD ds i 0) (p + (i + 1) / 2)
+-- digits asked for one by one: so many as were read are there, and no other
+module _ (D : Format (List ℕ)) (s : List ℕ) (l p : ℕ) (ds : List ℕ) (q : ℕ) (e : D .parse s l p ≡ found ds q) (i : ℕ) where
+  pub digit-there : i < length ds → digitRead D i s l p ≡ Is (getD ds i 0) (p + (i + 1) / 2)
   unfolding digitRead
-  digit-is i k = rw (e, lt-ltb i (length ds) k)
+  digit-there k = rw (e, lt-ltb i (length ds) k)
 
-  module _ (b : Bytes s) (inside : l ≤ length s) where
-    many-digits : length ds ≡ h + h + 1
-    unfolding digits
-    many-digits =
-        let f = digits-fill s l p h p (h + 1) b (digits-part s l p h ds q e) .2 in
-        let ok = digits-lawful h .forth s l p ds q b inside (omega (arith, f .in-part)) e .ok in
-        eqb-true (length ds) (h + h + 1) (both (eqb (length ds) (h + h + 1)) (decimal ds) (ok .writable) .0)
-
-    -- "4 reserved, 35 digits" and "4 reserved + 23 digits": so many are there, and no other
-    pub digit-there : (i : ℕ) → i < h + h + 1 → digitRead h i s l p ≡ Is (getD ds i 0) (p + (i + 1) / 2)
-    digit-there i k = digit-is i (omega (arith, many-digits))
-
-    pub digit-past : (i : ℕ) → h + h + 1 ≤ i → digitRead h i s l p ≡ NoNumber (OutsideSet 0)
-    unfolding digitRead
-    digit-past i k = rw (e, le-ltb i (length ds) (omega (arith, many-digits)))
-
-  pub digits-bytes : Bytes s → take (h + 1) (drop p s) ≡ digits h .print ds
-  digits-bytes b =
-      let f = digits-fill s l p h p (h + 1) b (digits-part s l p h ds q e) .2 in
-      f .printed ∙ ap (digits h .print) (found-inj (sym (f .parsed) ∙ e) .0)
+  pub digit-past : length ds ≤ i → digitRead D i s l p ≡ NoNumber (OutsideSet 0)
+  unfolding digitRead
+  digit-past k = rw (e, le-ltb i (length ds) k)
 
 -- ---- one after the other
 

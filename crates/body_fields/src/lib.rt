@@ -12,6 +12,7 @@ ghost use lib.Dec.{leb};
 ghost use mathlib.Core.Bool.{_&&_};
 ghost use Rattle.body_formats.specs.Format.{numberAt, count, reserved, bytesAmong, halves, decimal, digits, every, rest, leastOf, length12, counted, opaque, listOf};
 ghost use Rattle.body_formats.specs.Time.{time, endTime};
+ghost use Rattle.body_formats.specs.Identifier.{identifier};
 ghost use Rattle.body_formats.specs.Reading.{unless, judged, within};
 ghost use Rattle.body_formats.specs.Body.{opened};
 ghost use Rattle.body_formats.specs.Answers.{numberOf, partOf, fieldPart, reached, ended, endedAll, numberRead, numberAmong, partRead, partAfter, partListed, digitRead};
@@ -387,6 +388,13 @@ pub fn read_digits(s: &[u8], l: usize, p: usize, h: usize) -> Part
     }
 }
 
+// A message's identifier: "4 reserved, 35 digits".
+pub fn read_identifier(s: &[u8], l: usize, p: usize) -> Part
+    ensures { λ r. ⌜ r ≡ fieldPart p (identifier .parse (now (s .entry)) l p) ⌝ }
+{
+    read_digits(s, l, p, 17)
+}
+
 // A time field, as the number that it is.
 pub fn read_time(s: &[u8], l: usize, p: usize) -> Number
     ensures { λ r. ⌜ r ≡ numberOf (time .parse (now (s .entry)) l p) ⌝ }
@@ -416,7 +424,7 @@ pub fn read_end(s: &[u8], l: usize, p: usize) -> Number
 
 // The i-th of the 2 h + 1 digits at p, and the position of the byte that it stands in; 19 where there is none.
 pub fn digit_at(s: &[u8], l: usize, p: usize, h: usize, i: u64) -> Number
-    ensures { λ r. ⌜ r ≡ digitRead h i (now (s .entry)) l p ⌝ }
+    ensures { λ r. ⌜ r ≡ digitRead (digits h) i (now (s .entry)) l p ⌝ }
 {
     match read_digits(s, l, p, h) {
         Part::Refused(r) => Number::Refused(r),
@@ -433,4 +441,11 @@ pub fn digit_at(s: &[u8], l: usize, p: usize, h: usize, i: u64) -> Number
             Number::Is(b / 16, at)
         }
     }
+}
+
+// The i-th digit of the identifier at p, and the position of the byte that it stands in; 19 where there is none.
+pub fn identifier_digit_at(s: &[u8], l: usize, p: usize, i: u64) -> Number
+    ensures { λ r. ⌜ r ≡ digitRead identifier i (now (s .entry)) l p ⌝ }
+{
+    digit_at(s, l, p, 17, i)
 }

@@ -15,3 +15,4 @@ pub mod Inner
 pub mod Bits
 pub mod Strings
 pub mod Places
+pub mod Identifiers

@@ -265,6 +265,9 @@ module _ (s : List ℕ) (l p h : ℕ) (ds : List ℕ) (q : ℕ) (e : digits h .p
       let i = found-inj (d .1) in
       (f .0, f .1, i .0, i .1, rw (le-leb (p + 1) (length s) (omega (arith, f .0)), eq-eqb (getD s p 0 / 16) 15 (g .0), le-leb (p + suc h) (length s) (f .0), d .0) (d .1))
 
+  pub digits-fit : (q ≡ p + (h + 1)) × (q ≤ length s)
+  digits-fit = let f = digits-found in (omega (arith, f .3), omega (arith, f .0, f .3))
+
   pub digits-part : Of p (h + 1) ≡ fieldPart p (digits h .parse s l p)
   digits-part =
       let z : h + 1 ≡ q - p = omega (arith, digits-found .3) in
@@ -276,7 +279,7 @@ module _ (s : List ℕ) (l p h : ℕ) (ds : List ℕ) (q : ℕ) (e : digits h .p
       let f = digits-found in
       digits-lawful h .forth s (length s) p ds q b (le-refl (length s)) (omega (arith, f .0)) (f .4)
 
-  digits-many : Bytes s → length ds ≡ h + h + 1
+  pub digits-many : Bytes s → length ds ≡ h + h + 1
   unfolding digits
   digits-many b = eqb-true (length ds) (h + h + 1) (both (eqb (length ds) (h + h + 1)) (decimal ds) (digits-stand b .ok .writable) .0)
 
@@ -290,7 +293,7 @@ digits-take h ds o =
     let y : h + 1 ≡ 0 + n - 0 = cc in
     omega arith
 
-digits-entries : (h : ℕ) (ds : List ℕ) (at : ℕ) → digits h .tape ds at ≡ at ∷ (h + 1) ∷ []
+pub digits-entries : (h : ℕ) (ds : List ℕ) (at : ℕ) → digits h .tape ds at ≡ at ∷ (h + 1) ∷ []
 unfolding digits
 digits-entries h ds at = rw (add-one h)
 
@@ -313,6 +316,12 @@ digits-fill s l p h a n b e =
       },
     )
 
+pub digits-bytes : (s : List ℕ) (l p h : ℕ) (ds : List ℕ) (q : ℕ) → digits h .parse s l p ≡ found ds q → Bytes s
+    → take (h + 1) (drop p s) ≡ digits h .print ds
+digits-bytes s l p h ds q e b =
+    let f = digits-fill s l p h p (h + 1) b (digits-part s l p h ds q e) .2 in
+    f .printed ∙ ap (digits h .print) (found-inj (sym (f .parsed) ∙ e) .0)
+
 -- ---- a digit of the field
 
 -- the halves of the k-th byte
@@ -331,12 +340,12 @@ tail-get [] i = refl
 tail-get (a ∷ r) i = rw (add-one i)
 
 module _ (s : List ℕ) (l p h i : ℕ) where
-  pub digit-no : (r : Refusal) → NoPart r ≡ fieldPart p (digits h .parse s l p) → NoNumber r ≡ digitRead h i s l p
+  pub digit-no : (r : Refusal) → NoPart r ≡ fieldPart p (digits h .parse s l p) → NoNumber r ≡ digitRead (digits h) i s l p
   unfolding digitRead
   digit-no r e = rw (field-refused p (digits h .parse s l p) r e)
 
   module _ (b : Bytes s) (a n : ℕ) (e : Of a n ≡ fieldPart p (digits h .parse s l p)) where
-    pub digit-none : n ≤ i / 2 + i % 2 → NoNumber (OutsideSet 0) ≡ digitRead h i s l p
+    pub digit-none : n ≤ i / 2 + i % 2 → NoNumber (OutsideSet 0) ≡ digitRead (digits h) i s l p
     unfolding digitRead
     digit-none k =
         let f = digits-fill s l p h a n b e in
@@ -344,7 +353,7 @@ module _ (s : List ℕ) (l p h i : ℕ) where
         rw (f .2 .parsed, le-ltb i (length (f .2 .value)) (omega (arith, m, f .1)))
 
     module _ (k : i / 2 + i % 2 < n) (at x : ℕ) (here : at ≡ a + (i / 2 + i % 2)) where
-      digit-is : x ≡ getD (halves (take (suc h) (drop p s))) (i + 1) 0 → Is x at ≡ digitRead h i s l p
+      digit-is : x ≡ getD (halves (take (suc h) (drop p s))) (i + 1) 0 → Is x at ≡ digitRead (digits h) i s l p
       unfolding digitRead
       digit-is g =
           let f = digits-fill s l p h a n b e in
@@ -362,13 +371,13 @@ module _ (s : List ℕ) (l p h i : ℕ) where
           let z : p + (i / 2 + i % 2) ≡ at = omega (arith, f .0, here) in
           getD-take (suc h) (drop p s) (i / 2 + i % 2) 0 (omega (arith, f .1)) ∙ getD-drop p s (i / 2 + i % 2) 0 ∙ ap (λ (j : ℕ). getD s j 0) z
 
-      pub digit-low : i % 2 ≡ 0 → x ≡ getD s at 0 % 16 → Is x at ≡ digitRead h i s l p
+      pub digit-low : i % 2 ≡ 0 → x ≡ getD s at 0 % 16 → Is x at ≡ digitRead (digits h) i s l p
       digit-low even g =
           let j = halves-get (take (suc h) (drop p s)) (i / 2 + i % 2) in
           let z : i / 2 + i % 2 + (i / 2 + i % 2) + 1 ≡ i + 1 = omega arith in
           digit-is (g ∙ ap (λ y. y % 16) (sym byte) ∙ sym (j .1) ∙ ap (λ (y : ℕ). getD (halves (take (suc h) (drop p s))) y 0) z)
 
-      pub digit-high : (i % 2 ≡ 0 → ⊥) → x ≡ getD s at 0 / 16 → Is x at ≡ digitRead h i s l p
+      pub digit-high : (i % 2 ≡ 0 → ⊥) → x ≡ getD s at 0 / 16 → Is x at ≡ digitRead (digits h) i s l p
       digit-high odd g =
           let j = halves-get (take (suc h) (drop p s)) (i / 2 + i % 2) in
           let z : i / 2 + i % 2 + (i / 2 + i % 2) ≡ i + 1 = omega arith in

@@ -7,7 +7,7 @@ use lib.Dec.{ltb, leb}
 use Rattle.ground_choices.specs.Choice.{if_then_else_}
 use Rattle.ground_refusal.specs.declared.Refusal.the-variants.{OutsideSet}
 use Rattle.body_formats.specs.Reading.{Reading, found, refused, andThen, need, within}
-use Rattle.body_formats.specs.Format.{Format, count, digits, repeat, opaque}
+use Rattle.body_formats.specs.Format.{Format, count, repeat, opaque}
 use Rattle.body_formats.specs.declared.Step.{Step}
 use Rattle.body_formats.specs.declared.Step.the-variants.{At, Refused as NoStep}
 use Rattle.body_formats.specs.declared.Number.{Number}
@@ -71,8 +71,8 @@ thingListed C F i s l p = andThen (C .parse s l p) (λ n q. need (ltb i n) (Outs
 unfoldable pub partListed : ℕ → ℕ → ℕ → List ℕ → ℕ → ℕ → Part
 partListed c w i s l p = partOf (thingListed (count c) (opaque w) i s l p)
 
--- the i-th of the digits at p, and the position of the byte that it stands in: one that isn't there is 19, place 0
-unfoldable pub digitRead : ℕ → ℕ → List ℕ → ℕ → ℕ → Number
-digitRead h i s l p =
+-- the i-th of the digits that D reads at p, and the position of the byte that it stands in: one that isn't there is 19, place 0
+unfoldable pub digitRead : Format (List ℕ) → ℕ → List ℕ → ℕ → ℕ → Number
+digitRead D i s l p =
     numberOf
-    (andThen (digits h .parse s l p) (λ ds q. need (ltb i (length ds)) (OutsideSet 0) (found (getD ds i 0) (p + (i + 1) / 2))))
+    (andThen (D .parse s l p) (λ ds q. need (ltb i (length ds)) (OutsideSet 0) (found (getD ds i 0) (p + (i + 1) / 2))))

@@ -15,6 +15,7 @@ ghost use Rattle.ground_refusal.specs.declared.Refusal.the-variants.{OutsideSet
 ghost use Rattle.body_formats.specs.Reading.{found, refused, andThen, need};
 ghost use Rattle.body_formats.specs.Format.{tapeEntry, span, bytesOf, count, among, number, nibblesAmong, reserved, bytesAmong, digits, rest, opaque};
 ghost use Rattle.body_formats.specs.Time.{time, endTime};
+ghost use Rattle.body_formats.specs.Identifier.{identifier};
 ghost use Rattle.body_formats.specs.Resource.{resources};
 ghost use Rattle.body_formats.specs.Answers.{numberOf};
 ghost use Rattle.body_formats.specs.declared.Part.the-variants.{Of, Refused as NoPart};
@@ -530,6 +531,13 @@ pub fn take_count(tape: &[u64], x: Pen) -> Count
             },
         },
     }
+}
+
+// A message's identifier.
+pub fn put_identifier(pool: &[u8], tape: &[u64], x: Pen, out: &mut [u8], wet: bool) -> Pen
+    ensures { λ r. ⌜ Penned identifier (now (pool .entry)) (now (tape .entry)) x wet (now (out .entry)) r (now (out .exit)) ⌝ }
+{
+    put_digits(pool, tape, x, 17, out, wet)
 }
 
 // "resource count 8, resources of 4 reserved + 23 digits".

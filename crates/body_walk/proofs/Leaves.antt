@@ -1,28 +1,28 @@
 -- The laws of leaves: entries laid one after the other, and a walk past one field, whatever format it has.
-use Prim.Native.Nat.{ℕ, suc, _+_, _-_, _/_, _%_, _≤_, _<_}
+use Prim.Native.Nat.{ℕ, _+_, _-_, _/_, _%_, _≤_, _<_}
 use mathlib.Core.Path.{_≡_, refl, sym, ap, _∙_}
 use mathlib.Core.List.{List, [], _∷_, _++_}
 use mathlib.Core.Bool.{Bool, true, false, _&&_}
 use native.Mathlib.Omega.{arith}
 use native.Mathlib.Nat.{add-zero, zero-add}
-use lib.ListN.{length, getD, set, take, drop, length-append, length-drop}
+use lib.ListN.{length, getD, set, drop, length-append, length-drop}
 use lib.Seq.{length-take-le}
 use lib.Dec.{leb}
 use borrow.Author.Tests.{le-leb, lt-leb}
 use Rattle.ground_placing.specs.Placed.{placed}
 use Rattle.ground_placing.proofs.Placing.{stored, placed-none, placed-next}
 use Rattle.ground_refusal.specs.declared.Refusal.{Refusal}
-use Rattle.ground_refusal.specs.declared.Refusal.the-variants.{PastBody, PastPart, DigitAboveNine, OutsideSet}
+use Rattle.ground_refusal.specs.declared.Refusal.the-variants.{PastBody, PastPart, OutsideSet}
 use Rattle.body_formats.specs.Reading.{Reading, found, refused, andThen, need, Fault, unless, judged, valueOf}
-use Rattle.body_formats.specs.Format.{Format, numberAt, count, only, outside, number, nibbles, nibblesAmong, reserved, bytes, bytesAmong, every, halves, tail, decimal, digits, rest, Length, lengthOf, counted, opaque}
+use Rattle.body_formats.specs.Format.{Format, numberAt, count, only, outside, number, nibbles, nibblesAmong, reserved, bytes, bytesAmong, every, rest, Length, lengthOf, counted, opaque}
 use Rattle.body_formats.specs.Time.{time, endTime}
 use Rattle.body_formats.specs.Answers.{numberOf, partOf, fieldPart, numberRead, partRead}
 use Rattle.body_formats.specs.declared.Number.{Number}
 use Rattle.body_formats.specs.declared.Number.the-variants.{Is, Refused as NoNumber}
 use Rattle.body_formats.specs.declared.Part.{Part}
 use Rattle.body_formats.specs.declared.Part.the-variants.{Of, Refused as NoPart}
-use Rattle.body_formats.proofs.Outcomes.{found-inj, andThen-found, need-found, judged-found, within-found}
-use Rattle.body_formats.proofs.Leaves.{length-bytes, reserved-found}
+use Rattle.body_formats.proofs.Outcomes.{found-inj, andThen-found, judged-found, within-found}
+use Rattle.body_formats.proofs.Leaves.{length-bytes}
 use Rattle.body_formats.proofs.Parts.{opaque-next}
 use Rattle.body_formats.proofs.Readers.{number-found, number-refused, part-found, part-refused}
 use Rattle.body_walk.specs.declared.Walk.{Walk}
@@ -239,20 +239,6 @@ module _ (lo hi n : ℕ) where
       let g = within-found s l p (p + n) _ (i .0) (i .1) (i .2) in
       let k = found-inj (g .2) .1 in
       (omega (arith, j, k), omega (arith, j, k, g .0))
-
--- reserved bits and digits
-module _ (h : ℕ) where
-  pub digits-two : (ds : List ℕ) (i : ℕ) → digits h .tape ds i ≡ i ∷ suc h ∷ []
-  unfolding digits
-  digits-two ds i = refl
-
-  pub digits-fit : (s : List ℕ) (l p : ℕ) (ds : List ℕ) (q : ℕ) → digits h .parse s l p ≡ found ds q → (q ≡ p + suc h) × (q ≤ length s)
-  unfolding digits
-  digits-fit s l p ds q e =
-      let g = within-found s l p (p + suc h) _ ds q (reserved-found 4 s l p _ ds q e .1) in
-      let ds′ = tail (halves (take (suc h) (drop p s))) in
-      let k = found-inj (need-found (decimal ds′) (DigitAboveNine p) (found ds′ (p + suc h)) ds q (g .2) .1) .1 in
-      (sym k, omega (arith, k, g .0))
 
 -- ---- two numbers of four bits: one byte is read, and both are judged
 

@@ -10,6 +10,7 @@ ghost use Prim.Native.Nat.{_-_, _≤_};
 ghost use Rattle.body_formats.specs.Format.{count, among, number, nibblesAmong, reserved, bytesAmong, digits, times, rest, lengthOf, leastOf, length12, opaque};
 ghost use Rattle.body_formats.specs.Time.{time, endTime};
 ghost use Rattle.body_formats.specs.Resource.{resource, resources};
+ghost use Rattle.body_formats.specs.Identifier.{identifier};
 ghost use Rattle.ground_refusal.specs.declared.Refusal.the-variants.{PastPart, LeftOver, ImpossibleDay};
 ghost use Rattle.body_walk.specs.Walked.{Walked, leaving, judgedFrom, Counted, openedBy, entered};
 ghost use Rattle.body_walk.specs.Entries.{Laid, Stepped, entryOf, pastNumber, Told, spanOf, pastPart, endOf};
@@ -315,6 +316,16 @@ pub fn walk_digits(s: &[u8], l: usize, x: Walk, h: usize, tape: &mut [u64], wet:
     match x {
         Walk::Refused(r) => Walk::Refused(r),
         Walk::At(p, room) => past_part(body_fields::read_digits(s, l, p, h), tape, room, wet),
+    }
+}
+
+// Past a message's identifier.
+pub fn walk_identifier(s: &[u8], l: usize, x: Walk, tape: &mut [u64], wet: bool) -> Walk
+    ensures { λ r. ⌜ Walked identifier (now (s .entry)) l x wet (now (tape .entry)) r (now (tape .exit)) ⌝ }
+{
+    match x {
+        Walk::Refused(r) => Walk::Refused(r),
+        Walk::At(p, room) => past_part(body_fields::read_identifier(s, l, p), tape, room, wet),
     }
 }
 

@@ -22,6 +22,7 @@ use Rattle.body_formats.specs.Held.{PartHolds}
 use Rattle.body_formats.proofs.Outcomes.{found-inj, andThen-found, within-found, judged-found}
 use Rattle.body_formats.proofs.Classes.{Bytes}
 use Rattle.body_formats.proofs.Elements.{exact-found, view-found, followed-found, list-found}
+use Rattle.body_formats.proofs.Strings.{digits-bytes}
 use Rattle.body_formats.proofs.RoundTrips as trips
 use Rattle.body_formats.specs.Resource.{resource}
 use Rattle.configuration.specs.Configuration.{configurationKind, terminals, plain, date, clock, addressFault, addressLength, address, Order, setClock, setCode, tune, setReturn, setPeriod, setVolume, query, other, orderOf, Said, said, least, Command, command, Configuration, fields, configuration}
@@ -29,7 +30,7 @@ use Rattle.configuration.proofs.Lawful.{said-filling, configuration-filling}
 use Rattle.body_asking.specs.Asking.{headedPart, nthOf}
 use Rattle.body_asking.proofs.Sizes.{Sized, count-sized, only-found, number-sized, number-inside, digits-sized, next, repeat-sized, nth-sized}
 use Rattle.body_asking.proofs.Entries.{all-same, nth-same, nth-past}
-use Rattle.body_asking.proofs.Parts.{counted-holds, part-holds, bytes-hold, digit-is, digits-bytes, depending-found}
+use Rattle.body_asking.proofs.Parts.{counted-holds, part-holds, bytes-hold, digit-there, digit-past, depending-found}
 use Rattle.configuration_fields.specs.Asked.{commandCount, commandPart, signaturePart, tagAt, bytesAt, commandTag, commandContent, contentAt, inCommand, clockDate, clockTime, clockYear, clockMonth, clockDay, clockHour, clockMinute, clockSecond, codeAddress, codeAt, codeResource, codeDigit, frequency, symbolRate, mapping, returnKind, addressIn, returnAddress, period, volume, parameterCount, listAt, parameterAt, parameter, terminalsIn, terminalsAt, terminalCount, terminalAt, terminal, terminalDigit}
 use Rattle.body_asking.specs.Agreement.{FillsAt}
 use Rattle.configuration_fields.specs.Agreement.{ResourceAsked, TerminalsAsked, ClockAsked, CodeAsked, TuneAsked, ReturnAsked, PeriodAsked, VolumeAsked, QueryAsked, OrderAsked, OthersAsked, CommandAsked, CommandsAsked, ConfigurationAsked}
@@ -110,15 +111,14 @@ opaque-stands w s l p xs q e = stand (lengthOf w) w (count-sized w) s l p xs q e
 -- ---- a resource
 
 resource-asked : (s : List ℕ) → Bytes s → (l at : ℕ) (ds : List ℕ) (q : ℕ) → resource .parse s l at ≡ found ds q
-    → (part : Part) → part ≡ fieldPart at (found ds q) → (digit : ℕ → Number) → ((j : ℕ) → digit j ≡ digitRead 11 j s l at) → ResourceAsked s part digit at ds
-unfolding digitRead
+    → (part : Part) → part ≡ fieldPart at (found ds q) → (digit : ℕ → Number) → ((j : ℕ) → digit j ≡ digitRead resource j s l at) → ResourceAsked s part digit at ds
 resource-asked s b l at ds q e part same digit each =
     let z : q - at ≡ 12 = omega (arith, digits-sized 11 s l at ds q e) in
     record {
       part-is = same ∙ ap (Of at) z;
       bytes-are = digits-bytes s l at 11 ds q e b;
-      digit-is = λ j h. each j ∙ digit-is s l at 11 ds q e j h;
-      digit-past = λ j h. each j ∙ rw (e, le-ltb j (length ds) h);
+      digit-is = λ j h. each j ∙ digit-there resource s l at ds q e j h;
+      digit-past = λ j h. each j ∙ digit-past resource s l at ds q e j h;
     }
 
 -- ---- terminals, of every command that has them

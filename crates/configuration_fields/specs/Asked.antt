@@ -122,7 +122,7 @@ resourceOf s (In q l) = fieldPart q (resource .parse s l q)
 resourceOf s (NoPlace r) = NoPart r
 
 abbrev pub digitAt : ℕ → List ℕ → Place → Number
-digitAt j s (In q l) = digitRead 11 j s l q
+digitAt j s (In q l) = digitRead resource j s l q
 digitAt j s (NoPlace r) = NoNumber r
 
 -- ---- 2: "address length, address, resource"

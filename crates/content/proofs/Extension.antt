@@ -1,6 +1,6 @@
 -- The extension: the first 18 bytes of an accepted or a written body are its identifier, whose CRC-16 the extension has to be.
 use Prim.Native.Nat.{ℕ, _≤_}
-use mathlib.Core.Path.{_≡_, refl, sym, ap, _∙_}
+use mathlib.Core.Path.{_≡_, sym, ap, _∙_}
 use mathlib.Core.List.{List}
 use native.Mathlib.Omega.{arith}
 use lib.ListN.{length, take, length-append}
@@ -12,16 +12,17 @@ use Rattle.ground_refusal.specs.declared.Refusal.{Refusal}
 use Rattle.ground_refusal.specs.declared.Refusal.the-variants.{OtherKind, LeftOver, OtherChecksum, TooLarge}
 use Rattle.crc.specs.Crc.{crc16Of}
 use Rattle.body_formats.specs.Reading.{Reading, found, refused, andThen, need}
-use Rattle.body_formats.specs.Format.{followed, digits, exact, view}
+use Rattle.body_formats.specs.Format.{followed, exact, view}
+use Rattle.body_formats.specs.Identifier.{identifier}
 use Rattle.body_formats.specs.Answers.{stepOf}
 use Rattle.body_formats.specs.Body.{longest, reading, bodyRead}
 use Rattle.body_formats.specs.declared.Step.the-variants.{At, Refused as NoStep}
-use Rattle.body_formats.proofs.Outcomes.{found-inj, need-found}
+use Rattle.body_formats.proofs.Outcomes.{need-found}
 use Rattle.body_formats.proofs.Classes.{Bytes, Ok}
 use Rattle.body_formats.proofs.Elements.{exact-found, view-found, followed-found}
 use Rattle.body_formats.proofs.Laying.{table}
-use Rattle.body_formats.proofs.Strings.{digits-part, digits-take, digits-fill}
-use Rattle.content.specs.Content.{contentKind, identifier, Content, fields, content, extensionOf, readingOf, contentRead}
+use Rattle.body_formats.proofs.Identifiers.{identifier-takes, identifier-fits, identifier-bytes}
+use Rattle.content.specs.Content.{contentKind, Content, fields, content, extensionOf, readingOf, contentRead}
 
 -- an accepted body begins with its identifier
 module _ (w : ℕ) (s : List ℕ) (b : Bytes s) where
@@ -31,16 +32,18 @@ module _ (w : ℕ) (s : List ℕ) (b : Bytes s) where
       let x = exact-found LeftOver _ s (length s) 0 c q e in
       let v = view-found _ _ _ s (length s) 0 c q (x .0) in
       let d = followed-found identifier _ s (length s) 0 (v .0) q (v .1) in
-      let f = digits-fill s (length s) 0 17 _ _ b (digits-part s (length s) 0 17 (v .0 .0) (d .0) (d .1)) .2 in
-      let same : f .value ≡ c .identifier = found-inj (sym (f .parsed) ∙ d .1) .0 ∙ ap (λ (y : Content). y .identifier) (v .2) in
-      (f .in-body, f .printed ∙ ap (identifier .print) same)
+      let f = identifier-fits s (length s) 0 (v .0 .0) (d .0) (d .1) in (
+        omega (arith, f .0, f .1),
+        identifier-bytes s (length s) 0 (v .0 .0) (d .0) (d .1) b ∙ ap (λ (y : Content). identifier .print (y .identifier)) (v .2),
+      )
 
 -- and so does a printed one
-pub printed-identifier : (w : ℕ) (c : Content) → Ok (content w) c → (18 ≤ length (content w .print c)) × (take 18 (content w .print c) ≡ identifier .print (c .identifier))
-unfolding content fields exact view followed digits
+pub printed-identifier : (w : ℕ) (c : Content) → Ok (content w) c
+    → (18 ≤ length (content w .print c)) × (take 18 (content w .print c) ≡ identifier .print (c .identifier))
+unfolding content fields exact view followed
 printed-identifier w c o =
     let writable = both (identifier .writable (c .identifier)) _ (o .writable) .0 in
-    let long = digits-take 17 (c .identifier) (record { writable = writable; small = refl }) in
+    let long = identifier-takes (c .identifier) writable in
     (simp length-append (omega (arith, long)), take-at (identifier .print (c .identifier)) _ 18 (sym long))
 
 module _ (w kind : ℕ) (s : List ℕ) where

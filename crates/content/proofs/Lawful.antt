@@ -5,10 +5,11 @@ use native.Mathlib.Omega.{arith}
 use Rattle.ground_refusal.specs.declared.Refusal.the-variants.{LeftOver, PastPart}
 use Rattle.body_formats.specs.Format.{reserved, lengthOf}
 use Rattle.body_formats.proofs.Classes.{Lawful, Filling}
-use Rattle.body_formats.proofs.Leaves.{reserved-lawful, digits-lawful}
+use Rattle.body_formats.proofs.Leaves.{reserved-lawful}
 use Rattle.body_formats.proofs.Bits.{among-lawful, bytes-among-lawful}
 use Rattle.body_formats.proofs.Parts.{number-lawful, followed-lawful, view-lawful, exact-filling, counted-lawful, length-counts, opaque-lawful}
 use Rattle.body_formats.proofs.Lists.{list-lawful}
+use Rattle.body_formats.proofs.Identifiers.{identifier-lawful}
 use Rattle.content.specs.Content.{auxiliary, auxiliaries, languageFields, language, fields, content}
 
 -- one law over the width of an auxiliary file's length
@@ -35,8 +36,9 @@ module _ (w : ℕ) where
   pub fields-lawful : Lawful (fields w)
   unfolding fields
   fields-lawful =
-      followed-lawful _ _ (digits-lawful 17) (λ a.
-      followed-lawful _ _ (list-lawful (language w) language-lawful _ (among-lawful 1 5 (reserved 4 0) (reserved-lawful 4 0 (omega arith)))) (λ b. opaque-lawful 2))
+      followed-lawful _ _ identifier-lawful (λ a.
+      followed-lawful _ _ (list-lawful (language w) language-lawful _ (among-lawful 1 5 (reserved 4 0) (reserved-lawful 4 0 (omega arith)))) (λ b.
+      opaque-lawful 2))
 
   pub content-filling : Filling (content w)
   unfolding content

@@ -11,7 +11,8 @@ use Rattle.ground_refusal.specs.declared.Refusal.the-variants.{LeftOver, PastPa
 use Rattle.body_formats.specs.Format.{reserved}
 use Rattle.body_formats.specs.Body.{reading}
 use Rattle.body_formats.specs.declared.Step.the-variants.{Refused as NoStep}
-use Rattle.body_formats.proofs.Places.{ends, then-until, need-until, Placed, number-placed, reserved-placed, among-placed, bytes-among-placed, digits-placed, followed-placed, view-placed, list-placed, exact-placed, length-placed, opaque-placed, step-place, reading-until}
+use Rattle.body_formats.proofs.Places.{ends, then-until, need-until, Placed, number-placed, reserved-placed, among-placed, bytes-among-placed, followed-placed, view-placed, list-placed, exact-placed, length-placed, opaque-placed, step-place, reading-until}
+use Rattle.body_formats.proofs.Identifiers.{identifier-placed}
 use Rattle.content.specs.Content.{contentKind, auxiliary, auxiliaries, languageFields, language, fields, content, extensionOf, readingOf, contentRead}
 
 module _ (w : ℕ) where
@@ -32,7 +33,7 @@ module _ (w : ℕ) where
   unfolding content fields
   content-placed =
       exact-placed LeftOver _ le-refl (view-placed _ _ (fields w)
-      (followed-placed _ _ (digits-placed 17) (λ a.
+      (followed-placed _ _ identifier-placed (λ a.
       followed-placed _ _ (list-placed (language w) language-placed _ (among-placed 1 5 (reserved 4 0) (reserved-placed 4 0))) (λ b. opaque-placed 2))))
 
   pub extended-place : (kind extension : ℕ) (s : List ℕ) (r : Refusal) → contentRead w kind extension s ≡ NoStep r → refusalPlace r ≤ length s

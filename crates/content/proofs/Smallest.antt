@@ -12,11 +12,12 @@ use Rattle.ground_refusal.specs.declared.Refusal.{Refusal}
 use Rattle.ground_refusal.specs.declared.Refusal.the-variants.{OutsideSet}
 use Rattle.body_formats.specs.Reading.{isFine, unless}
 use Rattle.body_formats.specs.Format.{numberAt, count, only, among, reserved, bytes, halves, decimal, digits, followed, view, repeat, printAll, every, listOf, rest, exact, lengthOf, counted}
+use Rattle.body_formats.specs.Identifier.{identifier}
 use Rattle.body_formats.specs.Body.{reading, bodyRead}
 use Rattle.body_formats.specs.declared.Step.the-variants.{At}
 use Rattle.body_formats.proofs.Leaves.{length-bytes}
-use Rattle.body_formats.proofs.Strings.{digits-take}
-use Rattle.content.specs.Content.{contentKind, identifier, Language, languageFields, language, auxiliaries, Content, fields, content}
+use Rattle.body_formats.proofs.Identifiers.{identifier-takes}
+use Rattle.content.specs.Content.{contentKind, Language, languageFields, language, auxiliaries, Content, fields, content}
 
 tested : (t : Bool) (r : Refusal) → isFine (unless t r) ≡ true → t ≡ true
 tested true r h = refl
@@ -36,14 +37,14 @@ module _ (w : ℕ) where
   languages-take (v ∷ vs) h r = simp length-append (omega (arith, language-takes v (both _ _ r .0)))
 
   pub content-takes : (c : Content) → content w .writable c ≡ true → 33 ≤ length (content w .print c)
-  unfolding content fields digits counted lengthOf exact view followed listOf only reserved count rest
+  unfolding content fields counted lengthOf exact view followed listOf only reserved count rest
   content-takes c r =
       let n = length (c .languages) in
       let C = among 1 5 (reserved 4 0) in
       let parts = both (identifier .writable (c .identifier)) _ r in
       let languages = both (C .writable n) _ (both (listOf C (language w) .writable (c .languages)) _ (parts .1) .0) in
       let some = both (leb 1 n) _ (tested (leb 1 n && leb n 5) (OutsideSet 0) (both (reserved 4 0 .writable n) _ (languages .0) .1)) .0 in
-      let eighteen = digits-take 17 (c .identifier) (record { writable = parts .0; small = refl }) in
+      let eighteen = identifier-takes (c .identifier) (parts .0) in
       let twelve = languages-take (c .languages) (leb-true 1 n some) (languages .1) in
       simp (length-append, length-bytes) (omega (arith, eighteen, twelve))
 
@@ -54,5 +55,5 @@ smallestBody =
     ∷ 0 ∷ 0 ∷ 0 ∷ 8 ∷ 0x61 ∷ 0x61 ∷ 0x61 ∷ 0xF8 ∷ 0 ∷ 0 ∷ 0 ∷ 0xF0 ∷ 0 ∷ 0 ∷ []
 
 pub smallest-accepted : bodyRead (content 3) contentKind contentKind smallestBody ≡ At 33
-unfolding smallestBody bodyRead reading content fields language languageFields auxiliaries counted lengthOf exact view followed listOf repeat only every bytes reserved count numberAt rest digits halves decimal
+unfolding smallestBody bodyRead reading content fields language languageFields auxiliaries counted lengthOf exact view followed listOf repeat only every bytes reserved count numberAt rest identifier digits halves decimal
 smallest-accepted = refl

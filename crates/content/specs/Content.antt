@@ -5,7 +5,8 @@ use lib.Dec.{eqb}
 use Rattle.ground_refusal.specs.declared.Refusal.the-variants.{LeftOver, PastPart, OtherChecksum}
 use Rattle.crc.specs.Crc.{crc16Of}
 use Rattle.body_formats.specs.Reading.{Reading, found, andThen, need}
-use Rattle.body_formats.specs.Format.{Format, _▷_, number, among, bytesAmong, reserved, digits, listOf, opaque, exact, view, lengthOf, counted}
+use Rattle.body_formats.specs.Format.{Format, _▷_, number, among, bytesAmong, reserved, listOf, opaque, exact, view, lengthOf, counted}
+use Rattle.body_formats.specs.Identifier.{identifier}
 use Rattle.body_formats.specs.Answers.{stepOf}
 use Rattle.body_formats.specs.Body.{reading}
 use Rattle.body_formats.specs.declared.Step.{Step}
@@ -56,10 +57,6 @@ language w =
     (languageFields w)))
 
 -- ---- the table
-
--- "4 reserved, 35 digits"
-abbrev pub identifier : Format (List ℕ)
-identifier = digits 17
 
 pub record Content : Type 0 where
   pub identifier : List ℕ

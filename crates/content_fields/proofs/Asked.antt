@@ -9,21 +9,23 @@ use borrow.Author.Tests.{le-leb, lt-leb, lt-ltb}
 use Rattle.ground_refusal.specs.declared.Refusal.the-variants.{LeftOver, PastPart}
 use Rattle.body_formats.specs.Reading.{found}
 use Rattle.body_formats.specs.Format.{number, among, bytesAmong, reserved, _▷_, repeat, listOf, exact, view, lengthOf, opaque}
+use Rattle.body_formats.specs.Identifier.{identifier}
 use Rattle.body_formats.specs.Body.{reading}
 use Rattle.body_formats.specs.Answers.{partOf}
 use Rattle.body_formats.specs.declared.Number.the-variants.{Is}
 use Rattle.body_formats.proofs.Classes.{Bytes, Filling}
 use Rattle.body_formats.proofs.Parts.{view-lawful, exact-filling}
 use Rattle.body_formats.proofs.Elements.{exact-found, view-found, followed-found, list-found}
+use Rattle.body_formats.proofs.Identifiers.{identifier-sized, identifier-bytes, identifier-many}
 use Rattle.body_formats.proofs.RoundTrips as trips
 use Rattle.body_asking.specs.Asking.{headedPart, nthOf}
 use Rattle.body_asking.specs.Agreement.{FillsAt}
-use Rattle.body_asking.proofs.Sizes.{among-sized, number-sized, bytes-are, bytes-sized, reserved-sized, digits-sized, next}
+use Rattle.body_asking.proofs.Sizes.{among-sized, number-sized, bytes-are, bytes-sized, reserved-sized, next}
 use Rattle.body_asking.proofs.Answers.{asked}
 use Rattle.body_asking.proofs.Entries.{entry-found, nth-past, all-same}
-use Rattle.body_asking.proofs.Parts.{bytes-hold, digit-there, digit-past, digits-bytes}
+use Rattle.body_asking.proofs.Parts.{bytes-hold, digit-there, digit-past}
 use Rattle.body_asking.proofs.Turns.{ReadAt, read-in-turn, opaque-fills-at, follows-length}
-use Rattle.content.specs.Content.{contentKind, Auxiliary, auxiliary, auxiliaries, Language, LanguageFields, languageFields, language, identifier, Content, Fields, fields, content}
+use Rattle.content.specs.Content.{contentKind, Auxiliary, auxiliary, auxiliaries, Language, LanguageFields, languageFields, language, Content, Fields, fields, content}
 use Rattle.content.proofs.Lawful.{language-fields-lawful, content-filling}
 use Rattle.content_fields.specs.Agreement.{AuxiliaryAsked, FieldsAsked, NoLanguage, LanguageAsked, ContentAsked}
 use Rattle.content_fields.specs.Asked.{identifierPart, identifierDigit, extension, languagesCounted, languageCount, languagePart, signaturePart, lettersPart, characterSet, textIn, agencyIn, auxiliariesIn, textPart, agencyPart, auxiliaryCount, typeIn, auxiliaryType, auxiliaryPart}
@@ -85,7 +87,8 @@ module _ (w : ℕ) (s : List ℕ) (at n : ℕ) (b : Bytes s) (there : at + n ≤
       (rw agency-found (f .1 ∙ ap (found (length fs)) z), ap (repeat (auxiliary w .parse s l) (length fs)) (sym z) ∙ f .2)
 
   -- an auxiliary file is an entry, and the i-th one is found after those before it
-  same : (p : ℕ) (a : Auxiliary) (r : ℕ) → auxiliary w .parse s (at + n) p ≡ found a r → (y : List ℕ × List ℕ) × (headedPart 1 w .parse s (at + n) p ≡ found y r)
+  same : (p : ℕ) (a : Auxiliary) (r : ℕ) → auxiliary w .parse s (at + n) p ≡ found a r
+      → (y : List ℕ × List ℕ) × (headedPart 1 w .parse s (at + n) p ≡ found y r)
   unfolding auxiliary
   same p a r h =
       let v = view-found _ _ (number 1 ▷ opaque w) s (at + n) p a r h in
@@ -160,7 +163,7 @@ module _ (w : ℕ) (s : List ℕ) (b : Bytes s) where
     three =
         let l = length s in
         let vs = x .1 .0 in
-        let f = next identifier _ 18 (digits-sized 17) s l 0 18 x q refl e in
+        let f = next identifier _ 18 identifier-sized s l 0 18 x q refl e in
         let g = followed-found (listOf languagesCounted (language w)) (opaque 2) s l 18 (x .1) q (f .1) in
         let h = list-found languagesCounted (language w) s l 18 vs (g .0) (g .1) in
         let z : h .0 ≡ 19 = among-sized 1 5 (reserved 4 0) 1 (reserved-sized 4 0) s l 18 (length vs) (h .0) (h .1) in
@@ -185,11 +188,13 @@ module _ (w : ℕ) (s : List ℕ) (b : Bytes s) where
     table-fields =
         let l = length s in
         let vs = x .1 .0 in
+        let thirty-five = identifier-many s l 0 (x .0) 18 (three .0) b in
         record {
           identifier-is = rw (three .0);
-          identifier-bytes = digits-bytes s l 0 17 (x .0) 18 (three .0) b;
-          identifier-digits = λ i h. digit-there s l 0 17 (x .0) 18 (three .0) b (le-refl l) i h ∙ ap (Is (getD (x .0) i 0)) (zero-add ((i + 1) / 2));
-          identifier-past = λ i h. digit-past s l 0 17 (x .0) 18 (three .0) b (le-refl l) i h;
+          identifier-bytes = identifier-bytes s l 0 (x .0) 18 (three .0) b;
+          identifier-digits = λ i h.
+              digit-there identifier s l 0 (x .0) 18 (three .0) i (omega (arith, thirty-five)) ∙ ap (Is (getD (x .0) i 0)) (zero-add ((i + 1) / 2));
+          identifier-past = λ i h. digit-past identifier s l 0 (x .0) 18 (three .0) i (omega (arith, thirty-five));
           extension-is = rw (three .0);
           languages-counted = rw (three .1);
           languages-end = three .2;

@@ -4,11 +4,12 @@ use mathlib.Core.List.{List}
 use lib.ListN.{length}
 use Rattle.body_formats.specs.Reading.{Reading, found, andThen}
 use Rattle.body_formats.specs.Format.{Format, number, among, bytesAmong, reserved, listOf, opaque}
+use Rattle.body_formats.specs.Identifier.{identifier}
 use Rattle.body_formats.specs.Answers.{numberOf, partOf, fieldPart, digitRead}
 use Rattle.body_formats.specs.declared.Number.{Number}
 use Rattle.body_formats.specs.declared.Part.{Part}
 use Rattle.body_asking.specs.Asking.{inBody, fieldIn, headedPart, nthOf}
-use Rattle.content.specs.Content.{identifier, extensionOf}
+use Rattle.content.specs.Content.{extensionOf}
 
 -- ---- the table
 
@@ -16,7 +17,7 @@ unfoldable pub identifierPart : List ℕ → Part
 identifierPart s = fieldPart 0 (identifier .parse s (length s) 0)
 
 unfoldable pub identifierDigit : List ℕ → ℕ → Number
-identifierDigit s i = digitRead 17 i s (length s) 0
+identifierDigit s i = digitRead identifier i s (length s) 0
 
 -- the extension that goes with the identifier
 unfoldable pub extension : List ℕ → Number

@@ -13,14 +13,14 @@ ghost use Rattle.content_fields.specs.Asked.{identifierPart, identifierD
 pub fn identifier(s: &[u8]) -> Part
     ensures { λ r. ⌜ r ≡ identifierPart (now (s .entry)) ⌝ }
 {
-    body_fields::read_digits(s, s.len(), 0, 17)
+    body_fields::read_identifier(s, s.len(), 0)
 }
 
 // The i-th digit of the identifier.
 pub fn identifier_digit(s: &[u8], i: u64) -> Number
     ensures { λ r. ⌜ r ≡ identifierDigit (now (s .entry)) i ⌝ }
 {
-    body_fields::digit_at(s, s.len(), 0, 17, i)
+    body_fields::identifier_digit_at(s, s.len(), 0, i)
 }
 
 // The extension that goes with the body: the CRC-16 of the 18 bytes that hold the identifier.

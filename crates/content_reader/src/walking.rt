@@ -99,7 +99,7 @@ pub fn walk_content(s: &[u8], x: Walk, w: usize, tape: &mut [u64], wet: bool) ->
     ensures { λ r. ⌜ Walked (content w) (now (s .entry)) (length (now (s .entry))) x wet (now (tape .entry)) r (now (tape .exit)) ⌝ }
 {
     let l = s.len();
-    let a = body_walk::walk_digits(s, l, x, 17, tape, wet);
+    let a = body_walk::walk_identifier(s, l, x, tape, wet);
     let languages = body_walk::walk_reserved_among(s, l, a, 4, 0, 1, 5, tape, wet);
     let at = languages.walk;
     let b = walk_all_languages(s, l, at, w, languages.n, tape, wet);

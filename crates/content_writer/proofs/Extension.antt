@@ -12,7 +12,8 @@ use Rattle.body_formats.specs.Reading.{Reading, found, refused}
 use Rattle.body_formats.specs.Answers.{stepOf}
 use Rattle.body_formats.specs.Body.{writing, bodyWritten, outputWritten}
 use Rattle.body_formats.specs.declared.Step.the-variants.{At, Refused as NoStep}
-use Rattle.content.specs.Content.{identifier, Content, content, extensionOf}
+use Rattle.body_formats.specs.Identifier.{identifier}
+use Rattle.content.specs.Content.{Content, content, extensionOf}
 use Rattle.content.proofs.RoundTrips.{content-trips}
 use Rattle.content.proofs.Extension.{printed-identifier}
 use Rattle.content_writer.specs.Written.{writtenOf, contentWritten}

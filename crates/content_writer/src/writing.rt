@@ -79,7 +79,7 @@ pub fn put_content(pool: &[u8], tape: &[u64], x: Pen, w: usize, out: &mut [u8], 
     requires { ⌜ w ≤ 7 ⌝ }
     ensures { λ r. ⌜ Penned (content w) (now (pool .entry)) (now (tape .entry)) x wet (now (out .entry)) r (now (out .exit)) ⌝ }
 {
-    let a = body_pen::put_digits(pool, tape, x, 17, out, wet);
+    let a = body_pen::put_identifier(pool, tape, x, out, wet);
     let b = put_languages(pool, tape, a, w, out, wet);
     body_pen::put_part(pool, tape, b, 2, out, wet)
 }

@@ -6,11 +6,12 @@ use lib.ListN.{length, length-append}
 use Rattle.ground_refusal.specs.declared.Refusal.the-variants.{LeftOver, PastPart}
 use Rattle.body_formats.specs.Format.{Format, _▷_, followed, count, number, only, reserved, many, opaque, lengthOf, length12, exact, view}
 use Rattle.body_formats.proofs.Classes.{Lawful, Filling}
-use Rattle.body_formats.proofs.Leaves.{count-lawful, reserved-lawful, digits-lawful, length-bytes}
+use Rattle.body_formats.proofs.Leaves.{count-lawful, reserved-lawful, length-bytes}
 use Rattle.body_formats.proofs.Bits.{nibbles-among-lawful, bytes-among-lawful}
 use Rattle.body_formats.proofs.Parts.{number-lawful, followed-lawful, under-lawful, view-lawful, exact-filling, counted-lawful, length-counts, length12-counts, opaque-lawful}
 use Rattle.body_formats.proofs.Lists.{list-lawful, many-filling}
 use Rattle.body_formats.proofs.Resources.{resources-lawful}
+use Rattle.body_formats.proofs.Identifiers.{identifier-lawful}
 use Rattle.body_formats.proofs.Times.{time-lawful, end-lawful}
 use Rattle.index.specs.Index.{Descriptor, descriptor, descriptors, Stream, streamFields, stream, streams, channelFields, channel, flagged, head, named, unnamed, messageFields, message, fields, index}
 
@@ -73,7 +74,7 @@ flagged-lawful = followed-lawful _ _ (reserved-lawful 7 0 (omega arith)) (under-
 pub head-lawful : Lawful head
 unfolding head
 head-lawful =
-    followed-lawful _ _ (digits-lawful 17) (λ a. followed-lawful _ _ (number-lawful 2) (λ b. followed-lawful _ _ time-lawful (λ c.
+    followed-lawful _ _ identifier-lawful (λ a. followed-lawful _ _ (number-lawful 2) (λ b. followed-lawful _ _ time-lawful (λ c.
     followed-lawful _ _ end-lawful (λ d. followed-lawful _ _ (bytes-among-lawful 0 0x7F 5) (λ e. nibbles-among-lawful 1 4)))))
 
 pub message-fields-lawful : Lawful messageFields

@@ -2,7 +2,8 @@
 use native.Mathlib.Nat.{le-refl}
 use Rattle.ground_refusal.specs.declared.Refusal.the-variants.{LeftOver, PastPart}
 use Rattle.body_formats.specs.Format.{count, many}
-use Rattle.body_formats.proofs.Places.{Placed, count-placed, number-placed, nibbles-among-placed, reserved-placed, bytes-among-placed, digits-placed, followed-placed, under-placed, view-placed, list-placed, many-placed, exact-placed, length-placed, length12-placed, opaque-placed, time-placed, end-placed, resources-placed}
+use Rattle.body_formats.proofs.Places.{Placed, count-placed, number-placed, nibbles-among-placed, reserved-placed, bytes-among-placed, followed-placed, under-placed, view-placed, list-placed, many-placed, exact-placed, length-placed, length12-placed, opaque-placed, time-placed, end-placed, resources-placed}
+use Rattle.body_formats.proofs.Identifiers.{identifier-placed}
 use Rattle.index.specs.Index.{descriptor, descriptors, streamFields, stream, streams, channelFields, channel, flagged, head, messageFields, message, fields, index}
 
 descriptors-placed : Placed descriptors
@@ -26,7 +27,7 @@ channel-placed =
 head-placed : Placed head
 unfolding head
 head-placed =
-    followed-placed _ _ (digits-placed 17) (λ a. followed-placed _ _ (number-placed 2) (λ b. followed-placed _ _ time-placed (λ c.
+    followed-placed _ _ identifier-placed (λ a. followed-placed _ _ (number-placed 2) (λ b. followed-placed _ _ time-placed (λ c.
     followed-placed _ _ end-placed (λ d. followed-placed _ _ (bytes-among-placed 0 0x7F 5) (λ e. nibbles-among-placed 1 4)))))
 
 message-placed : Placed message

@@ -2,9 +2,10 @@
 use Prim.Native.Nat.{ℕ}
 use mathlib.Core.List.{List}
 use Rattle.ground_refusal.specs.declared.Refusal.the-variants.{LeftOver, PastPart}
-use Rattle.body_formats.specs.Format.{Format, _▷_, followed, Under, under, count, number, nibblesAmong, bytesAmong, reserved, digits, listOf, many, opaque, exact, view, lengthOf, length12, counted}
+use Rattle.body_formats.specs.Format.{Format, _▷_, followed, Under, under, count, number, nibblesAmong, bytesAmong, reserved, listOf, many, opaque, exact, view, lengthOf, length12, counted}
 use Rattle.body_formats.specs.Time.{time, endTime}
 use Rattle.body_formats.specs.Resource.{resources}
+use Rattle.body_formats.specs.Identifier.{identifier}
 
 -- "FD index"
 abbrev pub indexKind : ℕ
@@ -73,10 +74,6 @@ flagged = followed (reserved 7 0) (λ flag. under channel flag)
 
 -- ---- the message
 
--- "4 reserved, 35 digits"
-abbrev pub identifier : Format (List ℕ)
-identifier = digits 17
-
 pub record Message : Type 0 where
   pub identifier : List ℕ
   pub network : ℕ
@@ -88,7 +85,7 @@ pub record Message : Type 0 where
   pub resources : List (List ℕ)
   pub channel : Flagged
 
--- "type five bytes each at most 0x7F", "class 4 bits (1 to 4), level 4 bits (1 to 4)"
+-- "4 reserved, 35 digits", "type five bytes each at most 0x7F", "class 4 bits (1 to 4), level 4 bits (1 to 4)"
 abbrev pub HeadFields : Type 0
 HeadFields = List ℕ × (ℕ × (ℕ × (ℕ × (List ℕ × (ℕ × ℕ)))))
 

@@ -23,6 +23,7 @@ use Rattle.body_formats.proofs.Leaves.{number-below}
 use Rattle.body_formats.proofs.Bits.{reserved-inside}
 use Rattle.body_formats.proofs.Readers.{number-found, number-refused, step-found, step-refused}
 use Rattle.body_formats.specs.Resource.{resource}
+use Rattle.body_formats.specs.Identifier.{identifier}
 use Rattle.body_asking.specs.Asking.{fieldIn}
 use Rattle.body_asking.proofs.Answers.{number-in, found-in, part-refused, part-found}
 use Rattle.body_asking.proofs.Parts.{counted-holds}
@@ -83,7 +84,7 @@ module _ (s : List ℕ) (at n : ℕ) where
   unfolding identifierDigit
   identifier-digit-no i e = rw e
 
-  pub identifier-digit-is : (i : ℕ) → leb (at + n) (length s) ≡ true → digitRead 17 i s (at + n) at ≡ identifierDigit s at n i
+  pub identifier-digit-is : (i : ℕ) → leb (at + n) (length s) ≡ true → digitRead identifier i s (at + n) at ≡ identifierDigit s at n i
   unfolding identifierDigit
   identifier-digit-is i e = rw e
 
@@ -208,7 +209,7 @@ module _ (s : List ℕ) (at n : ℕ) where
     unfolding resourcePart
     resource-part = rw (number-found (resourceAt s at n i) m p e, resource-there .1)
 
-    pub resource-digit : (j : ℕ) → digitRead 11 j s (at + n) p ≡ resourceDigit s at n i j
+    pub resource-digit : (j : ℕ) → digitRead resource j s (at + n) p ≡ resourceDigit s at n i j
     unfolding resourceDigit
     resource-digit j = rw (number-found (resourceAt s at n i) m p e)
 

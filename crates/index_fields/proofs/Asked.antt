@@ -21,14 +21,17 @@ use Rattle.body_formats.proofs.Classes.{Bytes, Filling}
 use Rattle.body_formats.proofs.Elements.{exact-found, view-found, followed-found, list-found}
 use Rattle.body_formats.proofs.RoundTrips as trips
 use Rattle.body_formats.specs.Resource.{resource}
+use Rattle.body_formats.specs.Identifier.{identifier}
+use Rattle.body_formats.proofs.Strings.{digits-many, digits-bytes}
+use Rattle.body_formats.proofs.Identifiers.{identifier-sized, identifier-bytes, identifier-many}
 use Rattle.body_asking.specs.Asking.{inBody, fieldIn, inPart}
 use Rattle.body_asking.specs.Agreement.{NoNumberThere}
 use Rattle.body_asking.proofs.Sizes.{Sized, count-sized, number-sized, number-inside, time-sized, end-sized, nibbles-among-sized, bytes-are, bytes-sized, reserved-sized, digits-sized, next, repeat-sized, nth-sized}
 use Rattle.body_asking.proofs.Answers.{asked}
 use Rattle.body_asking.proofs.Entries.{after-all, all-same}
-use Rattle.body_asking.proofs.Parts.{length-sized, length12-sized, part-holds, part-after, bytes-hold, digit-there, digit-past, digits-bytes, depending-found}
+use Rattle.body_asking.proofs.Parts.{length-sized, length12-sized, part-holds, part-after, bytes-hold, digit-there, digit-past, depending-found}
 use Rattle.body_asking.proofs.Turns.{ReadAt, read-in-turn, holds-in-turn, opaque-fills-at, follows-length}
-use Rattle.index.specs.Index.{Descriptor, descriptor, descriptors, Stream, streamFields, stream, streams, Channel, ChannelFields, channelFields, channel, flagged, identifier, Message, HeadFields, MessageFields, head, messageFields, named, unnamed, message, Index, fields, index, indexKind}
+use Rattle.index.specs.Index.{Descriptor, descriptor, descriptors, Stream, streamFields, stream, streams, Channel, ChannelFields, channelFields, channel, flagged, Message, HeadFields, MessageFields, head, messageFields, named, unnamed, message, Index, fields, index, indexKind}
 use Rattle.index_fields.specs.Asked.{messageCount, messagePart, signaturePart, identifierPart, identifierDigit, network, start, end, typePart, class, level, resourceCount, resourceAt, resourcePart, resourceDigit, flagAt, flag, channelAt, channelNetwork, channelStream, channelProgram, pcrPid, descriptorsPart, streamsPart, firstByte, descriptorTag, descriptorPart, streamType, streamPid, streamDescriptors, countOf, descriptorCount, streamCount}
 use Rattle.index_fields.specs.Agreement.{DescriptorAsked, NoDescriptor, DescriptorsAsked, StreamAsked, StreamsAsked, NoStream, ChannelAsked, NoChannel, UnderFlag, FieldsAsked, NoMessage, MessageAsked, IndexAsked}
 use Rattle.index.proofs.Lawful.{all-descriptors-filling, all-streams-filling, inner-filling, index-filling}
@@ -192,7 +195,7 @@ module _ (s : List ℕ) (at n : ℕ) (x : HeadFields) (q : ℕ) (e : head .parse
   unfolding head
   heads =
       let l = at + n in
-      let f = next identifier _ 18 (digits-sized 17) s l at (at + 18) x q refl e in
+      let f = next identifier _ 18 identifier-sized s l at (at + 18) x q refl e in
       let g = next (number 2) _ 2 (number-sized 2) s l (at + 18) (at + 20) (x .1) q (omega arith) (f .1) in
       let h = next time _ 5 time-sized s l (at + 20) (at + 25) (x .1 .1) q (omega arith) (g .1) in
       let i = next endTime _ 5 end-sized s l (at + 25) (at + 30) (x .1 .1 .1) q (omega arith) (h .1) in
@@ -226,6 +229,9 @@ module _ (s : List ℕ) (at n : ℕ) (b : Bytes s) (there : at + n ≤ length s)
   resource-found : (i : ℕ) → i < length (x .1 .0) → resource .parse s (at + n) (at + 37 + 12 * i) ≡ found (getD (x .1 .0) i []) (at + 37 + 12 * i + 12)
   resource-found i h = nth-sized resource 12 (digits-sized 11) s (at + n) [] (length (x .1 .0)) i (at + 37) (x .1 .0) (parts .2) (parts .3) h
 
+  resource-many : (i : ℕ) → i < length (x .1 .0) → length (getD (x .1 .0) i []) ≡ 23
+  resource-many i h = digits-many s (at + n) (at + 37 + 12 * i) 11 _ _ (resource-found i h) b
+
   resource-at : (i : ℕ) → i < length (x .1 .0) → resourceAt s at n i ≡ found (length (x .1 .0)) (at + 37 + 12 * i)
   unfolding resourceAt
   resource-at i h = rw (parts .1, lt-ltb i (length (x .1 .0)) h)
@@ -249,11 +255,12 @@ module _ (s : List ℕ) (at n : ℕ) (b : Bytes s) (there : at + n ≤ length s)
   fields-asked =
       let h = heads s at n (x .0) (at + 36) (parts .0) in
       let room = le-leb (at + n) (length s) there in
+      let thirty-five = identifier-many s (at + n) at (x .0 .0) (at + 18) (h .0) b in
       record {
         identifier-is = rw (room, h .0, add-sub-cancel-left at 18);
-        identifier-bytes = digits-bytes s (at + n) at 17 (x .0 .0) (at + 18) (h .0) b;
-        identifier-digits = λ i k. rw room (digit-there s (at + n) at 17 (x .0 .0) (at + 18) (h .0) b there i k);
-        identifier-past = λ i k. rw room (digit-past s (at + n) at 17 (x .0 .0) (at + 18) (h .0) b there i k);
+        identifier-bytes = identifier-bytes s (at + n) at (x .0 .0) (at + 18) (h .0) b;
+        identifier-digits = λ i k. rw room (digit-there identifier s (at + n) at (x .0 .0) (at + 18) (h .0) i (omega (arith, thirty-five)));
+        identifier-past = λ i k. rw room (digit-past identifier s (at + n) at (x .0 .0) (at + 18) (h .0) i (omega (arith, thirty-five)));
         network-is = rw (asked s at n (number 2) 18 _ _ there (h .1));
         start-is = rw (asked s at n time 20 _ _ there (h .2));
         end-is = rw (asked s at n endTime 25 _ _ there (h .3));
@@ -264,8 +271,10 @@ module _ (s : List ℕ) (at n : ℕ) (b : Bytes s) (there : at + n ≤ length s)
         resources-counted = rw (parts .1);
         resource-is = λ i k. rw (resource-at i k, resource-found i k, add-sub-cancel-left (at + 37 + 12 * i) 12);
         resource-bytes = λ i k. digits-bytes s (at + n) (at + 37 + 12 * i) 11 (getD (x .1 .0) i []) _ (resource-found i k) b;
-        resource-digits = λ i j k m. rw (resource-at i k) (digit-there s (at + n) (at + 37 + 12 * i) 11 (getD (x .1 .0) i []) _ (resource-found i k) b there j m);
-        resource-digit-past = λ i j k m. rw (resource-at i k) (digit-past s (at + n) (at + 37 + 12 * i) 11 (getD (x .1 .0) i []) _ (resource-found i k) b there j m);
+        resource-digits = λ i j k m.
+            rw (resource-at i k) (digit-there resource s (at + n) (at + 37 + 12 * i) _ _ (resource-found i k) j (omega (arith, resource-many i k)));
+        resource-digit-past = λ i j k m.
+            rw (resource-at i k) (digit-past resource s (at + n) (at + 37 + 12 * i) _ _ (resource-found i k) j (omega (arith, resource-many i k)));
         resource-past = λ i k. rw (resource-none i k);
         resource-past-digit = λ i j k. rw (resource-none i k);
         flag-is = rw (flag-found .0);

@@ -9,7 +9,8 @@ use Rattle.body_formats.specs.declared.Number.the-variants.{Is}
 use Rattle.body_formats.specs.declared.Part.{Part}
 use Rattle.body_formats.specs.declared.Part.the-variants.{Of}
 use Rattle.body_asking.specs.Agreement.{NoNumberThere, NoPartThere, FillsAt, FollowsLength, InTurn, HoldsInTurn}
-use Rattle.index.specs.Index.{Descriptor, Stream, Channel, identifier, Message, message, Index}
+use Rattle.body_formats.specs.Identifier.{identifier}
+use Rattle.index.specs.Index.{Descriptor, Stream, Channel, Message, message, Index}
 use Rattle.index_fields.specs.Asked.{messageCount, messagePart, signaturePart, identifierPart, identifierDigit, network, start, end, typePart, class, level, resourceCount, resourcePart, resourceDigit, flag, channelNetwork, channelStream, channelProgram, pcrPid, descriptorsPart, streamsPart, descriptorTag, descriptorPart, streamType, streamPid, streamDescriptors, descriptorCount, streamCount}
 
 -- "Every field of an accepted table can be asked for, opaque bytes as the part of the body they fill; one that isn't there is 19, place 0":

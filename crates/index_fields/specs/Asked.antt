@@ -11,8 +11,9 @@ use Rattle.body_formats.specs.Answers.{numberOf, partOf, fieldPart, numberRead,
 use Rattle.body_formats.specs.declared.Number.{Number}
 use Rattle.body_formats.specs.declared.Part.{Part}
 use Rattle.body_formats.specs.Resource.{resource}
+use Rattle.body_formats.specs.Identifier.{identifier}
 use Rattle.body_asking.specs.Asking.{inBody, fieldIn, askedAt, inPart}
-use Rattle.index.specs.Index.{descriptor, stream, identifier}
+use Rattle.index.specs.Index.{descriptor, stream}
 
 -- ---- the table
 
@@ -32,7 +33,7 @@ unfoldable pub identifierPart : List ℕ → ℕ → ℕ → Part
 identifierPart s at n = fieldPart at (inBody s at n (λ l. identifier .parse s l at))
 
 unfoldable pub identifierDigit : List ℕ → ℕ → ℕ → ℕ → Number
-identifierDigit s at n i = askedAt (inBody s at n (λ l. found l at)) (λ p. digitRead 17 i s (at + n) p)
+identifierDigit s at n i = askedAt (inBody s at n (λ l. found l at)) (λ p. digitRead identifier i s (at + n) p)
 
 unfoldable pub network : List ℕ → ℕ → ℕ → Number
 network s at n = numberOf (fieldIn (number 2) 18 s at n)
@@ -63,7 +64,7 @@ unfoldable pub resourcePart : List ℕ → ℕ → ℕ → ℕ → Part
 resourcePart s at n i = fieldPart (at + 37 + 12 * i) (andThen (resourceAt s at n i) (λ m p. resource .parse s (at + n) p))
 
 unfoldable pub resourceDigit : List ℕ → ℕ → ℕ → ℕ → ℕ → Number
-resourceDigit s at n i j = askedAt (resourceAt s at n i) (λ p. digitRead 11 j s (at + n) p)
+resourceDigit s at n i j = askedAt (resourceAt s at n i) (λ p. digitRead resource j s (at + n) p)
 
 -- ---- the channel, which follows its flag
 

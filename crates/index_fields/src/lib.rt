@@ -46,7 +46,7 @@ pub fn identifier(s: &[u8], at: usize, n: usize) -> Part
     ensures { λ r. ⌜ r ≡ identifierPart (now (s .entry)) at n ⌝ }
 {
     if body_asking::in_body(s, at, n) {
-        return body_fields::read_digits(s, at + n, at, 17);
+        return body_fields::read_identifier(s, at + n, at);
     }
     Part::Refused(Refusal::OutsideSet(0))
 }
@@ -56,7 +56,7 @@ pub fn identifier_digit(s: &[u8], at: usize, n: usize, i: u64) -> Number
     ensures { λ r. ⌜ r ≡ identifierDigit (now (s .entry)) at n i ⌝ }
 {
     if body_asking::in_body(s, at, n) {
-        return body_fields::digit_at(s, at + n, at, 17, i);
+        return body_fields::identifier_digit_at(s, at + n, at, i);
     }
     Number::Refused(Refusal::OutsideSet(0))
 }

@@ -10,7 +10,7 @@ ghost use Rattle.index.specs.Index.{head, message, index};
 fn walk_head(s: &[u8], l: usize, x: Walk, tape: &mut [u64], wet: bool) -> Walk
     ensures { λ r. ⌜ Walked head (now (s .entry)) l x wet (now (tape .entry)) r (now (tape .exit)) ⌝ }
 {
-    let a = body_walk::walk_digits(s, l, x, 17, tape, wet);
+    let a = body_walk::walk_identifier(s, l, x, tape, wet);
     let b = body_walk::walk_number(s, l, a, 2, tape, wet);
     let c = body_walk::walk_time(s, l, b, tape, wet);
     let d = body_walk::walk_end(s, l, c, tape, wet);

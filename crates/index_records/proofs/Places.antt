@@ -18,7 +18,8 @@ use Rattle.body_formats.proofs.Classes.{Bytes}
 use Rattle.body_formats.proofs.Outcomes.{found-inj, andThen-found, within-found}
 use Rattle.body_formats.proofs.Elements.{exact-found, view-found, followed-found}
 use Rattle.body_formats.proofs.Readers.{number-facts}
-use Rattle.body_asking.proofs.Sizes.{only-found, bytes-sized, digits-sized}
+use Rattle.body_formats.proofs.Identifiers.{identifier-sized}
+use Rattle.body_asking.proofs.Sizes.{only-found, bytes-sized}
 use Rattle.body_walk.specs.Entries.{numberWorth}
 use Rattle.index.specs.Index.{HeadFields, head, messageFields, named, unnamed, Message, message}
 use Rattle.index.proofs.Lawful.{inner-filling, message-lawful}
@@ -54,7 +55,8 @@ byte-stands : (s : List ℕ) (p : ℕ) → p + 1 ≤ length s → standing s p 1
 unfolding standing numberRead count numberAt
 byte-stands s p h = rw (le-leb (p + 1) (length s) h) (zero-add (getD s (p + 0) 0) ∙ ap (λ (k : ℕ). getD s k 0) (add-zero p))
 
-nibbles-stand : (lo hi : ℕ) (s : List ℕ) (l p : ℕ) (x : ℕ × ℕ) (q : ℕ) → nibblesAmong lo hi .parse s l p ≡ found x q → (standing s p 1 / 16 ≡ x .0) × (standing s p 1 % 16 ≡ x .1)
+nibbles-stand : (lo hi : ℕ) (s : List ℕ) (l p : ℕ) (x : ℕ × ℕ) (q : ℕ) → nibblesAmong lo hi .parse s l p ≡ found x q
+    → (standing s p 1 / 16 ≡ x .0) × (standing s p 1 % 16 ≡ x .1)
 unfolding nibbles
 nibbles-stand lo hi s l p x q e =
     let f = within-found s l p (p + 1) _ x q (only-found _ nibbles s l p x q e) in
@@ -78,7 +80,7 @@ head-stands s p l at h q from e =
     let f₂ = followed-found _ _ s l (f₁ .0) (h .1 .1) q (f₁ .2) in
     let f₃ = followed-found _ _ s l (f₂ .0) (h .1 .1 .1) q (f₂ .2) in
     let f₄ = followed-found _ _ s l (f₃ .0) (h .1 .1 .1 .1) q (f₃ .2) in
-    let e₀ = digits-sized 17 s l at (h .0) (f₀ .0) (f₀ .1) in
+    let e₀ = identifier-sized s l at (h .0) (f₀ .0) (f₀ .1) in
     let e₁ = number-stands 2 s l (f₀ .0) (h .1 .0) (f₁ .0) (f₁ .1) in
     let e₂ = number-stands 5 s l (f₁ .0) (h .1 .1 .0) (f₂ .0) (only-found _ (number 5) s l (f₁ .0) (h .1 .1 .0) (f₂ .0) (f₂ .1)) in
     let e₃ = number-stands 5 s l (f₂ .0) (h .1 .1 .1 .0) (f₃ .0) (only-found _ (number 5) s l (f₂ .0) (h .1 .1 .1 .0) (f₃ .0) (f₃ .1)) in
@@ -98,15 +100,18 @@ head-stands s p l at h q from e =
 
 -- a message by its numbers, and the position after it
 abbrev placed : ℕ → ℕ → ℕ → ℕ → ℕ → ℕ → ℕ → Placed
-placed at n start end class level next = record { message = record { at = at; length = n; start = start; end = end; class = class; level = level }; next = next }
+placed at n start end class level next =
+    record { message = record { at = at; length = n; start = start; end = end; class = class; level = level }; next = next }
 
 -- what the code puts together
-pub by-places : (s : List ℕ) (p a n start end both : ℕ) → a ≡ min p longest → n ≡ standing s a 2 → start ≡ standing s (a + 22) 5 → end ≡ standing s (a + 27) 5 → both ≡ standing s (a + 37) 1
+pub by-places : (s : List ℕ) (p a n start end both : ℕ) → a ≡ min p longest → n ≡ standing s a 2 → start ≡ standing s (a + 22) 5
+    → end ≡ standing s (a + 27) 5 → both ≡ standing s (a + 37) 1
     → placed (a + 2) n start end (both / 16) (both % 16) (a + 2 + n) ≡ placedAt s p
 unfolding placedAt
 by-places s p a n start end both e₀ e₁ e₂ e₃ e₄ = rw (e₁, e₂, e₃, e₄) (ap (placedFrom s) e₀)
 
-same-placed : (at : ℕ) {n n′ start start′ end end′ class class′ level level′ next next′ : ℕ} → n ≡ n′ → start ≡ start′ → end ≡ end′ → class ≡ class′ → level ≡ level′ → next ≡ next′
+same-placed : (at : ℕ) {n n′ start start′ end end′ class class′ level level′ next next′ : ℕ} → n ≡ n′ → start ≡ start′ → end ≡ end′ → class ≡ class′
+    → level ≡ level′ → next ≡ next′
     → placed at n start end class level next ≡ placed at n′ start′ end′ class′ level′ next′
 same-placed at e₀ e₁ e₂ e₃ e₄ e₅ = rw (e₀, e₁, e₂, e₃, e₄, e₅)
 
@@ -130,12 +135,14 @@ message-placed s p m q b small e =
     let here : min p longest ≡ p = min-eq-left (omega (arith, c .1, f .0)) in
     let long : standing s p 2 ≡ length (message .print m) - 2 = omega (arith, past, next) in
     let same =
-    same-placed (p + 2) long (h .starts ∙ ap (λ m. m .start) (v .2)) (h .ends ∙ ap (λ m. m .end) (v .2)) (h .classed ∙ ap (λ m. m .class) (v .2)) (h .levelled ∙ ap (λ m. m .level) (v .2)) past in
+    same-placed (p + 2) long (h .starts ∙ ap (λ m. m .start) (v .2)) (h .ends ∙ ap (λ m. m .end) (v .2)) (h .classed ∙ ap (λ m. m .class) (v .2))
+    (h .levelled ∙ ap (λ m. m .level) (v .2)) past in
     (ap (placedFrom s) here ∙ same, next)
 
 -- ---- the messages, one after the other
 
-pub messages-placed : (s : List ℕ) → Bytes s → length s ≤ longest → (n p : ℕ) (ms : List Message) (q : ℕ) → repeat (message .parse s (length s)) n p ≡ found ms q
+pub messages-placed : (s : List ℕ) → Bytes s → length s ≤ longest → (n p : ℕ) (ms : List Message) (q : ℕ)
+    → repeat (message .parse s (length s)) n p ≡ found ms q
     → recordsFrom s p n ≡ recordsOf ms p
 unfolding repeat recordsOf
 messages-placed s b small zero p ms q e = ap (λ ms. recordsOf ms p) (found-inj e .0)
@@ -144,4 +151,5 @@ messages-placed s b small (suc n) p ms q e =
     let j = andThen-found (repeat (message .parse s (length s)) n (i .1)) _ ms q (i .3) in
     let f = message-placed s p (i .0) (i .1) b small (i .2) in
     let rest = messages-placed s b small n (i .1) (j .0) (j .1) (j .2) in
-    ap (λ x. x .message ∷ recordsFrom s (x .next) n) (f .0) ∙ ap (λ rs. recordOf (i .0) p ∷ rs) (rest ∙ ap (recordsOf (j .0)) (f .1)) ∙ ap (λ ms. recordsOf ms p) (found-inj (j .3) .0)
+    ap (λ x. x .message ∷ recordsFrom s (x .next) n) (f .0) ∙ ap (λ rs. recordOf (i .0) p ∷ rs) (rest ∙ ap (recordsOf (j .0)) (f .1))
+    ∙ ap (λ ms. recordsOf ms p) (found-inj (j .3) .0)

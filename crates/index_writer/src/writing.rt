@@ -148,7 +148,7 @@ fn put_flagged(pool: &[u8], tape: &[u64], x: Pen, out: &mut [u8], wet: bool) -> 
 fn put_head(pool: &[u8], tape: &[u64], x: Pen, out: &mut [u8], wet: bool) -> Pen
     ensures { λ r. ⌜ Penned head (now (pool .entry)) (now (tape .entry)) x wet (now (out .entry)) r (now (out .exit)) ⌝ }
 {
-    let a = body_pen::put_digits(pool, tape, x, 17, out, wet);
+    let a = body_pen::put_identifier(pool, tape, x, out, wet);
     let b = body_pen::put_number(tape, a, 2, out, wet);
     let c = body_pen::put_time(tape, b, out, wet);
     let d = body_pen::put_end(tape, c, out, wet);

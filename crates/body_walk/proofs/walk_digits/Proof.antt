@@ -3,8 +3,9 @@ use native.Mathlib.Omega.{arith}
 use denote.Ref.{now}
 use borrow.Author.Needs.{needs}
 use Rattle.body_formats.specs.Format.{digits}
+use Rattle.body_formats.proofs.Strings.{digits-fit, digits-entries}
 use Rattle.body_walk.proofs.Pairs.{stays}
-use Rattle.body_walk.proofs.Leaves.{field-end, field-leaf, digits-two, digits-fit}
+use Rattle.body_walk.proofs.Leaves.{field-end, field-leaf}
 use Rattle.body_walk.proofs.walk_digits.Statement.{statement}
 use Rattle.body_walk.proofs.walk_digits.Tie as tie
 
@@ -15,7 +16,14 @@ walk-digits-spec =
     (λ c. search needs)
     (λ c. search needs)
     (λ c κs. search needs)
-    (λ c κs. let t = c .before .before .before .before .before .before .before .args in omega (arith, field-end (digits (t .h)) _ (digits-two _) (now (t .s)) (t .l) (c .before .before .before .x2 .given .0 .0) (digits-fit _ _ _ _) _ (c .before .read-digits .ensures)))
+    (λ c κs.
+    let here : tie.After-x2 = c .before .before .before in
+    let t = here .before .before .before .before .args in
+    let D = digits (t .h) in
+    omega (arith, field-end D _ (digits-entries _) (now (t .s)) (t .l) (here .x2 .given .0 .0) (digits-fit _ _ _ _) _ (c .before .read-digits .ensures)))
     (λ c. stays (c .before .x .given .1))
     (λ c. search needs)
-    (λ c. field-leaf _ _ (digits-two _) _ _ _ (digits-fit _ _ _ _) _ (c .before .before .before .before .read-digits .ensures) _ _ _ _ (c .before .before .before .before .before .before .x2 .given .1) _ _ (c .before .before .past-part .ensures)))
+    (λ c.
+    let read : tie.After-read-digits = c .before .before .before .before in
+    field-leaf _ _ (digits-entries _) _ _ _ (digits-fit _ _ _ _) _ (read .read-digits .ensures) _ _ _ _ (read .before .before .x2 .given .1)
+    _ _ (c .before .before .past-part .ensures)))

@@ -9,4 +9,4 @@ identifier-spec =
     tie.close
     (tie.spec
     (λ c κs. search needs)
-    (λ c. unfold identifierPart in c .read-digits .ensures))
+    (λ c. unfold identifierPart in c .read-identifier .ensures))

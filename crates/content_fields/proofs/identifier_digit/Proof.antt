@@ -9,4 +9,4 @@ identifier-digit-spec =
     tie.close
     (tie.spec
     (λ c κs. search needs)
-    (λ c. unfold identifierDigit in c .digit-at .ensures))
+    (λ c. unfold identifierDigit in c .identifier-digit-at .ensures))

@@ -18,5 +18,5 @@ identifier-spec =
     (λ c κs. search needs)
     (λ c. let a = c .before .before .before .args in omega (arith, leb-true (a .at + a .n) (length (a .s .now)) (sym (c .before .in-body .ensures) ∙ c .if1 .taken)))
     (λ c κs. search needs)
-    (λ c. unfold identifierPart in c .read-digits .ensures ∙ ap (fieldPart _) (needed _ _ _ (sym (c .before .before .in-body .ensures) ∙ c .before .if1 .taken)))
+    (λ c. unfold identifierPart in c .read-identifier .ensures ∙ ap (fieldPart _) (needed _ _ _ (sym (c .before .before .in-body .ensures) ∙ c .before .if1 .taken)))
     (λ c. unfold identifierPart in ap (fieldPart _) (not-needed _ _ _ (sym (c .before .in-body .ensures) ∙ c .if1 .left))))

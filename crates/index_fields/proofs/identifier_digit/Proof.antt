@@ -16,5 +16,5 @@ identifier-digit-spec =
     (λ c κs. search needs)
     (λ c. let a = c .before .before .before .args in omega (arith, leb-true (a .at + a .n) (length (a .s .now)) (sym (c .before .in-body .ensures) ∙ c .if1 .taken)))
     (λ c κs. search needs)
-    (λ c. c .digit-at .ensures ∙ identifier-digit-is _ _ _ _ (sym (c .before .before .in-body .ensures) ∙ c .before .if1 .taken))
+    (λ c. c .identifier-digit-at .ensures ∙ identifier-digit-is _ _ _ _ (sym (c .before .before .in-body .ensures) ∙ c .before .if1 .taken))
     (λ c. identifier-digit-no _ _ _ _ (sym (c .before .in-body .ensures) ∙ c .if1 .left)))

@@ -6,7 +6,8 @@ use borrow.Author.Needs.{needs}
 use Rattle.ground_refusal.specs.declared.Refusal.the-variants.{LeftOver}
 use Rattle.body_formats.specs.Format.{_▷_, among, reserved, listOf, opaque}
 use Rattle.body_formats.proofs.Classes.{Lawful}
-use Rattle.body_formats.proofs.Leaves.{reserved-lawful, digits-lawful}
+use Rattle.body_formats.proofs.Leaves.{reserved-lawful}
+use Rattle.body_formats.proofs.Identifiers.{identifier-lawful}
 use Rattle.body_formats.proofs.Bits.{among-lawful}
 use Rattle.body_formats.proofs.Parts.{followed-lawful, opaque-lawful}
 use Rattle.body_formats.proofs.Lists.{list-lawful}
@@ -38,10 +39,15 @@ walk-content-spec =
     (λ c κs. search needs)
     (λ c κs. search needs)
     (λ c. search needs)
-    (λ c. exact-walk LeftOver
+    (λ c.
+    let signature : tie.After-walk-part = c .before .before .before in
+    let languages : tie.After-walk-all-languages = signature .before .before .before .before in
+    let many : tie.After-walk-reserved-among = languages .before .before .before .before in
+    let first : tie.After-walk-identifier = many .before .before .before .before in
+    exact-walk LeftOver
     (view-walk _ _ (λ a. refl)
-    (pair (digits-lawful 17) (from-languages _ .formal) (c .before .before .before .before .before .before .before .before .before .before .before .before .before .before .before .walk-digits .ensures)
+    (pair identifier-lawful (from-languages _ .formal) (first .walk-identifier .ensures)
     (pair (languages-lawful _) (opaque-lawful 2 .formal)
-    (list-walk count-lawful (language-lawful _) (c .before .before .before .before .before .before .before .before .before .before .before .walk-reserved-among .ensures) (c .before .before .before .before .before .before .before .walk-all-languages .ensures))
-    (c .before .before .before .walk-part .ensures))))
+    (list-walk count-lawful (language-lawful _) (many .walk-reserved-among .ensures) (languages .walk-all-languages .ensures))
+    (signature .walk-part .ensures))))
     (c .finish .ensures)))

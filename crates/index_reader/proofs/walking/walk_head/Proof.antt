@@ -3,7 +3,7 @@ use borrow.Author.Needs.{needs}
 use Rattle.body_formats.specs.Format.{_▷_, number, bytesAmong, nibblesAmong}
 use Rattle.body_formats.specs.Time.{time, endTime}
 use Rattle.body_formats.proofs.Classes.{Lawful}
-use Rattle.body_formats.proofs.Leaves.{digits-lawful}
+use Rattle.body_formats.proofs.Identifiers.{identifier-lawful}
 use Rattle.body_formats.proofs.Bits.{nibbles-among-lawful, bytes-among-lawful}
 use Rattle.body_formats.proofs.Parts.{number-lawful, followed-lawful}
 use Rattle.body_formats.proofs.Times.{time-lawful, end-lawful}
@@ -38,8 +38,14 @@ walk-head-spec =
     (λ c κs. search needs)
     (λ c. search needs)
     (λ c.
-    pair (digits-lawful 17) (from-network .formal) (c .before .before .before .before .before .before .before .before .before .before .before .before .before .before .before .before .before .before .before .before .before .before .walk-digits .ensures)
-    (pair (number-lawful 2) (from-start .formal) (c .before .before .before .before .before .before .before .before .before .before .before .before .before .before .before .before .before .before .walk-number .ensures)
-    (pair time-lawful (from-end .formal) (c .before .before .before .before .before .before .before .before .before .before .before .before .before .before .walk-time .ensures)
-    (pair end-lawful (from-type .formal) (c .before .before .before .before .before .before .before .before .before .before .walk-end .ensures)
-    (pair (bytes-among-lawful 0 0x7F 5) (nibbles-among-lawful 1 4 .formal) (c .before .before .before .before .before .before .walk-bytes .ensures) (c .before .before .walk-nibbles .ensures)))))))
+    let nibbles : tie.After-walk-nibbles = c .before .before in
+    let bytes : tie.After-walk-bytes = nibbles .before .before .before .before in
+    let end : tie.After-walk-end = bytes .before .before .before .before in
+    let start : tie.After-walk-time = end .before .before .before .before in
+    let network : tie.After-walk-number = start .before .before .before .before in
+    let first : tie.After-walk-identifier = network .before .before .before .before in
+    pair identifier-lawful (from-network .formal) (first .walk-identifier .ensures)
+    (pair (number-lawful 2) (from-start .formal) (network .walk-number .ensures)
+    (pair time-lawful (from-end .formal) (start .walk-time .ensures)
+    (pair end-lawful (from-type .formal) (end .walk-end .ensures)
+    (pair (bytes-among-lawful 0 0x7F 5) (nibbles-among-lawful 1 4 .formal) (bytes .walk-bytes .ensures) (nibbles .walk-nibbles .ensures)))))))

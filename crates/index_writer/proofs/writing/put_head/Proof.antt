@@ -18,7 +18,7 @@ put-head-spec =
     (λ c κs. search needs)
     (λ c. search needs)
     (λ c.
-    pair-pen (c .before .before .before .before .before .before .before .before .before .before .before .before .before .before .before .before .before .before .before .before .before .before .put-digits .ensures)
+    pair-pen (c .before .before .before .before .before .before .before .before .before .before .before .before .before .before .before .before .before .before .before .before .before .before .put-identifier .ensures)
     (pair-pen (c .before .before .before .before .before .before .before .before .before .before .before .before .before .before .before .before .before .before .put-number .ensures _)
     (pair-pen (c .before .before .before .before .before .before .before .before .before .before .before .before .before .before .put-time .ensures _)
     (pair-pen (c .before .before .before .before .before .before .before .before .before .before .put-end .ensures _)
