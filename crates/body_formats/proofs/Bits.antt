@@ -137,18 +137,22 @@ number-among lo hi F s l p = go (F .parse s l p)
         choose false = refl
 
 -- a number of w bytes is never refused for its value
-pub number-is-count : (w : ℕ) (s : List ℕ) (l p : ℕ) → Bytes s → numberRead w s l p ≡ numberOf (number w .parse s l p)
-unfolding numberRead number only count
-number-is-count w s l p b = go (leb (p + w) (length s)) (leb (p + w) l)
+pub number-parses : (w : ℕ) (s : List ℕ) (l p : ℕ) → Bytes s → count w .parse s l p ≡ number w .parse s l p
+unfolding number only count
+number-parses w s l p b = go (leb (p + w) (length s)) (leb (p + w) l)
   where
     value : Reading ℕ
     value = found (numberAt s p w) (p + w)
 
-    go : (t u : Bool) → numberOf (need t (PastBody p) (need u (PastPart p) value))
-        ≡ numberOf (andThen (need t (PastBody p) (need u (PastPart p) value)) (λ x q. judged (unless (ltb x (256 ^ w)) (OutsideSet p)) (found x q)))
+    go : (t u : Bool) → need t (PastBody p) (need u (PastPart p) value)
+        ≡ andThen (need t (PastBody p) (need u (PastPart p) value)) (λ x q. judged (unless (ltb x (256 ^ w)) (OutsideSet p)) (found x q))
     go true true = rw (lt-ltb (numberAt s p w) (256 ^ w) (number-below s p w b))
     go true false = refl
     go false u = refl
+
+pub number-is-count : (w : ℕ) (s : List ℕ) (l p : ℕ) → Bytes s → numberRead w s l p ≡ numberOf (number w .parse s l p)
+unfolding numberRead
+number-is-count w s l p b = ap numberOf (number-parses w s l p b)
 
 -- ---- two numbers of four bits, in one byte
 

@@ -8,27 +8,30 @@ use native.Mathlib.Nat.{add-zero, zero-add}
 use lib.ListN.{length, getD, set, drop, length-append, length-drop}
 use lib.Seq.{length-take-le}
 use lib.Dec.{leb}
-use borrow.Author.Tests.{le-leb, lt-leb}
+use borrow.Author.Tests.{eq-eqb, ne-eqb, le-leb, lt-leb}
 use Rattle.ground_placing.specs.Placed.{placed}
 use Rattle.ground_placing.proofs.Placing.{stored, placed-none, placed-next}
 use Rattle.ground_refusal.specs.declared.Refusal.{Refusal}
-use Rattle.ground_refusal.specs.declared.Refusal.the-variants.{PastBody, PastPart, OutsideSet}
+use Rattle.ground_refusal.specs.declared.Refusal.the-variants.{PastBody, PastPart, OutsideSet, OutputTooSmall}
 use Rattle.body_formats.specs.Reading.{Reading, found, refused, andThen, need, Fault, unless, judged, valueOf}
 use Rattle.body_formats.specs.Format.{Format, numberAt, count, only, outside, number, nibbles, nibblesAmong, reserved, bytes, bytesAmong, every, rest, Length, lengthOf, counted, opaque}
 use Rattle.body_formats.specs.Time.{time, endTime}
 use Rattle.body_formats.specs.Answers.{numberOf, partOf, fieldPart, numberRead, partRead}
 use Rattle.body_formats.specs.declared.Number.{Number}
 use Rattle.body_formats.specs.declared.Number.the-variants.{Is, Refused as NoNumber}
+use Rattle.body_formats.specs.declared.Step.the-variants.{At as Ends, Refused as NoStep}
 use Rattle.body_formats.specs.declared.Part.{Part}
 use Rattle.body_formats.specs.declared.Part.the-variants.{Of, Refused as NoPart}
 use Rattle.body_formats.proofs.Outcomes.{found-inj, andThen-found, judged-found, within-found}
+use Rattle.body_formats.proofs.Classes.{Bytes}
 use Rattle.body_formats.proofs.Leaves.{length-bytes}
+use Rattle.body_formats.proofs.Bits.{number-parses}
 use Rattle.body_formats.proofs.Parts.{opaque-next}
 use Rattle.body_formats.proofs.Readers.{number-found, number-refused, part-found, part-refused}
 use Rattle.body_walk.specs.declared.Walk.{Walk}
 use Rattle.body_walk.specs.declared.Walk.the-variants.{At, Refused}
 use Rattle.body_walk.specs.declared.Count.{Count}
-use Rattle.body_walk.specs.Walked.{walkOnward, walked, leaving, Inside, Walked, valueWalked, Counted, openedBy, entered}
+use Rattle.body_walk.specs.Walked.{walkOnward, walked, leaving, entriesNeeded, Inside, Walked, valueWalked, Counted, openedBy, entered}
 use Rattle.body_walk.specs.Entries.{Laid, Stepped, entryOf, pastNumber, numberWorth, Told, spanOf, pastPart, endOf}
 use Rattle.body_walk.proofs.Pairs.{stays}
 use Rattle.body_walk.proofs.Counts.{entered-inside}
@@ -95,7 +98,8 @@ module _ {A : Type 0} (F : Format A) (s : List ℕ) (l : ℕ) (x : Walk) (wet : 
         leaf p room e (Refused r) [] (Refused r) tape record { said = refl; laid = laid-none tape room wet } (rw f)
         (λ i a q g. absurd (let z : _≡_ {A = ℕ} 0 1 = cc in omega arith))
 
-    pub leaf-found : (a : A) (q left : ℕ) (tape′ : List ℕ) → F .parse s l p ≡ found a q → left ≡ room - length (F .tape a 0) → Laid tape room wet (F .tape a p) tape′
+    pub leaf-found : (a : A) (q left : ℕ) (tape′ : List ℕ) → F .parse s l p ≡ found a q → left ≡ room - length (F .tape a 0)
+        → Laid tape room wet (F .tape a p) tape′
         → Walked F s l x wet tape (At q left) tape′
     leaf-found a q left tape′ f g t =
         leaf p room e (At q left) (F .tape a p) (At q left) tape′ record { said = refl; laid = t } (rw (f, g))
@@ -125,6 +129,32 @@ module _ (F : Format ℕ) (one : (v p : ℕ) → F .tape v p ≡ v ∷ []) (s : 
       go : (y : Reading ℕ) → numberWorth (numberOf y) ≡ valueOf y
       go (found v q) = refl
       go (refused r) = refl
+
+-- a count that was told is any number of its bytes
+pub number-told : (w : ℕ) {s : List ℕ} {l : ℕ} {x : Walk} {wet : Bool} {tape : List ℕ} {r : Count} {tape′ : List ℕ} → Bytes s
+    → Counted (count w) s l x wet tape r tape′ → Counted (number w) s l x wet tape r tape′
+unfolding walked valueWalked number only
+number-told w {s} {l} {x} b c =
+    record {
+      past = record {
+        said = c .past .said ∙ same x;
+        dry = c .past .dry;
+        laid = λ g p room e i a q f. c .past .laid g p room e i a q (number-parses w s l p b ∙ f);
+      };
+      value = c .value ∙ worth x;
+    }
+  where
+    onward : (room : ℕ) (y : Reading ℕ) → walkOnward (count w) room y ≡ walkOnward (number w) room y
+    onward room (found v q) = refl
+    onward room (refused r) = refl
+
+    same : (x : Walk) → walked (count w) s l x ≡ walked (number w) s l x
+    same (At p room) = ap (walkOnward (count w) room) (number-parses w s l p b) ∙ onward room (number w .parse s l p)
+    same (Refused r) = refl
+
+    worth : (x : Walk) → valueWalked (count w) s l x ≡ valueWalked (number w) s l x
+    worth (At p room) = ap valueOf (number-parses w s l p b)
+    worth (Refused r) = refl
 
 -- ---- which formats have one entry
 
@@ -190,7 +220,8 @@ part-leaf s l x wet tape p room e w (NoPart r) f r′ tape′ t =
 
 -- ---- all bytes that are left in a part, and their two entries
 
-pub rest-leaf : (s : List ℕ) (l : ℕ) (x : Walk) (wet : Bool) (tape : List ℕ) (p room : ℕ) → x ≡ At p room → (n left : ℕ) (tape′ : List ℕ) → n ≡ l - p → left ≡ room - 2
+pub rest-leaf : (s : List ℕ) (l : ℕ) (x : Walk) (wet : Bool) (tape : List ℕ) (p room : ℕ) → x ≡ At p room → (n left : ℕ) (tape′ : List ℕ) → n ≡ l - p
+    → left ≡ room - 2
     → Laid tape room wet (p ∷ n ∷ []) tape′ → Walked rest s l x wet tape (At l left) tape′
 unfolding rest
 rest-leaf s l x wet tape p room e n left tape′ f g t =
@@ -277,7 +308,8 @@ module _ (lo hi : ℕ) (s : List ℕ) (l p : ℕ) (x : Walk) (wet : Bool) (tape 
       pub low-out : (leb lo (v % 16) && leb (v % 16) hi) ≡ false → Walked (nibblesAmong lo hi) s l x wet tape (Refused (OutsideSet p)) tape
       low-out h = leaf-refused (nibblesAmong lo hi) s l x wet tape p room e (OutsideSet p) (nibbles-judged ∙ rw (g, h))
 
-      pub both-in : (leb lo (v % 16) && leb (v % 16) hi) ≡ true → (left : ℕ) (tape′ : List ℕ) → left ≡ room - 2 → Laid tape room wet ((v / 16) ∷ (v % 16) ∷ []) tape′
+      pub both-in : (leb lo (v % 16) && leb (v % 16) hi) ≡ true → (left : ℕ) (tape′ : List ℕ) → left ≡ room - 2
+          → Laid tape room wet ((v / 16) ∷ (v % 16) ∷ []) tape′
           → Walked (nibblesAmong lo hi) s l x wet tape (At q left) tape′
       unfolding only nibbles
       both-in h left tape′ k t = leaf-found (nibblesAmong lo hi) s l x wet tape p room e (high-low v) q left tape′ (nibbles-judged ∙ rw (g, h)) k t
@@ -288,11 +320,13 @@ pub enter-refused : (L : Length) (s : List ℕ) (l : ℕ) (x : Walk) (r : Refusa
 unfolding entered
 enter-refused L s l x r e = rw e
 
-pub enter-at : (L : Length) (s : List ℕ) (l : ℕ) (x : Walk) (p room : ℕ) → x ≡ At p room → (y : Part) → y ≡ partOf (counted L rest .parse s l p) → openedBy room y ≡ entered L s l x
+pub enter-at : (L : Length) (s : List ℕ) (l : ℕ) (x : Walk) (p room : ℕ) → x ≡ At p room → (y : Part) → y ≡ partOf (counted L rest .parse s l p)
+    → openedBy room y ≡ entered L s l x
 unfolding entered
 enter-at L s l x p room e y f = rw (e, f)
 
-pub enter-part : (w : ℕ) (s : List ℕ) (l : ℕ) (x : Walk) (p room : ℕ) → x ≡ At p room → (y : Part) → y ≡ partRead w s l p → openedBy room y ≡ entered (lengthOf w) s l x
+pub enter-part : (w : ℕ) (s : List ℕ) (l : ℕ) (x : Walk) (p room : ℕ) → x ≡ At p room → (y : Part) → y ≡ partRead w s l p
+    → openedBy room y ≡ entered (lengthOf w) s l x
 unfolding partRead
 enter-part w s l x p room e y f = enter-at (lengthOf w) s l x p room e y f
 
@@ -309,3 +343,12 @@ module _ (leftOver : ℕ → Refusal) (l : ℕ) (x : Walk) where
     pub leave-at : l ≤ q → At q room ≡ leaving leftOver l x
     unfolding leaving
     leave-at h = rw (e, le-leb l q h)
+
+-- ---- out of a whole body
+
+module _ (room : ℕ) (x : Walk) (q left : ℕ) (e : x ≡ At q left) where
+  pub entries-small : left ≡ 0 → NoStep OutputTooSmall ≡ entriesNeeded room x
+  entries-small z = rw (e, eq-eqb left 0 z)
+
+  pub entries-fit : (left ≡ 0 → ⊥) → (n : ℕ) → n ≡ room - left → Ends n ≡ entriesNeeded room x
+  entries-fit z n f = rw (e, ne-eqb left 0 z, f)

@@ -4,13 +4,16 @@ use mathlib.Core.Path.{_≡_}
 use mathlib.Core.List.{List}
 use mathlib.Core.Bool.{Bool, true, false}
 use lib.ListN.{length, getD}
-use lib.Dec.{leb}
+use lib.Dec.{leb, eqb}
 use Rattle.ground_choices.specs.Choice.{if_then_else_}
 use Rattle.ground_refusal.specs.declared.Refusal.{Refusal}
+use Rattle.ground_refusal.specs.declared.Refusal.the-variants.{OutputTooSmall}
 use Rattle.ground_placing.specs.Placed.{placed}
 use Rattle.body_formats.specs.Reading.{Reading, found, refused, valueOf}
 use Rattle.body_formats.specs.Format.{Format, Length, counted, rest}
 use Rattle.body_formats.specs.Answers.{partOf}
+use Rattle.body_formats.specs.declared.Step.{Step}
+use Rattle.body_formats.specs.declared.Step.the-variants.{At as Ends, Refused as NoStep}
 use Rattle.body_formats.specs.declared.Part.{Part}
 use Rattle.body_formats.specs.declared.Part.the-variants.{Of, Refused as NoPart}
 use Rattle.body_walk.specs.declared.Walk.{Walk}
@@ -39,6 +42,16 @@ unfoldable pub judgedFrom : (ℕ → Refusal) → Walk → Bool → Walk → Wal
 judgedFrom refusal (At p room) holds (At q left) = if holds then At q left else Refused (refusal p)
 judgedFrom refusal (At p room) holds (Refused r) = Refused r
 judgedFrom refusal (Refused r) holds y = y
+
+-- where a walk through a body ended
+abbrev pub bodyEnd : Walk → Step
+bodyEnd (At q room) = Ends q
+bodyEnd (Refused r) = NoStep r
+
+-- how many entries a walk that began with this room asks for; a tape too small is 21
+abbrev pub entriesNeeded : ℕ → Walk → Step
+entriesNeeded room (At q left) = if eqb left 0 then NoStep OutputTooSmall else Ends (room - left)
+entriesNeeded room (Refused r) = NoStep r
 
 -- a position in a part of a body of bytes
 pub record Inside (s : List ℕ) (l p : ℕ) : Type 0 where

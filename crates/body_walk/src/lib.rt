@@ -1,6 +1,7 @@
 // A walk through a body, field by field: dry it checks them, wet it also lays their entries on a tape.
 use body_formats::Number;
 use body_formats::Part;
+use body_formats::Step;
 use ground_refusal::Refusal;
 ghost use mathlib.Core.Path.{_≡_};
 ghost use mathlib.Core.List.{[], _∷_};
@@ -12,7 +13,7 @@ ghost use Rattle.body_formats.specs.Time.{time, endTime};
 ghost use Rattle.body_formats.specs.Resource.{resource, resources};
 ghost use Rattle.body_formats.specs.Identifier.{identifier};
 ghost use Rattle.ground_refusal.specs.declared.Refusal.the-variants.{PastPart, LeftOver, ImpossibleDay};
-ghost use Rattle.body_walk.specs.Walked.{Walked, leaving, judgedFrom, Counted, openedBy, entered};
+ghost use Rattle.body_walk.specs.Walked.{Walked, leaving, judgedFrom, bodyEnd, entriesNeeded, Counted, openedBy, entered};
 ghost use Rattle.body_walk.specs.Entries.{Laid, Stepped, entryOf, pastNumber, Told, spanOf, pastPart, endOf};
 
 // Where a walk stands: the position, and the room on the tape, one more than the entries that still fit; or why it stopped.
@@ -138,20 +139,6 @@ pub fn walk_among(
     }
 }
 
-// Past a number of w bytes, and the number.
-pub fn walk_told(s: &[u8], l: usize, x: Walk, w: usize, tape: &mut [u64], wet: bool) -> Count
-    requires { ⌜ w ≤ 7 ⌝ }
-    ensures { λ r. ⌜ Counted (number w) (now (s .entry)) l x wet (now (tape .entry)) r (now (tape .exit)) ⌝ }
-{
-    match x {
-        Walk::Refused(r) => Count {
-            walk: Walk::Refused(r),
-            n: 0,
-        },
-        Walk::At(p, room) => told(body_fields::read_number(s, l, p, w), tape, room, wet),
-    }
-}
-
 // Past a number of w bytes from lo to hi, and the number.
 pub fn walk_told_among(
     s: &[u8],
@@ -178,7 +165,7 @@ pub fn walk_told_among(
     }
 }
 
-// Past a count or a length of w bytes.
+// Past a number of w bytes, as a count is, and the number.
 pub fn walk_count(s: &[u8], l: usize, x: Walk, w: usize, tape: &mut [u64], wet: bool) -> Count
     requires { ⌜ w ≤ 7 ⌝ }
     ensures { λ r. ⌜ Counted (count w) (now (s .entry)) l x wet (now (tape .entry)) r (now (tape .exit)) ⌝ }
@@ -454,6 +441,31 @@ pub fn finish(x: Walk, end: usize) -> Walk
                 return Walk::Refused(Refusal::LeftOver(p));
             }
             Walk::At(p, room)
+        }
+    }
+}
+
+// Where a walk through a body ended.
+pub fn body_end(x: Walk) -> Step
+    ensures { λ r. ⌜ r ≡ bodyEnd x ⌝ }
+{
+    match x {
+        Walk::Refused(r) => Step::Refused(r),
+        Walk::At(end, room) => Step::At(end),
+    }
+}
+
+// How many entries a walk that began with this room asks for: 21 where the tape is too small for them.
+pub fn entries_needed(x: Walk, room: usize) -> Step
+    ensures { λ r. ⌜ r ≡ entriesNeeded room x ⌝ }
+{
+    match x {
+        Walk::Refused(r) => Step::Refused(r),
+        Walk::At(end, left) => {
+            if left == 0 {
+                return Step::Refused(Refusal::OutputTooSmall);
+            }
+            Step::At(less(room, left))
         }
     }
 }

@@ -1,7 +1,6 @@
 // The certificate table: its body read, and laid onto a form.
 use body_formats::Step;
 use body_walk::Walk;
-use ground_refusal::Refusal;
 ghost use mathlib.Core.Path.{_≡_};
 ghost use Prim.Native.Nat.{_≤_};
 ghost use lib.ListN.{length};
@@ -50,12 +49,9 @@ pub fn read(kind: u32, s: &[u8]) -> Step
 {
     match body_fields::open_body(0xFC, kind, s) {
         Step::Refused(r) => Step::Refused(r),
-        Step::At(at) => {
+        Step::At(start) => {
             let mut none: [u64; 1] = [0; 1];
-            match walk_certificate(s, s.len(), Walk::At(0, 0), &mut none, false) {
-                Walk::Refused(r) => Step::Refused(r),
-                Walk::At(end, room) => Step::At(end),
-            }
+            body_walk::body_end(walk_certificate(s, s.len(), Walk::At(0, 0), &mut none, false))
         }
     }
 }
@@ -67,16 +63,14 @@ pub fn lay(kind: u32, s: &[u8], tape: &mut [u64]) -> Step
 {
     match body_fields::open_body(0xFC, kind, s) {
         Step::Refused(r) => Step::Refused(r),
-        Step::At(at) => {
+        Step::At(start) => {
             let room = tape.len() + 1;
-            match walk_certificate(s, s.len(), Walk::At(0, room), tape, false) {
-                Walk::Refused(r) => Step::Refused(r),
-                Walk::At(end, left) => {
-                    if left == 0 {
-                        return Step::Refused(Refusal::OutputTooSmall);
-                    }
+            let dry = walk_certificate(s, s.len(), Walk::At(0, room), tape, false);
+            match body_walk::entries_needed(dry, room) {
+                Step::Refused(r) => Step::Refused(r),
+                Step::At(n) => {
                     walk_certificate(s, s.len(), Walk::At(0, room), tape, true);
-                    Step::At(room - left)
+                    Step::At(n)
                 }
             }
         }

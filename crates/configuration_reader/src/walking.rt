@@ -173,7 +173,7 @@ fn walk_said(s: &[u8], l: usize, x: Walk, tag: u64, tape: &mut [u64], wet: bool)
 fn walk_command(s: &[u8], l: usize, x: Walk, tape: &mut [u64], wet: bool) -> Walk
     ensures { λ r. ⌜ Walked command (now (s .entry)) l x wet (now (tape .entry)) r (now (tape .exit)) ⌝ }
 {
-    let tag = body_walk::walk_told(s, l, x, 1, tape, wet);
+    let tag = body_walk::walk_count(s, l, x, 1, tape, wet);
     let at = tag.walk;
     let part = body_walk::enter_least(s, l, at, 2, configuration_rules::least_content(tag.n));
     let inside = part.walk;

@@ -17,9 +17,10 @@ pub fn read(kind: u32, extension: u32, s: &[u8]) -> Step
         Step::Refused(r) => Step::Refused(r),
         Step::At(start) => {
             let mut none: [u64; 1] = [0; 1];
-            match walking::walk_content(s, Walk::At(0, 0), 3, &mut none, false) {
-                Walk::Refused(r) => Step::Refused(r),
-                Walk::At(end, room) => {
+            let walk = walking::walk_content(s, Walk::At(0, 0), 3, &mut none, false);
+            match body_walk::body_end(walk) {
+                Step::Refused(r) => Step::Refused(r),
+                Step::At(end) => {
                     if (crc::crc16(&s[..18]) as u32) != extension {
                         return Step::Refused(Refusal::OtherChecksum);
                     }
@@ -40,14 +41,12 @@ pub fn lay(kind: u32, s: &[u8], tape: &mut [u64]) -> Step
         Step::Refused(r) => Step::Refused(r),
         Step::At(start) => {
             let room = tape.len() + 1;
-            match walking::walk_content(s, Walk::At(0, room), 3, tape, false) {
-                Walk::Refused(r) => Step::Refused(r),
-                Walk::At(end, left) => {
-                    if left == 0 {
-                        return Step::Refused(Refusal::OutputTooSmall);
-                    }
+            let dry = walking::walk_content(s, Walk::At(0, room), 3, tape, false);
+            match body_walk::entries_needed(dry, room) {
+                Step::Refused(r) => Step::Refused(r),
+                Step::At(n) => {
                     walking::walk_content(s, Walk::At(0, room), 3, tape, true);
-                    Step::At(room - left)
+                    Step::At(n)
                 }
             }
         }

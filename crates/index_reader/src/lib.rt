@@ -4,7 +4,6 @@ mod walking;
 
 use body_formats::Step;
 use body_walk::Walk;
-use ground_refusal::Refusal;
 ghost use mathlib.Core.Path.{_≡_};
 ghost use lib.ListN.{length};
 ghost use Rattle.body_formats.specs.Body.{bodyRead, bodyLaid, laidTape};
@@ -18,10 +17,7 @@ pub fn read(kind: u32, s: &[u8]) -> Step
         Step::Refused(r) => Step::Refused(r),
         Step::At(start) => {
             let mut none: [u64; 1] = [0; 1];
-            match walking::walk_index(s, Walk::At(0, 0), &mut none, false) {
-                Walk::Refused(r) => Step::Refused(r),
-                Walk::At(end, room) => Step::At(end),
-            }
+            body_walk::body_end(walking::walk_index(s, Walk::At(0, 0), &mut none, false))
         }
     }
 }
@@ -35,14 +31,12 @@ pub fn lay(kind: u32, s: &[u8], tape: &mut [u64]) -> Step
         Step::Refused(r) => Step::Refused(r),
         Step::At(start) => {
             let room = tape.len() + 1;
-            match walking::walk_index(s, Walk::At(0, room), tape, false) {
-                Walk::Refused(r) => Step::Refused(r),
-                Walk::At(end, left) => {
-                    if left == 0 {
-                        return Step::Refused(Refusal::OutputTooSmall);
-                    }
+            let dry = walking::walk_index(s, Walk::At(0, room), tape, false);
+            match body_walk::entries_needed(dry, room) {
+                Step::Refused(r) => Step::Refused(r),
+                Step::At(n) => {
                     walking::walk_index(s, Walk::At(0, room), tape, true);
-                    Step::At(room - left)
+                    Step::At(n)
                 }
             }
         }

@@ -15,4 +15,9 @@ walk-count-spec =
     (λ c κs. search needs)
     (λ c. count-refused _ _ _ _ _ _ _ (c .before .x .given .1))
     (λ c. search needs)
-    (λ c. unfold numberRead in number-counted _ (count-one _) _ _ _ _ _ _ _ (c .before .before .before .before .before .before .x2 .given .1) _ (c .before .before .before .before .read-number .ensures) _ _ (c .before .before .told .ensures)))
+    (λ c.
+    let at-told = c .before .before in
+    let at-read-number = at-told .before .before in
+    let at-x2 = at-read-number .before .before in
+    unfold numberRead in number-counted _ (count-one _) _ _ _ _ _ _ _ (at-x2 .x2 .given .1) _ (at-read-number .read-number .ensures) _ _
+    (at-told .told .ensures)))

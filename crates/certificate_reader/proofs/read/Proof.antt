@@ -1,8 +1,8 @@
--- `certificate_reader::read` meets its contract: what comes before the fields, and then a dry walk through them.
+-- `certificate_reader::read` meets its contract: a body that is not opened is refused, and a dry walk says where the table ends.
 use mathlib.Core.Path.{sym, _∙_}
 use borrow.Author.Needs.{needs}
 use Rattle.body_formats.proofs.Readers.{body-no}
-use Rattle.body_walk.proofs.Bodies.{read-stop, read-end}
+use Rattle.body_walk.proofs.Bodies.{read-walked}
 use Rattle.certificate_reader.proofs.read.Statement.{statement}
 use Rattle.certificate_reader.proofs.read.Tie as tie
 
@@ -15,8 +15,12 @@ read-spec =
     (λ c. search needs)
     (λ c. search needs)
     (λ c κs. search needs)
-    (λ c. search needs)
-    (λ c. search needs)
-    (λ c. body-no _ _ _ _ _ (sym (c .before .r .given .1) ∙ c .before .before .before .open-body .ensures))
-    (λ c. read-stop _ _ (sym (c .before .before .before .before .before .before .before .at .given .1) ∙ c .before .before .before .before .before .before .before .before .before .open-body .ensures) (c .before .before .before .before .walk-certificate .ensures) (c .before .r2 .given .1))
-    (λ c. read-end _ _ (sym (c .before .before .before .before .before .before .before .at .given .1) ∙ c .before .before .before .before .before .before .before .before .before .open-body .ensures) (c .before .before .before .before .walk-certificate .ensures) (c .before .end .given .1)))
+    (λ c κs. search needs)
+    (λ c.
+    let opened : tie.After-open-body = c .before .before .before in
+    body-no _ _ _ _ _ (sym (c .before .r .given .1) ∙ opened .open-body .ensures))
+    (λ c.
+    let walk : tie.After-walk-certificate = c .before .before in
+    let start : tie.After-start = walk .before .before .before in
+    let opened : tie.After-open-body = start .before .before in
+    read-walked _ _ (sym (start .start .given .1) ∙ opened .open-body .ensures) (walk .walk-certificate .ensures) (c .body-end .ensures)))

@@ -1,5 +1,6 @@
 -- `configuration_reader::walking::walk_command` meets its contract: the tag says how long its content is at least, and what it holds.
 use borrow.Author.Needs.{needs}
+use Rattle.body_walk.proofs.Leaves.{number-told}
 use Rattle.configuration_reader.proofs.Commands.{command-walk}
 use Rattle.configuration_reader.proofs.walking.walk_command.Statement.{statement}
 use Rattle.configuration_reader.proofs.walking.walk_command.Tie as tie
@@ -13,4 +14,9 @@ walk-command-spec =
     (λ c κs. search needs)
     (λ c κs. search needs)
     (λ c. search needs)
-    (λ c. command-walk (c .before .before .before .before .before .before .before .before .walk-told .ensures) (c .before .before .before .before .before .least-content .ensures) (c .before .before .before .before .enter-least .ensures) (c .before .before .walk-said .ensures)))
+    (λ c.
+    let said : tie.After-walk-said = c .before .before in
+    let part : tie.After-enter-least = said .before .before in
+    let tag : tie.After-walk-count = part .before .before .before .before in
+    command-walk (number-told 1 (λ i. tag .before .before .before .shared-slice-known .given i .fits) (tag .walk-count .ensures))
+    (part .before .least-content .ensures) (part .enter-least .ensures) (said .walk-said .ensures)))
