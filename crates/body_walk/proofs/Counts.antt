@@ -42,7 +42,8 @@ told-walk {G} {s} {l} {wet} {c} {t₁} {r} {t₂} f g w v =
 
 -- ---- what a flag says is there
 
-module _ {A : Type 0} {C : Format ℕ} {G : Format A} {s : List ℕ} {l : ℕ} {x : Walk} {wet : Bool} {t : List ℕ} {c : Count} {t₁ : List ℕ} (f : Lawful C) (g : Formal G) (w : Counted C s l x wet t c t₁) where
+module _ {A : Type 0} {C : Format ℕ} {G : Format A} {s : List ℕ} {l : ℕ} {x : Walk} {wet : Bool} {t : List ℕ} {c : Count} {t₁ : List ℕ} (f : Lawful C)
+    (g : Formal G) (w : Counted C s l x wet t c t₁) where
   under-steady : (flag : ℕ) → Steady (under G flag)
   unfolding under nothing
   under-steady zero a p = refl
@@ -93,7 +94,8 @@ module _ (L : Length) (s : List ℕ) (l : ℕ) where
       tests m q true true (faulty e) h = omega arith
       tests m q true true fine h = let k = leb-true (q + m) (length s) h in omega (arith, ap (λ (o : Opened). o .end) (into room q m k))
 
-      go : (y : Reading ℕ) → openedBy room (partOf (andThen y (λ n q. within s l p (q + n % L .limit) (judged (L .fault n p) (rest .parse s (q + n % L .limit) q))))) .end ≤ length s
+      go : (y : Reading ℕ)
+          → openedBy room (partOf (andThen y (λ n q. within s l p (q + n % L .limit) (judged (L .fault n p) (rest .parse s (q + n % L .limit) q))))) .end ≤ length s
       go (refused e) = omega arith
       go (found n q) = tests (n % L .limit) q (leb (q + n % L .limit) (length s)) (leb (q + n % L .limit) l) (L .fault n p) refl
 

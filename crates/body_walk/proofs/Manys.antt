@@ -43,7 +43,8 @@ pub record Along {A : Type 0} (F : Format A) (s : List ℕ) (l p room : ℕ) (we
   pub behind : (xs : List A) (q : ℕ) → many F .parse s l p ≡ found xs q → (ys : List A) × (many F .parse s l at ≡ found ys q) × (length xs ≡ n + length ys)
   pub small : n ≤ at
 
-pub many-start : {A : Type 0} {F : Format A} {s : List ℕ} {l p room : ℕ} {wet : Bool} {t : List ℕ} {left : ℕ} → left ≡ room - 1 → Along F s l p room wet t 0 p left t
+pub many-start : {A : Type 0} {F : Format A} {s : List ℕ} {l p room : ℕ} {wet : Bool} {t : List ℕ} {left : ℕ} → left ≡ room - 1
+    → Along F s l p room wet t 0 p left t
 many-start {F} {s} {l} {p} {room} {wet} {t} e =
     record {
       ahead = subst (λ m. Ahead (things F) s l (At p (room - 1)) wet t (things F) (At p m) t) (sym e) ahead-start;
@@ -61,7 +62,8 @@ many-none {A} F s l p h = go (l - p)
 
 module _ {A : Type 0} (F : Format A) (f : Lawful F) (takes : (a : A) → 0 < length (F .print a)) (s : List ℕ) (b : Bytes s) (l : ℕ) (inb : l ≤ length s) where
   -- what stands after a thing that was found stands after it in the list
-  cons-found : (p : ℕ) (a : A) (q : ℕ) (xs : List A) (r : ℕ) → p ≤ l → F .parse s l p ≡ found a q → many F .parse s l q ≡ found xs r → many F .parse s l p ≡ found (a ∷ xs) r
+  cons-found : (p : ℕ) (a : A) (q : ℕ) (xs : List A) (r : ℕ) → p ≤ l → F .parse s l p ≡ found a q → many F .parse s l q ≡ found xs r
+      → many F .parse s l p ≡ found (a ∷ xs) r
   unfolding many printAll every some
   cons-found p a q xs r h e g =
       let u = f .forth s l p a q b inb h e in
@@ -77,7 +79,8 @@ module _ {A : Type 0} (F : Format A) (f : Lawful F) (takes : (a : A) → 0 < len
   unfolding ended
   many-cons p h = first (F .parse s l p) refl
     where
-      second : (a : A) (q : ℕ) → F .parse s l p ≡ found a q → (y : Reading (List A)) → many F .parse s l q ≡ y → many F .parse s l p ≡ andThen y (λ xs r. found (a ∷ xs) r)
+      second : (a : A) (q : ℕ) → F .parse s l p ≡ found a q → (y : Reading (List A)) → many F .parse s l q ≡ y
+          → many F .parse s l p ≡ andThen y (λ xs r. found (a ∷ xs) r)
       second a q e (found xs r) g = cons-found p a q xs r (omega arith) e g
       second a q e (refused r) g = step-refused (many F) s l p r (ap stepOf (sym g) ∙ sym (many-go F f takes s b l inb p q h (ap stepOf (sym e))))
 
@@ -89,7 +92,8 @@ module _ {A : Type 0} (F : Format A) (f : Lawful F) (takes : (a : A) → 0 < len
 at-this : (P : ℕ → ℕ → Type 0) {p room p′ room′ : ℕ} → At p room ≡ At p′ room′ → P p room → P p′ room′
 at-this P {p} {room} {p′} {room′} e h = subst₂ P (let z : p ≡ p′ = cc in z) (let z : room ≡ room′ = cc in z) h
 
-module _ {A : Type 0} {F : Format A} (f : Lawful F) (takes : (a : A) → 0 < length (F .print a)) {s : List ℕ} (b : Bytes s) {l : ℕ} (inb : l ≤ length s) {wet : Bool} where
+module _ {A : Type 0} {F : Format A} (f : Lawful F) (takes : (a : A) → 0 < length (F .print a)) {s : List ℕ} (b : Bytes s) {l : ℕ} (inb : l ≤ length s)
+    {wet : Bool} where
   things-more : {at left : ℕ} {t : List ℕ} {y : Walk} {t₁ : List ℕ} {r : Walk} {t₂ : List ℕ} → at < l → Walked F s l (At at left) wet t y t₁
       → Walked (things F) s l y wet t₁ r t₂ → Walked (things F) s l (At at left) wet t r t₂
   unfolding things followed tapeAll
@@ -134,7 +138,8 @@ module _ {A : Type 0} {F : Format A} (f : Lawful F) (takes : (a : A) → 0 < len
             laid = λ d p′ room′ j here xs q k small fits. absurd (not-found (sym no ∙ at-this (λ p room. many F .parse s l p ≡ found xs q) (sym j) k));
           }
 
-module _ {A : Type 0} {F : Format A} {s : List ℕ} {l p room : ℕ} {wet : Bool} {t : List ℕ} {n at left : ℕ} {t′ : List ℕ} (h : l ≤ at) (a : Along F s l p room wet t n at left t′) where
+module _ {A : Type 0} {F : Format A} {s : List ℕ} {l p room : ℕ} {wet : Bool} {t : List ℕ} {n at left : ℕ} {t′ : List ℕ} (h : l ≤ at)
+    (a : Along F s l p room wet t n at left t′) where
   -- no byte is left: what lies behind is all
   all-behind : Walked (things F) s l (At p (room - 1)) wet t (At at left) t′
   unfolding things tapeAll

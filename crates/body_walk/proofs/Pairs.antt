@@ -29,11 +29,13 @@ unfolding walked
 walked-at F s l p room = refl
 
 -- a walk from where x stands
-pub from : {A : Type 0} {F : Format A} {s : List ℕ} {l : ℕ} {x y : Walk} {wet : Bool} {t : List ℕ} {r : Walk} {t′ : List ℕ} → x ≡ y → Walked F s l y wet t r t′ → Walked F s l x wet t r t′
+pub from : {A : Type 0} {F : Format A} {s : List ℕ} {l : ℕ} {x y : Walk} {wet : Bool} {t : List ℕ} {r : Walk} {t′ : List ℕ} → x ≡ y
+    → Walked F s l y wet t r t′ → Walked F s l x wet t r t′
 from {F} {s} {l} {wet} {t} {r} {t′} e w = subst (λ z. Walked F s l z wet t r t′) (sym e) w
 
 -- a refused walk stays where it is
-pub stays : {A : Type 0} {F : Format A} {s : List ℕ} {l : ℕ} {x : Walk} {e : Refusal} {wet : Bool} {t : List ℕ} → x ≡ Refused e → Walked F s l x wet t (Refused e) t
+pub stays : {A : Type 0} {F : Format A} {s : List ℕ} {l : ℕ} {x : Walk} {e : Refusal} {wet : Bool} {t : List ℕ} → x ≡ Refused e
+    → Walked F s l x wet t (Refused e) t
 stays {F} {s} {l} {e} h =
     record {
       said = sym (ap (walked F s l) h ∙ walked-refused F s l e);
@@ -64,7 +66,8 @@ passed {F} {s} {l} w e h = w .said ∙ ap (walked F s l) h ∙ walked-refused F 
 
 -- ---- from what a walk answers back to what was read
 
-module _ {A : Type 0} {F : Format A} {s : List ℕ} {l p room : ℕ} {wet : Bool} {t : List ℕ} {r : Walk} {t′ : List ℕ} (w : Walked F s l (At p room) wet t r t′) where
+module _ {A : Type 0} {F : Format A} {s : List ℕ} {l p room : ℕ} {wet : Bool} {t : List ℕ} {r : Walk} {t′ : List ℕ}
+    (w : Walked F s l (At p room) wet t r t′) where
   pub went-on : {q left : ℕ} → r ≡ At q left → (a : A) × (F .parse s l p ≡ found a q) × (left ≡ room - length (F .tape a 0))
   unfolding walked
   went-on {q} {left} e = go (F .parse s l p) (sym e ∙ w .said)
@@ -96,11 +99,13 @@ module _ {A : Type 0} {B : A → Type 0} (F : Format A) (G : (a : A) → Format 
   both-said steady (Refused e) r r′ h go stop = stop e h ∙ h
   both-said steady (At p room) r r′ h go stop = first (F .parse s l p) refl h
     where
-      second : (a : A) (y : Reading (B a)) → walkOnward (G a) (room - length (F .tape a 0)) y ≡ walkOnward (followed F G) room (andThen y (λ b v. let z : (a : A) × B a = (a, b) in found z v))
+      second : (a : A) (y : Reading (B a))
+          → walkOnward (G a) (room - length (F .tape a 0)) y ≡ walkOnward (followed F G) room (andThen y (λ b v. let z : (a : A) × B a = (a, b) in found z v))
       second a (refused e) = refl
       second a (found b v) = ap (At v) (omega (arith, steady a b (0 + length (F .print a)), length-append (F .tape a 0) (G a .tape b (0 + length (F .print a)))))
 
-      first : (y : Reading A) → F .parse s l p ≡ y → r ≡ walkOnward F room y → r′ ≡ walkOnward (followed F G) room (andThen y (λ a q. andThen (G a .parse s l q) (λ b v. let z : (a : A) × B a = (a, b) in found z v)))
+      first : (y : Reading A) → F .parse s l p ≡ y → r ≡ walkOnward F room y
+          → r′ ≡ walkOnward (followed F G) room (andThen y (λ a q. andThen (G a .parse s l q) (λ b v. let z : (a : A) × B a = (a, b) in found z v)))
       first (refused e) i k = stop e k ∙ k
       first (found a q) i k = go a p q room refl i ∙ ap (walked (G a) s l) k ∙ second a (G a .parse s l q)
 
@@ -125,7 +130,8 @@ module _ {A : Type 0} {B : A → Type 0} (F : Format A) (G : (a : A) → Format 
       ∙ placed-next t k xs room-for ys (length t₁ + 1 - (room - length (F .tape a 0))) (omega (arith, steady a p))
       ∙ ap (λ zs. placed t k (xs ++ zs)) (sym same)
 
-module _ {A : Type 0} {B : A → Type 0} {F : Format A} {G : (a : A) → Format (B a)} {s : List ℕ} {l : ℕ} {x : Walk} {wet : Bool} {t : List ℕ} {r : Walk} {t₁ : List ℕ} {r′ : Walk} {t₂ : List ℕ} where
+module _ {A : Type 0} {B : A → Type 0} {F : Format A} {G : (a : A) → Format (B a)} {s : List ℕ} {l : ℕ} {x : Walk} {wet : Bool} {t : List ℕ} {r : Walk}
+    {t₁ : List ℕ} {r′ : Walk} {t₂ : List ℕ} where
   -- the second is walked where the first was found, and nothing where it was refused
   pub dependent : Lawful F → ((a : A) → Steady (G a)) → Walked F s l x wet t r t₁
       → ((a : A) (p q room : ℕ) → x ≡ At p room → F .parse s l p ≡ found a q → Walked (G a) s l r wet t₁ r′ t₂)
@@ -188,7 +194,8 @@ pub regroup : {A B D : Type 0} (join : A → B → D) (y : Reading A) (k : A →
 regroup {A} {B} join (refused e) k = refl
 regroup {A} {B} join (found a q) k = go (k a q)
   where
-    go : (y : Reading B) → andThen y (λ b v. found (join a b) v) ≡ andThen (andThen y (λ b v. let z : A × B = (a, b) in found z v)) (λ z v. found (join (z .0) (z .1)) v)
+    go : (y : Reading B)
+        → andThen y (λ b v. found (join a b) v) ≡ andThen (andThen y (λ b v. let z : A × B = (a, b) in found z v)) (λ z v. found (join (z .0) (z .1)) v)
     go (refused e) = refl
     go (found b v) = refl
 
@@ -210,11 +217,13 @@ exact-walk {A} {F} leftOver {s} {l} {x} w h =
           w .laid v p room e here a q (exact-found leftOver F s l p a q i .0) small fits;
     }
   where
-    last : (room : ℕ) (a : A) (q : ℕ) (b : Bool) → (if b then At q (room - length (F .tape a 0)) else Refused (leftOver q)) ≡ walkOnward (exact leftOver F) room (need b (leftOver q) (found a q))
+    last : (room : ℕ) (a : A) (q : ℕ) (b : Bool)
+        → (if b then At q (room - length (F .tape a 0)) else Refused (leftOver q)) ≡ walkOnward (exact leftOver F) room (need b (leftOver q) (found a q))
     last room a q true = refl
     last room a q false = refl
 
-    read : (room : ℕ) (y : Reading A) → leaving leftOver l (walkOnward F room y) ≡ walkOnward (exact leftOver F) room (andThen y (λ a q. need (leb l q) (leftOver q) (found a q)))
+    read : (room : ℕ) (y : Reading A)
+        → leaving leftOver l (walkOnward F room y) ≡ walkOnward (exact leftOver F) room (andThen y (λ a q. need (leb l q) (leftOver q) (found a q)))
     read room (refused e) = refl
     read room (found a q) = last room a q (leb l q)
 
@@ -223,7 +232,8 @@ exact-walk {A} {F} leftOver {s} {l} {x} w h =
     go (At p room) = ap (leaving leftOver l) (walked-at F s l p room) ∙ read room (F .parse s l p) ∙ sym (walked-at (exact leftOver F) s l p room)
 
 -- the last of several things fills the part where all of them do
-module _ {A : Type 0} {B : A → Type 0} (leftOver : ℕ → Refusal) (F : Format A) (G : (a : A) → Format (B a)) {s : List ℕ} {l : ℕ} {x : Walk} {wet : Bool} {t : List ℕ} {r : Walk} {t′ : List ℕ} where
+module _ {A : Type 0} {B : A → Type 0} (leftOver : ℕ → Refusal) (F : Format A) (G : (a : A) → Format (B a)) {s : List ℕ} {l : ℕ} {x : Walk} {wet : Bool}
+    {t : List ℕ} {r : Walk} {t′ : List ℕ} where
   pub exact-last : Walked (followed F (λ a. exact leftOver (G a))) s l x wet t r t′ → Walked (exact leftOver (followed F G)) s l x wet t r t′
   unfolding exact followed
   exact-last w = renamed {F = followed F (λ a. exact leftOver (G a))} (λ z. z) (λ p room e. first (F .parse s l p)) (λ z p q k e. refl) w
@@ -285,7 +295,8 @@ only-walk {A} {F} {fault} refusal {s} {l} {x} holds says w h =
           w .laid v p room e here a q (d .2 ∙ judged-found (fault (d .0) p) _ a q (d .3) .1) small fits;
     }
   where
-    last : (p room : ℕ) (a : A) (q : ℕ) (b : Bool) → (if b then At q (room - length (F .tape a 0)) else Refused (refusal p)) ≡ walkOnward (only fault F) room (judged (unless b (refusal p)) (found a q))
+    last : (p room : ℕ) (a : A) (q : ℕ) (b : Bool)
+        → (if b then At q (room - length (F .tape a 0)) else Refused (refusal p)) ≡ walkOnward (only fault F) room (judged (unless b (refusal p)) (found a q))
     last p room a q true = refl
     last p room a q false = refl
 
@@ -294,7 +305,8 @@ only-walk {A} {F} {fault} refusal {s} {l} {x} holds says w h =
     read p room (refused e) k = refl
     read p room (found a q) k = last p room a q holds ∙ ap (λ f. walkOnward (only fault F) room (judged f (found a q))) (sym (k a q refl))
 
-    go : (x : Walk) → ((a : A) (p q room : ℕ) → x ≡ At p room → F .parse s l p ≡ found a q → fault a p ≡ unless holds (refusal p)) → judgedFrom refusal x holds (walked F s l x) ≡ walked (only fault F) s l x
+    go : (x : Walk) → ((a : A) (p q room : ℕ) → x ≡ At p room → F .parse s l p ≡ found a q → fault a p ≡ unless holds (refusal p))
+        → judgedFrom refusal x holds (walked F s l x) ≡ walked (only fault F) s l x
     go (Refused e) k = walked-refused F s l e ∙ sym (walked-refused (only fault F) s l e)
     go (At p room) k =
         ap (judgedFrom refusal (At p room) holds) (walked-at F s l p room) ∙ read p room (F .parse s l p) (λ a q. k a p q room refl) ∙ sym (walked-at (only fault F) s l p room)

@@ -13,4 +13,7 @@ four-spec =
     (λ c κs. search needs)
     (λ c. search needs)
     (λ c κs. search needs)
-    (λ c. let given = c .before .before .before .args in ap₂ _&&_ (c .before .two .ensures) (c .two2 .ensures) ∙ sym (digits-join (given .s .now) (given .p) 2 2)))
+    (λ c.
+    let at-args = c .before .before .before in
+    let given = at-args .args in
+    ap₂ _&&_ (c .before .two .ensures) (c .two2 .ensures) ∙ sym (digits-join (given .s .now) (given .p) 2 2)))

@@ -14,6 +14,9 @@ listed-part-spec =
     (λ c. search needs)
     (λ c. search needs)
     (λ c κs. search needs)
-    (λ c. c .part-after .ensures ∙ listed-part _ _ _ _ _ _ _ _ (sym (c .before .before .before .n .given .1) ∙ c .before .before .before .before .before .read-number .ensures) (omega arith))
+    (λ c.
+    let at-n = c .before .before .before in
+    let at-read-number = at-n .before .before in
+    c .part-after .ensures ∙ listed-part _ _ _ _ _ _ _ _ (sym (at-n .n .given .1) ∙ at-read-number .read-number .ensures) (omega arith))
     (λ c. listed-no _ _ _ _ _ _ _ (sym (c .before .r .given .1) ∙ c .before .before .before .read-number .ensures))
     (λ c. listed-none _ _ _ _ _ _ _ _ (sym (c .before .before .n .given .1) ∙ c .before .before .before .before .read-number .ensures) (omega arith)))

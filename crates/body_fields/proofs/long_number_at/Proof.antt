@@ -25,9 +25,16 @@ long-number-at-spec =
     (λ c. search needs)
     (λ c. search needs)
     (λ c κs. search needs)
-    (λ c. omega (arith, six-bytes (c .before .before .before .loop .k) (c .before .before .before .loop .v) (omega arith) (c .before .before .before .loop .inv .2)))
-    (λ c. omega (arith, six-bytes (c .before .before .before .loop .k) (c .before .before .before .loop .v) (omega arith) (c .before .before .before .loop .inv .2)))
+    (λ c.
+    let at-loop = c .before .before .before in
+    omega (arith, six-bytes (at-loop .loop .k) (at-loop .loop .v) (omega arith) (at-loop .loop .inv .2)))
+    (λ c.
+    let at-loop = c .before .before .before in
+    omega (arith, six-bytes (at-loop .loop .k) (at-loop .loop .v) (omega arith) (at-loop .loop .inv .2)))
     (λ c. search needs)
     (λ c. search needs)
-    (λ c. let l = c .before .before .before .loop in (omega arith, number-more _ _ (l .k) (l .v) _ (l .inv .1) (c .wide .ensures .0), more-fits (l .k) (l .v) _ (l .inv .2) (c .wide .ensures .1)))
+    (λ c.
+    let at-loop = c .before .before .before in
+    let l = at-loop .loop in
+    (omega arith, number-more _ _ (l .k) (l .v) _ (l .inv .1) (c .wide .ensures .0), more-fits (l .k) (l .v) _ (l .inv .2) (c .wide .ensures .1)))
     (λ c. let l = c .before .loop in l .inv .1 ∙ ap (numberAt _ _) (omega arith)))

@@ -13,5 +13,11 @@ part-from-spec =
     (λ c. let a = c .before .args in part-14 (a .s .now) (a .l) (a .p) (a .q) (a .m) _ (omega arith))
     (λ c. search needs)
     (λ c. let a = c .before .before .args in part-15 (a .s .now) (a .l) (a .p) (a .q) (a .m) (omega arith) _ (omega arith))
-    (λ c. let a = c .before .before .before .args in part-of (a .s .now) (a .l) (a .p) (a .q) (a .m) (omega arith) (a .holds) (a .fault) (omega arith) (c .if3 .taken))
-    (λ c. let a = c .before .before .before .args in part-faulty (a .s .now) (a .l) (a .p) (a .q) (a .m) (omega arith) (a .holds) (a .fault) (omega arith) (c .if3 .left)))
+    (λ c.
+    let at-args = c .before .before .before in
+    let a = at-args .args in
+    part-of (a .s .now) (a .l) (a .p) (a .q) (a .m) (omega arith) (a .holds) (a .fault) (omega arith) (c .if3 .taken))
+    (λ c.
+    let at-args = c .before .before .before in
+    let a = at-args .args in
+    part-faulty (a .s .now) (a .l) (a .p) (a .q) (a .m) (omega arith) (a .holds) (a .fault) (omega arith) (c .if3 .left)))

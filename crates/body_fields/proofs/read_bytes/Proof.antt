@@ -13,6 +13,12 @@ read-bytes-spec =
     (λ c. search needs)
     (λ c. search needs)
     (λ c κs. end-in _ _ _ _ _ (sym (c .before .q .given .1) ∙ c .before .before .before .field-end .ensures) .1)
-    (λ c. bytes-of _ _ _ _ _ _ _ (sym (c .before .before .before .q .given .1) ∙ c .before .before .before .before .before .field-end .ensures) (sym (c .before .all-among .ensures) ∙ c .if1 .taken))
+    (λ c.
+    let at-q = c .before .before .before in
+    let at-field-end = at-q .before .before in
+    bytes-of _ _ _ _ _ _ _ (sym (at-q .q .given .1) ∙ at-field-end .field-end .ensures) (sym (c .before .all-among .ensures) ∙ c .if1 .taken))
     (λ c. bytes-no _ _ _ _ _ _ _ (sym (c .before .r .given .1) ∙ c .before .before .before .field-end .ensures))
-    (λ c. bytes-19 _ _ _ _ _ _ _ (sym (c .before .before .before .q .given .1) ∙ c .before .before .before .before .before .field-end .ensures) (sym (c .before .all-among .ensures) ∙ c .if1 .left)))
+    (λ c.
+    let at-q = c .before .before .before in
+    let at-field-end = at-q .before .before in
+    bytes-19 _ _ _ _ _ _ _ (sym (at-q .q .given .1) ∙ at-field-end .field-end .ensures) (sym (c .before .all-among .ensures) ∙ c .if1 .left)))

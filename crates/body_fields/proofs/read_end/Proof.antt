@@ -16,7 +16,29 @@ read-end-spec =
     (λ c. search needs)
     (λ c. search needs)
     (λ c. search needs)
-    (λ c. time-no _ _ _ (λ i. c .before .before .before .before .shared-slice-known .given i .fits) _ (sym (c .before .r .given .1) ∙ c .before .before .before .read-number .ensures) .1)
-    (λ c. end-said _ _ _ (λ i. c .before .before .before .before .before .before .before .before .shared-slice-known .given i .fits) _ _ _ (sym (c .before .before .before .before .before .x .given .1) ∙ c .before .before .before .before .before .before .before .read-number .ensures) (sym (c .before .r2 .given .1) ∙ c .before .before .before .read-end .ensures))
-    (λ c. end-said _ _ _ (λ i. c .before .before .before .before .before .before .before .shared-slice-known .given i .fits) _ _ _ (sym (c .before .before .before .before .x .given .1) ∙ c .before .before .before .before .before .before .read-number .ensures) (sym (c .enum-told .given .1) ∙ c .before .before .read-end .ensures))
-    (λ c. end-said _ _ _ (λ i. c .before .before .before .before .before .before .before .before .shared-slice-known .given i .fits) _ _ _ (sym (c .before .before .before .before .before .x .given .1) ∙ c .before .before .before .before .before .before .before .read-number .ensures) (sym (c .before .m .given .1) ∙ c .before .before .before .read-end .ensures)))
+    (λ c.
+    let at-read-number = c .before .before .before in
+    let at-shared-slice-known = at-read-number .before in
+    time-no _ _ _ (λ i. at-shared-slice-known .shared-slice-known .given i .fits) _
+    (sym (c .before .r .given .1) ∙ at-read-number .read-number .ensures) .1)
+    (λ c.
+    let at-read-end = c .before .before .before in
+    let at-x = at-read-end .before .before in
+    let at-read-number = at-x .before .before in
+    let at-shared-slice-known = at-read-number .before in
+    end-said _ _ _ (λ i. at-shared-slice-known .shared-slice-known .given i .fits) _ _ _
+    (sym (at-x .x .given .1) ∙ at-read-number .read-number .ensures) (sym (c .before .r2 .given .1) ∙ at-read-end .read-end .ensures))
+    (λ c.
+    let at-read-end = c .before .before in
+    let at-x = at-read-end .before .before in
+    let at-read-number = at-x .before .before in
+    let at-shared-slice-known = at-read-number .before in
+    end-said _ _ _ (λ i. at-shared-slice-known .shared-slice-known .given i .fits) _ _ _
+    (sym (at-x .x .given .1) ∙ at-read-number .read-number .ensures) (sym (c .enum-told .given .1) ∙ at-read-end .read-end .ensures))
+    (λ c.
+    let at-read-end = c .before .before .before in
+    let at-x = at-read-end .before .before in
+    let at-read-number = at-x .before .before in
+    let at-shared-slice-known = at-read-number .before in
+    end-said _ _ _ (λ i. at-shared-slice-known .shared-slice-known .given i .fits) _ _ _
+    (sym (at-x .x .given .1) ∙ at-read-number .read-number .ensures) (sym (c .before .m .given .1) ∙ at-read-end .read-end .ensures)))

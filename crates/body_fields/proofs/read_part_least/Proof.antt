@@ -12,6 +12,15 @@ read-part-least-spec =
     (λ c κs. search needs)
     (λ c. search needs)
     (λ c. search needs)
-    (λ c κs. number-facts _ _ _ _ _ _ (λ i. c .before .before .before .before .shared-slice-known .given i .fits) (sym (c .before .n .given .1) ∙ c .before .before .before .read-number .ensures) .0)
+    (λ c κs.
+    let at-read-number = c .before .before .before in
+    let at-shared-slice-known = at-read-number .before in
+    number-facts _ _ _ _ _ _ (λ i. at-shared-slice-known .shared-slice-known .given i .fits)
+    (sym (c .before .n .given .1) ∙ at-read-number .read-number .ensures) .0)
     (λ c. least-no _ _ _ _ _ _ (sym (c .before .r .given .1) ∙ c .before .before .before .read-number .ensures))
-    (λ c. c .part-from .ensures ∙ least-is _ _ _ _ _ _ _ (λ i. c .before .before .before .before .before .shared-slice-known .given i .fits) (sym (c .before .before .n .given .1) ∙ c .before .before .before .before .read-number .ensures)))
+    (λ c.
+    let at-n = c .before .before in
+    let at-read-number = at-n .before .before in
+    let at-shared-slice-known = at-read-number .before in
+    c .part-from .ensures ∙ least-is _ _ _ _ _ _ _ (λ i. at-shared-slice-known .shared-slice-known .given i .fits)
+    (sym (at-n .n .given .1) ∙ at-read-number .read-number .ensures)))

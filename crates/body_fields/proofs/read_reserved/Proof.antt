@@ -18,7 +18,11 @@ read-reserved-spec =
     (λ c. search needs)
     (λ c κs. search needs)
     (λ c. omega (arith, c .power .ensures, pow-pos (c .before .before .before .before .before .before .args .k)))
-    (λ c. reserved-zero _ _ _ _ _ _ _ (sym (c .before .before .before .first .given .1) ∙ c .before .before .before .before .before .read-number .ensures) (rw (← c .before .power .ensures) (c .if1 .taken)))
+    (λ c.
+    let at-first = c .before .before .before in
+    let at-read-number = at-first .before .before in
+    reserved-zero _ _ _ _ _ _ _ (sym (at-first .first .given .1) ∙ at-read-number .read-number .ensures)
+    (rw (← c .before .power .ensures) (c .if1 .taken)))
     (λ c. search needs)
     (λ c κs. search needs)
     (λ c. search needs)
@@ -28,5 +32,20 @@ read-reserved-spec =
     (λ c κs. search needs)
     (λ c. rw (c .power2 .ensures) (pow-pos _))
     (λ c. reserved-no _ _ _ _ _ _ (sym (c .before .r .given .1) ∙ c .before .before .before .read-number .ensures))
-    (λ c. reserved-past _ _ _ _ _ _ _ (sym (c .before .before .before .before .before .before .before .first .given .1) ∙ c .before .before .before .before .before .before .before .before .before .read-number .ensures) (rw (← c .before .before .before .before .before .power .ensures) (c .before .before .before .before .if1 .left)) _ (sym (c .before .r2 .given .1) ∙ c .before .before .before .read-number2 .ensures))
-    (λ c. rw (c .power2 .ensures) (reserved-is _ _ _ _ _ _ _ (sym (c .before .before .before .before .before .before .before .before .first .given .1) ∙ c .before .before .before .before .before .before .before .before .before .before .read-number .ensures) (rw (← c .before .before .before .before .before .before .power .ensures) (c .before .before .before .before .before .if1 .left)) _ _ (sym (c .before .before .v .given .1) ∙ c .before .before .before .before .read-number2 .ensures))))
+    (λ c.
+    let at-read-number2 = c .before .before .before in
+    let at-if1 = at-read-number2 .before in
+    let at-power = at-if1 .before in
+    let at-first = at-power .before .before in
+    let at-read-number = at-first .before .before in
+    reserved-past _ _ _ _ _ _ _ (sym (at-first .first .given .1) ∙ at-read-number .read-number .ensures)
+    (rw (← at-power .power .ensures) (at-if1 .if1 .left)) _ (sym (c .before .r2 .given .1) ∙ at-read-number2 .read-number2 .ensures))
+    (λ c.
+    let at-v = c .before .before in
+    let at-read-number2 = at-v .before .before in
+    let at-if1 = at-read-number2 .before in
+    let at-power = at-if1 .before in
+    let at-first = at-power .before .before in
+    let at-read-number = at-first .before .before in
+    rw (c .power2 .ensures) (reserved-is _ _ _ _ _ _ _ (sym (at-first .first .given .1) ∙ at-read-number .read-number .ensures)
+    (rw (← at-power .power .ensures) (at-if1 .if1 .left)) _ _ (sym (at-v .v .given .1) ∙ at-read-number2 .read-number2 .ensures))))

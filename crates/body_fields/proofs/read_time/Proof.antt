@@ -15,6 +15,22 @@ read-time-spec =
     (λ c κs. search needs)
     (λ c. search needs)
     (λ c. search needs)
-    (λ c. time-no _ _ _ (λ i. c .before .before .before .before .shared-slice-known .given i .fits) _ (sym (c .before .r .given .1) ∙ c .before .before .before .read-number .ensures) .0)
-    (λ c. time-said _ _ _ (λ i. c .before .before .before .before .before .before .before .before .shared-slice-known .given i .fits) _ _ _ (sym (c .before .before .before .before .before .x .given .1) ∙ c .before .before .before .before .before .before .before .read-number .ensures) (sym (c .before .r2 .given .1) ∙ c .before .before .before .read-time .ensures))
-    (λ c. time-said _ _ _ (λ i. c .before .before .before .before .before .before .before .before .shared-slice-known .given i .fits) _ _ _ (sym (c .before .before .before .before .before .x .given .1) ∙ c .before .before .before .before .before .before .before .read-number .ensures) (sym (c .before .m .given .1) ∙ c .before .before .before .read-time .ensures)))
+    (λ c.
+    let at-read-number = c .before .before .before in
+    let at-shared-slice-known = at-read-number .before in
+    time-no _ _ _ (λ i. at-shared-slice-known .shared-slice-known .given i .fits) _
+    (sym (c .before .r .given .1) ∙ at-read-number .read-number .ensures) .0)
+    (λ c.
+    let at-read-time = c .before .before .before in
+    let at-x = at-read-time .before .before in
+    let at-read-number = at-x .before .before in
+    let at-shared-slice-known = at-read-number .before in
+    time-said _ _ _ (λ i. at-shared-slice-known .shared-slice-known .given i .fits) _ _ _
+    (sym (at-x .x .given .1) ∙ at-read-number .read-number .ensures) (sym (c .before .r2 .given .1) ∙ at-read-time .read-time .ensures))
+    (λ c.
+    let at-read-time = c .before .before .before in
+    let at-x = at-read-time .before .before in
+    let at-read-number = at-x .before .before in
+    let at-shared-slice-known = at-read-number .before in
+    time-said _ _ _ (λ i. at-shared-slice-known .shared-slice-known .given i .fits) _ _ _
+    (sym (at-x .x .given .1) ∙ at-read-number .read-number .ensures) (sym (c .before .m .given .1) ∙ at-read-time .read-time .ensures)))

@@ -23,10 +23,22 @@ skip-parts-spec =
     (λ c. search needs)
     (λ c κs. search needs)
     (λ c. search needs)
-    (λ c. let v = c .before .before .before .before .before .loop in all-stop _ _ _ _ (v .left) _ (c .before .before .before .before .loop-test .taken) (opaque-no _ _ _ _ _ (sym (c .before .r .given .1) ∙ c .before .before .before .read-part .ensures)) ∙ sym (v .inv))
+    (λ c.
+    let at-read-part = c .before .before .before in
+    let at-loop-test = at-read-part .before in
+    let at-loop = at-loop-test .before in
+    let v = at-loop .loop in
+    all-stop _ _ _ _ (v .left) _ (at-loop-test .loop-test .taken)
+    (opaque-no _ _ _ _ _ (sym (c .before .r .given .1) ∙ at-read-part .read-part .ensures)) ∙ sym (v .inv))
     (λ c. search needs)
     (λ c. omega (arith, part-facts _ _ _ _ _ _ (sym (c .before .a .given .1) ∙ c .before .before .before .read-part .ensures) .0))
     (λ c. search needs)
     (λ c. search needs)
-    (λ c. let v = c .before .before .before .before .before .loop in v .inv ∙ all-go _ _ _ _ (v .left) _ (c .before .before .before .before .loop-test .taken) (opaque-at _ _ _ _ _ _ (sym (c .before .a .given .1) ∙ c .before .before .before .read-part .ensures)))
+    (λ c.
+    let at-read-part = c .before .before .before in
+    let at-loop-test = at-read-part .before in
+    let at-loop = at-loop-test .before in
+    let v = at-loop .loop in
+    v .inv ∙ all-go _ _ _ _ (v .left) _ (at-loop-test .loop-test .taken)
+    (opaque-at _ _ _ _ _ _ (sym (c .before .a .given .1) ∙ at-read-part .read-part .ensures)))
     (λ c. let v = c .before .loop in all-done _ _ _ _ (v .left) (omega arith) ∙ sym (v .inv)))

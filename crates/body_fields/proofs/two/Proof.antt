@@ -13,4 +13,7 @@ two-spec =
     (λ c κs. search needs)
     (λ c. search needs)
     (λ c κs. search needs)
-    (λ c. let given = c .before .before .before .args in ap₂ _&&_ (c .before .one .ensures) (c .one2 .ensures) ∙ sym (digits-join (given .s .now) (given .p) 1 1)))
+    (λ c.
+    let at-args = c .before .before .before in
+    let given = at-args .args in
+    ap₂ _&&_ (c .before .one .ensures) (c .one2 .ensures) ∙ sym (digits-join (given .s .now) (given .p) 1 1)))

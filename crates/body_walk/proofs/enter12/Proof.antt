@@ -15,6 +15,10 @@ enter12-spec =
     (λ c. search needs)
     (λ c. search needs)
     (λ c κs. search needs)
-    (λ c κs. let t = c .before .before .before .before .before .args in omega (arith, counted-end length12 (now (t .s)) (t .l) (c .before .before .x2 .given .0 .0) _ (c .read-part12 .ensures)))
+    (λ c κs.
+    let at-x2 = c .before .before in
+    let at-args = at-x2 .before .before .before in
+    let t = at-args .args in
+    omega (arith, counted-end length12 (now (t .s)) (t .l) (at-x2 .x2 .given .0 .0) _ (c .read-part12 .ensures)))
     (λ c. enter-refused _ _ _ _ _ (c .before .x .given .1))
     (λ c. c .into .ensures ∙ enter-at _ _ _ _ _ _ (c .before .before .before .x2 .given .1) _ (c .before .read-part12 .ensures)))

@@ -13,4 +13,9 @@ lay-two-spec =
     (λ c κs. search needs)
     (λ c κs. search needs)
     (λ c. search needs)
-    (λ c. laid-both _ _ _ (_ ∷ []) (_ ∷ []) _ _ _ (c .before .before .before .before .before .before .before .lay-entry .ensures) (search needs) (c .before .before .before .less .ensures) (c .before .before .lay-entry2 .ensures)))
+    (λ c.
+    let at-lay-entry2 = c .before .before in
+    let at-less = at-lay-entry2 .before in
+    let at-lay-entry = at-less .before .before .before .before in
+    laid-both _ _ _ (_ ∷ []) (_ ∷ []) _ _ _ (at-lay-entry .lay-entry .ensures) (search needs) (at-less .less .ensures)
+    (at-lay-entry2 .lay-entry2 .ensures)))

@@ -16,4 +16,7 @@ past-number-spec =
     (λ c κs. search needs)
     (λ c. stepped (pastNumber _) entryOf _ _ (c .before .x .given .1) _ _ _ _ _ refl (laid-none _ _ _))
     (λ c. search needs)
-    (λ c. stepped (pastNumber _) entryOf _ _ (c .before .before .before .before .before .before .x2 .given .1) _ _ _ _ _ (cc) (c .before .before .before .lay-entry .ensures)))
+    (λ c.
+    let at-lay-entry = c .before .before .before in
+    let at-x2 = at-lay-entry .before .before .before in
+    stepped (pastNumber _) entryOf _ _ (at-x2 .x2 .given .1) _ _ _ _ _ (cc) (at-lay-entry .lay-entry .ensures)))

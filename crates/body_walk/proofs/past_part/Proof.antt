@@ -18,4 +18,7 @@ past-part-spec =
     (λ c κs. search needs)
     (λ c. stepped (pastPart _) spanOf _ _ (c .before .x .given .1) _ _ _ _ _ refl (laid-none _ _ _))
     (λ c. search needs)
-    (λ c. stepped (pastPart _) spanOf _ _ (c .before .before .before .before .before .before .x2 .given .1) _ _ _ _ _ (cc) (c .before .before .before .lay-two .ensures)))
+    (λ c.
+    let at-lay-two = c .before .before .before in
+    let at-x2 = at-lay-two .before .before .before in
+    stepped (pastPart _) spanOf _ _ (at-x2 .x2 .given .1) _ _ _ _ _ (cc) (at-lay-two .lay-two .ensures)))

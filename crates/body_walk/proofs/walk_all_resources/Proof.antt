@@ -24,6 +24,11 @@ walk-all-resources-spec =
     (λ c κs. search needs)
     (λ c. search needs)
     (λ c. search needs)
-    (λ c. times-turn resource (c .before .before .before .before .before .loop .left) (digits-lawful 11) (c .before .before .before .before .loop-test .taken) (c .before .before .before .before .before .loop .inv) (c .before .before .walk-digits .ensures) (search needs))
+    (λ c.
+    let at-walk-digits = c .before .before in
+    let at-loop-test = at-walk-digits .before .before in
+    let at-loop = at-loop-test .before in
+    times-turn resource (at-loop .loop .left) (digits-lawful 11) (at-loop-test .loop-test .taken) (at-loop .loop .inv)
+    (at-walk-digits .walk-digits .ensures) (search needs))
     (λ c. c .before .loop .inv .same)
     (λ c. times-done resource (c .before .loop .left) (omega arith) (c .before .loop .inv)))

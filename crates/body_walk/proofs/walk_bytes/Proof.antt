@@ -15,7 +15,20 @@ walk-bytes-spec =
     (λ c. search needs)
     (λ c. search needs)
     (λ c κs. search needs)
-    (λ c κs. let t = c .before .before .before .before .before .before .before .args in omega (arith, field-end (bytesAmong (t .lo) (t .hi) (t .n)) _ (bytes-two _ _ _) (now (t .s)) (t .l) (c .before .before .before .x2 .given .0 .0) (bytes-fit _ _ _ _ _ _) _ (c .before .read-bytes .ensures)))
+    (λ c κs.
+    let at-x2 = c .before .before .before in
+    let at-args = at-x2 .before .before .before .before in
+    let t = at-args .args in
+    omega (
+      arith,
+      field-end (bytesAmong (t .lo) (t .hi) (t .n)) _ (bytes-two _ _ _) (now (t .s)) (t .l) (at-x2 .x2 .given .0 .0)
+          (bytes-fit _ _ _ _ _ _) _ (c .before .read-bytes .ensures),
+    ))
     (λ c. stays (c .before .x .given .1))
     (λ c. search needs)
-    (λ c. field-leaf _ _ (bytes-two _ _ _) _ _ _ (bytes-fit _ _ _ _ _ _) _ (c .before .before .before .before .read-bytes .ensures) _ _ _ _ (c .before .before .before .before .before .before .x2 .given .1) _ _ (c .before .before .past-part .ensures)))
+    (λ c.
+    let at-past-part = c .before .before in
+    let at-read-bytes = at-past-part .before .before in
+    let at-x2 = at-read-bytes .before .before in
+    field-leaf _ _ (bytes-two _ _ _) _ _ _ (bytes-fit _ _ _ _ _ _) _ (at-read-bytes .read-bytes .ensures) _ _ _ _ (at-x2 .x2 .given .1) _ _
+    (at-past-part .past-part .ensures)))

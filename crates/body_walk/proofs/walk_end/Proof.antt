@@ -15,4 +15,8 @@ walk-end-spec =
     (λ c κs. search needs)
     (λ c. stays (c .before .x .given .1))
     (λ c. search needs)
-    (λ c. number-leaf _ end-one _ _ _ _ _ _ _ (c .before .before .before .before .before .before .x2 .given .1) _ (c .before .before .before .before .read-end .ensures) _ _ (c .before .before .past-number .ensures)))
+    (λ c.
+    let at-past-number = c .before .before in
+    let at-read-end = at-past-number .before .before in
+    let at-x2 = at-read-end .before .before in
+    number-leaf _ end-one _ _ _ _ _ _ _ (at-x2 .x2 .given .1) _ (at-read-end .read-end .ensures) _ _ (at-past-number .past-number .ensures)))

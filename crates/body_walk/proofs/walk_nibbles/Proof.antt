@@ -20,8 +20,34 @@ walk-nibbles-spec =
     (λ c κs. search needs)
     (λ c κs. search needs)
     (λ c. search needs)
-    (λ c. both-in _ _ _ _ _ _ _ _ _ (c .before .before .before .before .before .before .before .before .before .before .before .before .before .before .x2 .given .1) _ _ (sym (c .before .before .before .before .before .before .before .before .before .before .v .given .1) ∙ c .before .before .before .before .before .before .before .before .before .before .before .before .read-number .ensures) (sym (c .before .before .before .before .before .before .before .before .is-among .ensures) ∙ c .before .before .before .before .before .before .before .if1 .taken) (sym (c .before .before .before .before .before .before .is-among2 .ensures) ∙ c .before .before .before .before .before .if2 .taken) _ _ (c .less .ensures) (c .before .before .before .lay-two .ensures))
+    (λ c.
+    let at-lay-two = c .before .before .before in
+    let at-if2 = at-lay-two .before .before in
+    let at-is-among2 = at-if2 .before in
+    let at-if1 = at-is-among2 .before in
+    let at-is-among = at-if1 .before in
+    let at-v = at-is-among .before .before in
+    let at-read-number = at-v .before .before in
+    let at-x2 = at-read-number .before .before in
+    both-in _ _ _ _ _ _ _ _ _ (at-x2 .x2 .given .1) _ _ (sym (at-v .v .given .1) ∙ at-read-number .read-number .ensures)
+    (sym (at-is-among .is-among .ensures) ∙ at-if1 .if1 .taken) (sym (at-is-among2 .is-among2 .ensures) ∙ at-if2 .if2 .taken) _ _ (c .less .ensures)
+    (at-lay-two .lay-two .ensures))
     (λ c. stays (c .before .x .given .1))
-    (λ c. nibbles-no _ _ _ _ _ _ _ _ _ (c .before .before .before .before .before .x2 .given .1) _ (sym (c .before .r .given .1) ∙ c .before .before .before .read-number .ensures))
-    (λ c. low-out _ _ _ _ _ _ _ _ _ (c .before .before .before .before .before .before .before .before .before .x2 .given .1) _ _ (sym (c .before .before .before .before .before .v .given .1) ∙ c .before .before .before .before .before .before .before .read-number .ensures) (sym (c .before .before .before .is-among .ensures) ∙ c .before .before .if1 .taken) (sym (c .before .is-among2 .ensures) ∙ c .if2 .left))
-    (λ c. high-out _ _ _ _ _ _ _ _ _ (c .before .before .before .before .before .before .before .x2 .given .1) _ _ (sym (c .before .before .before .v .given .1) ∙ c .before .before .before .before .before .read-number .ensures) (sym (c .before .is-among .ensures) ∙ c .if1 .left)))
+    (λ c.
+    let at-read-number = c .before .before .before in
+    let at-x2 = at-read-number .before .before in
+    nibbles-no _ _ _ _ _ _ _ _ _ (at-x2 .x2 .given .1) _ (sym (c .before .r .given .1) ∙ at-read-number .read-number .ensures))
+    (λ c.
+    let at-if1 = c .before .before in
+    let at-is-among = at-if1 .before in
+    let at-v = at-is-among .before .before in
+    let at-read-number = at-v .before .before in
+    let at-x2 = at-read-number .before .before in
+    low-out _ _ _ _ _ _ _ _ _ (at-x2 .x2 .given .1) _ _ (sym (at-v .v .given .1) ∙ at-read-number .read-number .ensures)
+    (sym (at-is-among .is-among .ensures) ∙ at-if1 .if1 .taken) (sym (c .before .is-among2 .ensures) ∙ c .if2 .left))
+    (λ c.
+    let at-v = c .before .before .before in
+    let at-read-number = at-v .before .before in
+    let at-x2 = at-read-number .before .before in
+    high-out _ _ _ _ _ _ _ _ _ (at-x2 .x2 .given .1) _ _ (sym (at-v .v .given .1) ∙ at-read-number .read-number .ensures)
+    (sym (c .before .is-among .ensures) ∙ c .if1 .left)))

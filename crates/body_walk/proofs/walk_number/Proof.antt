@@ -17,4 +17,11 @@ walk-number-spec =
     (λ c κs. search needs)
     (λ c. stays (c .before .x .given .1))
     (λ c. search needs)
-    (λ c. number-leaf _ (number-one _) _ _ _ _ _ _ _ (c .before .before .before .before .before .before .x2 .given .1) _ (c .before .before .before .before .read-number .ensures ∙ number-is-count _ _ _ _ (λ i. c .before .before .before .before .before .before .before .before .before .shared-slice-known .given i .fits)) _ _ (c .before .before .past-number .ensures)))
+    (λ c.
+    let at-past-number = c .before .before in
+    let at-read-number = at-past-number .before .before in
+    let at-x2 = at-read-number .before .before in
+    let at-shared-slice-known = at-x2 .before .before .before in
+    number-leaf _ (number-one _) _ _ _ _ _ _ _ (at-x2 .x2 .given .1) _
+    (at-read-number .read-number .ensures ∙ number-is-count _ _ _ _ (λ i. at-shared-slice-known .shared-slice-known .given i .fits)) _ _
+    (at-past-number .past-number .ensures)))

@@ -16,4 +16,8 @@ walk-part-spec =
     (λ c κs. omega (arith, part-end _ _ _ _ _ (c .before .read-part .ensures)))
     (λ c. stays (c .before .x .given .1))
     (λ c. search needs)
-    (λ c. part-leaf _ _ _ _ _ _ _ (c .before .before .before .before .before .before .x2 .given .1) _ _ (c .before .before .before .before .read-part .ensures) _ _ (c .before .before .past-part .ensures)))
+    (λ c.
+    let at-past-part = c .before .before in
+    let at-read-part = at-past-part .before .before in
+    let at-x2 = at-read-part .before .before in
+    part-leaf _ _ _ _ _ _ _ (at-x2 .x2 .given .1) _ _ (at-read-part .read-part .ensures) _ _ (at-past-part .past-part .ensures)))

@@ -14,4 +14,9 @@ walk-reserved-spec =
     (λ c κs. search needs)
     (λ c. count-refused _ _ _ _ _ _ _ (c .before .x .given .1))
     (λ c. search needs)
-    (λ c. number-counted _ (reserved-one _ _) _ _ _ _ _ _ _ (c .before .before .before .before .before .before .x2 .given .1) _ (c .before .before .before .before .read-reserved .ensures) _ _ (c .before .before .told .ensures)))
+    (λ c.
+    let at-told = c .before .before in
+    let at-read-reserved = at-told .before .before in
+    let at-x2 = at-read-reserved .before .before in
+    number-counted _ (reserved-one _ _) _ _ _ _ _ _ _ (at-x2 .x2 .given .1) _ (at-read-reserved .read-reserved .ensures) _ _
+    (at-told .told .ensures)))

@@ -12,4 +12,7 @@ walk-resources-spec =
     (λ c κs. search needs)
     (λ c κs. search needs)
     (λ c. search needs)
-    (λ c. list-walk (count-lawful 1) (digits-lawful 11) (c .before .before .before .before .before .before .walk-count .ensures) (c .before .before .walk-all-resources .ensures)))
+    (λ c.
+    let at-walk-all-resources = c .before .before in
+    let at-walk-count = at-walk-all-resources .before .before .before .before in
+    list-walk (count-lawful 1) (digits-lawful 11) (at-walk-count .walk-count .ensures) (at-walk-all-resources .walk-all-resources .ensures)))

@@ -16,4 +16,8 @@ walk-rest-spec =
     (λ c κs. search needs)
     (λ c. stays (c .before .x .given .1))
     (λ c. search needs)
-    (λ c. rest-leaf _ _ _ _ _ _ _ (c .before .before .before .before .before .before .before .x2 .given .1) _ _ _ (c .before .before .before .before .less .ensures) (c .less2 .ensures) (c .before .before .before .lay-two .ensures)))
+    (λ c.
+    let at-lay-two = c .before .before .before in
+    let at-less = at-lay-two .before in
+    let at-x2 = at-less .before .before .before in
+    rest-leaf _ _ _ _ _ _ _ (at-x2 .x2 .given .1) _ _ _ (at-less .less .ensures) (c .less2 .ensures) (at-lay-two .lay-two .ensures)))

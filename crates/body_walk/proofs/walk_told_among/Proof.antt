@@ -18,4 +18,14 @@ walk-told-among-spec =
     (λ c κs. search needs)
     (λ c. count-refused _ _ _ _ _ _ _ (c .before .x .given .1))
     (λ c. search needs)
-    (λ c. number-counted _ (only-one _ _ (number-one _)) _ _ _ _ _ _ _ (c .before .before .before .before .before .before .before .x2 .given .1) _ (c .before .before .before .before .among .ensures ∙ ap (numberAmong _ _ _) (c .before .before .before .before .before .read-number .ensures ∙ number-is-count _ _ _ _ (λ i. c .before .before .before .before .before .before .before .before .before .before .shared-slice-known .given i .fits)) ∙ number-among _ _ _ _ _ _) _ _ (c .before .before .told .ensures)))
+    (λ c.
+    let at-told = c .before .before in
+    let at-among = at-told .before .before in
+    let at-read-number = at-among .before in
+    let at-x2 = at-read-number .before .before in
+    let at-shared-slice-known = at-x2 .before .before .before in
+    number-counted _ (only-one _ _ (number-one _)) _ _ _ _ _ _ _ (at-x2 .x2 .given .1) _
+    (at-among .among .ensures
+    ∙ ap (numberAmong _ _ _)
+    (at-read-number .read-number .ensures ∙ number-is-count _ _ _ _ (λ i. at-shared-slice-known .shared-slice-known .given i .fits))
+    ∙ number-among _ _ _ _ _ _) _ _ (at-told .told .ensures)))

@@ -13,4 +13,7 @@ walk-list-spec =
     (λ c κs. search needs)
     (λ c κs. search needs)
     (λ c. search needs)
-    (λ c. list-walk (count-lawful 1) (opaque-lawful _) (c .before .before .before .before .before .before .walk-count .ensures) (c .before .before .walk-parts .ensures)))
+    (λ c.
+    let at-walk-parts = c .before .before in
+    let at-walk-count = at-walk-parts .before .before .before .before in
+    list-walk (count-lawful 1) (opaque-lawful _) (at-walk-count .walk-count .ensures) (at-walk-parts .walk-parts .ensures)))

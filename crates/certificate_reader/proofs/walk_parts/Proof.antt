@@ -23,6 +23,11 @@ walk-parts-spec =
     (λ c κs. search needs)
     (λ c. search needs)
     (λ c. search needs)
-    (λ c. times-turn (opaque _) (c .before .before .before .before .before .loop .left) (opaque-lawful _) (c .before .before .before .before .loop-test .taken) (c .before .before .before .before .before .loop .inv) (c .before .before .walk-part .ensures) (search needs))
+    (λ c.
+    let at-walk-part = c .before .before in
+    let at-loop-test = at-walk-part .before .before in
+    let at-loop = at-loop-test .before in
+    times-turn (opaque _) (at-loop .loop .left) (opaque-lawful _) (at-loop-test .loop-test .taken) (at-loop .loop .inv)
+    (at-walk-part .walk-part .ensures) (search needs))
     (λ c. c .before .loop .inv .same)
     (λ c. times-done (opaque _) (c .before .loop .left) (omega arith) (c .before .loop .inv)))

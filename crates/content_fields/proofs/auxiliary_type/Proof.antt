@@ -17,8 +17,23 @@ auxiliary-type-spec =
     (λ c κs. search needs)
     (λ c. search needs)
     (λ c. search needs)
-    (λ c. omega (arith, after-count _ _ _ _ _ (sym (c .before .before .before .before .before .m .given .1) ∙ c .before .before .before .before .before .before .before .auxiliary-count .ensures)))
+    (λ c.
+    let at-m = c .before .before .before .before .before in
+    let at-auxiliary-count = at-m .before .before in
+    omega (arith, after-count _ _ _ _ _ (sym (at-m .m .given .1) ∙ at-auxiliary-count .auxiliary-count .ensures)))
     (λ c κs. search needs)
     (λ c. type-no _ _ _ 3 _ _ (sym (c .before .r .given .1) ∙ c .before .before .before .auxiliary-count .ensures))
-    (λ c. type-none _ _ _ _ _ (sym (c .before .before .before .before .before .m .given .1) ∙ c .before .before .before .before .before .before .before .auxiliary-count .ensures) 3 _ _ (sym (c .before .r2 .given .1) ∙ c .before .before .before .nth-entry .ensures))
-    (λ c. c .read-number .ensures ∙ type-is _ _ _ _ _ (sym (c .before .before .before .before .before .before .m .given .1) ∙ c .before .before .before .before .before .before .before .before .auxiliary-count .ensures) 3 _ _ (λ i. c .before .before .before .before .before .before .before .before .before .shared-slice-known .given i .fits) (sym (c .before .before .p .given .1) ∙ c .before .before .before .before .nth-entry .ensures)))
+    (λ c.
+    let at-nth-entry = c .before .before .before in
+    let at-m = at-nth-entry .before .before in
+    let at-auxiliary-count = at-m .before .before in
+    type-none _ _ _ _ _ (sym (at-m .m .given .1) ∙ at-auxiliary-count .auxiliary-count .ensures) 3 _ _
+    (sym (c .before .r2 .given .1) ∙ at-nth-entry .nth-entry .ensures))
+    (λ c.
+    let at-p = c .before .before in
+    let at-nth-entry = at-p .before .before in
+    let at-m = at-nth-entry .before .before in
+    let at-auxiliary-count = at-m .before .before in
+    let at-shared-slice-known = at-auxiliary-count .before in
+    c .read-number .ensures ∙ type-is _ _ _ _ _ (sym (at-m .m .given .1) ∙ at-auxiliary-count .auxiliary-count .ensures) 3 _ _
+    (λ i. at-shared-slice-known .shared-slice-known .given i .fits) (sym (at-p .p .given .1) ∙ at-nth-entry .nth-entry .ensures)))

@@ -16,8 +16,14 @@ character-set-spec =
     tie.close
     (tie.spec
     (λ c κs. search needs)
-    (λ c. let a = c .before .before .before .args in omega (arith, leb-true (a .at + a .n) (length (a .s .now)) (sym (c .before .in-body .ensures) ∙ c .if1 .taken)))
-    (λ c. let a = c .before .before .before .args in omega (arith, leb-true (a .at + a .n) (length (a .s .now)) (sym (c .before .in-body .ensures) ∙ c .if1 .taken)))
+    (λ c.
+    let at-args = c .before .before .before in
+    let a = at-args .args in
+    omega (arith, leb-true (a .at + a .n) (length (a .s .now)) (sym (c .before .in-body .ensures) ∙ c .if1 .taken)))
+    (λ c.
+    let at-args = c .before .before .before in
+    let a = at-args .args in
+    omega (arith, leb-true (a .at + a .n) (length (a .s .now)) (sym (c .before .in-body .ensures) ∙ c .if1 .taken)))
     (λ c κs. search needs)
     (λ c. unfold characterSet in c .number-among .ensures ∙ ap numberOf (needed _ _ _ (sym (c .before .before .in-body .ensures) ∙ c .before .if1 .taken)))
     (λ c. unfold characterSet in ap numberOf (not-needed _ _ _ (sym (c .before .in-body .ensures) ∙ c .if1 .left))))

@@ -12,8 +12,18 @@ extension-spec =
     (λ c κs. search needs)
     (λ c. search needs)
     (λ c. search needs)
-    (λ c. identifier-there _ (λ i. c .before .before .before .before .before .shared-slice-known .given i .fits) _ _ (sym (c .before .before .a .given .1) ∙ c .before .before .before .before .identifier .ensures))
+    (λ c.
+    let at-a = c .before .before in
+    let at-identifier = at-a .before .before in
+    let at-shared-slice-known = at-identifier .before in
+    identifier-there _ (λ i. at-shared-slice-known .shared-slice-known .given i .fits) _ _
+    (sym (at-a .a .given .1) ∙ at-identifier .identifier .ensures))
     (λ c κs. search needs)
     (λ c. search needs)
     (λ c. extension-no _ _ (sym (c .before .r .given .1) ∙ c .before .before .before .identifier .ensures))
-    (λ c. extension-is _ (λ i. c .before .before .before .before .before .before .shared-slice-known .given i .fits) _ _ (sym (c .before .before .before .a .given .1) ∙ c .before .before .before .before .before .identifier .ensures) _ (c .crc16 .ensures)))
+    (λ c.
+    let at-a = c .before .before .before in
+    let at-identifier = at-a .before .before in
+    let at-shared-slice-known = at-identifier .before in
+    extension-is _ (λ i. at-shared-slice-known .shared-slice-known .given i .fits) _ _ (sym (at-a .a .given .1) ∙ at-identifier .identifier .ensures)
+    _ (c .crc16 .ensures)))

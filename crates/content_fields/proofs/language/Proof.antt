@@ -17,5 +17,16 @@ language-spec =
     (λ c. search needs)
     (λ c κs. search needs)
     (λ c. language-no _ _ (sym (c .before .r .given .1) ∙ c .before .before .before .language-count .ensures) _)
-    (λ c. language-none _ _ _ (sym (c .before .before .before .before .before .n .given .1) ∙ c .before .before .before .before .before .before .before .language-count .ensures) _ _ (sym (c .before .r2 .given .1) ∙ c .before .before .before .nth-entry .ensures))
-    (λ c. c .read-part .ensures ∙ language-is _ _ _ (sym (c .before .before .before .before .before .before .n .given .1) ∙ c .before .before .before .before .before .before .before .before .language-count .ensures) _ _ (sym (c .before .before .p .given .1) ∙ c .before .before .before .before .nth-entry .ensures)))
+    (λ c.
+    let at-nth-entry = c .before .before .before in
+    let at-n = at-nth-entry .before .before in
+    let at-language-count = at-n .before .before in
+    language-none _ _ _ (sym (at-n .n .given .1) ∙ at-language-count .language-count .ensures) _ _
+    (sym (c .before .r2 .given .1) ∙ at-nth-entry .nth-entry .ensures))
+    (λ c.
+    let at-p = c .before .before in
+    let at-nth-entry = at-p .before .before in
+    let at-n = at-nth-entry .before .before in
+    let at-language-count = at-n .before .before in
+    c .read-part .ensures ∙ language-is _ _ _ (sym (at-n .n .given .1) ∙ at-language-count .language-count .ensures) _ _
+    (sym (at-p .p .given .1) ∙ at-nth-entry .nth-entry .ensures)))

@@ -16,7 +16,10 @@ letters-spec =
     tie.close
     (tie.spec
     (λ c κs. search needs)
-    (λ c. let a = c .before .before .before .args in omega (arith, leb-true (a .at + a .n) (length (a .s .now)) (sym (c .before .in-body .ensures) ∙ c .if1 .taken)))
+    (λ c.
+    let at-args = c .before .before .before in
+    let a = at-args .args in
+    omega (arith, leb-true (a .at + a .n) (length (a .s .now)) (sym (c .before .in-body .ensures) ∙ c .if1 .taken)))
     (λ c κs. search needs)
     (λ c. unfold lettersPart in c .read-bytes .ensures ∙ ap (fieldPart _) (needed _ _ _ (sym (c .before .before .in-body .ensures) ∙ c .before .if1 .taken)))
     (λ c. unfold lettersPart in ap (fieldPart _) (not-needed _ _ _ (sym (c .before .in-body .ensures) ∙ c .if1 .left))))

@@ -13,4 +13,8 @@ number-there-spec =
     (λ c. search needs)
     (λ c. search needs)
     (λ c. nothing-stands _ _ _ _ (sym (c .before .r .given .1) ∙ c .before .before .before .read-number .ensures))
-    (λ c. number-stood _ _ _ _ _ (λ i. c .before .before .before .before .shared-slice-known .given i .fits) (sym (c .before .v .given .1) ∙ c .before .before .before .read-number .ensures)))
+    (λ c.
+    let at-read-number = c .before .before .before in
+    let at-shared-slice-known = at-read-number .before in
+    number-stood _ _ _ _ _ (λ i. at-shared-slice-known .shared-slice-known .given i .fits)
+    (sym (c .before .v .given .1) ∙ at-read-number .read-number .ensures)))

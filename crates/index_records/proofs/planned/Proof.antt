@@ -14,6 +14,16 @@ planned-spec =
     (λ c. search needs)
     (λ c. search needs)
     (λ c κs. search needs)
-    (λ c. plan-small _ _ _ (λ i. c .before .before .before .before .before .before .shared-slice-known .given i .fits) _ _ (sym (c .before .before .before .end .given .1) ∙ c .before .before .before .before .before .read .ensures) (c .before .number-there .ensures .0) (omega arith))
+    (λ c.
+    let at-end = c .before .before .before in
+    let at-read = at-end .before .before in
+    let at-shared-slice-known = at-read .before in
+    plan-small _ _ _ (λ i. at-shared-slice-known .shared-slice-known .given i .fits) _ _ (sym (at-end .end .given .1) ∙ at-read .read .ensures)
+    (c .before .number-there .ensures .0) (omega arith))
     (λ c. plan-no _ _ _ _ (sym (c .before .r .given .1) ∙ c .before .before .before .read .ensures))
-    (λ c. plan-all _ _ _ (λ i. c .before .before .before .before .before .before .shared-slice-known .given i .fits) _ _ (sym (c .before .before .before .end .given .1) ∙ c .before .before .before .before .before .read .ensures) (c .before .number-there .ensures .0) (omega arith)))
+    (λ c.
+    let at-end = c .before .before .before in
+    let at-read = at-end .before .before in
+    let at-shared-slice-known = at-read .before in
+    plan-all _ _ _ (λ i. at-shared-slice-known .shared-slice-known .given i .fits) _ _ (sym (at-end .end .given .1) ∙ at-read .read .ensures)
+    (c .before .number-there .ensures .0) (omega arith)))

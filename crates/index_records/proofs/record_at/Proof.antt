@@ -19,4 +19,9 @@ record-at-spec =
     (λ c. search needs)
     (λ c. search needs)
     (λ c. search needs)
-    (λ c. by-places _ _ _ _ _ _ _ (c .before .before .before .before .clamped .ensures .0) (c .before .before .before .number-there .ensures .0) (c .before .before .number-there2 .ensures .0) (c .before .number-there3 .ensures .0) (c .number-there4 .ensures .0)))
+    (λ c.
+    let at-number-there2 = c .before .before in
+    let at-number-there = at-number-there2 .before in
+    let at-clamped = at-number-there .before in
+    by-places _ _ _ _ _ _ _ (at-clamped .clamped .ensures .0) (at-number-there .number-there .ensures .0)
+    (at-number-there2 .number-there2 .ensures .0) (c .before .number-there3 .ensures .0) (c .number-there4 .ensures .0)))

@@ -24,6 +24,11 @@ walk-all-auxiliaries-spec =
     (λ c κs. search needs)
     (λ c. search needs)
     (λ c. search needs)
-    (λ c. times-turn (auxiliary _) (c .before .before .before .before .before .loop .left) (auxiliary-lawful _) (c .before .before .before .before .loop-test .taken) (c .before .before .before .before .before .loop .inv) (c .before .before .walk-auxiliary .ensures) (search needs))
+    (λ c.
+    let at-walk-auxiliary = c .before .before in
+    let at-loop-test = at-walk-auxiliary .before .before in
+    let at-loop = at-loop-test .before in
+    times-turn (auxiliary _) (at-loop .loop .left) (auxiliary-lawful _) (at-loop-test .loop-test .taken) (at-loop .loop .inv)
+    (at-walk-auxiliary .walk-auxiliary .ensures) (search needs))
     (λ c. c .before .loop .inv .same)
     (λ c. times-done (auxiliary _) (c .before .loop .left) (omega arith) (c .before .loop .inv)))

@@ -24,6 +24,11 @@ walk-all-languages-spec =
     (λ c κs. search needs)
     (λ c. search needs)
     (λ c. search needs)
-    (λ c. times-turn (language _) (c .before .before .before .before .before .loop .left) (language-lawful _) (c .before .before .before .before .loop-test .taken) (c .before .before .before .before .before .loop .inv) (c .before .before .walk-language .ensures) (search needs))
+    (λ c.
+    let at-walk-language = c .before .before in
+    let at-loop-test = at-walk-language .before .before in
+    let at-loop = at-loop-test .before in
+    times-turn (language _) (at-loop .loop .left) (language-lawful _) (at-loop-test .loop-test .taken) (at-loop .loop .inv)
+    (at-walk-language .walk-language .ensures) (search needs))
     (λ c. c .before .loop .inv .same)
     (λ c. times-done (language _) (c .before .loop .left) (omega arith) (c .before .loop .inv)))

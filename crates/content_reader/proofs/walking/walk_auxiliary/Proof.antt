@@ -15,4 +15,8 @@ walk-auxiliary-spec =
     (λ c κs. search needs)
     (λ c κs. search needs)
     (λ c. search needs)
-    (λ c. view-walk _ _ (λ a. refl) (pair (number-lawful 1) (opaque-lawful _ .formal) (c .before .before .before .before .before .before .walk-number .ensures) (c .before .before .walk-part .ensures))))
+    (λ c.
+    let at-walk-part = c .before .before in
+    let at-walk-number = at-walk-part .before .before .before .before in
+    view-walk _ _ (λ a. refl) (pair (number-lawful 1) (opaque-lawful _ .formal) (at-walk-number .walk-number .ensures)
+    (at-walk-part .walk-part .ensures))))

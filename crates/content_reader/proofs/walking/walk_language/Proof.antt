@@ -19,5 +19,8 @@ walk-language-spec =
     (λ c κs. search needs)
     (λ c κs. search needs)
     (λ c. search needs)
-    (λ c. counted-walk (length-counts 4 _) (exact-filling PastPart _ (view-lawful _ _ _ (λ a. refl) (λ b. refl) (language-fields-lawful _))) (c .before .before .before .before .before .enter .ensures)
+    (λ c.
+    let at-enter = c .before .before .before .before .before in
+    counted-walk (length-counts 4 _) (exact-filling PastPart _ (view-lawful _ _ _ (λ a. refl) (λ b. refl) (language-fields-lawful _)))
+    (at-enter .enter .ensures)
     (exact-walk PastPart (view-walk _ _ (λ a. refl) (c .before .before .before .walk-language-fields .ensures)) (c .leave .ensures))))

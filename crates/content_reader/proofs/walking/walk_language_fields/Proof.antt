@@ -39,7 +39,12 @@ walk-language-fields-spec =
     (λ c κs. search needs)
     (λ c. search needs)
     (λ c.
-    pair (bytes-among-lawful 0x61 0x7A 3) (from-set _ .formal) (c .before .before .before .before .before .before .before .before .before .before .before .before .before .before .before .before .before .before .walk-bytes .ensures)
-    (pair set-lawful (from-text _ .formal) (c .before .before .before .before .before .before .before .before .before .before .before .before .before .before .walk-reserved-among .ensures .past)
-    (pair (opaque-lawful 2) (from-agency _ .formal) (c .before .before .before .before .before .before .before .before .before .before .walk-part .ensures)
-    (pair (opaque-lawful 1) (auxiliaries-lawful _ .formal) (c .before .before .before .before .before .before .walk-part2 .ensures) (c .before .before .walk-auxiliaries .ensures))))))
+    let files : tie.After-walk-auxiliaries = c .before .before in
+    let agency : tie.After-walk-part2 = files .before .before .before .before in
+    let text : tie.After-walk-part = agency .before .before .before .before in
+    let set : tie.After-walk-reserved-among = text .before .before .before .before in
+    let letters : tie.After-walk-bytes = set .before .before .before .before in
+    pair (bytes-among-lawful 0x61 0x7A 3) (from-set _ .formal) (letters .walk-bytes .ensures)
+    (pair set-lawful (from-text _ .formal) (set .walk-reserved-among .ensures .past)
+    (pair (opaque-lawful 2) (from-agency _ .formal) (text .walk-part .ensures)
+    (pair (opaque-lawful 1) (auxiliaries-lawful _ .formal) (agency .walk-part2 .ensures) (files .walk-auxiliaries .ensures))))))

@@ -1,4 +1,4 @@
--- `channels::walk_all_streams` meets its contract: a refused walk stays refused, and any other is walked on.
+-- `index_reader::channels::walk_all_streams` meets its contract: a refused walk stays refused, and any other is walked on.
 use borrow.Author.Needs.{needs}
 use Rattle.body_walk.proofs.Pairs.{from, stays}
 use Rattle.index_reader.proofs.channels.walk_all_streams.Statement.{statement}

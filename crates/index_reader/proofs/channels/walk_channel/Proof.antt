@@ -1,4 +1,4 @@
--- `channels::walk_channel` meets its contract: its fields one after the other, under their names.
+-- `index_reader::channels::walk_channel` meets its contract: its fields one after the other, under their names.
 use mathlib.Core.Path.{refl}
 use native.Mathlib.Omega.{arith}
 use borrow.Author.Needs.{needs}
@@ -25,6 +25,22 @@ from-program = followed-lawful _ _ (number-lawful 2) (λ a. from-pid)
 from-stream : Lawful (number 2 ▷ (number 2 ▷ (reserved 3 1 ▷ (descriptors ▷ streams))))
 from-stream = followed-lawful _ _ (number-lawful 2) (λ a. from-program)
 
+-- from each call back to the one before
+abbrev descriptors-of : tie.After-walk-streams → tie.After-walk-descriptors
+descriptors-of c = c .before .before .before .before
+
+abbrev pid-of : tie.After-walk-streams → tie.After-walk-reserved
+pid-of c = descriptors-of c .before .before .before .before
+
+abbrev program-of : tie.After-walk-streams → tie.After-walk-number3
+program-of c = pid-of c .before .before .before .before
+
+abbrev stream-of : tie.After-walk-streams → tie.After-walk-number2
+stream-of c = program-of c .before .before .before .before
+
+abbrev network-of : tie.After-walk-streams → tie.After-walk-number
+network-of c = stream-of c .before .before .before .before
+
 pub walk-channel-spec : {M : Type 1} → statement M
 unfolding channel channelFields
 walk-channel-spec =
@@ -37,10 +53,12 @@ walk-channel-spec =
     (λ c κs. search needs)
     (λ c κs. search needs)
     -- the first call lies too far back for the search to reach by itself
-    (λ c. search (needs, c .before .before .before .before .before .before .before .before .before .before .before .before .before .before .before .before .before .before .before .before .before .before .walk-number .kept .1 .1 .1 .1 .0))
-    (λ c. view-walk _ _ (λ a. refl)
-    (pair (number-lawful 2) (from-stream .formal) (c .before .before .before .before .before .before .before .before .before .before .before .before .before .before .before .before .before .before .before .before .before .before .walk-number .ensures)
-    (pair (number-lawful 2) (from-program .formal) (c .before .before .before .before .before .before .before .before .before .before .before .before .before .before .before .before .before .before .walk-number2 .ensures)
-    (pair (number-lawful 2) (from-pid .formal) (c .before .before .before .before .before .before .before .before .before .before .before .before .before .before .walk-number3 .ensures)
-    (pair (reserved-lawful 3 1 (omega arith)) (from-descriptors .formal) (c .before .before .before .before .before .before .before .before .before .before .walk-reserved .ensures .past)
-    (pair descriptors-lawful (streams-lawful .formal) (c .before .before .before .before .before .before .walk-descriptors .ensures) (c .before .before .walk-streams .ensures))))))))
+    (λ c. search (needs, network-of (c .before .before) .walk-number .kept .1 .1 .1 .1 .0))
+    (λ c.
+    let streams = c .before .before in
+    view-walk _ _ (λ a. refl)
+    (pair (number-lawful 2) (from-stream .formal) (network-of streams .walk-number .ensures)
+    (pair (number-lawful 2) (from-program .formal) (stream-of streams .walk-number2 .ensures)
+    (pair (number-lawful 2) (from-pid .formal) (program-of streams .walk-number3 .ensures)
+    (pair (reserved-lawful 3 1 (omega arith)) (from-descriptors .formal) (pid-of streams .walk-reserved .ensures .past)
+    (pair descriptors-lawful (streams-lawful .formal) (descriptors-of streams .walk-descriptors .ensures) (streams .walk-streams .ensures))))))))

@@ -1,4 +1,4 @@
--- `channels::walk_descriptor` meets its contract: a tag and then a part, under their names.
+-- `index_reader::channels::walk_descriptor` meets its contract: a tag and then a part, under their names.
 use borrow.Author.Needs.{needs}
 use mathlib.Core.Path.{refl}
 use Rattle.body_formats.proofs.Parts.{number-lawful, opaque-lawful}
@@ -15,4 +15,8 @@ walk-descriptor-spec =
     (λ c κs. search needs)
     (λ c κs. search needs)
     (λ c. search needs)
-    (λ c. view-walk _ _ (λ a. refl) (pair (number-lawful 1) (opaque-lawful 1 .formal) (c .before .before .before .before .before .before .walk-number .ensures) (c .before .before .walk-part .ensures))))
+    (λ c.
+    let at-walk-part = c .before .before in
+    let at-walk-number = at-walk-part .before .before .before .before in
+    view-walk _ _ (λ a. refl) (pair (number-lawful 1) (opaque-lawful 1 .formal) (at-walk-number .walk-number .ensures)
+    (at-walk-part .walk-part .ensures))))

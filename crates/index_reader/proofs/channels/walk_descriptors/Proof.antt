@@ -1,4 +1,4 @@
--- `channels::walk_descriptors` meets its contract: into the part that the length counts, which they fill.
+-- `index_reader::channels::walk_descriptors` meets its contract: into the part that the length counts, which they fill.
 use borrow.Author.Needs.{needs}
 use Rattle.body_formats.specs.Format.{length12}
 use Rattle.body_formats.proofs.Parts.{length12-counts}
@@ -16,4 +16,7 @@ walk-descriptors-spec =
     (λ c κs. search needs)
     (λ c κs. entered-inside length12 _ _ _ (c .before .enter12 .ensures))
     (λ c. search needs)
-    (λ c. counted-walk (length12-counts _) all-descriptors-filling (c .before .before .before .before .enter12 .ensures) (c .before .before .walk-all-descriptors .ensures)))
+    (λ c.
+    let at-walk-all-descriptors = c .before .before in
+    let at-enter12 = at-walk-all-descriptors .before .before in
+    counted-walk (length12-counts _) all-descriptors-filling (at-enter12 .enter12 .ensures) (at-walk-all-descriptors .walk-all-descriptors .ensures)))

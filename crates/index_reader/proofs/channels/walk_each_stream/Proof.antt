@@ -1,4 +1,5 @@
--- `channels::walk_each_stream` meets its contract: each turn walks one stream nearer to the end of the part, and the count is laid last, before their entries.
+-- `index_reader::channels::walk_each_stream` meets its contract: each turn walks one stream nearer to the end of the part, and the count
+-- is laid last, before their entries.
 use Prim.Native.Nat.{_-_}
 use native.Mathlib.Omega.{arith}
 use borrow.Author.Needs.{needs}
@@ -25,11 +26,37 @@ walk-each-stream-spec =
     (λ c κs. search needs)
     (λ c. search needs)
     (λ c. search needs)
-    (λ c. many-stop stream-lawful stream-takes (λ i. c .before .before .before .before .before .before .before .before .before .before .before .shared-slice-known .given i .fits) (c .before .before .before .before .before .before .before .before .before .before .before .before .pre) (c .before .before .before .before .before .before .before .loop-test .taken) (c .before .before .before .before .before .walk-stream .ensures) (c .before .before .before .before .before .before .before .before .loop .inv) (c .before .r .given .1))
+    (λ c.
+    let at-walk-stream = c .before .before .before .before .before in
+    let at-loop-test = at-walk-stream .before .before in
+    let at-loop = at-loop-test .before in
+    let at-shared-slice-known = at-loop .before .before .before in
+    let at-pre = at-shared-slice-known .before in
+    many-stop stream-lawful stream-takes (λ i. at-shared-slice-known .shared-slice-known .given i .fits) (at-pre .pre)
+    (at-loop-test .loop-test .taken) (at-walk-stream .walk-stream .ensures) (at-loop .loop .inv) (c .before .r .given .1))
     (λ c. search needs)
-    (λ c. omega (arith, c .before .before .before .before .before .before .before .before .loop .inv .small))
-    (λ c. let near = many-nearer stream-lawful stream-takes (λ i. c .before .before .before .before .before .before .before .before .before .before .before .shared-slice-known .given i .fits) (c .before .before .before .before .before .before .before .before .before .before .before .before .pre) (c .before .before .before .before .before .before .before .loop-test .taken) (c .before .before .before .before .before .walk-stream .ensures) (c .before .q .given .1) in omega (arith, near .0, near .1))
-    (λ c. many-turn stream-lawful stream-takes (λ i. c .before .before .before .before .before .before .before .before .before .before .before .shared-slice-known .given i .fits) (c .before .before .before .before .before .before .before .before .before .before .before .before .pre) (c .before .before .before .before .before .before .before .loop-test .taken) (c .before .before .before .before .before .walk-stream .ensures) (c .before .before .before .before .before .before .before .before .loop .inv) (c .before .q .given .1) (search needs))
+    (λ c.
+    let at-loop = c .before .before .before .before .before .before .before .before in
+    omega (arith, at-loop .loop .inv .small))
+    (λ c.
+    let at-walk-stream = c .before .before .before .before .before in
+    let at-loop-test = at-walk-stream .before .before in
+    let at-shared-slice-known = at-loop-test .before .before .before .before in
+    let at-pre = at-shared-slice-known .before in
+    let near = many-nearer stream-lawful stream-takes (λ i. at-shared-slice-known .shared-slice-known .given i .fits) (at-pre .pre)
+    (at-loop-test .loop-test .taken) (at-walk-stream .walk-stream .ensures) (c .before .q .given .1) in
+    omega (arith, near .0, near .1))
+    (λ c.
+    let at-walk-stream = c .before .before .before .before .before in
+    let at-loop-test = at-walk-stream .before .before in
+    let at-loop = at-loop-test .before in
+    let at-shared-slice-known = at-loop .before .before .before in
+    let at-pre = at-shared-slice-known .before in
+    many-turn stream-lawful stream-takes (λ i. at-shared-slice-known .shared-slice-known .given i .fits) (at-pre .pre)
+    (at-loop-test .loop-test .taken) (at-walk-stream .walk-stream .ensures) (at-loop .loop .inv) (c .before .q .given .1) (search needs))
     (λ c κs. search needs)
     (λ c. omega (arith, c .before .before .before .before .before .loop .inv .ahead .same))
-    (λ c. many-done (omega arith) (c .before .before .before .before .before .loop .inv) (c .before .before .lay-entry .ensures .dry) (c .before .before .lay-entry .ensures .there)))
+    (λ c.
+    let at-lay-entry = c .before .before in
+    let at-loop = at-lay-entry .before .before .before in
+    many-done (omega arith) (at-loop .loop .inv) (at-lay-entry .lay-entry .ensures .dry) (at-lay-entry .lay-entry .ensures .there)))

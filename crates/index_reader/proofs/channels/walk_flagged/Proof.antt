@@ -1,4 +1,4 @@
--- `channels::walk_flagged` meets its contract: the flag, and the channel where it is not 0.
+-- `index_reader::channels::walk_flagged` meets its contract: the flag, and the channel where it is not 0.
 use native.Mathlib.Omega.{arith}
 use borrow.Author.Needs.{needs}
 use Rattle.body_formats.proofs.Leaves.{reserved-lawful}
@@ -18,4 +18,8 @@ walk-flagged-spec =
     (λ c. flag-off (reserved-lawful 7 0 (omega arith)) (channel-lawful .formal) (c .before .before .before .before .walk-reserved .ensures) (c .if1 .taken))
     (λ c κs. search needs)
     (λ c. search needs)
-    (λ c. flag-on (reserved-lawful 7 0 (omega arith)) (channel-lawful .formal) (c .before .before .before .before .before .before .before .before .walk-reserved .ensures) (omega arith) (c .before .before .walk-channel .ensures)))
+    (λ c.
+    let at-walk-channel = c .before .before in
+    let at-walk-reserved = at-walk-channel .before .before .before .before .before .before in
+    flag-on (reserved-lawful 7 0 (omega arith)) (channel-lawful .formal) (at-walk-reserved .walk-reserved .ensures) (omega arith)
+    (at-walk-channel .walk-channel .ensures)))

@@ -1,4 +1,4 @@
--- `channels::walk_stream` meets its contract: its fields one after the other, under their names.
+-- `index_reader::channels::walk_stream` meets its contract: its fields one after the other, under their names.
 use mathlib.Core.Path.{refl}
 use native.Mathlib.Omega.{arith}
 use borrow.Author.Needs.{needs}
@@ -25,6 +25,11 @@ walk-stream-spec =
     (λ c κs. search needs)
     (λ c κs. search needs)
     (λ c. search needs)
-    (λ c. view-walk _ _ (λ a. refl)
-    (pair (number-lawful 1) (from-pid .formal) (c .before .before .before .before .before .before .before .before .before .before .walk-number .ensures)
-    (pair (reserved-lawful 3 1 (omega arith)) (descriptors-lawful .formal) (c .before .before .before .before .before .before .walk-reserved .ensures .past) (c .before .before .walk-descriptors .ensures)))))
+    (λ c.
+    let descriptors : tie.After-walk-descriptors = c .before .before in
+    let pid : tie.After-walk-reserved = descriptors .before .before .before .before in
+    let type : tie.After-walk-number = pid .before .before .before .before in
+    view-walk _ _ (λ a. refl)
+    (pair (number-lawful 1) (from-pid .formal) (type .walk-number .ensures)
+    (pair (reserved-lawful 3 1 (omega arith)) (descriptors-lawful .formal) (pid .walk-reserved .ensures .past)
+    (descriptors .walk-descriptors .ensures)))))

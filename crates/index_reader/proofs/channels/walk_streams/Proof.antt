@@ -1,4 +1,4 @@
--- `channels::walk_streams` meets its contract: into the part that the length counts, which they fill.
+-- `index_reader::channels::walk_streams` meets its contract: into the part that the length counts, which they fill.
 use borrow.Author.Needs.{needs}
 use Rattle.body_formats.specs.Format.{lengthOf}
 use Rattle.body_formats.proofs.Parts.{length-counts}
@@ -16,4 +16,7 @@ walk-streams-spec =
     (λ c κs. search needs)
     (λ c κs. entered-inside (lengthOf 2) _ _ _ (c .before .enter .ensures))
     (λ c. search needs)
-    (λ c. counted-walk (length-counts 2 _) all-streams-filling (c .before .before .before .before .enter .ensures) (c .before .before .walk-all-streams .ensures)))
+    (λ c.
+    let at-walk-all-streams = c .before .before in
+    let at-enter = at-walk-all-streams .before .before in
+    counted-walk (length-counts 2 _) all-streams-filling (at-enter .enter .ensures) (at-walk-all-streams .walk-all-streams .ensures)))

@@ -24,6 +24,11 @@ walk-all-messages-spec =
     (λ c κs. search needs)
     (λ c. search needs)
     (λ c. search needs)
-    (λ c. times-turn message (c .before .before .before .before .before .loop .left) message-lawful (c .before .before .before .before .loop-test .taken) (c .before .before .before .before .before .loop .inv) (c .before .before .walk-message .ensures) (search needs))
+    (λ c.
+    let at-walk-message = c .before .before in
+    let at-loop-test = at-walk-message .before .before in
+    let at-loop = at-loop-test .before in
+    times-turn message (at-loop .loop .left) message-lawful (at-loop-test .loop-test .taken) (at-loop .loop .inv)
+    (at-walk-message .walk-message .ensures) (search needs))
     (λ c. c .before .loop .inv .same)
     (λ c. times-done message (c .before .loop .left) (omega arith) (c .before .loop .inv)))

@@ -23,9 +23,13 @@ walk-index-spec =
     (λ c κs. search needs)
     (λ c κs. search needs)
     (λ c. search needs)
-    (λ c. exact-walk LeftOver
+    (λ c.
+    let signature : tie.After-walk-part = c .before .before .before in
+    let messages : tie.After-walk-all-messages = signature .before .before .before .before in
+    let many : tie.After-walk-count = messages .before .before .before .before in
+    exact-walk LeftOver
     (view-walk _ _ (λ a. refl)
     (pair (list-lawful message message-lawful (count 1) (count-lawful 1)) (opaque-lawful 2 .formal)
-    (list-walk (count-lawful 1) message-lawful (c .before .before .before .before .before .before .before .before .before .before .before .walk-count .ensures) (c .before .before .before .before .before .before .before .walk-all-messages .ensures))
-    (c .before .before .before .walk-part .ensures)))
+    (list-walk (count-lawful 1) message-lawful (many .walk-count .ensures) (messages .walk-all-messages .ensures))
+    (signature .walk-part .ensures)))
     (c .finish .ensures)))

@@ -22,9 +22,14 @@ walk-message-spec =
     (λ c κs. search needs)
     (λ c κs. search needs)
     (λ c. search needs)
-    (λ c. counted-walk (length-counts 2 _) inner-filling (c .before .before .before .before .before .before .before .before .before .before .before .before .before .enter .ensures)
+    (λ c.
+    let flagged : tie.After-walk-flagged = c .before .before .before in
+    let resources : tie.After-walk-resources = flagged .before .before .before .before in
+    let head : tie.After-walk-head = resources .before .before .before .before in
+    let part : tie.After-enter = head .before .before in
+    counted-walk (length-counts 2 _) inner-filling (part .enter .ensures)
     (exact-walk PastPart
     (view-walk named unnamed (λ a. refl)
-    (pair head-lawful (followed-lawful _ _ resources-lawful (λ a. flagged-lawful) .formal) (c .before .before .before .before .before .before .before .before .before .before .before .walk-head .ensures)
-    (pair resources-lawful (flagged-lawful .formal) (c .before .before .before .before .before .before .before .walk-resources .ensures) (c .before .before .before .walk-flagged .ensures))))
+    (pair head-lawful (followed-lawful _ _ resources-lawful (λ a. flagged-lawful) .formal) (head .walk-head .ensures)
+    (pair resources-lawful (flagged-lawful .formal) (resources .walk-resources .ensures) (flagged .walk-flagged .ensures))))
     (c .leave .ensures))))
