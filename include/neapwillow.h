@@ -448,6 +448,13 @@ nw_part nw_certificate_signature(const uint8_t *body, size_t n);
 nw_answer nw_certificate_write(const uint8_t *pool, size_t pool_bytes, const uint64_t *tape,
                                size_t entries, uint8_t *out, size_t room);
 
+/* Judges and measures a form, as nw_certificate_write does before it writes, and writes nothing. Value:
+ * the length of its body, the room that nw_certificate_write needs. Refusals: those of
+ * nw_certificate_write but 21, each but 22 with a place: the entry of the tape, from 0, where the field
+ * that is wrong begins, bytes at the entry of their start; the first of entries left over. */
+nw_answer nw_certificate_measure(const uint8_t *pool, size_t pool_bytes, const uint64_t *tape,
+                                 size_t entries);
+
 /* Lays an accepted body onto a tape: the form from which, with the body itself as the pool,
  * nw_certificate_write writes it again. Value: the entries laid, two for each part and one for each
  * count; entries after them stay. Refusals, with nothing laid: those of nw_certificate_read, then 21,
@@ -619,6 +626,12 @@ nw_answer nw_stream_count(const uint8_t *body, size_t n, size_t at, size_t lengt
 nw_answer nw_index_write(const uint8_t *pool, size_t pool_bytes, const uint64_t *tape, size_t entries,
                          uint8_t *out, size_t room);
 
+/* Judges and measures a form, as nw_index_write does before it writes, and writes nothing. Value: the
+ * length of its body, the room that nw_index_write needs. Refusals: those of nw_index_write but 21, each
+ * but 22 with a place: the entry of the tape, from 0, where the field that is wrong begins, bytes at the
+ * entry of their start; the first of entries left over. */
+nw_answer nw_index_measure(const uint8_t *pool, size_t pool_bytes, const uint64_t *tape, size_t entries);
+
 /* Lays an accepted body onto a tape: the form from which, with the body itself as the pool,
  * nw_index_write writes it again. Value: the entries laid; entries after them stay. Refusals, with
  * nothing laid: those of nw_index_read, then 21, the tape is too short: NW_INDEX_ENTRIES(n) are enough.
@@ -717,6 +730,13 @@ nw_part nw_language_auxiliary(const uint8_t *body, size_t n, size_t at, size_t l
  * tape. */
 nw_written nw_content_write(const uint8_t *pool, size_t pool_bytes, const uint64_t *tape,
                             size_t entries, uint8_t *out, size_t room);
+
+/* Judges and measures a form, as nw_content_write does before it writes, and writes nothing. Value: the
+ * length of its body alone, the room that nw_content_write needs. Refusals: those of nw_content_write
+ * but 21, each but 22 with a place: the entry of the tape, from 0, where the field that is wrong begins,
+ * bytes at the entry of their start; the first of entries left over. */
+nw_answer nw_content_measure(const uint8_t *pool, size_t pool_bytes, const uint64_t *tape,
+                             size_t entries);
 
 /* Lays an accepted body, whatever its extension, onto a tape: the form from which, with the body
  * itself as the pool, nw_content_write writes it again. Value: the entries laid; entries after them
@@ -849,6 +869,14 @@ nw_answer nw_command_terminal_digit(const uint8_t *body, size_t n, size_t at, ui
  * tells the room. Out must overlap neither pool nor tape. */
 nw_answer nw_configuration_write(const uint8_t *pool, size_t pool_bytes, const uint64_t *tape,
                                  size_t entries, uint8_t *out, size_t room);
+
+/* Judges and measures a form, as nw_configuration_write does before it writes, and writes nothing.
+ * Value: the length of its body, the room that nw_configuration_write needs. Refusals: those of
+ * nw_configuration_write but 21, each but 22 with a place: the entry of the tape, from 0, where the field
+ * that is wrong begins, bytes at the entry of their start, a day at its year, a time at its hour; the
+ * first of entries left over. */
+nw_answer nw_configuration_measure(const uint8_t *pool, size_t pool_bytes, const uint64_t *tape,
+                                   size_t entries);
 
 /* Lays an accepted body onto a tape: the form from which, with the body itself as the pool,
  * nw_configuration_write writes it again. Value: the entries laid; entries after them stay. Refusals,

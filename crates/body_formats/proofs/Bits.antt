@@ -2,7 +2,7 @@
 use Prim.Native.Nat.{ℕ, zero, suc, _+_, _-_, _*_, _/_, _%_, _^_, _≤_, _<_}
 use mathlib.Core.Path.{_≡_, refl, sym, ap, _∙_}
 use mathlib.Core.List.{List, [], _∷_}
-use mathlib.Core.Bool.{Bool, true, false, _&&_}
+use mathlib.Core.Bool.{Bool, true, false, _&&_, false≢true}
 use native.Mathlib.Omega.{arith}
 use native.Mathlib.Numerals.{add-one}
 use native.Mathlib.Nat.{add-zero, zero-add, one-mul, pow-suc, div-add-mod'}
@@ -15,14 +15,14 @@ use Rattle.ground_choices.proofs.Tests.{both, and-of}
 use Rattle.ground_choices.specs.Choice.{if_then_else_}
 use Rattle.ground_refusal.specs.declared.Refusal.{Refusal}
 use Rattle.ground_refusal.specs.declared.Refusal.the-variants.{PastBody, PastPart, OutsideSet, ReservedBitZero}
-use Rattle.body_formats.specs.Reading.{Reading, found, refused, andThen, need, unless, judged, within}
-use Rattle.body_formats.specs.Format.{Format, tapeEntry, numberAt, count, only, among, number, nibbles, nibblesAmong, below, reserved, bytes, every, bytesAmong, rest, length12, counted}
+use Rattle.body_formats.specs.Reading.{Reading, found, refused, andThen, need, unless, isFine, judged, within}
+use Rattle.body_formats.specs.Format.{Format, tapeEntry, numberAt, count, only, among, number, nibbles, bothAmong, nibbleAmong, nibblesAmong, below, reserved, bytes, every, bytesAmong, rest, length12, counted}
 use Rattle.body_formats.specs.Answers.{numberOf, partOf, numberAmong, numberRead}
 use Rattle.body_formats.specs.declared.Number.the-variants.{Is, Refused as NoNumber}
 use Rattle.body_formats.specs.declared.Part.the-variants.{Refused as NoPart}
-use Rattle.body_formats.proofs.Stand.{stands-get, stands-next, stands-byte}
+use Rattle.body_formats.proofs.Stand.{Stands, stands-get, stands-next, stands-byte}
 use Rattle.body_formats.proofs.Outcomes.{found-inj, not-found, andThen-found, need-found, within-found, within-there}
-use Rattle.body_formats.proofs.Classes.{Bytes, Lawful, moved}
+use Rattle.body_formats.proofs.Classes.{Bytes, Formal, Lawful, moved}
 use Rattle.body_formats.proofs.Leaves.{entry-laid, number-below, reserved-found, bytes-lawful}
 use Rattle.body_formats.proofs.Parts.{outside-lawful}
 use Rattle.body_formats.proofs.Readers.{number-found, number-refused, length-no, length-is}
@@ -108,7 +108,8 @@ module _ (s : List ℕ) (l p : ℕ) where
   part12-no r e = length-no length12 s l p r e
 
   pub part12-is : (n q : ℕ) → Is n q ≡ numberOf (reserved 4 1 .parse s l p)
-      → partOf (within s l p (q + n % 1024) (judged (unless (ltb n 1024) (ReservedBitZero p)) (rest .parse s (q + n % 1024) q))) ≡ partOf (counted length12 rest .parse s l p)
+      → partOf (within s l p (q + n % 1024) (judged (unless (ltb n 1024) (ReservedBitZero p)) (rest .parse s (q + n % 1024) q)))
+      ≡ partOf (counted length12 rest .parse s l p)
   unfolding length12
   part12-is n q e = length-is length12 s l p n (n % 1024) q e refl
 
@@ -177,9 +178,9 @@ nibbles-lawful =
       formal = record {
         sound = λ pool tape k x j e.
             let a = andThen-found (tapeEntry tape k) _ x j e in
-            let f = need-found (ltb (a .0) 16) (OutsideSet 0) _ x j (a .3) in
+            let f = need-found (ltb (a .0) 16) (OutsideSet k) _ x j (a .3) in
             let c = andThen-found (tapeEntry tape (a .1)) _ x j (f .1) in
-            let g = need-found (ltb (c .0) 16) (OutsideSet 0) _ x j (c .3) in
+            let g = need-found (ltb (c .0) 16) (OutsideSet (a .1)) _ x j (c .3) in
             rw (← found-inj (g .1) .0) (and-of (f .0) (g .0));
         laid = λ pool p tape k x r t h u m.
             let c = both (ltb (x .0) 16) (ltb (x .1) 16) r in
@@ -193,8 +194,61 @@ nibbles-lawful =
 
 -- ---- a stated set keeps the laws
 
-pub nibbles-among-lawful : (lo hi : ℕ) → Lawful (nibblesAmong lo hi)
-nibbles-among-lawful lo hi = outside-lawful (λ x. (leb lo (x .0) && leb (x .0) hi) && (leb lo (x .1) && leb (x .1) hi)) nibbles nibbles-lawful
+module _ (lo hi : ℕ) where
+  both-among : Lawful (bothAmong lo hi)
+  both-among = outside-lawful (λ x. (leb lo (x .0) && leb (x .0) hi) && (leb lo (x .1) && leb (x .1) hi)) nibbles nibbles-lawful
+
+  -- one on a tape
+  nibble-found : (tape : List ℕ) (k x j : ℕ) → nibbleAmong lo hi tape k ≡ found x j → (ltb x 16 ≡ true) × ((leb lo x && leb x hi) ≡ true)
+  nibble-found tape k x j e =
+      let a = andThen-found (tapeEntry tape k) _ x j e in
+      let f = need-found (ltb (a .0) 16 && (leb lo (a .0) && leb (a .0) hi)) (OutsideSet k) _ x j (a .3) in
+      rw (← found-inj (f .1) .0) (both _ _ (f .0))
+
+  nibble-laid : (tape : List ℕ) (k x : ℕ) (xs : List ℕ) → Stands tape k (x ∷ xs) → k + 1 ≤ length tape → ltb x 16 ≡ true → (leb lo x && leb x hi) ≡ true
+      → nibbleAmong lo hi tape k ≡ found x (k + 1)
+  nibble-laid tape k x xs t h small inside = rw (entry-laid tape k x xs t h, small, inside)
+
+  nibbles-formal : Formal (nibblesAmong lo hi)
+  unfolding only nibbles
+  nibbles-formal =
+      record {
+        sound = λ pool tape k x j e.
+            let a = andThen-found (nibbleAmong lo hi tape k) _ x j e in
+            let c = andThen-found (nibbleAmong lo hi tape (a .1)) _ x j (a .3) in
+            let f = nibble-found tape k (a .0) (a .1) (a .2) in
+            let g = nibble-found tape (a .1) (c .0) (c .1) (c .2) in
+            rw (← found-inj (c .3) .0, f .0, g .0, f .1, g .1);
+        laid = λ pool p tape k x r t h u m.
+            let w = both (ltb (x .0) 16 && ltb (x .1) 16) _ r in
+            let small = both (ltb (x .0) 16) (ltb (x .1) 16) (w .0) in
+            let inside = both (leb lo (x .0) && leb (x .0) hi) (leb lo (x .1) && leb (x .1) hi) (fine-test _ (w .1)) in
+            let one = nibble-laid tape k (x .0) (x .1 ∷ []) u (omega (arith, m)) (small .0) (inside .0) in
+            let next = stands-next tape k (x .0) (x .1 ∷ []) u in
+            let two = nibble-laid tape (k + 1) (x .1) [] next (omega (arith, m)) (small .1) (inside .1) in
+            let j : k + 1 + 1 ≡ k + 2 = omega arith in
+            rw (one, two, j);
+        steady = λ x p. refl;
+      }
+    where
+      fine-test : (b : Bool) → isFine (unless b (OutsideSet 0)) ≡ true → b ≡ true
+      fine-test true e = refl
+      fine-test false e = absurd (false≢true e)
+
+  pub nibbles-among-lawful : Lawful (nibblesAmong lo hi)
+  nibbles-among-lawful =
+      record {
+        back = λ s l p x o t h k. both-among .back s l p x (record { writable = o .writable; small = o .small }) t h k;
+        forth = λ s l p x q b k h e.
+            let v = both-among .forth s l p x q b k h e in
+            record {
+              ok = record { writable = v .ok .writable; small = v .ok .small };
+              stands = v .stands;
+              next = v .next;
+              inside = v .inside;
+            };
+        formal = nibbles-formal;
+      }
 
 pub among-lawful : (lo hi : ℕ) (F : Format ℕ) → Lawful F → Lawful (among lo hi F)
 among-lawful lo hi F f = outside-lawful (λ x. leb lo x && leb x hi) F f

@@ -29,10 +29,9 @@ pub span-laid : (pool tape : List ℕ) (k p : ℕ) (xs : List ℕ) → Stands po
     → Stands tape k (p ∷ length xs ∷ []) → k + 2 ≤ length tape → span pool tape k ≡ found xs (k + 2)
 unfolding span
 span-laid pool tape k p xs t h u r =
-    let one = entry-laid tape k p (length xs ∷ []) u (omega arith) in
-    let two = entry-laid tape (k + 1) (length xs) [] (stands-next tape k p (length xs ∷ []) u) (omega arith) in
-    let j : k + 1 + 1 ≡ k + 2 = omega arith in
-    rw (one, two, le-leb (p + length xs) (length pool) h, taken pool p xs t, j)
+    let start = stands-get tape k p (length xs ∷ []) u in
+    let size = stands-get tape (k + 1) (length xs) [] (stands-next tape k p (length xs ∷ []) u) in
+    rw (le-leb (k + 2) (length tape) r, start, size, le-leb (p + length xs) (length pool) h, taken pool p xs t)
 
 -- ---- numbers
 
@@ -174,7 +173,7 @@ module _ (k w : ℕ) (bits : k ≤ 8) where
         formal = record {
           sound = λ pool tape j x i e.
               let a = andThen-found (tapeEntry tape j) _ x i e in
-              let g = need-found (ltb (a .0) (below k w)) (OutsideSet 0) _ x i (a .3) in
+              let g = need-found (ltb (a .0) (below k w)) (OutsideSet j) _ x i (a .3) in
               rw (← found-inj (g .1) .0) (g .0);
           laid = λ pool p tape j x r t h u m. rw (entry-laid tape j x [] u m, r);
           steady = λ x p. refl;
@@ -201,7 +200,7 @@ bytes-lawful n =
       formal = record {
         sound = λ pool tape k xs j e.
             let i = andThen-found (span pool tape k) _ xs j e in
-            let g = need-found (eqb (length (i .0)) n) (OutsideSet 0) _ xs j (i .3) in
+            let g = need-found (eqb (length (i .0)) n) (OutsideSet k) _ xs j (i .3) in
             rw (← found-inj (g .1) .0) (g .0);
         laid = λ pool p tape k xs r t h u m.
             let e : length xs ≡ n = eqb-true (length xs) n r in
@@ -303,8 +302,8 @@ module _ (h : ℕ) where
         formal = record {
           sound = λ pool tape k ds j e.
               let i = andThen-found (span pool tape k) _ ds j e in
-              let m = need-found (eqb (length (i .0)) (suc h)) (OutsideSet 0) _ ds j (i .3) in
-              let d = need-found (decimal (tail (halves (i .0)))) (DigitAboveNine 0) _ ds j (m .1) in
+              let m = need-found (eqb (length (i .0)) (suc h)) (OutsideSet k) _ ds j (i .3) in
+              let d = need-found (decimal (tail (halves (i .0)))) (DigitAboveNine k) _ ds j (m .1) in
               rw (← found-inj (d .1) .0)
               (and-of (eq-eqb (length (tail (halves (i .0)))) (h + h + 1) (tail-length (i .0) (eqb-true (length (i .0)) (suc h) (m .0)))) (d .0));
           laid = λ pool p tape k ds r t e u m.

@@ -37,12 +37,12 @@ module _ {A : Type 0} (fault : A → ℕ → Fault) (F : Format A) (even : (a : 
       record {
         sound = λ pool tape k a j e.
             let i = andThen-found (F .form pool tape k) _ a j e in
-            let g = judged-found (fault (i .0) 0) _ a j (i .3) in
+            let g = judged-found (fault (i .0) k) _ a j (i .3) in
             let z = found-inj (g .1) in
-            rw (← z .0) (and-of (u .sound pool tape k (i .0) (i .1) (i .2)) (ap isFine (g .0)));
+            rw (← z .0) (and-of (u .sound pool tape k (i .0) (i .1) (i .2)) (ap isFine (at-any (i .0) k 0 (g .0))));
         laid = λ pool p tape k a r t h v m.
             let c = both (F .writable a) (isFine (fault a 0)) r in
-            rw (u .laid pool p tape k a (c .0) t h v m, fine-of (fault a 0) (c .1));
+            rw (u .laid pool p tape k a (c .0) t h v m, at-any a 0 k (fine-of (fault a 0) (c .1)));
         steady = u .steady;
       }
 
@@ -70,7 +70,8 @@ module _ {A : Type 0} (fault : A → ℕ → Fault) (F : Format A) (even : (a : 
   unfolding only
   only-lawful u =
       record {
-        back = λ s l p a o t h k. only-back s l p a (p + length (F .print a)) (record { writable = o .writable; small = o .small }) (λ c. u .back s l p a c t h k);
+        back = λ s l p a o t h k. only-back s l p a (p + length (F .print a)) (record { writable = o .writable; small = o .small })
+            (λ c. u .back s l p a c t h k);
         forth = only-forth (u .forth);
         formal = only-formal (u .formal);
       }
@@ -161,7 +162,14 @@ module _ {A : Type 0} {B : A → Type 0} (F : Format A) (G : (a : A) → Format 
             let a = x .0 in
             let b = x .1 in
             length-append (F .tape a p) (G a .tape b (p + length (F .print a)))
-            ∙ omega (arith, f .formal .steady a p, g a .steady b (p + length (F .print a)), g a .steady b (0 + length (F .print a)), length-append (F .tape a 0) (G a .tape b (0 + length (F .print a))));
+            ∙ omega (
+              arith,
+              f .formal .steady a p,
+              g a .steady b (p + length (F .print a)),
+              g a .steady b (0 + length (F .print a)),
+              length-append
+                  (F .tape a 0) (G a .tape b (0 + length (F .print a))),
+            );
       }
 
   pub followed-lawful : ((a : A) → Lawful (G a)) → Lawful (followed F G)
@@ -284,7 +292,8 @@ module _ {A : Type 0} (L : Length) (F : Format A) (c : Counts L F) (f : Filling 
       (record { writable = o .writable; small = m .1 }, ltb-true (length (F .print a)) (L .limit) (not-false (ltb (length (F .print a)) (L .limit)) (m .0)))
 
   counted-back : (s : List ℕ) (l p : ℕ) (a : A) → Ok F a → length (F .print a) < L .limit
-      → Stands s p (L .field .print (length (F .print a)) ++ F .print a) → p + length (L .field .print (length (F .print a))) + length (F .print a) ≤ l → l ≤ length s
+      → Stands s p (L .field .print (length (F .print a)) ++ F .print a)
+      → p + length (L .field .print (length (F .print a))) + length (F .print a) ≤ l → l ≤ length s
       → counted L F .parse s l p ≡ found a (p + length (L .field .print (length (F .print a))) + length (F .print a))
   unfolding counted
   counted-back s l p a o m t h k =
@@ -328,7 +337,8 @@ module _ {A : Type 0} (L : Length) (F : Format A) (c : Counts L F) (f : Filling 
           laid = λ pool p tape k a r t h u m.
               f .formal .laid pool (p + length (L .field .print (length (F .print a)))) tape k a r
               (stands-right pool p (L .field .print (length (F .print a))) (F .print a) t) (simp (length-append, ← add-assoc) at h) u m;
-          steady = λ a p. f .formal .steady a (p + length (L .field .print (length (F .print a)))) ∙ sym (f .formal .steady a (0 + length (L .field .print (length (F .print a)))));
+          steady = λ a p. f .formal .steady a (p + length (L .field .print (length (F .print a))))
+              ∙ sym (f .formal .steady a (0 + length (L .field .print (length (F .print a)))));
         };
       }
 

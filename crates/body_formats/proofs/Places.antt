@@ -1,27 +1,28 @@
--- Where a refusal stands: a reader's at the body's end at the latest, a writer's at 0. A law for each way of making a format.
+-- Where a refusal stands: a reader's at the body's end at the latest, a form's at the tape's end, a writer's at 0. A law for each way of
+-- making a format.
 use Prim.Native.Nat.{ℕ, zero, suc, _+_, _-_, _/_, _%_, _^_, _≤_, zero-le}
 use mathlib.Core.Path.{_≡_, refl}
 use mathlib.Core.List.{List, [], _∷_}
 use mathlib.Core.Bool.{Bool, true, false, not, _&&_, cond}
 use native.Mathlib.Omega.{arith}
-use native.Mathlib.Nat.{le-refl, le-trans}
+use native.Mathlib.Nat.{le-refl, le-of-eq, le-trans}
 use lib.ListN.{length, getD, take, drop}
 use lib.Dec.{ltb, leb, eqb}
 use borrow.Author.Tests.{leb-true}
 use Rattle.ground_choices.specs.Choice.{if_then_else_}
-use Rattle.ground_refusal.specs.Numbers.{refusalPlace}
+use Rattle.ground_refusal.specs.Numbers.{refusalNumber, refusalPlace}
 use Rattle.ground_refusal.specs.declared.Refusal.{Refusal}
-use Rattle.ground_refusal.specs.declared.Refusal.the-variants.{PastPart, ReservedBitZero, DigitAboveNine, OutsideSet, ImpossibleDay}
+use Rattle.ground_refusal.specs.declared.Refusal.the-variants.{SectionTooShort, OtherKind, FixedBitZero, SectionLengthOutside, OtherLength, NumberAboveLast, CheckNotZero, NotCurrent, OtherHeading, StoreTooShort, Contradiction, ImpossibleState, Missing, PastBody, PastPart, LeftOver, ReservedBitZero, DigitAboveNine, OutsideSet, ImpossibleDay, OutputTooSmall, TooLarge, OtherChecksum, NotOfTheForm, BodyTooLong}
 use Rattle.time_fields.specs.Field.{readTime, readEnd, isDecimal as decimalField, possible, momentOf, liveMark, asEnd}
 use Rattle.time_fields.specs.declared.Timed.{Timed}
 use Rattle.time_fields.specs.declared.Timed.the-variants.{At, Refused}
 use Rattle.time_fields.specs.declared.EndTimed.the-variants.{Live}
-use Rattle.body_formats.specs.Reading.{Reading, found, refused, andThen, need, Fault, fine, faulty, unless, judged, within}
-use Rattle.body_formats.specs.Format.{Format, tapeEntry, span, count, only, outside, among, number, nibbles, nibblesAmong, reservedFirst, below, reserved, bytes, halves, tail, decimal, digits, followed, nothing, under, view, repeat, every, bytesAmong, times, listOf, rest, exact, parseMany, many, Length, lengthOf, leastOf, length12, counted, opaque}
+use Rattle.body_formats.specs.Reading.{Reading, found, refused, andThen, need, Fault, fine, faulty, unless, judged, within, placeless}
+use Rattle.body_formats.specs.Format.{Format, tapeEntry, span, count, only, outside, among, number, nibbles, bothAmong, nibbleAmong, nibblesAmong, reservedFirst, below, reserved, bytes, halves, tail, decimal, digits, followed, nothing, under, view, repeat, every, bytesAmong, times, listOf, rest, exact, parseMany, many, Length, lengthOf, leastOf, length12, counted, opaque}
 use Rattle.body_formats.specs.Time.{timeFault, endFault, time, endTime}
 use Rattle.body_formats.specs.Resource.{resource, resources}
 use Rattle.body_formats.specs.Answers.{stepOf}
-use Rattle.body_formats.specs.Body.{longest, reading, bodyRead, writing, bodyWritten, laying, bodyLaid}
+use Rattle.body_formats.specs.Body.{longest, reading, bodyRead, measuring, measured, fitting, writing, bodyWritten, laying, bodyLaid}
 use Rattle.body_formats.specs.declared.Step.the-variants.{Refused as NoStep}
 
 -- ---- readings
@@ -70,30 +71,29 @@ module _ {A : Type 0} {place last : ℕ} where
 -- ---- the entries of a tape
 
 module _ (pool tape : List ℕ) where
-  entry-until : (k : ℕ) → Until 0 (length tape) (tapeEntry tape k)
+  entry-until : (k : ℕ) → k ≤ length tape → Until (length tape) (length tape) (tapeEntry tape k)
   unfolding tapeEntry
-  entry-until k = need-until (leb (k + 1) (length tape)) _ zero-le (λ t. ends (leb-true _ _ t))
+  entry-until k h = need-until (leb (k + 1) (length tape)) _ h (λ t. ends (leb-true _ _ t))
 
-  span-until : (k : ℕ) → Until 0 (length tape) (span pool tape k)
+  span-until : (k : ℕ) → k ≤ length tape → Until (length tape) (length tape) (span pool tape k)
   unfolding span
-  span-until k =
-      then-until (tapeEntry tape k) _ (entry-until k) (λ start j h.
-      then-until (tapeEntry tape j) _ (entry-until j) (λ size i g.
-      need-until (leb (start + size) (length pool)) _ zero-le (λ t. ends g)))
+  span-until k h =
+      need-until (leb (k + 2) (length tape)) _ h (λ t.
+      need-until (leb (getD tape k 0 + getD tape (k + 1) 0) (length pool)) _ h (λ u. ends (leb-true _ _ t)))
 
 -- ---- formats
 
--- a reader's refusal stands in the body or at its end, and what is found ends there; a writer's stands at 0
+-- a reader's refusal stands in the body or at its end, and what is found ends there; so it is with a form and its tape
 pub record Placed {A : Type 0} (F : Format A) : Type 0 where
   pub read : (s : List ℕ) (l p : ℕ) → l ≤ length s → p ≤ length s → Until (length s) (length s) (F .parse s l p)
-  pub formed : (pool tape : List ℕ) (k : ℕ) → k ≤ length tape → Until 0 (length tape) (F .form pool tape k)
+  pub formed : (pool tape : List ℕ) (k : ℕ) → k ≤ length tape → Until (length tape) (length tape) (F .form pool tape k)
 
 pub count-placed : (w : ℕ) → Placed (count w)
 unfolding count
 count-placed w =
     record {
       read = λ s l p h k. within-until s l p (p + w) k ends;
-      formed = λ pool tape k h. entry-until pool tape k;
+      formed = λ pool tape k h. entry-until pool tape k h;
     }
 
 module _ {A : Type 0} (fault : A → ℕ → Fault) (F : Format A) (there : (a : A) (at : ℕ) → FaultUntil at (fault a at)) where
@@ -103,7 +103,7 @@ module _ {A : Type 0} (fault : A → ℕ → Fault) (F : Format A) (there : (a :
       record {
         read = λ s l p h k. then-until (F .parse s l p) _ (f .read s l p h k) (λ a q m. judged-until (fault a p) (there a p) k (ends m));
         formed = λ pool tape k h.
-            then-until (F .form pool tape k) _ (f .formed pool tape k h) (λ a j m. judged-until (fault a 0) (there a 0) zero-le (ends m));
+            then-until (F .form pool tape k) _ (f .formed pool tape k h) (λ a j m. judged-until (fault a k) (there a k) h (ends m));
       }
 
 pub outside-until : {A : Type 0} (test : A → Bool) (a : A) (at : ℕ) → FaultUntil at (outside test a at)
@@ -122,9 +122,9 @@ nibbles-placed =
     record {
       read = λ s l p h k. within-until s l p (p + 1) k ends;
       formed = λ pool tape k h.
-          then-until (tapeEntry tape k) _ (entry-until pool tape k) (λ high j g.
-          need-until (ltb high 16) _ zero-le (λ t.
-          then-until (tapeEntry tape j) _ (entry-until pool tape j) (λ low i m. need-until (ltb low 16) _ zero-le (λ u. ends m))));
+          then-until (tapeEntry tape k) _ (entry-until pool tape k h) (λ high j g.
+          need-until (ltb high 16) _ h (λ t.
+          then-until (tapeEntry tape j) _ (entry-until pool tape j g) (λ low i m. need-until (ltb low 16) _ g (λ u. ends m))));
     }
 
 pub reserved-placed : (k w : ℕ) → Placed (reserved k w)
@@ -133,7 +133,7 @@ reserved-placed k w =
     record {
       read = λ s l p h m. first-until k s l p m (within-until s l p (p + suc w) m ends);
       formed = λ pool tape j h.
-          then-until (tapeEntry tape j) _ (entry-until pool tape j) (λ x i m. need-until (ltb x (below k w)) _ zero-le (λ t. ends m));
+          then-until (tapeEntry tape j) _ (entry-until pool tape j h) (λ x i m. need-until (ltb x (below k w)) _ h (λ t. ends m));
     }
 
 pub bytes-placed : (n : ℕ) → Placed (bytes n)
@@ -142,7 +142,7 @@ bytes-placed n =
     record {
       read = λ s l p h k. within-until s l p (p + n) k ends;
       formed = λ pool tape k h.
-          then-until (span pool tape k) _ (span-until pool tape k) (λ xs j m. need-until (eqb (length xs) n) _ zero-le (λ t. ends m));
+          then-until (span pool tape k) _ (span-until pool tape k h) (λ xs j m. need-until (eqb (length xs) n) _ h (λ t. ends m));
     }
 
 pub digits-placed : (h : ℕ) → Placed (digits h)
@@ -153,8 +153,8 @@ digits-placed h =
           first-until 4 s l p k
           (within-until s l p (p + suc h) k (λ m. need-until (decimal (tail (halves (take (suc h) (drop p s))))) _ k (λ t. ends m)));
       formed = λ pool tape k g.
-          then-until (span pool tape k) _ (span-until pool tape k) (λ bs j m.
-          need-until (eqb (length bs) (suc h)) _ zero-le (λ t. need-until (decimal (tail (halves bs))) _ zero-le (λ u. ends m)));
+          then-until (span pool tape k) _ (span-until pool tape k g) (λ bs j m.
+          need-until (eqb (length bs) (suc h)) _ g (λ t. need-until (decimal (tail (halves bs))) _ g (λ u. ends m)));
     }
 
 -- ---- values from lo to hi
@@ -163,8 +163,22 @@ module _ (lo hi : ℕ) where
   pub among-placed : (F : Format ℕ) → Placed F → Placed (among lo hi F)
   among-placed = outside-placed (λ x. leb lo x && leb x hi)
 
+  both-among : Placed (bothAmong lo hi)
+  both-among = outside-placed (λ x. (leb lo (x .0) && leb (x .0) hi) && (leb lo (x .1) && leb (x .1) hi)) nibbles nibbles-placed
+
+  nibble-until : (pool tape : List ℕ) (k : ℕ) → k ≤ length tape → Until (length tape) (length tape) (nibbleAmong lo hi tape k)
+  nibble-until pool tape k h =
+      then-until (tapeEntry tape k) _ (entry-until pool tape k h) (λ x j m.
+      need-until (ltb x 16 && (leb lo x && leb x hi)) _ h (λ t. ends m))
+
   pub nibbles-among-placed : Placed (nibblesAmong lo hi)
-  nibbles-among-placed = outside-placed (λ x. (leb lo (x .0) && leb (x .0) hi) && (leb lo (x .1) && leb (x .1) hi)) nibbles nibbles-placed
+  nibbles-among-placed =
+      record {
+        read = both-among .read;
+        formed = λ pool tape k h.
+            then-until (nibbleAmong lo hi tape k) _ (nibble-until pool tape k h) (λ high j m.
+            then-until (nibbleAmong lo hi tape j) _ (nibble-until pool tape j m) (λ low i o. ends o));
+      }
 
   pub bytes-among-placed : (n : ℕ) → Placed (bytesAmong lo hi n)
   bytes-among-placed n = outside-placed (every (λ x. leb lo x && leb x hi)) (bytes n) (bytes-placed n)
@@ -232,14 +246,14 @@ module _ {A : Type 0} (F : Format A) (f : Placed F) where
   many-placed =
       record {
         read = λ s l p h k. many-until (l - p) s l p h k;
-        formed = λ pool tape k h. then-until (tapeEntry tape k) _ (entry-until pool tape k) (λ n j m. times-placed n .formed pool tape j m);
+        formed = λ pool tape k h. then-until (tapeEntry tape k) _ (entry-until pool tape k h) (λ n j m. times-placed n .formed pool tape j m);
       }
 
 -- ---- parts
 
 pub rest-placed : Placed rest
 unfolding rest
-rest-placed = record { read = λ s l p h k. ends h; formed = λ pool tape k h. span-until pool tape k }
+rest-placed = record { read = λ s l p h k. ends h; formed = λ pool tape k h. span-until pool tape k h }
 
 pub exact-placed : {A : Type 0} (leftOver : ℕ → Refusal) (F : Format A) → ((at : ℕ) → refusalPlace (leftOver at) ≤ at) → Placed F → Placed (exact leftOver F)
 unfolding exact
@@ -309,6 +323,36 @@ end-placed = only-placed (λ f at. endFault (readEnd f at)) (number 5) end-until
 pub resources-placed : Placed resources
 resources-placed = list-placed resource (digits-placed 11) (count 1) (count-placed 1)
 
+-- ---- a refusal without its place
+
+-- it has the same number, and place 0
+pub placeless-is : (r : Refusal) → (refusalNumber (placeless r) ≡ refusalNumber r) × (refusalPlace (placeless r) ≡ 0)
+placeless-is SectionTooShort = (refl, refl)
+placeless-is OtherKind = (refl, refl)
+placeless-is FixedBitZero = (refl, refl)
+placeless-is SectionLengthOutside = (refl, refl)
+placeless-is OtherLength = (refl, refl)
+placeless-is NumberAboveLast = (refl, refl)
+placeless-is CheckNotZero = (refl, refl)
+placeless-is NotCurrent = (refl, refl)
+placeless-is OtherHeading = (refl, refl)
+placeless-is StoreTooShort = (refl, refl)
+placeless-is Contradiction = (refl, refl)
+placeless-is ImpossibleState = (refl, refl)
+placeless-is (Missing at) = (refl, refl)
+placeless-is (PastBody at) = (refl, refl)
+placeless-is (PastPart at) = (refl, refl)
+placeless-is (LeftOver at) = (refl, refl)
+placeless-is (ReservedBitZero at) = (refl, refl)
+placeless-is (DigitAboveNine at) = (refl, refl)
+placeless-is (OutsideSet at) = (refl, refl)
+placeless-is (ImpossibleDay at) = (refl, refl)
+placeless-is OutputTooSmall = (refl, refl)
+placeless-is TooLarge = (refl, refl)
+placeless-is OtherChecksum = (refl, refl)
+placeless-is NotOfTheForm = (refl, refl)
+placeless-is BodyTooLong = (refl, refl)
+
 -- ---- whole bodies
 
 -- the place that is answered
@@ -334,16 +378,29 @@ module _ {A : Type 0} (F : Format A) (f : Placed F) where
         step-place (laying F own kind s room) (then-until {last′ = room} (reading F own kind s) _ reading-until (λ a q m.
         need-until (leb (length (F .tape a 0)) room) _ zero-le (λ t. ends (leb-true _ _ t))))
 
-  module _ (pool tape : List ℕ) (room : ℕ) where
-    pub writing-until : Until 0 room (writing F pool tape room)
-    unfolding writing
-    writing-until =
+  module _ (pool tape : List ℕ) where
+    pub measuring-until : Until (length tape) longest (measuring F pool tape)
+    unfolding measuring
+    measuring-until =
         then-until (F .form pool tape 0) _ (f .formed pool tape 0 zero-le) (λ a k m.
-        need-until (leb (length tape) k) _ zero-le (λ t.
+        need-until (leb (length tape) k) _ m (λ t.
         need-until (not (F .tooLarge a)) _ zero-le (λ u.
-        need-until (leb (length (F .print a)) longest) _ zero-le (λ v.
-        need-until (leb (length (F .print a)) room) _ zero-le (λ w. ends (leb-true _ _ w))))))
+        need-until (leb (length (F .print a)) longest) _ zero-le (λ v. ends (leb-true _ _ v)))))
 
-    pub written-place : (r : Refusal) → bodyWritten F pool tape room ≡ NoStep r → refusalPlace r ≡ 0
-    unfolding bodyWritten
-    written-place r e = let none = step-place (writing F pool tape room) writing-until r e in omega arith
+    pub measured-place : (r : Refusal) → measured F pool tape ≡ NoStep r → refusalPlace r ≤ length tape
+    unfolding measured
+    measured-place = step-place (measuring F pool tape) measuring-until
+
+-- a writer's place is 0, whatever its format
+module _ {A : Type 0} (F : Format A) (pool tape : List ℕ) (room : ℕ) where
+  pub writing-until : Until 0 room (writing F pool tape room)
+  unfolding writing
+  writing-until = go (measuring F pool tape)
+    where
+      go : (x : Reading A) → Until 0 room (fitting room x)
+      go (found a n) = need-until (leb n room) _ zero-le (λ t. ends (leb-true _ _ t))
+      go (refused r) = stands (le-of-eq (placeless-is r .1))
+
+  pub written-place : (r : Refusal) → bodyWritten F pool tape room ≡ NoStep r → refusalPlace r ≡ 0
+  unfolding bodyWritten
+  written-place r e = let none = step-place (writing F pool tape room) writing-until r e in omega arith

@@ -2,7 +2,7 @@
 use Prim.Native.Nat.{ℕ, _+_, _≤_, zero-le}
 use mathlib.Core.Path.{_≡_, refl, sym, ap, _∙_}
 use mathlib.Core.List.{List}
-use mathlib.Core.Bool.{not}
+use mathlib.Core.Bool.{false, not}
 use native.Mathlib.Omega.{arith}
 use native.Mathlib.Nat.{le-refl}
 use lib.ListN.{length, take}
@@ -11,12 +11,40 @@ use borrow.Author.Tests.{leb-true, eqb-true, le-leb, eq-eqb, not-true}
 use Rattle.ground_placing.specs.Placed.{placed}
 use Rattle.ground_placing.proofs.Placing.{placed-start}
 use Rattle.ground_refusal.specs.declared.Refusal.the-variants.{OtherKind, OutsideSet, OutputTooSmall, TooLarge}
-use Rattle.body_formats.specs.Reading.{found}
+use Rattle.body_formats.specs.Reading.{Reading, found, refused}
 use Rattle.body_formats.specs.Format.{Format}
-use Rattle.body_formats.specs.Body.{longest, reading, writing, outputWritten, laying, laidTape}
+use Rattle.body_formats.specs.Body.{longest, reading, measuring, fitting, writing, outputWritten, laying, laidTape}
 use Rattle.body_formats.proofs.Stand.{stands-all, stands-whole}
-use Rattle.body_formats.proofs.Outcomes.{found-inj, andThen-found, need-found}
+use Rattle.body_formats.proofs.Outcomes.{found-inj, not-found, andThen-found, need-found}
 use Rattle.body_formats.proofs.Classes.{Bytes, Ok, Filling}
+
+-- what is measured is the length of the value that the form lays out, none of whose counts and lengths is too large
+pub measured-value : {A : Type 0} (F : Format A) (pool tape : List ℕ) (a : A) (m : ℕ) → measuring F pool tape ≡ found a m
+    → (k : ℕ) × (F .form pool tape 0 ≡ found a k) × (F .tooLarge a ≡ false) × (m ≡ length (F .print a)) × (m ≤ longest)
+unfolding measuring
+measured-value {A} F pool tape a m e =
+    let i = andThen-found (F .form pool tape 0) _ a m e in
+    let v = i .0 in
+    let n = length (F .print v) in
+    let c1 = need-found (leb (length tape) (i .1)) (OutsideSet (i .1)) _ a m (i .3) in
+    let c2 = need-found (not (F .tooLarge v)) TooLarge _ a m (c1 .1) in
+    let c3 = need-found (leb n longest) TooLarge _ a m (c2 .1) in
+    let z = found-inj (c3 .1) in
+    let all : (y : A) → v ≡ y → (k : ℕ) × (F .form pool tape 0 ≡ found y k) × (F .tooLarge y ≡ false) × (n ≡ length (F .print y)) × (n ≤ longest) =
+    (λ y w. rw (← w) (i .1, i .2, not-true (F .tooLarge v) (c2 .0), refl, leb-true n longest (c3 .0))) in
+    rw (← z .1) (all a (z .0))
+
+-- what is written is what was measured, and fits
+pub written-measured : {A : Type 0} (F : Format A) (pool tape : List ℕ) (room : ℕ) (a : A) (m : ℕ) → writing F pool tape room ≡ found a m
+    → (measuring F pool tape ≡ found a m) × (m ≤ room)
+unfolding writing
+written-measured {A} F pool tape room a m e = go (measuring F pool tape) e
+  where
+    go : (x : Reading A) → fitting room x ≡ found a m → (x ≡ found a m) × (m ≤ room)
+    go (found b n) g =
+        let t = need-found (leb n room) OutputTooSmall (found b n) a m g in
+        (t .1, rw (found-inj (t .1) .1) at (leb-true n room (t .0)))
+    go (refused r) g = absurd (not-found g)
 
 module _ {A : Type 0} (F : Format A) (f : Filling F) (own : ℕ) where
   -- each well-formed table, printed, reads back as itself
@@ -46,7 +74,7 @@ module _ {A : Type 0} (F : Format A) (f : Filling F) (own : ℕ) where
     -- and, laid out with the body itself as the pool, is written to its bytes
     pub writes-back : (out : List ℕ) → length s ≤ length out
         → (writing F s (F .tape a 0) (length out) ≡ found a (length s)) × (outputWritten F s (F .tape a 0) out ≡ placed out 0 s)
-    unfolding writing outputWritten
+    unfolding measuring writing outputWritten
     writes-back out h =
         let w = prints-back in
         let n : length (F .print a) ≡ length s = ap length (w .0) in
@@ -69,21 +97,11 @@ module _ {A : Type 0} (F : Format A) (f : Filling F) (own : ℕ) where
   -- what was written is the value's bytes, which read back as it
   pub written-reads-back : (pool tape : List ℕ) (room : ℕ) (a : A) (m : ℕ) → writing F pool tape room ≡ found a m
       → (m ≡ length (F .print a)) × (m ≤ room) × Ok F a × (reading F own own (F .print a) ≡ found a m)
-  unfolding writing
   written-reads-back pool tape room a m e =
-      let i = andThen-found (F .form pool tape 0) _ a m e in
-      let v = i .0 in
-      let n = length (F .print v) in
-      let c1 = need-found (leb (length tape) (i .1)) (OutsideSet 0) _ a m (i .3) in
-      let c2 = need-found (not (F .tooLarge v)) TooLarge _ a m (c1 .1) in
-      let c3 = need-found (leb n longest) TooLarge _ a m (c2 .1) in
-      let c4 = need-found (leb n room) OutputTooSmall _ a m (c3 .1) in
-      let z = found-inj (c4 .1) in
-      let ok : Ok F v = record { writable = f .formal .sound pool tape 0 v (i .1) (i .2); small = not-true (F .tooLarge v) (c2 .0) } in
-      let whole = reads-back v ok (leb-true n longest (c3 .0)) in
-      let all : (y : A) → v ≡ y → (n ≡ length (F .print y)) × (n ≤ room) × Ok F y × (reading F own own (F .print y) ≡ found y n) =
-      (λ y w. rw (← w) (refl, leb-true n room (c4 .0), ok, whole)) in
-      rw (← z .1) (all a (z .0))
+      let w = written-measured F pool tape room a m e in
+      let v = measured-value F pool tape a m (w .0) in
+      let ok : Ok F a = record { writable = f .formal .sound pool tape 0 a (v .0) (v .1); small = v .2 } in
+      (v .3, w .1, ok, reads-back a ok (omega (arith, v .3, v .4)) ∙ ap (found a) (sym (v .3)))
 
   -- exactly the printed tables are accepted
   pub accepted-exactly : (s : List ℕ) → Bytes s → (a : A) (q : ℕ)

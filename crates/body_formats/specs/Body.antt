@@ -6,7 +6,7 @@ use lib.ListN.{length}
 use lib.Dec.{leb, eqb}
 use Rattle.ground_placing.specs.Placed.{placed}
 use Rattle.ground_refusal.specs.declared.Refusal.the-variants.{OtherKind, OutsideSet, OutputTooSmall, TooLarge}
-use Rattle.body_formats.specs.Reading.{Reading, found, refused, andThen, need}
+use Rattle.body_formats.specs.Reading.{Reading, found, refused, andThen, need, placeless}
 use Rattle.body_formats.specs.Format.{Format, nothing}
 use Rattle.body_formats.specs.Answers.{stepOf}
 use Rattle.body_formats.specs.declared.Step.{Step}
@@ -21,14 +21,26 @@ reading F own kind s =
     need (eqb kind own) OtherKind
     (need (leb (length s) longest) TooLarge (F .parse s (length s) 0))
 
--- "Writers: fields in order, then 22, then 21": the value, and the length of its body; entries left over are 19. Places are 0.
-unfoldable pub writing : {A : Type 0} → Format A → List ℕ → List ℕ → ℕ → Reading A
-writing F pool tape room =
+-- "Writers: fields in order, then 22": the value that a form lays out, and the length of its body. A field is refused at the entry of
+-- the tape where it begins; entries left over are 19 at the first of them.
+unfoldable pub measuring : {A : Type 0} → Format A → List ℕ → List ℕ → Reading A
+measuring F pool tape =
     andThen (F .form pool tape 0) (λ a k.
-    need (leb (length tape) k) (OutsideSet 0)
+    need (leb (length tape) k) (OutsideSet k)
     (need (not (F .tooLarge a)) TooLarge
-    (need (leb (length (F .print a)) longest) TooLarge
-    (need (leb (length (F .print a)) room) OutputTooSmall (found a (length (F .print a)))))))
+    (need (leb (length (F .print a)) longest) TooLarge (found a (length (F .print a))))))
+
+-- how long the body of a form is, whatever room there is, or why and at which entry it is refused
+unfoldable pub measured : {A : Type 0} → Format A → List ℕ → List ℕ → Step
+measured F pool tape = stepOf (measuring F pool tape)
+
+-- "and always 0 from writers", "then 21": the same, where a writer has room for so many bytes
+abbrev pub fitting : {A : Type 0} → ℕ → Reading A → Reading A
+fitting room (found a n) = need (leb n room) OutputTooSmall (found a n)
+fitting room (refused r) = refused (placeless r)
+
+unfoldable pub writing : {A : Type 0} → Format A → List ℕ → List ℕ → ℕ → Reading A
+writing F pool tape room = fitting room (measuring F pool tape)
 
 -- "Cutter and writers leave the output's bytes after theirs", and a refusal writes no byte
 abbrev pub writtenOver : {A : Type 0} → Format A → List ℕ → Reading A → List ℕ

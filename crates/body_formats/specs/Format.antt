@@ -14,7 +14,8 @@ use Rattle.body_formats.specs.Reading.{Reading, found, andThen, need, Fa
 -- `parse s l p`: what is read of the body s at p, where the innermost counted part ends at l.
 -- `print a`: the bytes of a.
 -- `writable a`: a writer refuses no field of a; `tooLarge a`: a count or a length of a is too large for its field (22).
--- `form pool tape k`: what a writer takes from the entry k of a tape of numbers on, with a pool of bytes; its refusals are at 0.
+-- `form pool tape k`: what a writer takes from the entry k of a tape of numbers on, with a pool of bytes; a refusal stands at the entry
+-- where the refused field begins.
 -- `tape a p`: the entries that lay a out, where its bytes stand in the pool from p on.
 pub record Format (A : Type 0) : Type 1 where
   pub parse : List ℕ → ℕ → ℕ → Reading A
@@ -24,17 +25,17 @@ pub record Format (A : Type 0) : Type 1 where
   pub form : List ℕ → List ℕ → ℕ → Reading A
   pub tape : A → ℕ → List ℕ
 
--- ---- the entries of a tape: where it ends too early, or a span lies outside the pool, the form is malformed (19)
+-- ---- the entries of a tape: where it ends too early, or a span lies outside the pool, the form is malformed (19), at the field's entry
 
 unfoldable pub tapeEntry : List ℕ → ℕ → Reading ℕ
-tapeEntry tape k = need (leb (k + 1) (length tape)) (OutsideSet 0) (found (getD tape k 0) (k + 1))
+tapeEntry tape k = need (leb (k + 1) (length tape)) (OutsideSet k) (found (getD tape k 0) (k + 1))
 
 -- bytes of the pool: where they start, and how many they are
 unfoldable pub span : List ℕ → List ℕ → ℕ → Reading (List ℕ)
 span pool tape k =
-    andThen (tapeEntry tape k) (λ start j.
-    andThen (tapeEntry tape j) (λ count i.
-    need (leb (start + count) (length pool)) (OutsideSet 0) (found (take count (drop start pool)) i)))
+    need (leb (k + 2) (length tape)) (OutsideSet k)
+    (need (leb (getD tape k 0 + getD tape (k + 1) 0) (length pool)) (OutsideSet k)
+    (found (take (getD tape (k + 1) 0) (drop (getD tape k 0) pool)) (k + 2)))
 
 -- ---- numbers of w bytes, the high one first
 
@@ -68,7 +69,7 @@ only {A} fault F =
       print = F .print;
       writable = λ a. F .writable a && isFine (fault a 0);
       tooLarge = F .tooLarge;
-      form = λ pool tape k. andThen (F .form pool tape k) (λ a j. judged (fault a 0) (found a j));
+      form = λ pool tape k. andThen (F .form pool tape k) (λ a j. judged (fault a k) (found a j));
       tape = F .tape;
     }
 
@@ -94,14 +95,29 @@ nibbles =
       tooLarge = λ x. false;
       form = λ pool tape k.
           andThen (tapeEntry tape k) (λ high j.
-          need (ltb high 16) (OutsideSet 0)
-          (andThen (tapeEntry tape j) (λ low i. need (ltb low 16) (OutsideSet 0) (found (high, low) i))));
+          need (ltb high 16) (OutsideSet k)
+          (andThen (tapeEntry tape j) (λ low i. need (ltb low 16) (OutsideSet j) (found (high, low) i))));
       tape = λ x p. x .0 ∷ x .1 ∷ [];
     }
 
--- both from lo to hi
+abbrev pub bothAmong : ℕ → ℕ → Format (ℕ × ℕ)
+bothAmong lo hi = only (outside (λ x. (leb lo (x .0) && leb (x .0) hi) && (leb lo (x .1) && leb (x .1) hi))) nibbles
+
+-- one of them on a tape
+abbrev pub nibbleAmong : ℕ → ℕ → List ℕ → ℕ → Reading ℕ
+nibbleAmong lo hi tape k = andThen (tapeEntry tape k) (λ x j. need (ltb x 16 && (leb lo x && leb x hi)) (OutsideSet k) (found x j))
+
+-- both from lo to hi: in a body they share their place, on a tape each has its own entry
 abbrev pub nibblesAmong : ℕ → ℕ → Format (ℕ × ℕ)
-nibblesAmong lo hi = only (outside (λ x. (leb lo (x .0) && leb (x .0) hi) && (leb lo (x .1) && leb (x .1) hi))) nibbles
+nibblesAmong lo hi =
+    record {
+      parse = bothAmong lo hi .parse;
+      print = bothAmong lo hi .print;
+      writable = bothAmong lo hi .writable;
+      tooLarge = bothAmong lo hi .tooLarge;
+      form = λ pool tape k. andThen (nibbleAmong lo hi tape k) (λ high j. andThen (nibbleAmong lo hi tape j) (λ low i. found (high, low) i));
+      tape = bothAmong lo hi .tape;
+    }
 
 -- ---- reserved bits
 
@@ -123,7 +139,7 @@ reserved k w =
       print = λ x. bytesOf (suc w) ((2 ^ k - 1) * below k w + x);
       writable = λ x. ltb x (below k w);
       tooLarge = λ x. false;
-      form = λ pool tape k′. andThen (tapeEntry tape k′) (λ x j. need (ltb x (below k w)) (OutsideSet 0) (found x j));
+      form = λ pool tape k′. andThen (tapeEntry tape k′) (λ x j. need (ltb x (below k w)) (OutsideSet k′) (found x j));
       tape = λ x p. x ∷ [];
     }
 
@@ -136,7 +152,7 @@ bytes n =
       print = λ xs. xs;
       writable = λ xs. eqb (length xs) n;
       tooLarge = λ xs. false;
-      form = λ pool tape k. andThen (span pool tape k) (λ xs j. need (eqb (length xs) n) (OutsideSet 0) (found xs j));
+      form = λ pool tape k. andThen (span pool tape k) (λ xs j. need (eqb (length xs) n) (OutsideSet k) (found xs j));
       tape = λ xs p. p ∷ n ∷ [];
     }
 
@@ -174,8 +190,8 @@ digits h =
       tooLarge = λ ds. false;
       form = λ pool tape k.
           andThen (span pool tape k) (λ bs j.
-          need (eqb (length bs) (suc h)) (OutsideSet 0)
-          (need (decimal (tail (halves bs))) (DigitAboveNine 0) (found (tail (halves bs)) j)));
+          need (eqb (length bs) (suc h)) (OutsideSet k)
+          (need (decimal (tail (halves bs))) (DigitAboveNine k) (found (tail (halves bs)) j)));
       tape = λ ds p. p ∷ suc h ∷ [];
     }
 

@@ -179,7 +179,7 @@ module _ (F : Format ℕ) (pool tape : List ℕ) (x : Pen) (wet : Bool) (out : L
 -- ---- entries of the tape
 
 module _ (tape : List ℕ) (k : ℕ) where
-  pub entry-none : length tape ≤ k → NoNumber (OutsideSet 0) ≡ numberOf (tapeEntry tape k)
+  pub entry-none : length tape ≤ k → NoNumber (OutsideSet k) ≡ numberOf (tapeEntry tape k)
   unfolding tapeEntry
   entry-none h = rw (lt-leb (k + 1) (length tape) (omega arith))
 
@@ -189,17 +189,17 @@ module _ (tape : List ℕ) (k : ℕ) where
 
 -- a number below a bound and from lo to hi
 abbrev pub kept : List ℕ → ℕ → ℕ → ℕ → ℕ → Reading ℕ
-kept tape k bound lo hi = andThen (tapeEntry tape k) (λ v j. need (ltb v bound && (leb lo v && leb v hi)) (OutsideSet 0) (found v j))
+kept tape k bound lo hi = andThen (tapeEntry tape k) (λ v j. need (ltb v bound && (leb lo v && leb v hi)) (OutsideSet k) (found v j))
 
 module _ (tape : List ℕ) (k bound lo hi : ℕ) where
   pub kept-none : (r : Refusal) → NoNumber r ≡ numberOf (tapeEntry tape k) → NoNumber r ≡ numberOf (kept tape k bound lo hi)
   kept-none r e = rw (number-refused (tapeEntry tape k) r e)
 
   module _ (v j : ℕ) (e : Is v j ≡ numberOf (tapeEntry tape k)) where
-    pub kept-large : bound ≤ v → NoNumber (OutsideSet 0) ≡ numberOf (kept tape k bound lo hi)
+    pub kept-large : bound ≤ v → NoNumber (OutsideSet k) ≡ numberOf (kept tape k bound lo hi)
     kept-large h = rw (number-found (tapeEntry tape k) v j e, le-ltb v bound h)
 
-    pub kept-outside : (v < bound) → (leb lo v && leb v hi) ≡ false → NoNumber (OutsideSet 0) ≡ numberOf (kept tape k bound lo hi)
+    pub kept-outside : (v < bound) → (leb lo v && leb v hi) ≡ false → NoNumber (OutsideSet k) ≡ numberOf (kept tape k bound lo hi)
     kept-outside h f = rw (number-found (tapeEntry tape k) v j e, lt-ltb v bound h, f)
 
     pub kept-is : v < bound → lo ≤ v → v ≤ hi → Is v j ≡ numberOf (kept tape k bound lo hi)
@@ -208,7 +208,7 @@ module _ (tape : List ℕ) (k bound lo hi : ℕ) where
   pub kept-below : (v j : ℕ) → kept tape k bound lo hi ≡ found v j → v < bound
   kept-below v j e =
       let i = andThen-found (tapeEntry tape k) _ v j e in
-      let g = need-found (ltb (i .0) bound && (leb lo (i .0) && leb (i .0) hi)) (OutsideSet 0) _ v j (i .3) in
+      let g = need-found (ltb (i .0) bound && (leb lo (i .0) && leb (i .0) hi)) (OutsideSet k) _ v j (i .3) in
       rw (← found-inj (g .1) .0) (ltb-true (i .0) bound (both _ _ (g .0) .0))
 
   pub kept-less : (v j : ℕ) → Is v j ≡ numberOf (kept tape k bound lo hi) → v < bound
@@ -231,28 +231,21 @@ Spanned pool tape k r =
     × ((a n : ℕ) → r ≡ Of a n → (k + 2 ≤ length tape) × (a + n ≤ length pool) × (span pool tape k ≡ found (take n (drop a pool)) (k + 2)))
 
 module _ (pool tape : List ℕ) (k : ℕ) where
-  no-span : span pool tape k ≡ refused (OutsideSet 0) → Spanned pool tape k (NoPart (OutsideSet 0))
+  no-span : span pool tape k ≡ refused (OutsideSet k) → Spanned pool tape k (NoPart (OutsideSet k))
   no-span e =
-      (λ r f. e ∙ ap refused (let z : OutsideSet 0 ≡ r = cc in z), λ a n f. absurd (let z : _≡_ {A = ℕ} 0 1 = cc in omega arith))
+      (λ r f. e ∙ ap refused (let z : OutsideSet k ≡ r = cc in z), λ a n f. absurd (let z : _≡_ {A = ℕ} 0 1 = cc in omega arith))
 
-  pub span-short : length tape < k + 2 → Spanned pool tape k (NoPart (OutsideSet 0))
-  unfolding span tapeEntry
-  span-short h = no-span (go (leb (k + 1) (length tape)))
-    where
-      go : (b : Bool) → andThen (need b (OutsideSet 0) (found (getD tape k 0) (k + 1)))
-          (λ start j. andThen (tapeEntry tape j) (λ n i. need (leb (start + n) (length pool)) (OutsideSet 0) (found (take n (drop start pool)) i))) ≡ refused (OutsideSet 0)
-      go true = rw (lt-leb (k + 1 + 1) (length tape) (omega arith))
-      go false = refl
+  pub span-short : length tape < k + 2 → Spanned pool tape k (NoPart (OutsideSet k))
+  unfolding span
+  span-short h = no-span (rw (lt-leb (k + 2) (length tape) h))
 
   module _ (h : k + 2 ≤ length tape) where
     two-entries : span pool tape k
-        ≡ need (leb (getD tape k 0 + getD tape (k + 1) 0) (length pool)) (OutsideSet 0) (found (take (getD tape (k + 1) 0) (drop (getD tape k 0) pool)) (k + 2))
-    unfolding span tapeEntry
-    two-entries =
-        let j : k + 1 + 1 ≡ k + 2 = omega arith in
-        rw (le-leb (k + 1) (length tape) (omega arith), le-leb (k + 1 + 1) (length tape) (omega arith), j)
+        ≡ need (leb (getD tape k 0 + getD tape (k + 1) 0) (length pool)) (OutsideSet k) (found (take (getD tape (k + 1) 0) (drop (getD tape k 0) pool)) (k + 2))
+    unfolding span
+    two-entries = rw (le-leb (k + 2) (length tape) h)
 
-    pub span-outside : length pool < getD tape k 0 + getD tape (k + 1) 0 → Spanned pool tape k (NoPart (OutsideSet 0))
+    pub span-outside : length pool < getD tape k 0 + getD tape (k + 1) 0 → Spanned pool tape k (NoPart (OutsideSet k))
     span-outside g = no-span (rw (two-entries, lt-leb (getD tape k 0 + getD tape (k + 1) 0) (length pool) g))
 
     pub span-there : getD tape k 0 + getD tape (k + 1) 0 ≤ length pool → Spanned pool tape k (Of (getD tape k 0) (getD tape (k + 1) 0))

@@ -54,7 +54,8 @@ module _ (w limit : ℕ) where
   unfolding more
   closed-more size m n over h end e = go (ltb (end - size - w) limit) refl (ltb m limit) refl over e
     where
-      go : (s : Bool) → ltb (end - size - w) limit ≡ s → (t : Bool) → ltb m limit ≡ t → (o : Bool) → end ≡ (if o then 1045505 else min (min (size + w) 1045505 + m) 1045505)
+      go : (s : Bool) → ltb (end - size - w) limit ≡ s → (t : Bool) → ltb m limit ≡ t → (o : Bool)
+          → end ≡ (if o then 1045505 else min (min (size + w) 1045505 + m) 1045505)
           → (if not s then 1045505 else min (end + 0) 1045505) ≡ (if not t || o then 1045505 else min (size + (n + m)) 1045505)
       go true p true q true z = omega arith
       go true p true q false z = omega (arith, h (ltb-true m limit q))
@@ -117,7 +118,8 @@ module _ (w top limit : ℕ) (x b : Pen) (wet : Bool) (out : List ℕ) where
 -- ---- room, the part, and then its length, make the counted part
 
 module _ {A : Type 0} {F : Format A} (L : Length) (w top : ℕ) (prints : (n : ℕ) → n < L .limit → L .field .print n ≡ bytesOf w (top + n))
-    {pool tape : List ℕ} {x : Pen} {wet : Bool} {out : List ℕ} {g : Pen} (room : g ≡ gapped w x) {b : Pen} {mid : List ℕ} (p : Penned F pool tape g wet out b mid)
+    {pool tape : List ℕ} {x : Pen} {wet : Bool} {out : List ℕ} {g : Pen} (room : g ≡ gapped w x) {b : Pen} {mid : List ℕ}
+    (p : Penned F pool tape g wet out b mid)
     {r : Pen} {out′ : List ℕ} (q : Closed w top (L .limit) x b wet mid r out′) where
   field-length : (n : ℕ) → n < L .limit → length (L .field .print n) ≡ w
   field-length n h = ap length (prints n h) ∙ length-bytes w (top + n)

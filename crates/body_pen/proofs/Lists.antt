@@ -32,11 +32,13 @@ module _ {A : Type 0} (F : Format A) (pool tape : List ℕ) (n : ℕ) where
       again a (refused e) = refl
 
       go : (x : Reading A) → andThen x (λ a q. andThen (repeat (F .form pool tape) n q) (λ xs r. found (a ∷ xs) r))
-          ≡ andThen (andThen x (λ a j. andThen (repeat (F .form pool tape) n j) (λ xs i. let z : A × List A = (a, xs) in found z i))) (λ y j. found (y .0 ∷ y .1) j)
+          ≡ andThen (andThen x (λ a j. andThen (repeat (F .form pool tape) n j) (λ xs i. let z : A × List A =
+          (a, xs) in found z i))) (λ y j. found (y .0 ∷ y .1) j)
       go (found a q) = again a (repeat (F .form pool tape) n q)
       go (refused e) = refl
 
-  times-bytes : (y : A × List A) → (times (suc n) F .print (y .0 ∷ y .1) ≡ (F ▷ times n F) .print y) × (times (suc n) F .tooLarge (y .0 ∷ y .1) ≡ (F ▷ times n F) .tooLarge y)
+  times-bytes : (y : A × List A) → (times (suc n) F .print (y .0 ∷ y .1) ≡ (F ▷ times n F) .print y) ×
+      (times (suc n) F .tooLarge (y .0 ∷ y .1) ≡ (F ▷ times n F) .tooLarge y)
   unfolding times followed printAll some
   times-bytes y = (refl, refl)
 
@@ -45,17 +47,20 @@ module _ {A : Type 0} (F : Format A) {pool tape : List ℕ} {x : Pen} {wet : Boo
   unfolding nothing times repeat printAll some
   times-none small = same-pen (times 0 F) (λ u. []) (λ k. refl) (λ k a j h. (refl, refl)) (nothing-pen small)
 
-  pub times-more : {r : Pen} {mid : List ℕ} → Penned F pool tape x wet out r mid → (n : ℕ) {r′ : Pen} {out′ : List ℕ} → Penned (times n F) pool tape r wet mid r′ out′
+  pub times-more : {r : Pen} {mid : List ℕ} → Penned F pool tape x wet out r mid → (n : ℕ) {r′ : Pen} {out′ : List ℕ}
+      → Penned (times n F) pool tape r wet mid r′ out′
       → Penned (times (suc n) F) pool tape x wet out r′ out′
   times-more p n q = same-pen (times (suc n) F) (λ y. y .0 ∷ y .1) (times-form F pool tape n) (λ k y j h. times-bytes F pool tape n y) (pair-pen p q)
 
 -- ---- things under way: whatever puts those that are left, from here on, puts them all
 
-pub record Underway {A : Type 0} (F : Format A) (pool tape : List ℕ) (wet : Bool) (n : ℕ) (x₀ : Pen) (out₀ : List ℕ) (left : ℕ) (x : Pen) (out : List ℕ) : Type 0 where
+pub record Underway {A : Type 0} (F : Format A) (pool tape : List ℕ) (wet : Bool) (n : ℕ) (x₀ : Pen) (out₀ : List ℕ) (left : ℕ) (x : Pen)
+    (out : List ℕ) : Type 0 where
   pub small : (size k : ℕ) → x ≡ At size k → size ≤ 1045505
   pub whole : (r : Pen) (out′ : List ℕ) → Penned (times left F) pool tape x wet out r out′ → Penned (times n F) pool tape x₀ wet out₀ r out′
 
-pub times-start : {A : Type 0} {F : Format A} {pool tape : List ℕ} {wet : Bool} {n : ℕ} {x : Pen} {out : List ℕ} → ((size k : ℕ) → x ≡ At size k → size ≤ 1045505)
+pub times-start : {A : Type 0} {F : Format A} {pool tape : List ℕ} {wet : Bool} {n : ℕ} {x : Pen} {out : List ℕ}
+    → ((size k : ℕ) → x ≡ At size k → size ≤ 1045505)
     → Underway F pool tape wet n x out n x out
 times-start small = record { small = small; whole = λ r out′ p. p }
 
@@ -70,7 +75,9 @@ module _ {A : Type 0} {F : Format A} {pool tape : List ℕ} {wet : Bool} {n : �
 
   module _ (h : 0 < left) {q : Pen} {mid : List ℕ} (p : Penned F pool tape x wet out q mid) where
     others : (r : Pen) (out′ : List ℕ) → Penned (times (left - 1) F) pool tape q wet mid r out′ → Penned (times n F) pool tape x₀ wet out₀ r out′
-    others r out′ t = u .whole r out′ (subst (λ m. Penned (times m F) pool tape x wet out r out′) (let z : suc (left - 1) ≡ left = omega arith in z) (times-more F p (left - 1) t))
+    others r out′ t =
+        u .whole r out′ (subst (λ m. Penned (times m F) pool tape x wet out r out′) (let z : suc (left - 1) ≡ left = omega arith in z)
+        (times-more F p (left - 1) t))
 
     pub times-turn : (r : Pen) → q ≡ r → Underway F pool tape wet n x₀ out₀ (left - 1) r mid
     times-turn r e = subst (λ y. Underway F pool tape wet n x₀ out₀ (left - 1) y mid) e (record { small = pen-small p; whole = others })
@@ -91,7 +98,8 @@ module _ {A : Type 0} (C : Format ℕ) (F : Format A) (pool tape : List ℕ) whe
       again n (refused e) = refl
 
       go : (x : Reading ℕ) → andThen x (λ n j. repeat (F .form pool tape) n j)
-          ≡ andThen (andThen x (λ n j. andThen (repeat (F .form pool tape) n j) (λ xs i. let z : (n : ℕ) × List A = (n, xs) in found z i))) (λ y j. found (y .1) j)
+          ≡ andThen (andThen x (λ n j. andThen (repeat (F .form pool tape) n j) (λ xs i. let z : (n : ℕ) × List A =
+          (n, xs) in found z i))) (λ y j. found (y .1) j)
       go (found n j) = again n (repeat (F .form pool tape) n j)
       go (refused e) = refl
 
@@ -119,7 +127,8 @@ module _ (pool tape : List ℕ) (x : Pen) (wet : Bool) (out : List ℕ) (size k 
   unfolding unprinted
   untaken r f = count-refused unprinted pool tape x wet out size k e r (number-refused (tapeEntry tape k) r f)
 
-  pub taken : (n j : ℕ) → Is n j ≡ numberOf (tapeEntry tape k) → (z : ℕ) → z ≡ more size 0 false → Counted unprinted pool tape x wet out (record { pen = At z j; n = n }) out
+  pub taken : (n j : ℕ) → Is n j ≡ numberOf (tapeEntry tape k) → (z : ℕ) → z ≡ more size 0 false
+      → Counted unprinted pool tape x wet out (record { pen = At z j; n = n }) out
   unfolding unprinted bytesOf
   taken n j f z g =
       count-written unprinted pool tape x wet out size k e n j (number-found (tapeEntry tape k) n j f) false refl 0 0 refl z g out

@@ -96,20 +96,21 @@ module _ (k w : ℕ) (bits : k ≤ 8) where
       ap₂ (λ (x y : ℕ). x - y) whole f ∙ sym less
 
 -- their form takes a number below the bound
-limited : (p q : ℕ → Bool) (x : Reading ℕ)
-    → andThen (andThen x (λ v j. need (p v) (OutsideSet 0) (found v j))) (λ v j. judged (unless (q v) (OutsideSet 0)) (found v j))
-    ≡ andThen x (λ v j. need (p v && q v) (OutsideSet 0) (found v j))
-limited p q (refused r) = refl
-limited p q (found v j) = go (p v)
+limited : (p q : ℕ → Bool) (at : ℕ) (x : Reading ℕ)
+    → andThen (andThen x (λ v j. need (p v) (OutsideSet at) (found v j))) (λ v j. judged (unless (q v) (OutsideSet at)) (found v j))
+    ≡ andThen x (λ v j. need (p v && q v) (OutsideSet at) (found v j))
+limited p q at (refused r) = refl
+limited p q at (found v j) = go (p v)
   where
-    go : (b : Bool) → andThen (need b (OutsideSet 0) (found v j)) (λ u i. judged (unless (q u) (OutsideSet 0)) (found u i)) ≡ need (b && q v) (OutsideSet 0) (found v j)
-    go true = judged-need (q v) (OutsideSet 0) (found v j)
+    go : (b : Bool) → andThen (need b (OutsideSet at) (found v j)) (λ u i. judged (unless (q u) (OutsideSet at)) (found u i))
+        ≡ need (b && q v) (OutsideSet at) (found v j)
+    go true = judged-need (q v) (OutsideSet at) (found v j)
     go false = refl
 
 module _ (k w lo hi : ℕ) (pool tape : List ℕ) (i b : ℕ) (eb : b ≡ below k w) where
   reserved-form : among lo hi (reserved k w) .form pool tape i ≡ kept tape i b lo hi
   unfolding only reserved
-  reserved-form = rw eb (limited (λ v. ltb v (below k w)) (λ v. leb lo v && leb v hi) (tapeEntry tape i))
+  reserved-form = rw eb (limited (λ v. ltb v (below k w)) (λ v. leb lo v && leb v hi) i (tapeEntry tape i))
 
   module _ (x : Pen) (wet : Bool) (out : List ℕ) (size : ℕ) (e : x ≡ At size i) where
     pub reserved-refused : (r : Refusal) → NoNumber r ≡ numberOf (kept tape i b lo hi)
@@ -121,7 +122,8 @@ module _ (k w lo hi : ℕ) (pool tape : List ℕ) (i b : ℕ) (eb : b ≡ below 
         → Counted (among lo hi (reserved k w)) pool tape x wet out (record { pen = At z j; n = v }) out′
     unfolding only reserved
     reserved-written v j f ones eo z ez out′ ink =
-        count-written (among lo hi (reserved k w)) pool tape x wet out size i e v j (reserved-form ∙ number-found (kept tape i b lo hi) v j f) false refl (w + 1) (ones + v)
+        count-written (among lo hi (reserved k w)) pool tape x wet out size i e v j (reserved-form ∙ number-found (kept tape i b lo hi) v j f) false
+        refl (w + 1) (ones + v)
         (rw (add-one, eo)) z ez out′ ink
 
 -- a range that leaves out no number
@@ -129,7 +131,7 @@ among-all : (F : Format ℕ) (hi : ℕ) (pool tape : List ℕ) → ((k a j : ℕ
 unfolding only
 among-all F hi pool tape h = record { forms = λ k. go k (F .form pool tape k) refl; prints = λ k a j e. refl; overs = λ k a j e. refl }
   where
-    go : (k : ℕ) (x : Reading ℕ) → F .form pool tape k ≡ x → andThen x (λ a j. judged (unless (leb 0 a && leb a hi) (OutsideSet 0)) (found a j)) ≡ x
+    go : (k : ℕ) (x : Reading ℕ) → F .form pool tape k ≡ x → andThen x (λ a j. judged (unless (leb 0 a && leb a hi) (OutsideSet k)) (found a j)) ≡ x
     go k (found a j) e = rw (le-leb 0 a (omega arith), le-leb a hi (h k a j e))
     go k (refused r) e = refl
 
@@ -139,21 +141,21 @@ reserved-all k w bits bytes pool tape =
     among-all (reserved k w) 0xFFFF_FFFF_FFFF_FFFF pool tape
     (λ i a j e.
     let f = andThen-found (tapeEntry tape i) _ a j e in
-    let g = need-found (ltb (f .0) (below k w)) (OutsideSet 0) _ a j (f .3) in
+    let g = need-found (ltb (f .0) (below k w)) (OutsideSet i) _ a j (f .3) in
     omega (arith, found-inj (g .1) .0, ltb-true (f .0) (below k w) (g .0), below-power k w, power-small (8 * w + (8 - k)) 56 (omega arith)))
 
 number-below : (w : ℕ) (pool tape : List ℕ) (k a j : ℕ) → number w .form pool tape k ≡ found a j → a < 256 ^ w
 unfolding number only
 number-below w pool tape k a j e =
     let f = andThen-found (count w .form pool tape k) _ a j e in
-    let g = judged-found (unless (ltb (f .0) (256 ^ w)) (OutsideSet 0)) _ a j (f .3) in
+    let g = judged-found (unless (ltb (f .0) (256 ^ w)) (OutsideSet k)) _ a j (f .3) in
     rw (← found-inj (g .1) .0) (ltb-true (f .0) (256 ^ w) (fine-test _ _ (g .0)))
 
 pub only-below : (fault : ℕ → ℕ → Fault) (w : ℕ) (pool tape : List ℕ) (k a j : ℕ) → only fault (number w) .form pool tape k ≡ found a j → a < 256 ^ w
 unfolding only
 only-below fault w pool tape k a j e =
     let f = andThen-found (number w .form pool tape k) _ a j e in
-    let g = judged-found (fault (f .0) 0) _ a j (f .3) in
+    let g = judged-found (fault (f .0) k) _ a j (f .3) in
     rw (← found-inj (g .1) .0) (number-below w pool tape k (f .0) (f .1) (f .2))
 
 pub number-all : (w : ℕ) → w ≤ 7 → (pool tape : List ℕ) → Alike (among 0 0xFFFF_FFFF_FFFF_FFFF (number w)) (number w) pool tape
@@ -170,16 +172,19 @@ reserved-none (suc w) lo hi h pool tape =
     let all : below 0 w ≡ 256 ^ suc w = sym (pow-suc 256 w) in
     rw d
     record {
-      forms = λ k. go all (tapeEntry tape k);
+      forms = λ k. go all k (tapeEntry tape k);
       prints = λ k a j e. ap (bytesOf (suc w)) (let z : (2 ^ 0 - 1) * below 0 w + a ≡ a = rw (zero-mul, zero-add) in z);
-      overs = λ k a j e. rw (lt-ltb a (256 ^ suc w) (rw all at (kept-below tape k (below 0 w) lo hi a j (sym (reserved-form 0 w lo hi pool tape k (below 0 w) refl) ∙ e))));
+      overs = λ k a j e. rw (lt-ltb a (256 ^ suc w)
+          (rw all at (kept-below tape k (below 0 w) lo hi a j (sym (reserved-form 0 w lo hi pool tape k (below 0 w) refl) ∙ e))));
     }
   where
-    go : below 0 w ≡ 256 ^ suc w → (x : Reading ℕ)
-        → andThen (andThen x (λ v j. need (ltb v (below 0 w)) (OutsideSet 0) (found v j))) (λ v j. judged (unless (leb lo v && leb v hi) (OutsideSet 0)) (found v j))
-        ≡ andThen (andThen x (λ v j. judged (unless (ltb v (256 ^ suc w)) (OutsideSet 0)) (found v j))) (λ v j. judged (unless (leb lo v && leb v hi) (OutsideSet 0)) (found v j))
-    go all (found v j) = rw (all, judged-need)
-    go all (refused r) = refl
+    go : below 0 w ≡ 256 ^ suc w → (at : ℕ) (x : Reading ℕ)
+        → andThen (andThen x (λ v j. need (ltb v (below 0 w)) (OutsideSet at) (found v j)))
+        (λ v j. judged (unless (leb lo v && leb v hi) (OutsideSet at)) (found v j))
+        ≡ andThen (andThen x (λ v j. judged (unless (ltb v (256 ^ suc w)) (OutsideSet at)) (found v j)))
+        (λ v j. judged (unless (leb lo v && leb v hi) (OutsideSet at)) (found v j))
+    go all at (found v j) = rw (all, judged-need)
+    go all at (refused r) = refl
 
 -- ---- two numbers of four bits
 
@@ -187,23 +192,8 @@ abbrev pairOf : Reading ℕ → (ℕ → Reading ℕ) → Reading (ℕ × ℕ)
 pairOf x f = andThen x (λ high j. andThen (f j) (λ low i. let z : ℕ × ℕ = (high, low) in found z i))
 
 module _ (lo hi : ℕ) (pool tape : List ℕ) (k : ℕ) where
-  -- the tests of a form, in the order of the code's: all refuse alike
-  nibbles-tests : (t a p u b q : Bool) → leb (k + 1) (length tape) ≡ t → ltb (getD tape k 0) 16 ≡ a → (leb lo (getD tape k 0) && leb (getD tape k 0) hi) ≡ p
-      → leb (k + 1 + 1) (length tape) ≡ u → ltb (getD tape (k + 1) 0) 16 ≡ b → (leb lo (getD tape (k + 1) 0) && leb (getD tape (k + 1) 0) hi) ≡ q
-      → nibblesAmong lo hi .form pool tape k ≡ pairOf (kept tape k 16 lo hi) (λ j. kept tape j 16 lo hi)
-  unfolding only nibbles tapeEntry
-  nibbles-tests false a p u b q et ea ep eu eb eq = rw et
-  nibbles-tests true false p u b q et ea ep eu eb eq = rw (et, ea)
-  nibbles-tests true true false false b q et ea ep eu eb eq = rw (et, ea, ep, eu)
-  nibbles-tests true true false true false q et ea ep eu eb eq = rw (et, ea, ep, eu, eb)
-  nibbles-tests true true false true true q et ea ep eu eb eq = rw (et, ea, eu, eb, ep)
-  nibbles-tests true true true false b q et ea ep eu eb eq = rw (et, ea, ep, eu)
-  nibbles-tests true true true true false q et ea ep eu eb eq = rw (et, ea, ep, eu, eb)
-  nibbles-tests true true true true true false et ea ep eu eb eq = rw (et, ea, ep, eu, eb, ep, eq)
-  nibbles-tests true true true true true true et ea ep eu eb eq = rw (et, ea, ep, eu, eb, ep, eq)
-
   nibbles-form : nibblesAmong lo hi .form pool tape k ≡ pairOf (kept tape k 16 lo hi) (λ j. kept tape j 16 lo hi)
-  nibbles-form = nibbles-tests _ _ _ _ _ _ refl refl refl refl refl refl
+  nibbles-form = refl
 
   module _ (x : Pen) (wet : Bool) (out : List ℕ) (size : ℕ) (e : x ≡ At size k) where
     pub high-refused : (r : Refusal) → NoNumber r ≡ numberOf (kept tape k 16 lo hi) → Penned (nibblesAmong lo hi) pool tape x wet out (Refused r) out

@@ -11,7 +11,7 @@ use Rattle.ground_refusal.specs.declared.Refusal.{Refusal}
 use Rattle.body_formats.specs.Reading.{Reading, found, refused, andThen, Fault, fine, faulty, judged}
 use Rattle.body_formats.specs.Format.{Format, followed, _▷_, nothing, under, view, exact, only}
 use Rattle.body_formats.proofs.Outcomes.{found-inj, not-found, andThen-found, judged-found, neither}
-use Rattle.body_pen.specs.Penned.{more, penOnward, penned, Penned, valuePenned, Counted, refusing}
+use Rattle.body_pen.specs.Penned.{more, penOnward, penned, Penned, valuePenned, Counted, entryOf, refusing}
 use Rattle.body_pen.specs.declared.Pen.{Pen}
 use Rattle.body_pen.specs.declared.Pen.the-variants.{At, Refused}
 use Rattle.body_pen.specs.declared.Count.{Count}
@@ -45,7 +45,8 @@ module _ {A : Type 0} (F : Format A) (pool tape : List ℕ) where
   unfolding penned
   penned-at size k = refl
 
-module _ {A : Type 0} {F : Format A} {pool tape : List ℕ} {x : Pen} {wet : Bool} {out : List ℕ} {r : Pen} {out′ : List ℕ} (p : Penned F pool tape x wet out r out′) where
+module _ {A : Type 0} {F : Format A} {pool tape : List ℕ} {x : Pen} {wet : Bool} {out : List ℕ} {r : Pen} {out′ : List ℕ}
+    (p : Penned F pool tape x wet out r out′) where
   pub pen-refused : (e : Refusal) → x ≡ Refused e → r ≡ Refused e
   pen-refused e q = p .said ∙ ap (penned F pool tape) q ∙ penned-refused F pool tape e
 
@@ -53,7 +54,8 @@ module _ {A : Type 0} {F : Format A} {pool tape : List ℕ} {x : Pen} {wet : Boo
   pen-onward size k e y f = p .said ∙ ap (penned F pool tape) e ∙ penned-at F pool tape size k ∙ ap (penOnward F size) f
 
   -- what is not over its field, and not too many for a body, is counted in full
-  pub pen-exact : (size k : ℕ) → x ≡ At size k → (a : A) (j : ℕ) → F .form pool tape k ≡ found a j → F .tooLarge a ≡ false → size + length (F .print a) ≤ 1045504
+  pub pen-exact : (size k : ℕ) → x ≡ At size k → (a : A) (j : ℕ) → F .form pool tape k ≡ found a j → F .tooLarge a ≡ false
+      → size + length (F .print a) ≤ 1045504
       → r ≡ At (size + length (F .print a)) j
   pen-exact size k e a j f o l =
       pen-onward size k e (found a j) f ∙ ap (λ n. At n j) (ap (more size (length (F .print a))) o ∙ more-exact size (length (F .print a)) l)
@@ -63,7 +65,8 @@ module _ {A : Type 0} {F : Format A} {pool tape : List ℕ} {x : Pen} {wet : Boo
   pen-small size k q = go x refl
     where
       at : (n : ℕ) (y : Reading A) → r ≡ penOnward F n y → size ≤ 1045505
-      at n (found a i) e = omega (arith, (let z : size ≡ more n (length (F .print a)) (F .tooLarge a) = cc in z), more-small n (length (F .print a)) (F .tooLarge a))
+      at n (found a i) e =
+          omega (arith, (let z : size ≡ more n (length (F .print a)) (F .tooLarge a) = cc in z), more-small n (length (F .print a)) (F .tooLarge a))
       at n (refused e) f = absurd (let z : _≡_ {A = ℕ} 0 1 = cc in omega arith)
 
       go : (y : Pen) → x ≡ y → size ≤ 1045505
@@ -110,7 +113,8 @@ module _ {A : Type 0} {B : A → Type 0} (F : Format A) (G : (a : A) → Format 
   over-both x = refl
 
   onward-both : (size : ℕ) (a : A) (y : Reading (B a))
-      → penOnward (G a) (more size (length (F .print a)) (F .tooLarge a)) y ≡ penOnward (followed F G) size (andThen y (λ b i. let z : (a : A) × B a = (a, b) in found z i))
+      → penOnward (G a) (more size (length (F .print a)) (F .tooLarge a)) y
+      ≡ penOnward (followed F G) size (andThen y (λ b i. let z : (a : A) × B a = (a, b) in found z i))
   unfolding followed
   onward-both size a (found b i) =
       ap (λ n. At n i)
@@ -119,7 +123,8 @@ module _ {A : Type 0} {B : A → Type 0} (F : Format A) (G : (a : A) → Format 
   onward-both size a (refused e) = refl
 
 -- the second is told of only where the first found something; a refusal of the first stands, and a dry pen leaves what the first left
-module _ {A : Type 0} {B : A → Type 0} {F : Format A} (G : (a : A) → Format (B a)) {pool tape : List ℕ} {x : Pen} {wet : Bool} {out : List ℕ} {r : Pen} {mid : List ℕ}
+module _ {A : Type 0} {B : A → Type 0} {F : Format A} (G : (a : A) → Format (B a)) {pool tape : List ℕ} {x : Pen} {wet : Bool} {out : List ℕ}
+    {r : Pen} {mid : List ℕ}
     (p : Penned F pool tape x wet out r mid) {r′ : Pen} {out′ : List ℕ}
     (q : (size k : ℕ) → x ≡ At size k → (a : A) (j : ℕ) → F .form pool tape k ≡ found a j → Penned (G a) pool tape r wet mid r′ out′)
     (stays : (e : Refusal) → r ≡ Refused e → r′ ≡ Refused e) (still : wet ≡ false → out′ ≡ mid) where
@@ -152,7 +157,8 @@ module _ {A : Type 0} {B : A → Type 0} {F : Format A} (G : (a : A) → Format 
             ∙ ap (placed out size) (sym bytes);
       }
 
-pub pair-pen : {A B : Type 0} {F : Format A} {G : Format B} {pool tape : List ℕ} {x : Pen} {wet : Bool} {out : List ℕ} {r : Pen} {mid : List ℕ} {r′ : Pen} {out′ : List ℕ}
+pub pair-pen : {A B : Type 0} {F : Format A} {G : Format B} {pool tape : List ℕ} {x : Pen} {wet : Bool} {out : List ℕ} {r : Pen} {mid : List ℕ}
+    {r′ : Pen} {out′ : List ℕ}
     → Penned F pool tape x wet out r mid → Penned G pool tape r wet mid r′ out′ → Penned (F ▷ G) pool tape x wet out r′ out′
 pair-pen {A} {B} {F} {G} p q = followed-pen (λ a. G) p (λ size k e a j f. q) (pen-refused q) (q .dry)
 
@@ -163,14 +169,17 @@ pub told : {C : Format ℕ} {pool tape : List ℕ} {x : Pen} {wet : Bool} {out :
 unfolding valuePenned
 told p size k e n j f = p .value ∙ rw (e, f)
 
-pub after-number : {B : ℕ → Type 0} {C : Format ℕ} (G : (n : ℕ) → Format (B n)) {pool tape : List ℕ} {x : Pen} {wet : Bool} {out : List ℕ} {c : Count} {mid : List ℕ}
-    → Counted C pool tape x wet out c mid → {r : Pen} {out′ : List ℕ} → Penned (G (c .n)) pool tape (c .pen) wet mid r out′ → Penned (followed C G) pool tape x wet out r out′
+pub after-number : {B : ℕ → Type 0} {C : Format ℕ} (G : (n : ℕ) → Format (B n)) {pool tape : List ℕ} {x : Pen} {wet : Bool} {out : List ℕ}
+    {c : Count} {mid : List ℕ}
+    → Counted C pool tape x wet out c mid → {r : Pen} {out′ : List ℕ} → Penned (G (c .n)) pool tape (c .pen) wet mid r out′
+    → Penned (followed C G) pool tape x wet out r out′
 after-number G {pool} {tape} {x} {wet} {out} {c} {mid} p {r} {out′} q =
     followed-pen G (p .past) (λ size k e n j f. subst (λ m. Penned (G m) pool tape (c .pen) wet mid r out′) (told p size k e n j f) q)
     (pen-refused q) (q .dry)
 
 -- nothing, where the bytes so far are within their bound
-pub nothing-pen : {pool tape : List ℕ} {x : Pen} {wet : Bool} {out : List ℕ} → ((size k : ℕ) → x ≡ At size k → size ≤ 1045505) → Penned nothing pool tape x wet out x out
+pub nothing-pen : {pool tape : List ℕ} {x : Pen} {wet : Bool} {out : List ℕ} → ((size k : ℕ) → x ≡ At size k → size ≤ 1045505)
+    → Penned nothing pool tape x wet out x out
 unfolding nothing
 nothing-pen {pool} {tape} {x} {wet} {out} small =
     record {
@@ -195,7 +204,8 @@ module _ {A : Type 0} {C : Format ℕ} (G : Format A) {pool tape : List ℕ} {x 
   under-some zero h q = absurd (omega arith)
   under-some (suc n) h q = q
 
-  pub flag-some : 0 < c .n → {r : Pen} {out′ : List ℕ} → Penned G pool tape (c .pen) wet mid r out′ → Penned (followed C (λ flag. under G flag)) pool tape x wet out r out′
+  pub flag-some : 0 < c .n → {r : Pen} {out′ : List ℕ} → Penned G pool tape (c .pen) wet mid r out′
+      → Penned (followed C (λ flag. under G flag)) pool tape x wet out r out′
   flag-some h q = after-number (λ flag. under G flag) p (under-some (c .n) h q)
 
 -- ---- the same fields as a value of another kind
@@ -228,7 +238,8 @@ module _ {A B : Type 0} {F : Format A} (G : Format B) (f : A → B) {pool tape :
             p .put w size k e (g .0) (g .1) (g .2) (sym (s .1) ∙ ap (G .tooLarge) (z .0) ∙ o) (rw bytes l) (rw bytes m) ∙ ap (placed out size) bytes;
       }
 
-module _ {A : Type 0} {F : Format A} {pool tape : List ℕ} {x : Pen} {wet : Bool} {out : List ℕ} {r : Pen} {out′ : List ℕ} (p : Penned F pool tape x wet out r out′) where
+module _ {A : Type 0} {F : Format A} {pool tape : List ℕ} {x : Pen} {wet : Bool} {out : List ℕ} {r : Pen} {out′ : List ℕ}
+    (p : Penned F pool tape x wet out r out′) where
   pub view-pen : {B : Type 0} (f : A → B) (g : B → A) → ((a : A) → g (f a) ≡ a) → Penned (view f g F) pool tape x wet out r out′
   unfolding view
   view-pen f g gf = same-pen (view f g F) f (λ k. refl) (λ k a j h. (ap (F .print) (gf a), ap (F .tooLarge) (gf a))) p
@@ -238,6 +249,14 @@ module _ {A : Type 0} {F : Format A} {pool tape : List ℕ} {x : Pen} {wet : Boo
   exact-pen leftOver = same-pen (exact leftOver F) (λ a. a) (λ k. as-found (F .form pool tape k)) (λ k a j h. (refl, refl)) p
 
 -- ---- values of a stated set: the pen through F, and what is said of the value that it went through
+
+pub entry-is : (x : Pen) (size k : ℕ) → x ≡ At size k → entryOf x ≡ k
+unfolding entryOf
+entry-is x size k e = rw e
+
+pub entry-none : (x : Pen) (r : Refusal) → x ≡ Refused r → entryOf x ≡ 0
+unfolding entryOf
+entry-none x r e = rw e
 
 module _ (x : Pen) (u : Refusal) where
   pub refusing-at : (size k : ℕ) → x ≡ At size k → refusing x u ≡ Refused u
@@ -250,7 +269,7 @@ module _ (x : Pen) (u : Refusal) where
 
 module _ {A : Type 0} (fault : A → ℕ → Fault) {F : Format A} {pool tape : List ℕ} {x : Pen} {wet : Bool} {out : List ℕ} {r : Pen} {out′ : List ℕ}
     (p : Penned F pool tape x wet out r out′) where
-  only-form : (k : ℕ) (y : Reading A) → F .form pool tape k ≡ y → only fault F .form pool tape k ≡ andThen y (λ a j. judged (fault a 0) (found a j))
+  only-form : (k : ℕ) (y : Reading A) → F .form pool tape k ≡ y → only fault F .form pool tape k ≡ andThen y (λ a j. judged (fault a k) (found a j))
   unfolding only
   only-form k y f = rw f
 
@@ -263,10 +282,11 @@ module _ {A : Type 0} (fault : A → ℕ → Fault) {F : Format A} {pool tape : 
   unfolding only
   only-put k a j h =
       let f = andThen-found (F .form pool tape k) _ a j h in
-      f .2 ∙ judged-found (fault (f .0) 0) _ a j (f .3) .1
+      f .2 ∙ judged-found (fault (f .0) k) _ a j (f .3) .1
 
   -- it is in the set
-  pub only-fine : ((size k : ℕ) → x ≡ At size k → (a : A) (j : ℕ) → F .form pool tape k ≡ found a j → fault a 0 ≡ fine) → Penned (only fault F) pool tape x wet out r out′
+  pub only-fine : ((size k : ℕ) → x ≡ At size k → (a : A) (j : ℕ) → F .form pool tape k ≡ found a j → fault a k ≡ fine)
+      → Penned (only fault F) pool tape x wet out r out′
   unfolding only
   only-fine h =
       record {
@@ -282,19 +302,22 @@ module _ {A : Type 0} (fault : A → ℕ → Fault) {F : Format A} {pool tape : 
       go size k e (refused u) f = pen-onward p size k e (refused u) f ∙ ap (penOnward (only fault F) size) (sym (only-form k (refused u) f))
 
   -- it is not; a refusal before it stands
-  pub only-faulty : (u : Refusal) → ((size k : ℕ) → x ≡ At size k → (a : A) (j : ℕ) → F .form pool tape k ≡ found a j → fault a 0 ≡ faulty u)
+  pub only-faulty : (u : Refusal) → ((size k : ℕ) → x ≡ At size k → (a : A) (j : ℕ) → F .form pool tape k ≡ found a j → fault a k ≡ faulty u)
       → Penned (only fault F) pool tape x wet out (refusing r u) out′
   only-faulty u h =
       record {
-        said = penned-by (only fault F) pool tape x (refusing r u) (λ size k e. go size k e (F .form pool tape k) refl) (λ v e. refusing-refused r u v (pen-refused p v e));
+        said = penned-by (only fault F) pool tape x (refusing r u) (λ size k e. go size k e (F .form pool tape k) refl)
+            (λ v e. refusing-refused r u v (pen-refused p v e));
         dry = p .dry;
         put = λ w size k e a j f o l m.
             let g = only-put k a j f in
             absurd (not-found (sym (only-form k (found a j) g ∙ ap (λ v. judged v (found a j)) (h size k e a j g)) ∙ f));
       }
     where
-      go : (size k : ℕ) → x ≡ At size k → (y : Reading A) → F .form pool tape k ≡ y → refusing r u ≡ penOnward (only fault F) size (only fault F .form pool tape k)
+      go : (size k : ℕ) → x ≡ At size k → (y : Reading A) → F .form pool tape k ≡ y
+          → refusing r u ≡ penOnward (only fault F) size (only fault F .form pool tape k)
       go size k e (found a j) f =
           refusing-at r u _ j (pen-onward p size k e (found a j) f)
           ∙ ap (penOnward (only fault F) size) (sym (only-form k (found a j) f ∙ ap (λ v. judged v (found a j)) (h size k e a j f)))
-      go size k e (refused v) f = refusing-refused r u v (pen-onward p size k e (refused v) f) ∙ ap (penOnward (only fault F) size) (sym (only-form k (refused v) f))
+      go size k e (refused v) f =
+          refusing-refused r u v (pen-onward p size k e (refused v) f) ∙ ap (penOnward (only fault F) size) (sym (only-form k (refused v) f))

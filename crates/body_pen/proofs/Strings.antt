@@ -57,14 +57,14 @@ module _ (lo hi n : ℕ) (pool tape : List ℕ) (x : Pen) (wet : Bool) (out : Li
   bytes-refused r f = refused-here (bytesAmong lo hi n) pool tape x wet out size k e r (rw f)
 
   module _ (a m : ℕ) (h : a + m ≤ length pool) (f : span pool tape k ≡ found (take m (drop a pool)) (k + 2)) where
-    pub bytes-length : (m ≡ n → ⊥) → Penned (bytesAmong lo hi n) pool tape x wet out (Refused (OutsideSet 0)) out
+    pub bytes-length : (m ≡ n → ⊥) → Penned (bytesAmong lo hi n) pool tape x wet out (Refused (OutsideSet k)) out
     unfolding only bytes
-    bytes-length g = refused-here (bytesAmong lo hi n) pool tape x wet out size k e (OutsideSet 0) (rw (f, span-length pool a m h, ne-eqb m n g))
+    bytes-length g = refused-here (bytesAmong lo hi n) pool tape x wet out size k e (OutsideSet k) (rw (f, span-length pool a m h, ne-eqb m n g))
 
     pub bytes-outside : m ≡ n → every (λ y. leb lo y && leb y hi) (take m (drop a pool)) ≡ false
-        → Penned (bytesAmong lo hi n) pool tape x wet out (Refused (OutsideSet 0)) out
+        → Penned (bytesAmong lo hi n) pool tape x wet out (Refused (OutsideSet k)) out
     unfolding only bytes
-    bytes-outside g t = refused-here (bytesAmong lo hi n) pool tape x wet out size k e (OutsideSet 0) (rw (f, span-length pool a m h, eq-eqb m n g, t))
+    bytes-outside g t = refused-here (bytesAmong lo hi n) pool tape x wet out size k e (OutsideSet k) (rw (f, span-length pool a m h, eq-eqb m n g, t))
 
     pub bytes-written : m ≡ n → every (λ y. leb lo y && leb y hi) (take m (drop a pool)) ≡ true → (z : ℕ) → z ≡ more size m false
         → (out′ : List ℕ) → Inked wet out size m (take m (drop a pool)) out′ → Penned (bytesAmong lo hi n) pool tape x wet out (At z (k + 2)) out′
@@ -79,24 +79,25 @@ module _ (h : ℕ) (pool tape : List ℕ) (x : Pen) (wet : Bool) (out : List ℕ
   digits-refused r f = refused-here (digits h) pool tape x wet out size k e r (rw f)
 
   module _ (a n : ℕ) (g : a + n ≤ length pool) (f : span pool tape k ≡ found (take n (drop a pool)) (k + 2)) where
-    pub digits-length : (n ≡ suc h → ⊥) → Penned (digits h) pool tape x wet out (Refused (OutsideSet 0)) out
+    pub digits-length : (n ≡ suc h → ⊥) → Penned (digits h) pool tape x wet out (Refused (OutsideSet k)) out
     unfolding digits
-    digits-length l = refused-here (digits h) pool tape x wet out size k e (OutsideSet 0) (rw (f, span-length pool a n g, ne-eqb n (suc h) l))
+    digits-length l = refused-here (digits h) pool tape x wet out size k e (OutsideSet k) (rw (f, span-length pool a n g, ne-eqb n (suc h) l))
 
     module _ (l : n ≡ suc h) where
       digits-form : digits h .form pool tape k
-          ≡ need (ltb (getD pool a 0 % 16) 10 && decimal (halves (take h (drop (a + 1) pool)))) (DigitAboveNine 0) (found (tail (halves (take (suc h) (drop a pool)))) (k + 2))
+          ≡ need (ltb (getD pool a 0 % 16) 10 && decimal (halves (take h (drop (a + 1) pool)))) (DigitAboveNine k)
+          (found (tail (halves (take (suc h) (drop a pool)))) (k + 2))
       unfolding digits
       digits-form = rw (f, l, span-length pool a (suc h) (omega arith), eq-eqb (suc h) (suc h) refl, first-digit pool a h (omega arith))
 
-      pub digits-first : 9 < getD pool a 0 % 16 → Penned (digits h) pool tape x wet out (Refused (DigitAboveNine 0)) out
+      pub digits-first : 9 < getD pool a 0 % 16 → Penned (digits h) pool tape x wet out (Refused (DigitAboveNine k)) out
       digits-first d =
-          refused-here (digits h) pool tape x wet out size k e (DigitAboveNine 0) (digits-form ∙ rw (le-ltb (getD pool a 0 % 16) 10 (omega arith)))
+          refused-here (digits h) pool tape x wet out size k e (DigitAboveNine k) (digits-form ∙ rw (le-ltb (getD pool a 0 % 16) 10 (omega arith)))
 
       module _ (d : getD pool a 0 % 16 ≤ 9) where
-        pub digits-later : decimal (halves (take h (drop (a + 1) pool))) ≡ false → Penned (digits h) pool tape x wet out (Refused (DigitAboveNine 0)) out
+        pub digits-later : decimal (halves (take h (drop (a + 1) pool))) ≡ false → Penned (digits h) pool tape x wet out (Refused (DigitAboveNine k)) out
         digits-later t =
-            refused-here (digits h) pool tape x wet out size k e (DigitAboveNine 0) (digits-form ∙ rw (lt-ltb (getD pool a 0 % 16) 10 (omega arith), t))
+            refused-here (digits h) pool tape x wet out size k e (DigitAboveNine k) (digits-form ∙ rw (lt-ltb (getD pool a 0 % 16) 10 (omega arith), t))
 
         -- the pool's bytes, the first one's reserved bits set
         digits-print : digits h .print (tail (halves (take (suc h) (drop a pool)))) ≡ bytesOf 1 (240 + getD pool a 0 % 16) ++ take h (drop (a + 1) pool)
@@ -104,11 +105,13 @@ module _ (h : ℕ) (pool tape : List ℕ) (x : Pen) (wet : Bool) (out : List ℕ
         digits-print =
             rw (drop-cons pool a 0 (omega arith), add-one a, one-byte (240 + getD pool a 0 % 16) (omega arith), paired-halves (take h (drop (suc a) pool)))
 
-        pub digits-written : decimal (halves (take h (drop (a + 1) pool))) ≡ true → (v y z : ℕ) → v ≡ 240 + getD pool a 0 % 16 → y ≡ more size 1 false → z ≡ more y h false
+        pub digits-written : decimal (halves (take h (drop (a + 1) pool))) ≡ true → (v y z : ℕ) → v ≡ 240 + getD pool a 0 % 16
+            → y ≡ more size 1 false → z ≡ more y h false
             → (mid out′ : List ℕ) → Inked wet out size 1 (bytesOf 1 v) mid → Inked wet mid y h (take h (drop (a + 1) pool)) out′
             → Penned (digits h) pool tape x wet out (At z (k + 2)) out′
         unfolding digits
         digits-written t v y z ev ey ez mid out′ i i′ =
             written-twice (digits h) pool tape x wet out size k e (tail (halves (take (suc h) (drop a pool)))) (k + 2)
             (digits-form ∙ rw (lt-ltb (getD pool a 0 % 16) 10 (omega arith), t)) false refl
-            (bytesOf 1 v) (take h (drop (a + 1) pool)) (rw ev digits-print) 1 h (length-bytes 1 v) (span-length pool (a + 1) h (omega arith)) y z ey ez mid out′ i i′
+            (bytesOf 1 v) (take h (drop (a + 1) pool)) (rw ev digits-print) 1 h (length-bytes 1 v) (span-length pool (a + 1) h (omega arith)) y z ey
+            ez mid out′ i i′

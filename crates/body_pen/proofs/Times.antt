@@ -24,13 +24,14 @@ use Rattle.body_pen.proofs.Leaves.{Inked, refused-here, written}
 use Rattle.body_pen.proofs.Numbers.{only-below}
 
 -- a number of more than 40 bits, which its judge refuses alike, need not be looked at before
-judged-alone : (fault : ℕ → Fault) → ((v : ℕ) → 256 ^ 5 ≤ v → fault v ≡ faulty (OutsideSet 0)) → (x : Reading ℕ)
-    → andThen (andThen x (λ v j. judged (unless (ltb v (256 ^ 5)) (OutsideSet 0)) (found v j))) (λ v j. judged (fault v) (found v j))
+judged-alone : (fault : ℕ → Fault) (at : ℕ) → ((v : ℕ) → 256 ^ 5 ≤ v → fault v ≡ faulty (OutsideSet at)) → (x : Reading ℕ)
+    → andThen (andThen x (λ v j. judged (unless (ltb v (256 ^ 5)) (OutsideSet at)) (found v j))) (λ v j. judged (fault v) (found v j))
     ≡ andThen x (λ v j. judged (fault v) (found v j))
-judged-alone fault large (refused r) = refl
-judged-alone fault large (found v j) = go (ltb v (256 ^ 5)) refl
+judged-alone fault at large (refused r) = refl
+judged-alone fault at large (found v j) = go (ltb v (256 ^ 5)) refl
   where
-    go : (b : Bool) → ltb v (256 ^ 5) ≡ b → andThen (judged (unless b (OutsideSet 0)) (found v j)) (λ u i. judged (fault u) (found u i)) ≡ judged (fault v) (found v j)
+    go : (b : Bool) → ltb v (256 ^ 5) ≡ b
+        → andThen (judged (unless b (OutsideSet at)) (found v j)) (λ u i. judged (fault u) (found u i)) ≡ judged (fault v) (found v j)
     go true e = refl
     go false e = rw (large v (ltb-false v (256 ^ 5) e))
 
@@ -41,39 +42,41 @@ startFault v at = timeFault (readTime v at)
 abbrev pub stopFault : ℕ → ℕ → Fault
 stopFault v at = endFault (readEnd v at)
 
-time-large : (v : ℕ) → 256 ^ 5 ≤ v → readTime v 0 ≡ NoTime (OutsideSet 0)
+time-large : (v at : ℕ) → 256 ^ 5 ≤ v → readTime v at ≡ NoTime (OutsideSet at)
 unfolding readTime
-time-large v h = rw (le-leb (2 ^ 40) v h)
+time-large v at h = rw (le-leb (2 ^ 40) v h)
 
-pub start-large : (v : ℕ) → 256 ^ 5 ≤ v → startFault v 0 ≡ faulty (OutsideSet 0)
-start-large v h = ap timeFault (time-large v h)
+pub start-large : (v at : ℕ) → 256 ^ 5 ≤ v → startFault v at ≡ faulty (OutsideSet at)
+start-large v at h = ap timeFault (time-large v at h)
 
-pub stop-large : (v : ℕ) → 256 ^ 5 ≤ v → stopFault v 0 ≡ faulty (OutsideSet 0)
+pub stop-large : (v at : ℕ) → 256 ^ 5 ≤ v → stopFault v at ≡ faulty (OutsideSet at)
 unfolding readEnd
-stop-large v h = rw (ne-eqb v liveMark (λ e. omega (arith, e)), time-large v h)
+stop-large v at h = rw (ne-eqb v liveMark (λ e. omega (arith, e)), time-large v at h)
 
 -- one law for both, over what is wrong with a number
-module _ (fault : ℕ → ℕ → Fault) (large : (v : ℕ) → 256 ^ 5 ≤ v → fault v 0 ≡ faulty (OutsideSet 0)) (tape : List ℕ) (k : ℕ) where
-  timed-form : (pool : List ℕ) → only fault (number 5) .form pool tape k ≡ andThen (tapeEntry tape k) (λ v j. judged (fault v 0) (found v j))
+module _ (fault : ℕ → ℕ → Fault) (large : (v at : ℕ) → 256 ^ 5 ≤ v → fault v at ≡ faulty (OutsideSet at)) (tape : List ℕ) (k : ℕ) where
+  timed-form : (pool : List ℕ) → only fault (number 5) .form pool tape k ≡ andThen (tapeEntry tape k) (λ v j. judged (fault v k) (found v j))
   unfolding number only count
-  timed-form pool = judged-alone (λ v. fault v 0) large (tapeEntry tape k)
+  timed-form pool = judged-alone (λ v. fault v k) k (λ v h. large v k h) (tapeEntry tape k)
 
   pub timed-none : (r : Refusal) → NoNumber r ≡ numberOf (tapeEntry tape k) → NoNumber r ≡ numberOf (only fault (number 5) .form [] tape k)
   timed-none r e = rw (timed-form [], number-refused (tapeEntry tape k) r e)
 
   module _ (v j : ℕ) (e : Is v j ≡ numberOf (tapeEntry tape k)) where
-    pub timed-no : (r : Refusal) → fault v 0 ≡ faulty r → NoNumber r ≡ numberOf (only fault (number 5) .form [] tape k)
+    pub timed-no : (r : Refusal) → fault v k ≡ faulty r → NoNumber r ≡ numberOf (only fault (number 5) .form [] tape k)
     timed-no r f = rw (timed-form [], number-found (tapeEntry tape k) v j e, f)
 
-    pub timed-is : fault v 0 ≡ fine → Is v j ≡ numberOf (only fault (number 5) .form [] tape k)
+    pub timed-is : fault v k ≡ fine → Is v j ≡ numberOf (only fault (number 5) .form [] tape k)
     timed-is f = rw (timed-form [], number-found (tapeEntry tape k) v j e, f)
 
   module _ (pool : List ℕ) (x : Pen) (wet : Bool) (out : List ℕ) (size : ℕ) (e : x ≡ At size k) where
     any-pool : only fault (number 5) .form pool tape k ≡ only fault (number 5) .form [] tape k
     any-pool = timed-form pool ∙ sym (timed-form [])
 
-    pub timed-refused : (r : Refusal) → NoNumber r ≡ numberOf (only fault (number 5) .form [] tape k) → Penned (only fault (number 5)) pool tape x wet out (Refused r) out
-    timed-refused r f = refused-here (only fault (number 5)) pool tape x wet out size k e r (any-pool ∙ number-refused (only fault (number 5) .form [] tape k) r f)
+    pub timed-refused : (r : Refusal) → NoNumber r ≡ numberOf (only fault (number 5) .form [] tape k)
+        → Penned (only fault (number 5)) pool tape x wet out (Refused r) out
+    timed-refused r f =
+        refused-here (only fault (number 5)) pool tape x wet out size k e r (any-pool ∙ number-refused (only fault (number 5) .form [] tape k) r f)
 
     pub timed-written : (v j : ℕ) → Is v j ≡ numberOf (only fault (number 5) .form [] tape k) → (z : ℕ) → z ≡ more size 5 false
         → (out′ : List ℕ) → Inked wet out size 5 (bytesOf 5 v) out′ → Penned (only fault (number 5)) pool tape x wet out (At z j) out′

@@ -1,4 +1,4 @@
--- A writer's answer and output, by what its dry pen answered and what its wet one left.
+-- A form measured by a dry pen, and a writer's answer and output by what was measured and what its wet pen left.
 use Prim.Native.Nat.{ℕ, _+_, _≤_, _<_}
 use mathlib.Core.Path.{_≡_, refl, sym, ap, _∙_}
 use mathlib.Core.List.{List}
@@ -6,95 +6,152 @@ use mathlib.Core.Bool.{Bool, true, false, not}
 use native.Mathlib.Omega.{arith}
 use native.Mathlib.Nat.{zero-add}
 use lib.ListN.{length}
-use lib.Dec.{leb}
-use borrow.Author.Tests.{le-leb, lt-leb}
-use Rattle.ground_placing.specs.Placed.{placed}
+use lib.Dec.{leb, ltb}
+use borrow.Author.Tests.{leb-true, leb-false, le-leb, lt-leb, lt-ltb, le-ltb}
+use Rattle.ground_choices.specs.Choice.{if_then_else_}
 use Rattle.ground_refusal.specs.declared.Refusal.{Refusal}
 use Rattle.ground_refusal.specs.declared.Refusal.the-variants.{OutsideSet, OutputTooSmall, TooLarge}
-use Rattle.body_formats.specs.Reading.{Reading, found, refused, need}
+use Rattle.body_formats.specs.Reading.{Reading, found, refused, andThen, need, placeless}
 use Rattle.body_formats.specs.Format.{Format}
-use Rattle.body_formats.specs.Body.{longest, writing, bodyWritten, outputWritten}
+use Rattle.body_formats.specs.Answers.{stepOf}
+use Rattle.body_formats.specs.Body.{longest, measuring, measured, fitting, writing, bodyWritten, outputWritten}
 use Rattle.body_formats.specs.declared.Step.{Step}
 use Rattle.body_formats.specs.declared.Step.the-variants.{At as StepAt, Refused as NoStep}
-use Rattle.body_pen.specs.Penned.{more, penOnward, Penned}
+use Rattle.body_formats.proofs.RoundTrips.{measured-value, written-measured}
+use Rattle.body_pen.specs.Penned.{more, penOnward, Penned, formMeasured, stepFitting}
 use Rattle.body_pen.specs.declared.Pen.{Pen}
 use Rattle.body_pen.specs.declared.Pen.the-variants.{At, Refused}
-use Rattle.body_pen.proofs.Pairs.{more-back, pen-onward}
+use Rattle.body_pen.proofs.Leaves.{more-exact}
+use Rattle.body_pen.proofs.Pairs.{pen-onward}
+
+-- ---- a form measured
+
+more-past : (n : ℕ) → longest < n → more 0 n false ≡ 1045505
+unfolding more
+more-past n h = omega arith
+
+more-over : (n : ℕ) → more 0 n true ≡ 1045505
+unfolding more
+more-over n = refl
+
+-- the bytes counted, up to one more than a body may have, tell whether they are too many
+sized : {A : Type 0} (a : A) (n : ℕ) (over : Bool)
+    → (if ltb longest (more 0 n over) then NoStep TooLarge else StepAt (more 0 n over))
+    ≡ stepOf (need (not over) TooLarge (need (leb n longest) TooLarge (found a n)))
+sized a n true = rw (more-over n)
+sized a n false = go (leb n longest) refl
+  where
+    go : (b : Bool) → leb n longest ≡ b
+        → (if ltb longest (more 0 n false) then NoStep TooLarge else StepAt (more 0 n false)) ≡ stepOf (need b TooLarge (found a n))
+    go true e =
+        let h = leb-true n longest e in
+        rw (more-exact 0 n (omega arith) ∙ zero-add n, le-ltb longest n h)
+    go false e = rw (more-past n (leb-false n longest e))
+
+-- what the code's tests make of a pen past the form
+module _ (entries : ℕ) (x : Pen) where
+  pub form-stopped : (r : Refusal) → x ≡ Refused r → NoStep r ≡ formMeasured entries x
+  unfolding formMeasured
+  form-stopped r e = rw e
+
+  module _ (size k : ℕ) (e : x ≡ At size k) where
+    pub form-left : k < entries → NoStep (OutsideSet k) ≡ formMeasured entries x
+    unfolding formMeasured
+    form-left h = rw (e, lt-ltb k entries h)
+
+    pub form-long : entries ≤ k → longest < size → NoStep TooLarge ≡ formMeasured entries x
+    unfolding formMeasured
+    form-long h l = rw (e, le-ltb k entries h, lt-ltb longest size l)
+
+    pub form-whole : entries ≤ k → size ≤ longest → StepAt size ≡ formMeasured entries x
+    unfolding formMeasured
+    form-whole h l = rw (e, le-ltb k entries h, le-ltb longest size l)
+
+module _ {A : Type 0} (F : Format A) (tape : List ℕ) where
+  form-found : (a : A) (k : ℕ) → formMeasured (length tape) (penOnward F 0 (found a k))
+      ≡ stepOf (need (leb (length tape) k) (OutsideSet k)
+      (need (not (F .tooLarge a)) TooLarge (need (leb (length (F .print a)) longest) TooLarge (found a (length (F .print a))))))
+  unfolding formMeasured
+  form-found a k = go (leb (length tape) k) refl
+    where
+      go : (b : Bool) → leb (length tape) k ≡ b
+          → (if ltb k (length tape) then NoStep (OutsideSet k) else
+          if ltb longest (more 0 (length (F .print a)) (F .tooLarge a)) then NoStep TooLarge else StepAt (more 0 (length (F .print a)) (F .tooLarge a)))
+          ≡ stepOf (need b (OutsideSet k)
+          (need (not (F .tooLarge a)) TooLarge (need (leb (length (F .print a)) longest) TooLarge (found a (length (F .print a))))))
+      go true e = rw (le-ltb k (length tape) (leb-true (length tape) k e)) (sized a (length (F .print a)) (F .tooLarge a))
+      go false e = rw (lt-ltb k (length tape) (leb-false (length tape) k e))
+
+  form-refused : (r : Refusal) → formMeasured (length tape) (Refused r) ≡ NoStep r
+  unfolding formMeasured
+  form-refused r = refl
+
+  -- a pen past the whole form tells what is measured
+  pub measured-is : {pool : List ℕ} {wet : Bool} {out : List ℕ} {q : Pen} {out′ : List ℕ} → Penned F pool tape (At 0 0) wet out q out′
+      → formMeasured (length tape) q ≡ measured F pool tape
+  unfolding measured measuring
+  measured-is {pool} p =
+      ap (formMeasured (length tape)) (pen-onward p 0 0 refl (F .form pool tape 0) refl) ∙ go (F .form pool tape 0)
+    where
+      go : (x : Reading A) → formMeasured (length tape) (penOnward F 0 x)
+          ≡ stepOf (andThen x (λ a k. need (leb (length tape) k) (OutsideSet k)
+          (need (not (F .tooLarge a)) TooLarge (need (leb (length (F .print a)) longest) TooLarge (found a (length (F .print a)))))))
+      go (found a k) = form-found a k
+      go (refused r) = form-refused r
+
+-- ---- a form written
 
 -- what a writer answers and leaves
 abbrev pub Wrote : {A : Type 0} → Format A → List ℕ → List ℕ → List ℕ → List ℕ → Step → Type 0
 Wrote F pool tape out out′ r = (r ≡ bodyWritten F pool tape (length out)) × (out′ ≡ outputWritten F pool tape out)
 
-too-large : {A : Type 0} (over : Bool) (n : ℕ) (x : Reading A) → longest < more 0 n over
-    → need (not over) TooLarge (need (leb n longest) TooLarge x) ≡ refused TooLarge
-unfolding more
-too-large true n x h = refl
-too-large false n x h = rw (lt-leb n longest (omega arith))
+-- what the code's test makes of a form that was measured
+module _ (room : ℕ) (x : Step) where
+  pub fit-refused : (r u : Refusal) → x ≡ NoStep r → u ≡ placeless r → NoStep u ≡ stepFitting room x
+  unfolding stepFitting
+  fit-refused r u e f = rw (e, f)
 
-module _ {A : Type 0} {F : Format A} {pool tape out : List ℕ} {q : Pen} {mid : List ℕ} (p : Penned F pool tape (At 0 0) false out q mid) where
-  unwritten : (e : Refusal) → writing F pool tape (length out) ≡ refused e → Wrote F pool tape out mid (NoStep e)
-  unfolding outputWritten bodyWritten
-  unwritten e w = (rw w, rw w (p .dry refl))
+  module _ (n : ℕ) (e : x ≡ StepAt n) where
+    pub fit-small : room < n → NoStep OutputTooSmall ≡ stepFitting room x
+    unfolding stepFitting
+    fit-small h = rw (e, lt-leb n room h)
 
-  pub write-refused : (e : Refusal) → q ≡ Refused e → Wrote F pool tape out mid (NoStep e)
-  unfolding writing
-  write-refused e r = unwritten e (rw (go (F .form pool tape 0) (sym r ∙ pen-onward p 0 0 refl (F .form pool tape 0) refl)))
+    pub fit-room : n ≤ room → StepAt n ≡ stepFitting room x
+    unfolding stepFitting
+    fit-room h = rw (e, le-leb n room h)
+
+fitting-step : {A : Type 0} (room : ℕ) (x : Reading A) → stepFitting room (stepOf x) ≡ stepOf (fitting room x)
+unfolding stepFitting
+fitting-step room (found a n) = go (leb n room)
+  where
+    go : (b : Bool) → (if b then StepAt n else NoStep OutputTooSmall) ≡ stepOf (need b OutputTooSmall (found a n))
+    go true = refl
+    go false = refl
+fitting-step room (refused r) = refl
+
+module _ {A : Type 0} (F : Format A) (pool tape out : List ℕ) where
+  fitted-is : stepFitting (length out) (measured F pool tape) ≡ stepOf (writing F pool tape (length out))
+  unfolding measured writing
+  fitted-is = fitting-step (length out) (measuring F pool tape)
+
+  pub write-refused : (e : Refusal) → stepFitting (length out) (measured F pool tape) ≡ NoStep e → Wrote F pool tape out out (NoStep e)
+  unfolding bodyWritten outputWritten
+  write-refused e f = let w = go (writing F pool tape (length out)) (sym fitted-is ∙ f) in (rw w, rw w)
     where
-      go : (y : Reading A) → Refused e ≡ penOnward F 0 y → y ≡ refused e
-      go (found a k) f = absurd (let z : _≡_ {A = ℕ} 0 1 = cc in omega arith)
-      go (refused u) f = ap refused (let z : u ≡ e = cc in z)
+      go : (y : Reading A) → stepOf y ≡ NoStep e → y ≡ refused e
+      go (found a n) g = absurd (let z : _≡_ {A = ℕ} 0 1 = cc in omega arith)
+      go (refused u) g = ap refused (let z : u ≡ e = cc in z)
 
-  module _ (size k : ℕ) (e : q ≡ At size k) where
-    value : (a : A) × (F .form pool tape 0 ≡ found a k) × (more 0 (length (F .print a)) (F .tooLarge a) ≡ size)
-    value = go (F .form pool tape 0) (sym e ∙ pen-onward p 0 0 refl (F .form pool tape 0) refl)
-      where
-        go : (y : Reading A) → At size k ≡ penOnward F 0 y → (a : A) × (y ≡ found a k) × (more 0 (length (F .print a)) (F .tooLarge a) ≡ size)
-        go (found a j) f = (a, ap (found a) (let z : j ≡ k = cc in z), (let z : more 0 (length (F .print a)) (F .tooLarge a) ≡ size = cc in z))
-        go (refused u) f = absurd (let z : _≡_ {A = ℕ} 0 1 = cc in omega arith)
-
-    pub write-left : k < length tape → Wrote F pool tape out mid (NoStep (OutsideSet 0))
-    unfolding writing
-    write-left h = unwritten (OutsideSet 0) (rw (value .1, lt-leb (length tape) k h))
-
-    module _ (h : length tape ≤ k) where
-      pub write-long : longest < size → Wrote F pool tape out mid (NoStep TooLarge)
-      unfolding writing
-      write-long l =
-          unwritten TooLarge
-          (rw (value .1, le-leb (length tape) k h)
-          (too-large (F .tooLarge (value .0)) (length (F .print (value .0))) _ (omega (arith, value .2))))
-
-      module _ (l : size ≤ longest) where
-        exactly : (F .tooLarge (value .0) ≡ false) × (size ≡ 0 + length (F .print (value .0)))
-        exactly = more-back 0 (length (F .print (value .0))) (F .tooLarge (value .0)) size (value .2) l
-
-        same : length mid ≡ length out
-        same = ap length (p .dry refl)
-
-        pub write-small : length mid < size → Wrote F pool tape out mid (NoStep OutputTooSmall)
-        unfolding writing
-        write-small m =
-            unwritten OutputTooSmall
-            (rw (
-              value .1,
-              le-leb (length tape) k h,
-              exactly .0,
-              le-leb (length (F .print (value .0))) longest (omega (arith, exactly .1)),
-              lt-leb (length (F .print (value .0))) (length out) (omega (arith, exactly .1, same)),
-            ))
-
-        pub write-done : size ≤ length mid → {r : Pen} {out′ : List ℕ} → Penned F pool tape (At 0 0) true mid r out′ → Wrote F pool tape out out′ (StepAt size)
-        unfolding outputWritten writing bodyWritten
-        write-done m {r} {out′} t =
-            let a = value .0 in
-            let w : writing F pool tape (length out) ≡ found a (length (F .print a)) =
-            rw (
-              value .1,
-              le-leb (length tape) k h,
-              exactly .0,
-              le-leb (length (F .print a)) longest (omega (arith, exactly .1)),
-              le-leb (length (F .print a)) (length out) (omega (arith, exactly .1, same)),
-            ) in
-            let bytes : out′ ≡ placed out 0 (F .print a) =
-            t .put refl 0 0 refl a k (value .1) (exactly .0) (omega (arith, exactly .1)) (omega (arith, exactly .1)) ∙ ap (λ d. placed d 0 (F .print a)) (p .dry refl) in
-            (rw w (ap StepAt (exactly .1 ∙ zero-add (length (F .print a)))), rw w bytes)
+  pub write-done : (size : ℕ) → stepFitting (length out) (measured F pool tape) ≡ StepAt size
+      → {q : Pen} {out′ : List ℕ} → Penned F pool tape (At 0 0) true out q out′ → Wrote F pool tape out out′ (StepAt size)
+  unfolding bodyWritten outputWritten
+  write-done size f p =
+      let w = go (writing F pool tape (length out)) (sym fitted-is ∙ f) in
+      let fits = written-measured F pool tape (length out) (w .0) size (w .1) in
+      let v = measured-value F pool tape (w .0) size (fits .0) in
+      let bytes = p .put refl 0 0 refl (w .0) (v .0) (v .1) (v .2) (omega (arith, v .3, v .4)) (omega (arith, v .3, fits .1)) in
+      (rw (w .1), rw (w .1) bytes)
+    where
+      go : (y : Reading A) → stepOf y ≡ StepAt size → (a : A) × (y ≡ found a size)
+      go (found a n) g = (a, ap (found a) (let z : n ≡ size = cc in z))
+      go (refused u) g = absurd (let z : _≡_ {A = ℕ} 0 1 = cc in omega arith)

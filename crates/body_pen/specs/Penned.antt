@@ -4,12 +4,16 @@ use mathlib.Core.Path.{_≡_}
 use mathlib.Core.List.{List, [], _∷_}
 use mathlib.Core.Bool.{Bool, true, false, not}
 use lib.ListN.{length}
-use lib.Dec.{ltb}
+use lib.Dec.{ltb, leb}
 use Rattle.ground_choices.specs.Choice.{if_then_else_}
 use Rattle.ground_placing.specs.Placed.{placed}
 use Rattle.ground_refusal.specs.declared.Refusal.{Refusal}
-use Rattle.body_formats.specs.Reading.{Reading, found, refused, valueOf}
+use Rattle.ground_refusal.specs.declared.Refusal.the-variants.{OutsideSet, OutputTooSmall, TooLarge}
+use Rattle.body_formats.specs.Reading.{Reading, found, refused, valueOf, placeless}
 use Rattle.body_formats.specs.Format.{Format, tapeEntry, bytesOf}
+use Rattle.body_formats.specs.Body.{longest}
+use Rattle.body_formats.specs.declared.Step.{Step}
+use Rattle.body_formats.specs.declared.Step.the-variants.{At as StepAt, Refused as NoStep}
 use Rattle.body_pen.specs.declared.Pen.{Pen}
 use Rattle.body_pen.specs.declared.Pen.the-variants.{At, Refused}
 use Rattle.body_pen.specs.declared.Count.{Count}
@@ -48,6 +52,11 @@ pub record Counted (C : Format ℕ) (pool tape : List ℕ) (x : Pen) (wet : Bool
 
 -- ---- values of a stated set
 
+-- the entry that a pen stands at, 0 for one that is refused
+unfoldable pub entryOf : Pen → ℕ
+entryOf (At size k) = k
+entryOf (Refused r) = 0
+
 -- the refusal of a value that the pen went past; the first refusal stands
 unfoldable pub refusing : Pen → Refusal → Pen
 refusing (At size k) u = Refused u
@@ -85,3 +94,17 @@ unprinted =
       form = λ pool tape k. tapeEntry tape k;
       tape = λ n p. n ∷ [];
     }
+
+-- ---- whole forms
+
+-- what a pen past a form of so many entries says of it: entries left over are 19 at the first of them, a body that is too long is 22
+unfoldable pub formMeasured : ℕ → Pen → Step
+formMeasured entries (At size k) =
+    if ltb k entries then NoStep (OutsideSet k) else
+    if ltb longest size then NoStep TooLarge else StepAt size
+formMeasured entries (Refused r) = NoStep r
+
+-- what a writer with so much room answers of a form that was measured
+unfoldable pub stepFitting : ℕ → Step → Step
+stepFitting room (StepAt n) = if leb n room then StepAt n else NoStep OutputTooSmall
+stepFitting room (NoStep r) = NoStep (placeless r)

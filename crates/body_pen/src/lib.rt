@@ -1,6 +1,8 @@
-// A pen through a form, field by field: dry it measures the bytes of a body, wet it also writes them.
+// A pen through a form, field by field: dry it measures the bytes of a body, wet it also writes them. A field is refused at the entry
+// of the tape where it begins.
 use body_formats::Number;
 use body_formats::Part;
+use body_formats::Step;
 use ground_refusal::Refusal;
 use time_fields::EndTimed;
 use time_fields::Timed;
@@ -12,14 +14,14 @@ ghost use lib.ListN.{length, take, drop};
 ghost use lib.Dec.{leb, ltb};
 ghost use Rattle.ground_placing.specs.Placed.{placed};
 ghost use Rattle.ground_refusal.specs.declared.Refusal.the-variants.{OutsideSet};
-ghost use Rattle.body_formats.specs.Reading.{found, refused, andThen, need};
+ghost use Rattle.body_formats.specs.Reading.{found, refused, andThen, need, placeless as withoutPlace};
 ghost use Rattle.body_formats.specs.Format.{tapeEntry, span, bytesOf, count, among, number, nibblesAmong, reserved, bytesAmong, digits, rest, opaque};
 ghost use Rattle.body_formats.specs.Time.{time, endTime};
 ghost use Rattle.body_formats.specs.Identifier.{identifier};
 ghost use Rattle.body_formats.specs.Resource.{resources};
 ghost use Rattle.body_formats.specs.Answers.{numberOf};
 ghost use Rattle.body_formats.specs.declared.Part.the-variants.{Of, Refused as NoPart};
-ghost use Rattle.body_pen.specs.Penned.{more, Penned, Counted, refusing, gapped, Closed, unprinted};
+ghost use Rattle.body_pen.specs.Penned.{more, Penned, Counted, entryOf, refusing, gapped, Closed, unprinted, formMeasured, stepFitting};
 
 // Where a pen stands: the bytes so far, up to one more than a body may have, and the next entry of the tape; or why it stopped.
 pub enum Pen {
@@ -106,26 +108,26 @@ fn entry_at(tape: &[u64], k: usize) -> Number
     ensures { λ r. ⌜ r ≡ numberOf (tapeEntry (now (tape .entry)) k) ⌝ }
 {
     if tape.len() <= k {
-        return Number::Refused(Refusal::OutsideSet(0));
+        return Number::Refused(Refusal::OutsideSet(k));
     }
     Number::Is(tape[k], k + 1)
 }
 
 // A number below a bound and from lo to hi; any other is 19.
 fn number_among(tape: &[u64], k: usize, bound: u64, lo: u64, hi: u64) -> Number
-    ensures { λ r. ⌜ r ≡ numberOf (andThen (tapeEntry (now (tape .entry)) k) (λ v j. need (ltb v bound && (leb lo v && leb v hi)) (OutsideSet 0) (found v j))) ⌝ }
+    ensures { λ r. ⌜ r ≡ numberOf (andThen (tapeEntry (now (tape .entry)) k) (λ v j. need (ltb v bound && (leb lo v && leb v hi)) (OutsideSet k) (found v j))) ⌝ }
 {
     match entry_at(tape, k) {
         Number::Refused(r) => Number::Refused(r),
         Number::Is(v, j) => {
             if bound <= v {
-                return Number::Refused(Refusal::OutsideSet(0));
+                return Number::Refused(Refusal::OutsideSet(k));
             }
             if v < lo {
-                return Number::Refused(Refusal::OutsideSet(0));
+                return Number::Refused(Refusal::OutsideSet(k));
             }
             if hi < v {
-                return Number::Refused(Refusal::OutsideSet(0));
+                return Number::Refused(Refusal::OutsideSet(k));
             }
             Number::Is(v, j)
         }
@@ -137,19 +139,19 @@ pub fn span_at(pool: &[u8], tape: &[u64], k: usize) -> Part
     ensures { λ r. ⌜ ((e : Refusal) → r ≡ NoPart e → span (now (pool .entry)) (now (tape .entry)) k ≡ refused e) × ((a n : ℕ) → r ≡ Of a n → (k + 2 ≤ length (now (tape .entry))) × (a + n ≤ length (now (pool .entry))) × (span (now (pool .entry)) (now (tape .entry)) k ≡ found (take n (drop a (now (pool .entry)))) (k + 2))) ⌝ }
 {
     if tape.len() < 2 {
-        return Part::Refused(Refusal::OutsideSet(0));
+        return Part::Refused(Refusal::OutsideSet(k));
     }
     if tape.len() - 2 < k {
-        return Part::Refused(Refusal::OutsideSet(0));
+        return Part::Refused(Refusal::OutsideSet(k));
     }
     let a = tape[k];
     let n = tape[k + 1];
     let len = pool.len() as u64;
     if len < a {
-        return Part::Refused(Refusal::OutsideSet(0));
+        return Part::Refused(Refusal::OutsideSet(k));
     }
     if len - a < n {
-        return Part::Refused(Refusal::OutsideSet(0));
+        return Part::Refused(Refusal::OutsideSet(k));
     }
     Part::Of(a as usize, n as usize)
 }
@@ -347,10 +349,10 @@ pub fn put_bytes(
             Part::Refused(r) => Pen::Refused(r),
             Part::Of(a, m) => {
                 if m != n {
-                    return Pen::Refused(Refusal::OutsideSet(0));
+                    return Pen::Refused(Refusal::OutsideSet(k));
                 }
                 if !body_fields::all_among(pool, a, m, lo, hi) {
-                    return Pen::Refused(Refusal::OutsideSet(0));
+                    return Pen::Refused(Refusal::OutsideSet(k));
                 }
                 copy_span(pool, a, m, out, size, wet);
                 Pen::At(grown(size, m as u64, false), k + 2)
@@ -375,17 +377,17 @@ pub fn put_digits(pool: &[u8], tape: &[u64], x: Pen, h: usize, out: &mut [u8], w
             Part::Refused(r) => Pen::Refused(r),
             Part::Of(a, n) => {
                 if n <= h {
-                    return Pen::Refused(Refusal::OutsideSet(0));
+                    return Pen::Refused(Refusal::OutsideSet(k));
                 }
                 if 1 < n - h {
-                    return Pen::Refused(Refusal::OutsideSet(0));
+                    return Pen::Refused(Refusal::OutsideSet(k));
                 }
                 let low = wide(pool[a]) % 16;
                 if 9 < low {
-                    return Pen::Refused(Refusal::DigitAboveNine(0));
+                    return Pen::Refused(Refusal::DigitAboveNine(k));
                 }
                 if !body_fields::all_decimal(pool, a + 1, h) {
-                    return Pen::Refused(Refusal::DigitAboveNine(0));
+                    return Pen::Refused(Refusal::DigitAboveNine(k));
                 }
                 let start = grown(size, 1, false);
                 put_at(out, size, 1, 240 + low, wet);
@@ -404,7 +406,7 @@ fn time_at(tape: &[u64], k: usize) -> Number
 {
     match entry_at(tape, k) {
         Number::Refused(r) => Number::Refused(r),
-        Number::Is(v, j) => match time_fields::read_time(v, 0) {
+        Number::Is(v, j) => match time_fields::read_time(v, k) {
             Timed::Refused(r) => Number::Refused(r),
             Timed::At(m) => Number::Is(v, j),
         },
@@ -433,7 +435,7 @@ fn end_at(tape: &[u64], k: usize) -> Number
 {
     match entry_at(tape, k) {
         Number::Refused(r) => Number::Refused(r),
-        Number::Is(v, j) => match time_fields::read_end(v, 0) {
+        Number::Is(v, j) => match time_fields::read_end(v, k) {
             EndTimed::Refused(r) => Number::Refused(r),
             EndTimed::Live => Number::Is(v, j),
             EndTimed::At(m) => Number::Is(v, j),
@@ -458,6 +460,16 @@ pub fn put_end(tape: &[u64], x: Pen, out: &mut [u8], wet: bool) -> Pen
 }
 
 // ---- values of a stated set
+
+// The entry that a pen stands at, 0 for one that is refused.
+pub fn entry(x: Pen) -> usize
+    ensures { λ r. ⌜ r ≡ entryOf x ⌝ }
+{
+    match x {
+        Pen::Refused(r) => 0,
+        Pen::At(size, k) => k,
+    }
+}
 
 // The refusal of a value that the pen went past; one before it stands.
 pub fn refuse(x: Pen, u: Refusal) -> Pen
@@ -559,4 +571,72 @@ pub fn put_resources(pool: &[u8], tape: &[u64], x: Pen, out: &mut [u8], wet: boo
         left = left - 1;
     }
     pen
+}
+
+// ---- whole forms
+
+// What a pen past a form of so many entries says of it: entries left over are 19 at the first of them, a body that is too long is 22.
+pub fn measured(x: Pen, entries: usize) -> Step
+    ensures { λ r. ⌜ r ≡ formMeasured entries x ⌝ }
+{
+    match x {
+        Pen::Refused(r) => Step::Refused(r),
+        Pen::At(size, k) => {
+            if k < entries {
+                return Step::Refused(Refusal::OutsideSet(k));
+            }
+            if 1045504 < size {
+                return Step::Refused(Refusal::TooLarge);
+            }
+            Step::At(size)
+        }
+    }
+}
+
+// A refusal with place 0.
+fn placeless(r: Refusal) -> Refusal
+    ensures { λ u. ⌜ u ≡ withoutPlace r ⌝ }
+{
+    match r {
+        Refusal::SectionTooShort => Refusal::SectionTooShort,
+        Refusal::OtherKind => Refusal::OtherKind,
+        Refusal::FixedBitZero => Refusal::FixedBitZero,
+        Refusal::SectionLengthOutside => Refusal::SectionLengthOutside,
+        Refusal::OtherLength => Refusal::OtherLength,
+        Refusal::NumberAboveLast => Refusal::NumberAboveLast,
+        Refusal::CheckNotZero => Refusal::CheckNotZero,
+        Refusal::NotCurrent => Refusal::NotCurrent,
+        Refusal::OtherHeading => Refusal::OtherHeading,
+        Refusal::StoreTooShort => Refusal::StoreTooShort,
+        Refusal::Contradiction => Refusal::Contradiction,
+        Refusal::ImpossibleState => Refusal::ImpossibleState,
+        Refusal::Missing(_at) => Refusal::Missing(0),
+        Refusal::PastBody(_at) => Refusal::PastBody(0),
+        Refusal::PastPart(_at) => Refusal::PastPart(0),
+        Refusal::LeftOver(_at) => Refusal::LeftOver(0),
+        Refusal::ReservedBitZero(_at) => Refusal::ReservedBitZero(0),
+        Refusal::DigitAboveNine(_at) => Refusal::DigitAboveNine(0),
+        Refusal::OutsideSet(_at) => Refusal::OutsideSet(0),
+        Refusal::ImpossibleDay(_at) => Refusal::ImpossibleDay(0),
+        Refusal::OutputTooSmall => Refusal::OutputTooSmall,
+        Refusal::TooLarge => Refusal::TooLarge,
+        Refusal::OtherChecksum => Refusal::OtherChecksum,
+        Refusal::NotOfTheForm => Refusal::NotOfTheForm,
+        Refusal::BodyTooLong => Refusal::BodyTooLong,
+    }
+}
+
+// What a writer with so much room answers of a form that was measured: "always 0 from writers", "then 21".
+pub fn fitted(x: Step, room: usize) -> Step
+    ensures { λ r. ⌜ r ≡ stepFitting room x ⌝ }
+{
+    match x {
+        Step::Refused(r) => Step::Refused(placeless(r)),
+        Step::At(n) => {
+            if room < n {
+                return Step::Refused(Refusal::OutputTooSmall);
+            }
+            Step::At(n)
+        }
+    }
 }

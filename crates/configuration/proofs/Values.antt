@@ -39,7 +39,7 @@ contents = (refl, refl, refl, refl, refl, refl, refl, refl, refl)
 pub clocks-too-large :
     (date .form [] (2024 ∷ 257 ∷ 1 ∷ []) 0 ≡ refused (ImpossibleDay 0))
     × (clock .form [] (0 ∷ 256 ∷ 0 ∷ []) 0 ≡ refused (ImpossibleDay 0))
-    × (date .form [] (2024 ∷ 257 ∷ []) 0 ≡ refused (OutsideSet 0))
+    × (date .form [] (2024 ∷ 257 ∷ []) 0 ≡ refused (OutsideSet 2))
 unfolding date clock only followed count tapeEntry dayOf hasDay isDate
 clocks-too-large = (refl, refl, refl)
 

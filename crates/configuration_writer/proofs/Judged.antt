@@ -11,12 +11,12 @@ use Rattle.time_days.specs.Calendar.{dayOf}
 use Rattle.body_formats.specs.Reading.{found, refused, Fault, fine, faulty, unless}
 use Rattle.body_formats.specs.Format.{Format, span, _▷_, only, rest}
 use Rattle.body_formats.proofs.Outcomes.{found-inj}
-use Rattle.body_pen.specs.Penned.{Penned, Counted, refusing}
+use Rattle.body_pen.specs.Penned.{Penned, Counted, entryOf, refusing}
 use Rattle.body_pen.specs.declared.Pen.{Pen}
 use Rattle.body_pen.specs.declared.Pen.the-variants.{At, Refused}
 use Rattle.body_pen.specs.declared.Count.{Count}
 use Rattle.body_pen.proofs.Leaves.{refused-here, span-length}
-use Rattle.body_pen.proofs.Pairs.{pen-onward, form-parts, pair-pen, told, only-fine, only-faulty}
+use Rattle.body_pen.proofs.Pairs.{pen-onward, form-parts, pair-pen, told, entry-is, only-fine, only-faulty}
 use Rattle.configuration_addresses.specs.Address.{lengthFits, isAddress}
 use Rattle.configuration.specs.Configuration.{dayFault, addressFault}
 
@@ -39,7 +39,7 @@ module _ (judge : ℕ → ℕ → ℕ → ℕ → Fault) {C D E : Format ℕ} {p
 
   -- the numbers that the pen went through are those that were told
   three-told : (size k : ℕ) → x ≡ At size k → (a : ℕ × (ℕ × ℕ)) (j : ℕ) → (C ▷ (D ▷ E)) .form pool tape k ≡ found a j
-      → judge (a .0) (a .1 .0) (a .1 .1) 0 ≡ judge (c .n) (d .n) (e .n) 0
+      → judge (a .0) (a .1 .0) (a .1 .1) k ≡ judge (c .n) (d .n) (e .n) k
   three-told size k h a j f =
       let f₁ = form-parts C (λ n. D ▷ E) pool tape k a j f in
       let f₂ = form-parts D (λ n. E) pool tape (f₁ .0) (a .1) j (f₁ .2) in
@@ -47,15 +47,18 @@ module _ (judge : ℕ → ℕ → ℕ → ℕ → Fault) {C D E : Format ℕ} {p
       let next = pen-onward (q .past) _ (f₁ .0) here (found (a .1 .0) (f₂ .0)) (f₂ .1) in
       rw (told p size k h (a .0) (f₁ .0) (f₁ .1), told q _ (f₁ .0) here (a .1 .0) (f₂ .0) (f₂ .1), told r _ (f₂ .0) next (a .1 .1) j (f₂ .2))
 
-  pub three-fine : judge (c .n) (d .n) (e .n) 0 ≡ fine
+  pub three-fine : ((at : ℕ) → judge (c .n) (d .n) (e .n) at ≡ fine)
       → Penned (only (λ a at. judge (a .0) (a .1 .0) (a .1 .1) at) (C ▷ (D ▷ E))) pool tape x wet out (e .pen) out′
-  three-fine g = only-fine _ three-pen (λ size k h a j f. three-told size k h a j f ∙ g)
+  three-fine g = only-fine _ three-pen (λ size k h a j f. three-told size k h a j f ∙ g k)
 
-  pub three-faulty : (u : Refusal) → judge (c .n) (d .n) (e .n) 0 ≡ faulty u → (z : Pen) → z ≡ refusing (e .pen) u
+  -- the refusal stands at the entry of the first number
+  pub three-faulty : (refusal : ℕ → Refusal) → ((at : ℕ) → judge (c .n) (d .n) (e .n) at ≡ faulty (refusal at))
+      → (at : ℕ) → at ≡ entryOf x → (z : Pen) → z ≡ refusing (e .pen) (refusal at)
       → Penned (only (λ a at. judge (a .0) (a .1 .0) (a .1 .1) at) (C ▷ (D ▷ E))) pool tape x wet out z out′
-  three-faulty u g z h =
+  three-faulty refusal g at s z h =
       subst (λ y. Penned (only (λ a at. judge (a .0) (a .1 .0) (a .1 .1) at) (C ▷ (D ▷ E))) pool tape x wet out y out′) (sym h)
-      (only-faulty _ three-pen u (λ size k h a j f. three-told size k h a j f ∙ g))
+      (only-faulty _ three-pen (refusal at) (λ size k q a j f.
+      three-told size k q a j f ∙ g k ∙ ap (λ i. faulty (refusal i)) (sym (s ∙ entry-is x size k q))))
 
 -- ---- the bytes of a return address
 
@@ -65,21 +68,22 @@ module _ (kind : ℕ) (pool tape : List ℕ) (x : Pen) (wet : Bool) (out : List 
   address-none r f = refused-here (only (addressFault kind) rest) pool tape x wet out size k e r (rw f)
 
   module _ (a n : ℕ) (h : a + n ≤ length pool) (f : span pool tape k ≡ found (take n (drop a pool)) (k + 2)) where
-    pub address-length : lengthFits kind n ≡ false → Penned (only (addressFault kind) rest) pool tape x wet out (Refused (PastPart 0)) out
+    pub address-length : lengthFits kind n ≡ false → Penned (only (addressFault kind) rest) pool tape x wet out (Refused (PastPart k)) out
     unfolding only rest
-    address-length t = refused-here (only (addressFault kind) rest) pool tape x wet out size k e (PastPart 0) (rw (f, span-length pool a n h, t))
+    address-length t = refused-here (only (addressFault kind) rest) pool tape x wet out size k e (PastPart k) (rw (f, span-length pool a n h, t))
 
     laid : rest .form pool tape k ≡ found (take n (drop a pool)) (k + 2)
     unfolding rest
     laid = f
 
     module _ (t : lengthFits kind n ≡ true) where
-      pub address-outside : isAddress kind (take n (drop a pool)) ≡ false → Penned (only (addressFault kind) rest) pool tape x wet out (Refused (OutsideSet 0)) out
+      pub address-outside : isAddress kind (take n (drop a pool)) ≡ false
+          → Penned (only (addressFault kind) rest) pool tape x wet out (Refused (OutsideSet k)) out
       unfolding only rest
-      address-outside v = refused-here (only (addressFault kind) rest) pool tape x wet out size k e (OutsideSet 0) (rw (f, span-length pool a n h, t, v))
+      address-outside v = refused-here (only (addressFault kind) rest) pool tape x wet out size k e (OutsideSet k) (rw (f, span-length pool a n h, t, v))
 
-      address-fits : isAddress kind (take n (drop a pool)) ≡ true → addressFault kind (take n (drop a pool)) 0 ≡ fine
-      address-fits v = rw (span-length pool a n h, t, v)
+      address-fits : (at : ℕ) → isAddress kind (take n (drop a pool)) ≡ true → addressFault kind (take n (drop a pool)) at ≡ fine
+      address-fits at v = rw (span-length pool a n h, t, v)
 
       pub address-put : isAddress kind (take n (drop a pool)) ≡ true → {r : Pen} {out′ : List ℕ} → Penned rest pool tape (At size k) wet out r out′
           → Penned (only (addressFault kind) rest) pool tape x wet out r out′
@@ -87,4 +91,4 @@ module _ (kind : ℕ) (pool tape : List ℕ) (x : Pen) (wet : Bool) (out : List 
           subst (λ y. Penned (only (addressFault kind) rest) pool tape y wet out r out′) (sym e)
           (only-fine (addressFault kind) p (λ z i g cs j w.
           let l : k ≡ i = cc in
-          ap (λ b. addressFault kind b 0) (sym (found-inj (sym laid ∙ ap (rest .form pool tape) l ∙ w) .0)) ∙ address-fits v))
+          ap (λ b. addressFault kind b i) (sym (found-inj (sym laid ∙ ap (rest .form pool tape) l ∙ w) .0)) ∙ address-fits i v))

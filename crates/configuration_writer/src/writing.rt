@@ -32,7 +32,7 @@ fn put_date(tape: &[u64], x: Pen, out: &mut [u8], wet: bool) -> Pen
     if clocks::is_day(year.n, month.n, day.n) {
         return c;
     }
-    body_pen::refuse(c, Refusal::ImpossibleDay(0))
+    body_pen::refuse(c, Refusal::ImpossibleDay(body_pen::entry(x)))
 }
 
 // "hour, minute, second": an impossible time is 20.
@@ -48,7 +48,7 @@ fn put_clock(tape: &[u64], x: Pen, out: &mut [u8], wet: bool) -> Pen
     if clocks::is_time(hour.n, minute.n, second.n) {
         return c;
     }
-    body_pen::refuse(c, Refusal::ImpossibleDay(0))
+    body_pen::refuse(c, Refusal::ImpossibleDay(body_pen::entry(x)))
 }
 
 // "1: year 16, month, day, hour, minute, second".
@@ -91,10 +91,10 @@ fn put_address_bytes(pool: &[u8], tape: &[u64], x: Pen, kind: u64, out: &mut [u8
             Part::Refused(r) => Pen::Refused(r),
             Part::Of(a, n) => {
                 if !configuration_addresses::length_fits(kind, n as u64) {
-                    return Pen::Refused(Refusal::PastPart(0));
+                    return Pen::Refused(Refusal::PastPart(k));
                 }
                 if !configuration_addresses::is_address(pool, a, n, kind) {
-                    return Pen::Refused(Refusal::OutsideSet(0));
+                    return Pen::Refused(Refusal::OutsideSet(k));
                 }
                 body_pen::put_rest(pool, tape, Pen::At(size, k), out, wet)
             }

@@ -10,19 +10,24 @@ use Rattle.ground_refusal.specs.declared.Refusal.{Refusal}
 use Rattle.crc.specs.Crc.{crc16Of}
 use Rattle.body_formats.specs.Reading.{Reading, found, refused}
 use Rattle.body_formats.specs.Answers.{stepOf}
-use Rattle.body_formats.specs.Body.{writing, bodyWritten, outputWritten}
+use Rattle.body_formats.specs.Body.{measured, writing, bodyWritten, outputWritten}
 use Rattle.body_formats.specs.declared.Step.the-variants.{At, Refused as NoStep}
 use Rattle.body_formats.specs.Identifier.{identifier}
+use Rattle.body_pen.specs.Penned.{stepFitting}
+use Rattle.body_pen.proofs.Writers.{write-refused}
 use Rattle.content.specs.Content.{Content, content, extensionOf}
 use Rattle.content.proofs.RoundTrips.{content-trips}
 use Rattle.content.proofs.Extension.{printed-identifier}
 use Rattle.content_writer.specs.Written.{writtenOf, contentWritten}
 use Rattle.content_writer.specs.declared.Written.the-variants.{Of, Refused}
 
--- a refusal is the same whether or not an extension is told
-pub still-refused : (pool tape : List ℕ) (room : ℕ) (e : Refusal) → NoStep e ≡ bodyWritten (content 3) pool tape room → Refused e ≡ contentWritten pool tape room
+-- a refusal is the same whether or not an extension is told, and writes no byte
+pub refused-kept : (pool tape out : List ℕ) (e : Refusal) → stepFitting (length out) (measured (content 3) pool tape) ≡ NoStep e
+    → (Refused e ≡ contentWritten pool tape (length out)) × (out ≡ outputWritten (content 3) pool tape out)
 unfolding bodyWritten contentWritten
-still-refused pool tape room e f = go (writing (content 3) pool tape room) f
+refused-kept pool tape out e f =
+    let w = write-refused (content 3) pool tape out e f in
+    (go (writing (content 3) pool tape (length out)) (w .0), w .1)
   where
     go : (y : Reading Content) → NoStep e ≡ stepOf y → Refused e ≡ writtenOf y
     go (found c n) g = absurd (let z : _≡_ {A = ℕ} 0 1 = cc in omega arith)

@@ -1,7 +1,7 @@
 // The certificate table for C.
 ghost use mathlib.Core.Path.{_≡_};
 ghost use lib.ListN.{length};
-ghost use Rattle.body_formats.specs.Body.{bodyRead, bodyLaid, laidTape, bodyWritten, outputWritten};
+ghost use Rattle.body_formats.specs.Body.{bodyRead, bodyLaid, laidTape, measured, bodyWritten, outputWritten};
 ghost use Rattle.certificate.specs.Certificate.{certificateKind, certificate};
 ghost use Rattle.certificate_fields.specs.Asked.{authorizationCount, authorizationPart, certificateCount, certificatePart, signaturePart};
 ghost use Rattle.c_answers.specs.Answers.{readAnswer, numberAnswer, partAnswer, writtenAnswer};
@@ -46,6 +46,13 @@ pub extern "C" fn nw_certificate_signature(body: &[u8]) -> u64
     ensures { λ r. ⌜ r ≡ partAnswer (signaturePart (now (body .entry))) ⌝ }
 {
     c_answers::part_answer(certificate_fields::signature(body))
+}
+
+#[no_mangle]
+pub extern "C" fn nw_certificate_measure(pool: &[u8], tape: &[u64]) -> u64
+    ensures { λ r. ⌜ r ≡ writtenAnswer (measured certificate (now (pool .entry)) (now (tape .entry))) ⌝ }
+{
+    c_answers::written_answer(certificate_writer::measure(pool, tape))
 }
 
 #[no_mangle]

@@ -1,7 +1,7 @@
 // The index table for C: read, laid onto a form, written from one.
 ghost use mathlib.Core.Path.{_≡_};
 ghost use lib.ListN.{length};
-ghost use Rattle.body_formats.specs.Body.{bodyRead, bodyLaid, laidTape, bodyWritten, outputWritten};
+ghost use Rattle.body_formats.specs.Body.{bodyRead, bodyLaid, laidTape, measured, bodyWritten, outputWritten};
 ghost use Rattle.index.specs.Index.{indexKind, index};
 ghost use Rattle.c_answers.specs.Answers.{readAnswer, writtenAnswer};
 
@@ -18,6 +18,13 @@ pub extern "C" fn nw_index_lay(kind: u32, body: &[u8], tape: &mut [u64]) -> u64
     ensures { λ _. ⌜ now (tape .exit) ≡ laidTape index indexKind kind (now (body .entry)) (now (tape .entry)) ⌝ }
 {
     c_answers::written_answer(index_reader::lay(kind, body, tape))
+}
+
+#[no_mangle]
+pub extern "C" fn nw_index_measure(pool: &[u8], tape: &[u64]) -> u64
+    ensures { λ r. ⌜ r ≡ writtenAnswer (measured index (now (pool .entry)) (now (tape .entry))) ⌝ }
+{
+    c_answers::written_answer(index_writer::measure(pool, tape))
 }
 
 #[no_mangle]

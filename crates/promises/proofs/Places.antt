@@ -1,6 +1,6 @@
 -- The places of refusals: for every table from its format's laws, for the others because each names the refusals that it gives.
 use Prim.Native.Nat.{ℕ, _+_, _-_, _≤_, zero-le}
-use mathlib.Core.Path.{_≡_, refl, ap, subst}
+use mathlib.Core.Path.{_≡_, refl, ap, subst, _∙_}
 use mathlib.Core.Bool.{Bool, true, false, not, _&&_}
 use mathlib.Core.List.{List}
 use native.Mathlib.Omega.{arith}
@@ -30,11 +30,12 @@ use Rattle.gathering_hand_out.specs.Handing as handing
 use Rattle.gathering_hand_out.specs.declared.Completeness.{Completeness}
 use Rattle.gathering_hand_out.specs.declared.Completeness.the-variants.{Complete, Refused as NotComplete}
 use Rattle.gathering_hand_out.specs.declared.Handed.the-variants.{Body, Refused as NotHanded}
-use Rattle.body_formats.specs.Reading.{Reading, found, refused}
+use Rattle.body_formats.specs.Reading.{Reading, found, refused, need, placeless}
 use Rattle.body_formats.specs.Format.{Format}
-use Rattle.body_formats.specs.Body.{reading, writing}
-use Rattle.body_formats.specs.declared.Step.the-variants.{Refused as NoStep}
-use Rattle.body_formats.proofs.Places.{Until, ends, stands, then-until, need-until, Placed, step-place, reading-until, read-place, laid-place, writing-until, written-place}
+use Rattle.body_formats.specs.Answers.{stepOf}
+use Rattle.body_formats.specs.Body.{reading, measuring, measured, fitting, writing, bodyWritten}
+use Rattle.body_formats.specs.declared.Step.the-variants.{At, Refused as NoStep}
+use Rattle.body_formats.proofs.Places.{Until, ends, stands, then-until, need-until, Placed, step-place, reading-until, read-place, laid-place, measured-place, writing-until, written-place}
 use Rattle.certificate.specs.Certificate.{certificateKind, certificate}
 use Rattle.certificate.proofs.Places.{certificate-placed}
 use Rattle.index.specs.Index.{indexKind, index}
@@ -54,8 +55,40 @@ absurd-answer z = absurd (omega arith)
 
 -- ---- tables
 
+-- a writer answers what was measured: a refusal without its place, a length where there is room for it
+module _ {A : Type 0} (F : Format A) (pool tape : List ℕ) (room : ℕ) where
+  refused-alike : (r : Refusal) → measured F pool tape ≡ NoStep r → bodyWritten F pool tape room ≡ NoStep (placeless r)
+  unfolding measured bodyWritten writing
+  refused-alike r e = go (measuring F pool tape) e
+    where
+      go : (x : Reading A) → stepOf x ≡ NoStep r → stepOf (fitting room x) ≡ NoStep (placeless r)
+      go (found a n) e = absurd-answer (cc)
+      go (refused r′) e = let same : r′ ≡ r = cc in ap (λ (q : Refusal). NoStep (placeless q)) same
+
+  as-measured : (n : ℕ) → measured F pool tape ≡ At n → bodyWritten F pool tape room ≡ (if leb n room then At n else NoStep OutputTooSmall)
+  unfolding measured bodyWritten writing
+  as-measured n e = go (measuring F pool tape) e
+    where
+      chosen : (a : A) (m : ℕ) (b : Bool) → stepOf (need b OutputTooSmall (found a m)) ≡ (if b then At m else NoStep OutputTooSmall)
+      chosen a m true = refl
+      chosen a m false = refl
+
+      go : (x : Reading A) → stepOf x ≡ At n → stepOf (fitting room x) ≡ (if leb n room then At n else NoStep OutputTooSmall)
+      go (found a m) e =
+          let same : m ≡ n = cc in
+          chosen a m (leb m room) ∙ ap (λ (k : ℕ). if leb k room then At k else NoStep OutputTooSmall) same
+      go (refused r) e = absurd-answer (cc)
+
 of-table : {A : Type 0} (F : Format A) (own : ℕ) → Placed F → PlacesOf F own
-of-table F own f = record { read = read-place F f own; laid = laid-place F f own; written = written-place F f }
+of-table F own f =
+    record {
+      read = read-place F f own;
+      laid = laid-place F f own;
+      measured-at = measured-place F f;
+      written = written-place F;
+      refused-alike = refused-alike F;
+      as-measured = as-measured F;
+    }
 
 recorded : (kind : ℕ) (body : List ℕ) (room : ℕ) (r : Refusal) → bodyRecorded kind body room ≡ NoStep r → refusalPlace r ≤ length body
 unfolding bodyRecorded recording
@@ -66,7 +99,7 @@ recorded kind body room =
 
 content-written : (pool tape : List ℕ) (room : ℕ) (r : Refusal) → contentWritten pool tape room ≡ NotWritten r → refusalPlace r ≡ 0
 unfolding contentWritten
-content-written pool tape room r e = go (writing (content 3) pool tape room) (writing-until (content 3) (content-placed 3) pool tape room) e
+content-written pool tape room r e = go (writing (content 3) pool tape room) (writing-until (content 3) pool tape room) e
   where
     go : (x : Reading Content) → Until 0 room x → writtenOf x ≡ NotWritten r → refusalPlace r ≡ 0
     go (found t n) h e = absurd-answer (cc)

@@ -1,7 +1,7 @@
 -- What C is told comes back: every value that is answered fits the bits that it is told in, and telling's laws say the rest.
 use Prim.Native.Nat.{ℕ, _+_, _^_, _≤_, _<_}
 use mathlib.Core.Path.{_≡_, refl, sym, ap, _∙_}
-use mathlib.Core.Bool.{Bool, true, false, not}
+use mathlib.Core.Bool.{Bool, true, false}
 use mathlib.Core.List.{List}
 use native.Mathlib.Omega.{arith}
 use native.Mathlib.Nat.{pow-le-pow-right, lt-of-lt-of-le}
@@ -11,7 +11,7 @@ use lib.IntN.{ℤ}
 use borrow.Author.Tests.{leb-true, ltb-false}
 use Rattle.ground_choices.specs.Choice.{if_then_else_}
 use Rattle.ground_refusal.specs.declared.Refusal.{Refusal}
-use Rattle.ground_refusal.specs.declared.Refusal.the-variants.{OutsideSet, OutputTooSmall, TooLarge, BodyTooLong}
+use Rattle.ground_refusal.specs.declared.Refusal.the-variants.{OutsideSet, OutputTooSmall, BodyTooLong}
 use Rattle.crc_register.proofs.Laws.{crc-lt}
 use Rattle.crc.specs.Crc.{AreBytes, crc16Of}
 use Rattle.time_days.specs.Calendar.{dayOf}
@@ -50,11 +50,12 @@ use Rattle.gathering_hand_out.specs.declared.Handed.the-variants.{Body, Refused
 use Rattle.body_formats.specs.Reading.{Reading, found, refused}
 use Rattle.body_formats.specs.Format.{Format, count}
 use Rattle.body_formats.specs.Answers.{stepOf, numberOf, numberRead}
-use Rattle.body_formats.specs.Body.{longest, reading, writing, bodyWritten, laying, bodyLaid}
+use Rattle.body_formats.specs.Body.{longest, reading, measured, writing, bodyWritten, laying, bodyLaid}
 use Rattle.body_formats.specs.declared.Step.the-variants.{At}
 use Rattle.body_formats.specs.declared.Number.the-variants.{Is}
 use Rattle.body_formats.proofs.Outcomes.{found-inj, andThen-found, need-found, within-found}
 use Rattle.body_formats.proofs.Leaves.{number-below}
+use Rattle.body_formats.proofs.RoundTrips.{measured-value, written-measured}
 use Rattle.index.specs.Index.{Index, indexKind, index}
 use Rattle.index_records.specs.Records.{recording, bodyRecorded}
 use Rattle.content.specs.Content.{Content, content, extensionOf}
@@ -177,16 +178,7 @@ number-back w h s b l p x q e =
 
 -- a body that is written is no longer than the longest
 written-most : {A : Type 0} (F : Format A) (pool tape : List ℕ) (room : ℕ) (a : A) (n : ℕ) → writing F pool tape room ≡ found a n → n ≤ longest
-unfolding writing
-written-most F pool tape room a n e =
-    let i = andThen-found (F .form pool tape 0) _ a n e in
-    let t = need-found (leb (length tape) (i .1)) (OutsideSet 0) _ a n (i .3) in
-    let o = need-found (not (F .tooLarge (i .0))) TooLarge _ a n (t .1) in
-    let s = need-found (leb (length (F .print (i .0))) longest) TooLarge _ a n (o .1) in
-    let r = need-found (leb (length (F .print (i .0))) room) OutputTooSmall _ a n (s .1) in
-    let m = leb-true (length (F .print (i .0))) longest (s .0) in
-    let q = found-inj (r .1) .1 in
-    omega arith
+written-most F pool tape room a n e = measured-value F pool tape a n (written-measured F pool tape room a n e .0) .4
 
 -- no more entries are laid than the tape has, and no more records than the list
 laid-most : {A : Type 0} (F : Format A) (own kind : ℕ) (body : List ℕ) (room : ℕ) (a : A) (n : ℕ) → laying F own kind body room ≡ found a n → n ≤ room
@@ -254,7 +246,7 @@ refusals-told =
 -- ---- the statement
 
 pub told : Told
-unfolding bodyWritten bodyLaid bodyRecorded
+unfolding measured bodyWritten bodyLaid bodyRecorded
 told =
     record {
       refusals = refusals-told;
@@ -276,6 +268,7 @@ told =
       held-already = value-told 1 (omega arith);
       handed-out = handed-told;
       accepted = λ end. value-told 0 (omega arith);
+      measured-length = λ F pool tape n e. let x = found-of _ n e in let m = measured-value F pool tape (x .0) n (x .1) .4 in value-told n (omega arith);
       written = λ F pool tape room n e. let x = found-of _ n e in let m = written-most F pool tape room (x .0) n (x .1) in value-told n (omega arith);
       content-written = content-back;
       laid = λ F own kind body room n l e. let x = found-of _ n e in let m = laid-most F own kind body room (x .0) n (x .1) in value-told n (omega arith);

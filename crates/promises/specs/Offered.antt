@@ -17,7 +17,7 @@ use Rattle.gathering_feed.specs.Feeding.{fedOf, storeAfter}
 use Rattle.gathering_hand_out.specs.Handing.{handedOf, outAfter}
 use Rattle.program_date_lines.specs.Report.{reportOf}
 use Rattle.program_section_line.specs.Line.{lineOf}
-use Rattle.body_formats.specs.Body.{bodyRead, bodyWritten, outputWritten, bodyLaid, laidTape}
+use Rattle.body_formats.specs.Body.{bodyRead, measured, bodyWritten, outputWritten, bodyLaid, laidTape}
 use Rattle.certificate.specs.Certificate.{certificate, certificateKind}
 use Rattle.certificate_fields.specs.Asked as certificate-fields
 use Rattle.certificate_fields.specs.Asked.{authorizationCount, authorizationPart, certificateCount, certificatePart}
@@ -75,6 +75,7 @@ pub record Offered : Type 0 where
   pub nw-certificate-certificate-count : (body : List ℕ) → Determined (λ r. r ≡ numberAnswer (certificateCount body))
   pub nw-certificate-certificate : (body : List ℕ) (i : ℕ) → Determined (λ r. r ≡ partAnswer (certificatePart body i))
   pub nw-certificate-signature : (body : List ℕ) → Determined (λ r. r ≡ partAnswer (certificate-fields.signaturePart body))
+  pub nw-certificate-measure : (pool tape : List ℕ) → Determined (λ r. r ≡ writtenAnswer (measured certificate pool tape))
   pub nw-certificate-write : (pool tape out : List ℕ) →
       Determined₂ (λ r out′. (r ≡ writtenAnswer (bodyWritten certificate pool tape (length out))) × (out′ ≡ outputWritten certificate pool tape out))
   pub nw-certificate-lay : (kind : ℕ) (body tape : List ℕ) →
@@ -84,6 +85,7 @@ pub record Offered : Type 0 where
   pub nw-index-read : (kind : ℕ) (body : List ℕ) → Determined (λ r. r ≡ readAnswer (bodyRead index indexKind kind body))
   pub nw-index-lay : (kind : ℕ) (body tape : List ℕ) →
       Determined₂ (λ r tape′. (r ≡ writtenAnswer (bodyLaid index indexKind kind body (length tape))) × (tape′ ≡ laidTape index indexKind kind body tape))
+  pub nw-index-measure : (pool tape : List ℕ) → Determined (λ r. r ≡ writtenAnswer (measured index pool tape))
   pub nw-index-write : (pool tape out : List ℕ) →
       Determined₂ (λ r out′. (r ≡ writtenAnswer (bodyWritten index pool tape (length out))) × (out′ ≡ outputWritten index pool tape out))
   -- The fields of an index table for C, asked for one by one.
@@ -125,6 +127,7 @@ pub record Offered : Type 0 where
   pub nw-content-lay : (kind : ℕ) (body tape : List ℕ) →
       Determined₂ (λ r tape′. (r ≡ writtenAnswer (bodyLaid (content 3) contentKind kind body (length tape))) ×
       (tape′ ≡ laidTape (content 3) contentKind kind body tape))
+  pub nw-content-measure : (pool tape : List ℕ) → Determined (λ r. r ≡ writtenAnswer (measured (content 3) pool tape))
   pub nw-content-write : (pool tape out : List ℕ) →
       Determined₂ (λ r out′. (r ≡ contentAnswer (contentWritten pool tape (length out))) × (out′ ≡ outputWritten (content 3) pool tape out))
   -- The fields of a content table for C, asked for one by one.
@@ -146,6 +149,7 @@ pub record Offered : Type 0 where
   pub nw-configuration-lay : (kind : ℕ) (body tape : List ℕ) →
       Determined₂ (λ r tape′. (r ≡ writtenAnswer (bodyLaid configuration configurationKind kind body (length tape))) ×
       (tape′ ≡ laidTape configuration configurationKind kind body tape))
+  pub nw-configuration-measure : (pool tape : List ℕ) → Determined (λ r. r ≡ writtenAnswer (measured configuration pool tape))
   pub nw-configuration-write : (pool tape out : List ℕ) →
       Determined₂ (λ r out′. (r ≡ writtenAnswer (bodyWritten configuration pool tape (length out))) × (out′ ≡ outputWritten configuration pool tape out))
   -- The fields of a configuration table and of its commands for C, asked for one by one.

@@ -3,8 +3,11 @@ use Prim.Native.Nat.{ℕ, _≤_}
 use mathlib.Core.Path.{_≡_}
 use mathlib.Core.List.{List}
 use lib.ListN.{length}
+use lib.Dec.{leb}
+use Rattle.ground_choices.specs.Choice.{if_then_else_}
 use Rattle.ground_refusal.specs.Numbers.{refusalPlace}
 use Rattle.ground_refusal.specs.declared.Refusal.{Refusal}
+use Rattle.ground_refusal.specs.declared.Refusal.the-variants.{OutputTooSmall}
 use Rattle.section_reader.specs.Section.{readSection}
 use Rattle.section_reader.specs.declared.Sectioned.the-variants.{Refused as NotGood}
 use Rattle.section_cutter.specs.Cutting.{cutAnswer}
@@ -14,9 +17,10 @@ use Rattle.gathering_feed.specs.Feeding.{fedOf}
 use Rattle.gathering_feed.specs.declared.Answer.the-variants.{Refused as NotFed}
 use Rattle.gathering_hand_out.specs.Handing.{handedOf}
 use Rattle.gathering_hand_out.specs.declared.Handed.the-variants.{Refused as NotHanded}
+use Rattle.body_formats.specs.Reading.{placeless}
 use Rattle.body_formats.specs.Format.{Format}
-use Rattle.body_formats.specs.Body.{bodyRead, bodyWritten, bodyLaid}
-use Rattle.body_formats.specs.declared.Step.the-variants.{Refused as NoStep}
+use Rattle.body_formats.specs.Body.{bodyRead, measured, bodyWritten, bodyLaid}
+use Rattle.body_formats.specs.declared.Step.the-variants.{At, Refused as NoStep}
 use Rattle.certificate.specs.Certificate.{certificateKind, certificate}
 use Rattle.index.specs.Index.{indexKind, index}
 use Rattle.index_records.specs.Records.{bodyRecorded}
@@ -31,8 +35,13 @@ pub record PlacesOf {A : Type 0} (F : Format A) (own : ℕ) : Type 0 where
   -- end, its length field; else 0": in the body, or at its end where a field begins that is not there
   pub read : (kind : ℕ) (body : List ℕ) (r : Refusal) → bodyRead F own kind body ≡ NoStep r → refusalPlace r ≤ length body
   pub laid : (kind : ℕ) (body : List ℕ) (room : ℕ) (r : Refusal) → bodyLaid F own kind body room ≡ NoStep r → refusalPlace r ≤ length body
-  -- "and always 0 from writers"
+  -- of a form that is measured: the entry where the field begins, or the tape's end
+  pub measured-at : (pool tape : List ℕ) (r : Refusal) → measured F pool tape ≡ NoStep r → refusalPlace r ≤ length tape
+  -- "and always 0 from writers": else a writer refuses as was measured, "then 21", and what it writes has the length that was measured
   pub written : (pool tape : List ℕ) (room : ℕ) (r : Refusal) → bodyWritten F pool tape room ≡ NoStep r → refusalPlace r ≡ 0
+  pub refused-alike : (pool tape : List ℕ) (room : ℕ) (r : Refusal) → measured F pool tape ≡ NoStep r → bodyWritten F pool tape room ≡ NoStep (placeless r)
+  pub as-measured : (pool tape : List ℕ) (room n : ℕ) → measured F pool tape ≡ At n
+      → bodyWritten F pool tape room ≡ (if leb n room then At n else NoStep OutputTooSmall)
 
 pub record Places : Type 0 where
   pub certificates : PlacesOf certificate certificateKind

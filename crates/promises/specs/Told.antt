@@ -32,7 +32,7 @@ use Rattle.gathering_hand_out.specs.Handing.{handedOf}
 use Rattle.gathering_hand_out.specs.declared.Handed.the-variants.{Body, Refused as NotHanded}
 use Rattle.body_formats.specs.Format.{Format}
 use Rattle.body_formats.specs.Answers.{numberRead}
-use Rattle.body_formats.specs.Body.{longest, bodyWritten, bodyLaid}
+use Rattle.body_formats.specs.Body.{longest, measured, bodyWritten, bodyLaid}
 use Rattle.body_formats.specs.declared.Step.the-variants.{At, Refused as NoStep}
 use Rattle.body_formats.specs.declared.Number.{Number}
 use Rattle.body_formats.specs.declared.Number.the-variants.{Is, Refused as NoNumber}
@@ -93,8 +93,9 @@ pub record Told : Type 1 where
   pub taken : TellsValue (feedAnswer fed.Taken) 0
   pub held-already : TellsValue (feedAnswer fed.HeldAlready) 1
   pub handed-out : (g : Gathering) (store out : List ℕ) (n : ℕ) → handedOf g store out ≡ Body n → TellsValue (handAnswer (Body n)) n
-  -- tables: 0 for an accepted body; the length of a body written; so many entries or records as the tape or the list had room for
+  -- tables: 0 for an accepted body; the length of a body measured or written; so many entries or records as the tape or the list had room for
   pub accepted : (end : ℕ) → TellsValue (readAnswer (At end)) 0
+  pub measured-length : {A : Type 0} (F : Format A) (pool tape : List ℕ) (n : ℕ) → measured F pool tape ≡ At n → TellsValue (writtenAnswer (At n)) n
   pub written : {A : Type 0} (F : Format A) (pool tape : List ℕ) (room n : ℕ) → bodyWritten F pool tape room ≡ At n → TellsValue (writtenAnswer (At n)) n
   pub content-written : (pool tape : List ℕ) (room n extension : ℕ) → contentWritten pool tape room ≡ WrittenOf n extension
       → TellsContent (contentAnswer (WrittenOf n extension)) extension n

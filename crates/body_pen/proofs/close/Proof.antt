@@ -15,11 +15,22 @@ close-spec =
     (λ c. search needs)
     (λ c κs. search needs)
     (λ c κs. search needs)
-    (λ c. close-over _ _ _ _ _ _ _ _ _ (c .before .before .before .before .before .before .before .x2 .given .1) _ _ (c .before .before .before .before .b2 .given .1) (c .before .less2 .result) (omega (arith, c .before .less2 .ensures, c .before .before .less .ensures)) (c .if1 .taken))
+    (λ c.
+    let ended = c .before .before .before .before in
+    let stood = ended .before .before .before in
+    close-over _ _ _ _ _ _ _ _ _ (stood .x2 .given .1) _ _ (ended .b2 .given .1) (c .before .less2 .result)
+    (omega (arith, c .before .less2 .ensures, c .before .before .less .ensures)) (c .if1 .taken))
     (λ c. search needs)
     (λ c κs. search needs)
     (λ c κs. search needs)
     (λ c. close-none _ _ _ _ _ _ _ _ (c .before .x .given .1))
     (λ c. close-refused _ _ _ _ _ _ _ _ _ (c .before .before .before .before .x2 .given .1) _ (c .before .b .given .1))
     (λ c. search needs)
-    (λ c. close-put _ _ _ _ _ _ _ _ _ (c .before .before .before .before .before .before .before .before .before .before .before .before .x2 .given .1) _ _ (c .before .before .before .before .before .before .before .before .before .b2 .given .1) (c .before .before .before .before .before .before .less2 .result) (omega (arith, c .before .before .before .before .before .before .less2 .ensures, c .before .before .before .before .before .before .before .less .ensures)) (omega arith) _ (c .grown .ensures) (c .before .before .before .put-at .ensures)))
+    (λ c.
+    let put = c .before .before .before in
+    let length = put .before .before .before in
+    let room = length .before in
+    let ended = room .before .before in
+    let stood = ended .before .before .before in
+    close-put _ _ _ _ _ _ _ _ _ (stood .x2 .given .1) _ _ (ended .b2 .given .1) (length .less2 .result)
+    (omega (arith, length .less2 .ensures, room .less .ensures)) (omega arith) _ (c .grown .ensures) (put .put-at .ensures)))

@@ -20,8 +20,22 @@ copy-span-spec =
     (λ c. search needs)
     (λ c. search needs)
     (λ c. search needs)
-    (λ c κs. let a = c .before .before .before .before .before .before .before .args in omega (arith, leb-true (a .at + a .n) (length (now (a .out))) (sym (c .before .before .before .has-room .ensures) ∙ c .before .before .if2 .taken), ap length (span-end (now (a .pool)) (a .a) (a .n)) ∙ span-length (now (a .pool)) (a .a) (a .n) (omega arith)))
+    (λ c κs.
+    let room = c .before .before .before in
+    let start = room .before .before .before .before in
+    let a = start .args in
+    omega (
+      arith,
+      leb-true (a .at + a .n) (length (now (a .out))) (sym (room .has-room .ensures) ∙ c .before .before .if2 .taken),
+      ap length
+          (span-end (now (a .pool)) (a .a) (a .n)) ∙ span-length (now (a .pool)) (a .a) (a .n) (omega arith),
+    ))
     (λ c. search needs)
-    (λ c. let a = c .before .before .before .before .before .before .before .before .before .before .args in ink-wet _ _ _ _ _ (c .before .before .before .before .before .before .before .if1 .taken) _ (c .before .before .copy-at .ensures ∙ ap (placed _ _) (span-end (now (a .pool)) (a .a) (a .n))))
+    (λ c.
+    let earlier = c .before .before .before .before .before in
+    let one = earlier .before .before in
+    let start = one .before .before .before in
+    let a = start .args in
+    ink-wet _ _ _ _ _ (one .if1 .taken) _ (c .before .before .copy-at .ensures ∙ ap (placed _ _) (span-end (now (a .pool)) (a .a) (a .n))))
     (λ c. ink-short _ _ _ _ _ (c .before .before .if1 .taken) _ (c .before .has-room .ensures) (c .if2 .left))
     (λ c. ink-dry _ _ _ _ _ (c .if1 .left)))

@@ -14,8 +14,34 @@ number-among-spec =
     (λ c κs. search needs)
     (λ c. search needs)
     (λ c. search needs)
-    (λ c. let a = c .before .before .before .before .before .before .args in kept-large (now (a .tape)) (a .k) (a .bound) (a .lo) (a .hi) _ _ (sym (c .before .before .v .given .1) ∙ c .before .before .before .before .entry-at .ensures) (omega arith))
-    (λ c. let a = c .before .before .before .before .before .before .before .args in kept-outside (now (a .tape)) (a .k) (a .bound) (a .lo) (a .hi) _ _ (sym (c .before .before .before .v .given .1) ∙ c .before .before .before .before .before .entry-at .ensures) (omega arith) (too-low (a .lo) (a .hi) _ (omega arith)))
-    (λ c. let a = c .before .before .before .before .before .before .before .before .args in kept-outside (now (a .tape)) (a .k) (a .bound) (a .lo) (a .hi) _ _ (sym (c .before .before .before .before .v .given .1) ∙ c .before .before .before .before .before .before .entry-at .ensures) (omega arith) (too-high (a .lo) (a .hi) _ (omega arith)))
-    (λ c. let a = c .before .before .before .before .before .args in kept-none (now (a .tape)) (a .k) (a .bound) (a .lo) (a .hi) _ (sym (c .before .r .given .1) ∙ c .before .before .before .entry-at .ensures))
-    (λ c. let a = c .before .before .before .before .before .before .before .before .args in kept-is (now (a .tape)) (a .k) (a .bound) (a .lo) (a .hi) _ _ (sym (c .before .before .before .before .v .given .1) ∙ c .before .before .before .before .before .before .entry-at .ensures) (omega arith) (omega arith) (omega arith)))
+    (λ c.
+    let taken = c .before .before .before .before in
+    let start = taken .before .before in
+    let a = start .args in
+    kept-large (now (a .tape)) (a .k) (a .bound) (a .lo) (a .hi) _ _ (sym (c .before .before .v .given .1) ∙ taken .entry-at .ensures) (omega arith))
+    (λ c.
+    let told = c .before .before .before in
+    let taken = told .before .before in
+    let start = taken .before .before in
+    let a = start .args in
+    kept-outside (now (a .tape)) (a .k) (a .bound) (a .lo) (a .hi) _ _ (sym (told .v .given .1) ∙ taken .entry-at .ensures) (omega arith)
+    (too-low (a .lo) (a .hi) _ (omega arith)))
+    (λ c.
+    let told = c .before .before .before .before in
+    let taken = told .before .before in
+    let start = taken .before .before in
+    let a = start .args in
+    kept-outside (now (a .tape)) (a .k) (a .bound) (a .lo) (a .hi) _ _ (sym (told .v .given .1) ∙ taken .entry-at .ensures) (omega arith)
+    (too-high (a .lo) (a .hi) _ (omega arith)))
+    (λ c.
+    let taken = c .before .before .before in
+    let start = taken .before .before in
+    let a = start .args in
+    kept-none (now (a .tape)) (a .k) (a .bound) (a .lo) (a .hi) _ (sym (c .before .r .given .1) ∙ taken .entry-at .ensures))
+    (λ c.
+    let told = c .before .before .before .before in
+    let taken = told .before .before in
+    let start = taken .before .before in
+    let a = start .args in
+    kept-is (now (a .tape)) (a .k) (a .bound) (a .lo) (a .hi) _ _ (sym (told .v .given .1) ∙ taken .entry-at .ensures) (omega arith) (omega arith)
+    (omega arith)))

@@ -15,8 +15,13 @@ put-at-spec =
     tie.close
     (tie.spec
     (λ c κs. search needs)
-    (λ c κs. let a = c .before .before .before .before .before .args in omega (arith, leb-true (a .at + a .w) (length (now (a .out))) (sym (c .before .before .has-room .ensures) ∙ c .before .if2 .taken)))
+    (λ c κs.
+    let start = c .before .before .before .before .before in
+    let a = start .args in
+    omega (arith, leb-true (a .at + a .w) (length (now (a .out))) (sym (c .before .before .has-room .ensures) ∙ c .before .if2 .taken)))
     (λ c. search needs)
-    (λ c. ink-wet _ _ _ _ _ (c .before .before .before .before .before .before .if1 .taken) _ (c .before .before .number-bytes .ensures))
+    (λ c.
+    let one = c .before .before .before .before .before .before in
+    ink-wet _ _ _ _ _ (one .if1 .taken) _ (c .before .before .number-bytes .ensures))
     (λ c. ink-short _ _ _ _ _ (c .before .before .if1 .taken) _ (c .before .has-room .ensures) (c .if2 .left))
     (λ c. ink-dry _ _ _ _ _ (c .if1 .left)))

@@ -20,6 +20,15 @@ put-count-spec =
     (λ c κs. search needs)
     (λ c κs. search needs)
     (λ c pool. count-stopped _ pool _ _ _ _ _ (c .before .x .given .1))
-    (λ c pool. count-no _ pool _ _ _ _ _ _ (c .before .before .before .before .before .x2 .given .1) _ (sym (c .before .r .given .1) ∙ c .before .before .before .entry-at .ensures))
+    (λ c pool.
+    let taken = c .before .before .before in
+    let stood = taken .before .before in
+    count-no _ pool _ _ _ _ _ _ (stood .x2 .given .1) _ (sym (c .before .r .given .1) ∙ taken .entry-at .ensures))
     (λ c. search needs)
-    (λ c pool. count-is _ pool _ _ _ _ _ _ (c .before .before .before .before .before .before .before .before .before .before .before .x2 .given .1) _ _ (sym (c .before .before .before .before .before .before .before .v .given .1) ∙ c .before .before .before .before .before .before .before .before .before .entry-at .ensures) _ (c .before .power .ensures) _ (c .grown .ensures) _ (c .before .before .before .before .put-at .ensures)))
+    (λ c pool.
+    let put = c .before .before .before .before in
+    let told = put .before .before .before in
+    let taken = told .before .before in
+    let stood = taken .before .before in
+    count-is _ pool _ _ _ _ _ _ (stood .x2 .given .1) _ _ (sym (told .v .given .1) ∙ taken .entry-at .ensures) _ (c .before .power .ensures) _
+    (c .grown .ensures) _ (put .put-at .ensures)))

@@ -1,4 +1,5 @@
--- `body_pen::put_digits` meets its contract: its tests are those of the form, and the bytes of the pool are written after a first one with its reserved bits set.
+-- `body_pen::put_digits` meets its contract: its tests are those of the form, and the bytes of the pool are written after a first one
+-- with its reserved bits set.
 use Prim.Native.Nat.{_+_, _%_}
 use mathlib.Core.Path.{ap}
 use Rattle.body_pen.proofs.Leaves.{stopped}
@@ -18,23 +19,94 @@ put-digits-spec =
     (λ c κs. search needs)
     (λ c. search needs)
     (λ c. search needs)
-    (λ c. let s = (c .before .before .before .before .span-at .ensures .1 _ _ (c .before .before .a .given .1)) in digits-length _ _ _ _ _ _ _ _ (c .before .before .before .before .before .before .x2 .given .1) _ _ (s .1) (s .2) (λ g. omega (arith, g)))
+    (λ c.
+    let spanned = c .before .before .before .before in
+    let stood = spanned .before .before in
+    let s = (spanned .span-at .ensures .1 _ _ (c .before .before .a .given .1)) in
+    digits-length _ _ _ _ _ _ _ _ (stood .x2 .given .1) _ _ (s .1) (s .2) (λ g. omega (arith, g)))
     (λ c. search needs)
-    (λ c. let s = (c .before .before .before .before .before .span-at .ensures .1 _ _ (c .before .before .before .a .given .1)) in digits-length _ _ _ _ _ _ _ _ (c .before .before .before .before .before .before .before .x2 .given .1) _ _ (s .1) (s .2) (λ g. omega (arith, g)))
-    (λ c. omega (arith, (c .before .before .before .before .before .before .span-at .ensures .1 _ _ (c .before .before .before .before .a .given .1)) .1))
+    (λ c.
+    let part = c .before .before .before in
+    let spanned = part .before .before in
+    let stood = spanned .before .before in
+    let s = (spanned .span-at .ensures .1 _ _ (part .a .given .1)) in
+    digits-length _ _ _ _ _ _ _ _ (stood .x2 .given .1) _ _ (s .1) (s .2) (λ g. omega (arith, g)))
+    (λ c.
+    let part = c .before .before .before .before in
+    let spanned = part .before .before in
+    omega (arith, (spanned .span-at .ensures .1 _ _ (part .a .given .1)) .1))
     (λ c κs. search needs)
-    (λ c. let s = (c .before .before .before .before .before .before .before .before .span-at .ensures .1 _ _ (c .before .before .before .before .before .before .a .given .1)) in digits-first _ _ _ _ _ _ _ _ (c .before .before .before .before .before .before .before .before .before .before .x2 .given .1) _ _ (s .1) (s .2) (omega arith) (omega (arith, c .before .wide .ensures .0)))
-    (λ c. omega (arith, (c .before .before .before .before .before .before .before .before .span-at .ensures .1 _ _ (c .before .before .before .before .before .before .a .given .1)) .1, c .before .before .before .before .before .before .before .before .before .before .before .before .before .before .before .good .0 .1))
-    (λ c κs. omega (arith, (c .before .before .before .before .before .before .before .before .span-at .ensures .1 _ _ (c .before .before .before .before .before .before .a .given .1)) .1))
-    (λ c. let s = (c .before .before .before .before .before .before .before .before .before .before .span-at .ensures .1 _ _ (c .before .before .before .before .before .before .before .before .a .given .1)) in digits-later _ _ _ _ _ _ _ _ (c .before .before .before .before .before .before .before .before .before .before .before .before .x2 .given .1) _ _ (s .1) (s .2) (omega arith) (omega (arith, c .before .before .before .wide .ensures .0)) (unmet _ (c .before .all-decimal .ensures) (c .if4 .taken)))
+    (λ c.
+    let part = c .before .before .before .before .before .before in
+    let spanned = part .before .before in
+    let stood = spanned .before .before in
+    let s = (spanned .span-at .ensures .1 _ _ (part .a .given .1)) in
+    digits-first _ _ _ _ _ _ _ _ (stood .x2 .given .1) _ _ (s .1) (s .2) (omega arith) (omega (arith, c .before .wide .ensures .0)))
+    (λ c.
+    let part = c .before .before .before .before .before .before in
+    let spanned = part .before .before in
+    let stood = spanned .before .before in
+    let start = stood .before .before .before .before .before in
+    omega (arith, (spanned .span-at .ensures .1 _ _ (part .a .given .1)) .1, start .good .0 .1))
+    (λ c κs.
+    let part = c .before .before .before .before .before .before in
+    let spanned = part .before .before in
+    omega (arith, (spanned .span-at .ensures .1 _ _ (part .a .given .1)) .1))
+    (λ c.
+    let first = c .before .before .before in
+    let part = first .before .before .before .before .before in
+    let spanned = part .before .before in
+    let stood = spanned .before .before in
+    let s = (spanned .span-at .ensures .1 _ _ (part .a .given .1)) in
+    digits-later _ _ _ _ _ _ _ _ (stood .x2 .given .1) _ _ (s .1) (s .2) (omega arith) (omega (arith, first .wide .ensures .0))
+    (unmet _ (c .before .all-decimal .ensures) (c .if4 .taken)))
     (λ c κs. search needs)
     (λ c. omega arith)
     (λ c κs. search needs)
-    (λ c. omega (arith, (c .before .before .before .before .before .before .before .before .before .before .before .before .before .before .before .span-at .ensures .1 _ _ (c .before .before .before .before .before .before .before .before .before .before .before .before .before .a .given .1)) .1, c .before .before .before .before .before .before .before .before .before .before .before .before .before .before .before .before .before .before .before .before .before .before .good .0 .1))
-    (λ c κs. omega (arith, (c .before .before .before .before .before .before .before .before .before .before .before .before .before .before .before .before .span-at .ensures .1 _ _ (c .before .before .before .before .before .before .before .before .before .before .before .before .before .before .a .given .1)) .1))
+    (λ c.
+    let counted = c .before .before .before .before in
+    let first = counted .before .before .before .before in
+    let part = first .before .before .before .before .before in
+    let spanned = part .before .before in
+    let stood = spanned .before .before in
+    let start = stood .before .before .before .before .before in
+    omega (arith, (spanned .span-at .ensures .1 _ _ (part .a .given .1)) .1, start .good .0 .1))
+    (λ c κs.
+    let counted = c .before .before .before .before .before in
+    let first = counted .before .before .before .before in
+    let part = first .before .before .before .before .before in
+    let spanned = part .before .before in
+    omega (arith, (spanned .span-at .ensures .1 _ _ (part .a .given .1)) .1))
     (λ c κs. search needs)
-    (λ c. omega (arith, (c .before .before .before .before .before .before .before .before .before .before .before .before .before .before .before .before .before .before .before .before .span-at .ensures .1 _ _ (c .before .before .before .before .before .before .before .before .before .before .before .before .before .before .before .before .before .before .a .given .1)) .0, c .before .before .before .before .before .before .before .before .before .before .before .before .before .before .before .before .before .before .before .before .before .before .before .before .before .before .before .good .1 .0 .1))
+    (λ c.
+    let copied = c .before .before .before in
+    let put = copied .before .before .before .before in
+    let first = put .before .before .before .before .before .before in
+    let part = first .before .before .before .before .before in
+    let spanned = part .before .before in
+    let stood = spanned .before .before in
+    let start = stood .before .before .before .before .before in
+    omega (arith, (spanned .span-at .ensures .1 _ _ (part .a .given .1)) .0, start .good .1 .0 .1))
     (λ c. stopped _ _ _ _ _ _ _ (c .before .x .given .1))
-    (λ c. digits-refused _ _ _ _ _ _ _ _ (c .before .before .before .before .before .x2 .given .1) _ (c .before .before .before .span-at .ensures .0 _ (c .before .r .given .1)))
+    (λ c.
+    let spanned = c .before .before .before in
+    let stood = spanned .before .before in
+    digits-refused _ _ _ _ _ _ _ _ (stood .x2 .given .1) _ (spanned .span-at .ensures .0 _ (c .before .r .given .1)))
     (λ c. search needs)
-    (λ c. let s = (c .before .before .before .before .before .before .before .before .before .before .before .before .before .before .before .before .before .before .before .before .span-at .ensures .1 _ _ (c .before .before .before .before .before .before .before .before .before .before .before .before .before .before .before .before .before .before .a .given .1)) in digits-written _ _ _ _ _ _ _ _ (c .before .before .before .before .before .before .before .before .before .before .before .before .before .before .before .before .before .before .before .before .before .before .x2 .given .1) _ _ (s .1) (s .2) (omega arith) (omega (arith, c .before .before .before .before .before .before .before .before .before .before .before .before .before .wide .ensures .0)) (met _ (c .before .before .before .before .before .before .before .before .before .before .before .all-decimal .ensures) (c .before .before .before .before .before .before .before .before .before .before .if4 .left)) _ _ _ (ap (λ b. 240 + b % 16) (c .before .before .before .before .before .before .before .before .before .before .before .before .before .wide .ensures .0)) (c .before .before .before .before .before .before .before .before .before .grown .ensures) (c .grown2 .ensures) _ _ (c .before .before .before .before .before .before .before .put-at .ensures) (c .before .before .before .copy-span .ensures)))
+    (λ c.
+    let copied = c .before .before .before in
+    let put = copied .before .before .before .before in
+    let counted = put .before .before in
+    let four = counted .before in
+    let judged = four .before in
+    let first = judged .before .before in
+    let two = first .before .before in
+    let one = two .before in
+    let part = one .before .before in
+    let spanned = part .before .before in
+    let stood = spanned .before .before in
+    let s = (spanned .span-at .ensures .1 _ _ (part .a .given .1)) in
+    digits-written _ _ _ _ _ _ _ _ (stood .x2 .given .1) _ _ (s .1) (s .2) (omega (arith, one .if1 .left, two .if2 .left))
+    (omega (arith, first .wide .ensures .0))
+    (met _ (judged .all-decimal .ensures) (four .if4 .left)) _ _ _ (ap (λ b. 240 + b % 16) (first .wide .ensures .0)) (counted .grown .ensures)
+    (c .grown2 .ensures) _ _ (put .put-at .ensures) (copied .copy-span .ensures)))

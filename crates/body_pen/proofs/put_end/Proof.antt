@@ -20,6 +20,15 @@ put-end-spec =
     (λ c κs. search needs)
     (λ c κs. search needs)
     (λ c pool. stopped _ pool _ _ _ _ _ (c .before .x .given .1))
-    (λ c pool. timed-refused stopFault stop-large _ _ pool _ _ _ _ (c .before .before .before .before .before .x2 .given .1) _ (sym (c .before .r .given .1) ∙ c .before .before .before .end-at .ensures))
+    (λ c pool.
+    let taken = c .before .before .before in
+    let stood = taken .before .before in
+    timed-refused stopFault stop-large _ _ pool _ _ _ _ (stood .x2 .given .1) _ (sym (c .before .r .given .1) ∙ taken .end-at .ensures))
     (λ c. search needs)
-    (λ c pool. timed-written stopFault stop-large _ _ pool _ _ _ _ (c .before .before .before .before .before .before .before .before .before .before .x2 .given .1) _ _ (sym (c .before .before .before .before .before .before .v .given .1) ∙ c .before .before .before .before .before .before .before .before .end-at .ensures) _ (c .grown .ensures) _ (c .before .before .before .put-at .ensures)))
+    (λ c pool.
+    let put = c .before .before .before in
+    let told = put .before .before .before in
+    let taken = told .before .before in
+    let stood = taken .before .before in
+    timed-written stopFault stop-large _ _ pool _ _ _ _ (stood .x2 .given .1) _ _ (sym (told .v .given .1) ∙ taken .end-at .ensures) _
+    (c .grown .ensures) _ (put .put-at .ensures)))

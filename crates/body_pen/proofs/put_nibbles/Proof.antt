@@ -20,12 +20,52 @@ put-nibbles-spec =
     (λ c κs. search needs)
     (λ c. search needs)
     (λ c. search needs)
-    (λ c. let a = c .before .before .before .before .before .before .before .before .before .before .before .before .before .before .args in omega (arith, kept-less (now (a .tape)) _ 16 (a .lo) (a .hi) _ _ (sym (c .before .before .before .before .before .before .high .given .1) ∙ c .before .before .before .before .before .before .before .before .number-among .ensures)))
-    (λ c. let a = c .before .before .before .before .before .before .before .before .before .before .before .before .before .before .args in omega (arith, kept-less (now (a .tape)) _ 16 (a .lo) (a .hi) _ _ (sym (c .before .before .before .before .before .before .high .given .1) ∙ c .before .before .before .before .before .before .before .before .number-among .ensures), kept-less (now (a .tape)) _ 16 (a .lo) (a .hi) _ _ (sym (c .before .before .low .given .1) ∙ c .before .before .before .before .number-among2 .ensures)))
+    (λ c.
+    let high = c .before .before .before .before .before .before in
+    let upper = high .before .before in
+    let start = upper .before .before .before .before .before .before in
+    let a = start .args in
+    omega (arith, kept-less (now (a .tape)) _ 16 (a .lo) (a .hi) _ _ (sym (high .high .given .1) ∙ upper .number-among .ensures)))
+    (λ c.
+    let lower = c .before .before .before .before in
+    let high = lower .before .before in
+    let upper = high .before .before in
+    let start = upper .before .before .before .before .before .before in
+    let a = start .args in
+    omega (
+      arith,
+      kept-less (now (a .tape)) _ 16 (a .lo) (a .hi) _ _ (sym (high .high .given .1) ∙ upper .number-among .ensures),
+      kept-less
+          (now (a .tape)) _ 16 (a .lo) (a .hi) _ _ (sym (c .before .before .low .given .1) ∙ lower .number-among2 .ensures),
+    ))
     (λ c κs. search needs)
     (λ c κs. search needs)
     (λ c pool. stopped _ pool _ _ _ _ _ (c .before .x .given .1))
-    (λ c pool. let a = c .before .before .before .before .before .before .before .before .before .args in high-refused (a .lo) (a .hi) pool (now (a .tape)) _ _ _ _ _ (c .before .before .before .before .before .x2 .given .1) _ (sym (c .before .r .given .1) ∙ c .before .before .before .number-among .ensures))
-    (λ c pool. let a = c .before .before .before .before .before .before .before .before .before .before .before .before .before .args in low-refused (a .lo) (a .hi) pool (now (a .tape)) _ _ _ _ _ (c .before .before .before .before .before .before .before .before .before .x2 .given .1) _ _ (sym (c .before .before .before .before .before .high .given .1) ∙ c .before .before .before .before .before .before .before .number-among .ensures) _ (sym (c .before .r2 .given .1) ∙ c .before .before .before .number-among2 .ensures))
+    (λ c pool.
+    let upper = c .before .before .before in
+    let stood = upper .before .before in
+    let start = stood .before .before .before .before in
+    let a = start .args in
+    high-refused (a .lo) (a .hi) pool (now (a .tape)) _ _ _ _ _ (stood .x2 .given .1) _ (sym (c .before .r .given .1) ∙ upper .number-among .ensures))
+    (λ c pool.
+    let lower = c .before .before .before in
+    let high = lower .before .before in
+    let upper = high .before .before in
+    let stood = upper .before .before in
+    let start = stood .before .before .before .before in
+    let a = start .args in
+    low-refused (a .lo) (a .hi) pool (now (a .tape)) _ _ _ _ _ (stood .x2 .given .1) _ _ (sym (high .high .given .1) ∙ upper .number-among .ensures) _
+    (sym (c .before .r2 .given .1) ∙ lower .number-among2 .ensures))
     (λ c. search needs)
-    (λ c pool. let a = c .before .before .before .before .before .before .before .before .before .before .before .before .before .before .before .before .before .before .args in nibbles-written (a .lo) (a .hi) pool (now (a .tape)) _ _ _ _ _ (c .before .before .before .before .before .before .before .before .before .before .before .before .before .before .x2 .given .1) _ _ (sym (c .before .before .before .before .before .before .before .before .before .before .high .given .1) ∙ c .before .before .before .before .before .before .before .before .before .before .before .before .number-among .ensures) _ _ (sym (c .before .before .before .before .before .before .low .given .1) ∙ c .before .before .before .before .before .before .before .before .number-among2 .ensures) _ (c .grown .ensures) _ (c .before .before .before .put-at .ensures)))
+    (λ c pool.
+    let put = c .before .before .before in
+    let low = put .before .before .before in
+    let lower = low .before .before in
+    let high = lower .before .before in
+    let upper = high .before .before in
+    let stood = upper .before .before in
+    let start = stood .before .before .before .before in
+    let a = start .args in
+    nibbles-written (a .lo) (a .hi) pool (now (a .tape)) _ _ _ _ _ (stood .x2 .given .1) _ _
+    (sym (high .high .given .1) ∙ upper .number-among .ensures) _ _ (sym (low .low .given .1) ∙ lower .number-among2 .ensures) _ (c .grown .ensures) _
+    (put .put-at .ensures)))

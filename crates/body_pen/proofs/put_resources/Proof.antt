@@ -25,10 +25,20 @@ put-resources-spec =
     (λ c κs. search needs)
     (λ c. search needs)
     (λ c. search needs)
-    (λ c. list-pen _ (c .before .before .before .before .before .before .before .before .before .before .before .put-count .ensures _) (times-stop (c .before .before .before .before .before .before .before .before .loop .inv .1) (c .before .before .before .before .before .before .before .loop-test .taken) (c .before .before .before .before .before .put-digits .ensures) _ (c .before .r .given .1)))
+    (λ c.
+    let put = c .before .before .before .before .before in
+    let tested = put .before .before in
+    let turn = tested .before in
+    let counts = turn .before .before .before in
+    list-pen _ (counts .put-count .ensures _) (times-stop (turn .loop .inv .1) (tested .loop-test .taken) (put .put-digits .ensures) _
+    (c .before .r .given .1)))
     (λ c. search needs)
     (λ c. search needs)
     (λ c. search needs)
-    (λ c. (search needs, times-turn (c .before .before .before .before .before .before .before .before .loop .inv .1) (c .before .before .before .before .before .before .before .loop-test .taken) (c .before .before .before .before .before .put-digits .ensures) _ (c .before .size .given .1)))
+    (λ c.
+    let put = c .before .before .before .before .before in
+    let tested = put .before .before in
+    let turn = tested .before in
+    (search needs, times-turn (turn .loop .inv .1) (tested .loop-test .taken) (put .put-digits .ensures) _ (c .before .size .given .1)))
     (λ c. search needs)
     (λ c. list-pen _ (c .before .before .before .before .put-count .ensures _) (times-done (c .before .loop .inv .1) (omega arith))))

@@ -11,4 +11,7 @@ put-told-spec =
     (tie.spec
     (λ c κs. search needs)
     (λ c. search needs)
-    (λ c pool. let a = c .before .before .before .before .before .before .args in alike-counted _ _ pool _ (number-all (a .w) (omega arith) pool _) _ _ _ _ _ (c .before .before .put-told-among .ensures pool)))
+    (λ c pool.
+    let start = c .before .before .before .before .before .before in
+    let a = start .args in
+    alike-counted _ _ pool _ (number-all (a .w) (omega arith) pool _) _ _ _ _ _ (c .before .before .put-told-among .ensures pool)))

@@ -12,4 +12,8 @@ put-told-among-spec =
     (λ c. search needs)
     (λ c κs. search needs)
     (λ c. search needs)
-    (λ c pool. let a = c .before .before .before .before .before .before .args in alike-counted _ _ pool _ (reserved-none (a .w) (a .lo) (a .hi) (omega arith) pool _) _ _ _ _ _ (c .before .before .put-reserved-among .ensures pool)))
+    (λ c pool.
+    let start = c .before .before .before .before .before .before in
+    let a = start .args in
+    alike-counted _ _ pool _ (reserved-none (a .w) (a .lo) (a .hi) (omega arith) pool _) _ _ _ _ _
+    (c .before .before .put-reserved-among .ensures pool)))

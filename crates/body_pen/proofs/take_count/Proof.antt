@@ -18,5 +18,11 @@ take-count-spec =
     (λ c. search needs)
     (λ c κs. search needs)
     (λ c pool wet out. count-stopped unprinted pool _ _ wet out _ (c .before .x .given .1))
-    (λ c pool wet out. untaken pool _ _ wet out _ _ (c .before .before .before .before .before .x2 .given .1) _ (sym (c .before .r .given .1) ∙ c .before .before .before .entry-at .ensures))
-    (λ c pool wet out. taken pool _ _ wet out _ _ (c .before .before .before .before .before .before .x2 .given .1) _ _ (sym (c .before .before .n .given .1) ∙ c .before .before .before .before .entry-at .ensures) _ (c .grown .ensures)))
+    (λ c pool wet out.
+    let entry = c .before .before .before in
+    let stood = entry .before .before in
+    untaken pool _ _ wet out _ _ (stood .x2 .given .1) _ (sym (c .before .r .given .1) ∙ entry .entry-at .ensures))
+    (λ c pool wet out.
+    let entry = c .before .before .before .before in
+    let stood = entry .before .before in
+    taken pool _ _ wet out _ _ (stood .x2 .given .1) _ _ (sym (c .before .before .n .given .1) ∙ entry .entry-at .ensures) _ (c .grown .ensures)))

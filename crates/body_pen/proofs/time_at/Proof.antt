@@ -18,5 +18,15 @@ time-at-spec =
     (λ c. search needs)
     (λ c. search needs)
     (λ c. timed-none startFault start-large _ _ _ (sym (c .before .r .given .1) ∙ c .before .before .before .entry-at .ensures))
-    (λ c. timed-no startFault start-large _ _ _ _ (sym (c .before .before .before .before .before .v .given .1) ∙ c .before .before .before .before .before .before .before .entry-at .ensures) _ (ap timeFault (sym (c .before .before .before .read-time .ensures) ∙ c .before .r2 .given .1)))
-    (λ c. timed-is startFault start-large _ _ _ _ (sym (c .before .before .before .before .before .v .given .1) ∙ c .before .before .before .before .before .before .before .entry-at .ensures) (ap timeFault (sym (c .before .before .before .read-time .ensures) ∙ c .before .m .given .1))))
+    (λ c.
+    let judged = c .before .before .before in
+    let told = judged .before .before in
+    let taken = told .before .before in
+    timed-no startFault start-large _ _ _ _ (sym (told .v .given .1) ∙ taken .entry-at .ensures) _
+    (ap timeFault (sym (judged .read-time .ensures) ∙ c .before .r2 .given .1)))
+    (λ c.
+    let judged = c .before .before .before in
+    let told = judged .before .before in
+    let taken = told .before .before in
+    timed-is startFault start-large _ _ _ _ (sym (told .v .given .1) ∙ taken .entry-at .ensures)
+    (ap timeFault (sym (judged .read-time .ensures) ∙ c .before .m .given .1))))

@@ -15,4 +15,9 @@ put-certificate-spec =
     (λ c κs. search needs)
     (λ c κs. search needs)
     (λ c. search needs)
-    (λ c. unfold certificate fields in exact-pen (view-pen (pair-pen (c .before .before .before .before .before .before .before .before .before .before .put-list .ensures) (pair-pen (c .before .before .before .before .before .before .put-list2 .ensures) (c .before .before .put-part .ensures))) named unnamed (λ a. refl)) LeftOver))
+    (λ c.
+    let put-list2 = c .before .before .before .before .before .before in
+    let put-list = put-list2 .before .before .before .before in
+    unfold certificate fields in exact-pen (view-pen
+    (pair-pen (put-list .put-list .ensures) (pair-pen (put-list2 .put-list2 .ensures) (c .before .before .put-part .ensures))) named unnamed
+    (λ a. refl)) LeftOver))

@@ -15,4 +15,7 @@ put-address-spec =
     (λ c κs. search needs)
     (λ c κs. search needs)
     (λ c. search needs)
-    (λ c. number-pen (addressLength _) 1 refl (c .before .before .before .before .before .before .before .before .gap .ensures) (c .before .before .before .before .before .before .put-address-bytes .ensures) (c .before .before .close .ensures)))
+    (λ c.
+    let put-address-bytes = c .before .before .before .before .before .before in
+    let gap = put-address-bytes .before .before in
+    number-pen (addressLength _) 1 refl (gap .gap .ensures) (put-address-bytes .put-address-bytes .ensures) (c .before .before .close .ensures)))

@@ -16,11 +16,36 @@ put-address-bytes-spec =
     (λ c. search needs)
     (λ c. search needs)
     (λ c κs. search needs)
-    (λ c. let s = (c .before .before .before .before .before .span-at .ensures .1 _ _ (c .before .before .before .a .given .1)) in address-length _ _ _ _ _ _ _ _ (c .before .before .before .before .before .before .before .x2 .given .1) _ _ (s .1) (s .2) (unmet _ (c .before .length-fits .ensures) (c .if1 .taken)))
+    (λ c.
+    let part = c .before .before .before in
+    let spanned = part .before .before in
+    let stood = spanned .before .before in
+    let s = (spanned .span-at .ensures .1 _ _ (part .a .given .1)) in
+    address-length _ _ _ _ _ _ _ _ (stood .x2 .given .1) _ _ (s .1) (s .2) (unmet _ (c .before .length-fits .ensures) (c .if1 .taken)))
     (λ c κs. (c .before .before .before .before .before .span-at .ensures .1 _ _ (c .before .before .before .a .given .1)) .1)
-    (λ c. let s = (c .before .before .before .before .before .before .before .span-at .ensures .1 _ _ (c .before .before .before .before .before .a .given .1)) in address-outside _ _ _ _ _ _ _ _ (c .before .before .before .before .before .before .before .before .before .x2 .given .1) _ _ (s .1) (s .2) (met _ (c .before .before .before .length-fits .ensures) (c .before .before .if1 .left)) (unmet _ (c .before .is-address .ensures) (c .if2 .taken)))
+    (λ c.
+    let fits = c .before .before .before in
+    let part = fits .before .before in
+    let spanned = part .before .before in
+    let stood = spanned .before .before in
+    let s = (spanned .span-at .ensures .1 _ _ (part .a .given .1)) in
+    address-outside _ _ _ _ _ _ _ _ (stood .x2 .given .1) _ _ (s .1) (s .2) (met _ (fits .length-fits .ensures) (c .before .before .if1 .left))
+    (unmet _ (c .before .is-address .ensures) (c .if2 .taken)))
     (λ c κs. search needs)
     (λ c. stopped _ _ _ _ _ _ _ (c .before .x .given .1))
-    (λ c. address-none _ _ _ _ _ _ _ _ (c .before .before .before .before .before .x2 .given .1) _ (c .before .before .before .span-at .ensures .0 _ (c .before .r .given .1)))
+    (λ c.
+    let spanned = c .before .before .before in
+    let stood = spanned .before .before in
+    address-none _ _ _ _ _ _ _ _ (stood .x2 .given .1) _ (spanned .span-at .ensures .0 _ (c .before .r .given .1)))
     (λ c. search needs)
-    (λ c. let s = (c .before .before .before .before .before .before .before .before .before .before .before .span-at .ensures .1 _ _ (c .before .before .before .before .before .before .before .before .before .a .given .1)) in address-put _ _ _ _ _ _ _ _ (c .before .before .before .before .before .before .before .before .before .before .before .before .before .x2 .given .1) _ _ (s .1) (s .2) (met _ (c .before .before .before .before .before .before .before .length-fits .ensures) (c .before .before .before .before .before .before .if1 .left)) (met _ (c .before .before .before .before .before .is-address .ensures) (c .before .before .before .before .if2 .left)) (c .before .before .put-rest .ensures)))
+    (λ c.
+    let two = c .before .before .before .before in
+    let judged = two .before in
+    let one = judged .before in
+    let fits = one .before in
+    let part = fits .before .before in
+    let spanned = part .before .before in
+    let stood = spanned .before .before in
+    let s = (spanned .span-at .ensures .1 _ _ (part .a .given .1)) in
+    address-put _ _ _ _ _ _ _ _ (stood .x2 .given .1) _ _ (s .1) (s .2) (met _ (fits .length-fits .ensures) (one .if1 .left))
+    (met _ (judged .is-address .ensures) (two .if2 .left)) (c .before .before .put-rest .ensures)))

@@ -23,12 +23,15 @@ put-clock-spec =
     let second = third .before .before .before .before in
     let first = second .before .before .before .before in
     three-fine clockFault (first .put-count .ensures pool) (second .put-count2 .ensures pool) (third .put-count3 .ensures pool)
-    (ap (λ b. unless b (ImpossibleDay 0)) (sym (c .before .is-time .ensures) ∙ c .if1 .taken)))
+    (λ at. ap (λ b. unless b (ImpossibleDay at)) (sym (c .before .is-time .ensures) ∙ c .if1 .taken)))
+    (λ c κs. search needs)
     (λ c κs. search needs)
     (λ c. search needs)
     (λ c pool.
-    let third = c .before .before .before .before .before in
+    let judged = c .before .before in
+    let third = judged .before .before .before .before in
     let second = third .before .before .before .before in
     let first = second .before .before .before .before in
-    three-faulty clockFault (first .put-count .ensures pool) (second .put-count2 .ensures pool) (third .put-count3 .ensures pool) (ImpossibleDay 0)
-    (ap (λ b. unless b (ImpossibleDay 0)) (sym (c .before .before .is-time .ensures) ∙ c .before .if1 .left)) _ (c .refuse .ensures)))
+    three-faulty clockFault (first .put-count .ensures pool) (second .put-count2 .ensures pool) (third .put-count3 .ensures pool) ImpossibleDay
+    (λ at. ap (λ b. unless b (ImpossibleDay at)) (sym (judged .before .is-time .ensures) ∙ judged .if1 .left))
+    _ (c .before .entry .ensures) _ (c .refuse .ensures)))

@@ -18,4 +18,9 @@ put-command-spec =
     (λ c κs. search needs)
     (λ c κs. search needs)
     (λ c. search needs)
-    (λ c. after-number (λ tag. counted (leastOf 2 (least tag)) (said (orderOf tag))) (c .before .before .before .before .before .before .before .before .before .before .before .put-told .ensures _) (number-pen (leastOf 2 (least _)) 2 refl (c .before .before .before .before .before .before .before .before .gap .ensures) (c .before .before .before .before .before .before .put-said .ensures) (c .before .before .close .ensures))))
+    (λ c.
+    let put-said = c .before .before .before .before .before .before in
+    let gap = put-said .before .before in
+    let put-told = gap .before .before .before in
+    after-number (λ tag. counted (leastOf 2 (least tag)) (said (orderOf tag))) (put-told .put-told .ensures _)
+    (number-pen (leastOf 2 (least _)) 2 refl (gap .gap .ensures) (put-said .put-said .ensures) (c .before .before .close .ensures))))

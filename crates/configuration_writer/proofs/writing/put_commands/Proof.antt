@@ -1,4 +1,5 @@
--- `configuration_writer::writing::put_commands` meets its contract: each turn puts one more, the first refusal ends them, and the turns are as many as the count says.
+-- `configuration_writer::writing::put_commands` meets its contract: each turn puts one more, the first refusal ends them, and the turns
+-- are as many as the count says.
 use mathlib.Core.Path.{_≡_, refl}
 use native.Mathlib.Omega.{arith}
 use lib.ListN.{length}
@@ -25,10 +26,20 @@ put-commands-spec =
     (λ c κs. search needs)
     (λ c. search needs)
     (λ c. search needs)
-    (λ c. list-pen _ (c .before .before .before .before .before .before .before .before .before .before .before .put-count .ensures _) (times-stop (c .before .before .before .before .before .before .before .before .loop .inv .1) (c .before .before .before .before .before .before .before .loop-test .taken) (c .before .before .before .before .before .put-command .ensures) _ (c .before .r .given .1)))
+    (λ c.
+    let put-command = c .before .before .before .before .before in
+    let tested = put-command .before .before in
+    let turn = tested .before in
+    let counts = turn .before .before .before in
+    list-pen _ (counts .put-count .ensures _) (times-stop (turn .loop .inv .1) (tested .loop-test .taken) (put-command .put-command .ensures) _
+    (c .before .r .given .1)))
     (λ c. search needs)
     (λ c. search needs)
     (λ c. search needs)
-    (λ c. (search needs, times-turn (c .before .before .before .before .before .before .before .before .loop .inv .1) (c .before .before .before .before .before .before .before .loop-test .taken) (c .before .before .before .before .before .put-command .ensures) _ (c .before .size .given .1)))
+    (λ c.
+    let put-command = c .before .before .before .before .before in
+    let tested = put-command .before .before in
+    let turn = tested .before in
+    (search needs, times-turn (turn .loop .inv .1) (tested .loop-test .taken) (put-command .put-command .ensures) _ (c .before .size .given .1)))
     (λ c. search needs)
     (λ c. list-pen _ (c .before .before .before .before .put-count .ensures _) (times-done (c .before .loop .inv .1) (omega arith))))

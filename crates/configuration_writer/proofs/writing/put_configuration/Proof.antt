@@ -14,4 +14,6 @@ put-configuration-spec =
     (λ c κs. search needs)
     (λ c κs. search needs)
     (λ c. search needs)
-    (λ c. exact-pen (view-pen (pair-pen (c .before .before .before .before .before .before .put-commands .ensures) (c .before .before .put-part .ensures)) _ _ (λ a. refl)) _))
+    (λ c.
+    let put-commands = c .before .before .before .before .before .before in
+    exact-pen (view-pen (pair-pen (put-commands .put-commands .ensures) (c .before .before .put-part .ensures)) _ _ (λ a. refl)) _))

@@ -24,12 +24,15 @@ put-date-spec =
     let second = third .before .before .before .before in
     let first = second .before .before .before .before in
     three-fine dateFault (first .put-count .ensures pool) (second .put-count2 .ensures pool) (third .put-count3 .ensures pool)
-    (day-fault _ _ _ 0 ∙ ap (λ b. unless b (ImpossibleDay 0)) (sym (c .before .is-day .ensures) ∙ c .if1 .taken)))
+    (λ at. day-fault _ _ _ at ∙ ap (λ b. unless b (ImpossibleDay at)) (sym (c .before .is-day .ensures) ∙ c .if1 .taken)))
+    (λ c κs. search needs)
     (λ c κs. search needs)
     (λ c. search needs)
     (λ c pool.
-    let third = c .before .before .before .before .before in
+    let judged = c .before .before in
+    let third = judged .before .before .before .before in
     let second = third .before .before .before .before in
     let first = second .before .before .before .before in
-    three-faulty dateFault (first .put-count .ensures pool) (second .put-count2 .ensures pool) (third .put-count3 .ensures pool) (ImpossibleDay 0)
-    (day-fault _ _ _ 0 ∙ ap (λ b. unless b (ImpossibleDay 0)) (sym (c .before .before .is-day .ensures) ∙ c .before .if1 .left)) _ (c .refuse .ensures)))
+    three-faulty dateFault (first .put-count .ensures pool) (second .put-count2 .ensures pool) (third .put-count3 .ensures pool) ImpossibleDay
+    (λ at. day-fault _ _ _ at ∙ ap (λ b. unless b (ImpossibleDay at)) (sym (judged .before .is-day .ensures) ∙ judged .if1 .left))
+    _ (c .before .entry .ensures) _ (c .refuse .ensures)))

@@ -1,4 +1,5 @@
--- `configuration_writer::writing::put_parameters` meets its contract: each turn puts one more, the first refusal ends them, and the turns are as many as the count says.
+-- `configuration_writer::writing::put_parameters` meets its contract: each turn puts one more, the first refusal ends them, and the turns
+-- are as many as the count says.
 use mathlib.Core.Path.{_≡_, refl}
 use mathlib.Core.List.{List}
 use Prim.Native.Nat.{ℕ}
@@ -27,10 +28,23 @@ put-parameters-spec =
     (λ c κs. search needs)
     (λ c. search needs)
     (λ c. search needs)
-    (λ c pool. list-pen _ (c .before .before .before .before .before .before .before .before .before .before .before .put-count .ensures pool) (times-stop (c .before .before .before .before .before .before .before .before .loop .inv .1 pool) (c .before .before .before .before .before .before .before .loop-test .taken) (c .before .before .before .before .before .put-number .ensures pool) _ (c .before .r .given .1)))
+    (λ c pool.
+    let put-number = c .before .before .before .before .before in
+    let tested = put-number .before .before in
+    let turn = tested .before in
+    let counts = turn .before .before .before in
+    list-pen _ (counts .put-count .ensures pool) (times-stop (turn .loop .inv .1 pool) (tested .loop-test .taken)
+    (put-number .put-number .ensures pool) _ (c .before .r .given .1)))
     (λ c. search needs)
     (λ c. search needs)
     (λ c. search needs)
-    (λ c. (search needs, λ pool. times-turn (c .before .before .before .before .before .before .before .before .loop .inv .1 pool) (c .before .before .before .before .before .before .before .loop-test .taken) (c .before .before .before .before .before .put-number .ensures pool) _ (c .before .size .given .1)))
+    (λ c.
+    let put-number = c .before .before .before .before .before in
+    let tested = put-number .before .before in
+    let turn = tested .before in (
+      search needs,
+      λ pool. times-turn (turn .loop .inv .1 pool) (tested .loop-test .taken) (put-number .put-number .ensures pool) _
+          (c .before .size .given .1),
+    ))
     (λ c. search needs)
     (λ c pool. list-pen _ (c .before .before .before .before .put-count .ensures pool) (times-done (c .before .loop .inv .1 pool) (omega arith))))

@@ -13,4 +13,6 @@ put-query-spec =
     (λ c κs. search needs)
     (λ c κs. search needs)
     (λ c. search needs)
-    (λ c. exact-pen (pair-pen (c .before .before .before .before .before .before .put-parameters .ensures _) (c .before .before .put-terminals .ensures)) _))
+    (λ c.
+    let put-parameters = c .before .before .before .before .before .before in
+    exact-pen (pair-pen (put-parameters .put-parameters .ensures _) (c .before .before .put-terminals .ensures)) _))

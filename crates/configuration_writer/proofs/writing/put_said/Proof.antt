@@ -21,18 +21,52 @@ put-said-spec =
     (λ c κs. search needs)
     (λ c κs. search needs)
     (λ c. search needs)
-    (λ c. let a = c .before .before .before .before .before .before .before .before .args in ordered (a .tag) setClock (ap orderOf (c .before .before .before .before .match .keys1)) (c .before .before .put-set-clock .ensures (a .pool .now)))
+    (λ c.
+    let match = c .before .before .before .before in
+    let start = match .before .before .before .before in
+    let a = start .args in
+    ordered (a .tag) setClock (ap orderOf (match .match .keys1)) (c .before .before .put-set-clock .ensures (a .pool .now)))
     (λ c. search needs)
-    (λ c. let a = c .before .before .before .before .before .before .before .before .args in ordered (a .tag) setCode (ap orderOf (c .before .before .before .before .match .keys2)) (c .before .before .put-set-code .ensures))
+    (λ c.
+    let match = c .before .before .before .before in
+    let start = match .before .before .before .before in
+    let a = start .args in
+    ordered (a .tag) setCode (ap orderOf (match .match .keys2)) (c .before .before .put-set-code .ensures))
     (λ c. search needs)
-    (λ c. let a = c .before .before .before .before .before .before .before .before .args in ordered (a .tag) tune (ap orderOf (c .before .before .before .before .match .keys3)) (c .before .before .put-tune .ensures))
+    (λ c.
+    let match = c .before .before .before .before in
+    let start = match .before .before .before .before in
+    let a = start .args in
+    ordered (a .tag) tune (ap orderOf (match .match .keys3)) (c .before .before .put-tune .ensures))
     (λ c. search needs)
-    (λ c. let a = c .before .before .before .before .before .before .before .before .args in ordered (a .tag) setReturn (ap orderOf (c .before .before .before .before .match .keys4)) (c .before .before .put-set-return .ensures))
+    (λ c.
+    let match = c .before .before .before .before in
+    let start = match .before .before .before .before in
+    let a = start .args in
+    ordered (a .tag) setReturn (ap orderOf (match .match .keys4)) (c .before .before .put-set-return .ensures))
     (λ c. search needs)
-    (λ c. let a = c .before .before .before .before .before .before .before .before .args in ordered (a .tag) setPeriod (ap orderOf (c .before .before .before .before .match .keys5)) (c .before .before .put-set-period .ensures))
+    (λ c.
+    let match = c .before .before .before .before in
+    let start = match .before .before .before .before in
+    let a = start .args in
+    ordered (a .tag) setPeriod (ap orderOf (match .match .keys5)) (c .before .before .put-set-period .ensures))
     (λ c. search needs)
-    (λ c. let a = c .before .before .before .before .before .before .before .before .args in ordered (a .tag) setVolume (ap orderOf (c .before .before .before .before .match .keys6)) (c .before .before .put-set-volume .ensures))
+    (λ c.
+    let match = c .before .before .before .before in
+    let start = match .before .before .before .before in
+    let a = start .args in
+    ordered (a .tag) setVolume (ap orderOf (match .match .keys6)) (c .before .before .put-set-volume .ensures))
     (λ c. search needs)
-    (λ c. let a = c .before .before .before .before .before .before .before .before .args in ordered (a .tag) query (ap orderOf (c .before .before .before .before .match .keys7)) (c .before .before .put-query .ensures))
+    (λ c.
+    let match = c .before .before .before .before in
+    let start = match .before .before .before .before in
+    let a = start .args in
+    ordered (a .tag) query (ap orderOf (match .match .keys7)) (c .before .before .put-query .ensures))
     (λ c. search needs)
-    (λ c. let a = c .before .before .before .before .before .before .before .before .args in let r = c .before .before .before .before .match .rest in ordered (a .tag) other (other-tag (a .tag) (r .0 .0 .0 .0 .0 .0 .1) (r .0 .0 .0 .0 .0 .1) (r .0 .0 .0 .0 .1) (r .0 .0 .0 .1) (r .0 .0 .1) (r .0 .1) (r .1)) (c .before .before .put-rest .ensures)))
+    (λ c.
+    let match = c .before .before .before .before in
+    let start = match .before .before .before .before in
+    let a = start .args in
+    let r = match .match .rest in
+    ordered (a .tag) other (other-tag (a .tag) (r .0 .0 .0 .0 .0 .0 .1) (r .0 .0 .0 .0 .0 .1) (r .0 .0 .0 .0 .1) (r .0 .0 .0 .1) (r .0 .0 .1) (r .0 .1)
+    (r .1)) (c .before .before .put-rest .ensures)))

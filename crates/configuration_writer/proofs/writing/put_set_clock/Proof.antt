@@ -13,4 +13,6 @@ put-set-clock-spec =
     (λ c κs. search needs)
     (λ c κs. search needs)
     (λ c. search needs)
-    (λ c pool. exact-pen (pair-pen (c .before .before .before .before .before .before .put-date .ensures pool) (c .before .before .put-clock .ensures pool)) _))
+    (λ c pool.
+    let put-date = c .before .before .before .before .before .before in
+    exact-pen (pair-pen (put-date .put-date .ensures pool) (c .before .before .put-clock .ensures pool)) _))

@@ -13,4 +13,6 @@ put-set-code-spec =
     (λ c κs. search needs)
     (λ c κs. search needs)
     (λ c. search needs)
-    (λ c. exact-pen (pair-pen (c .before .before .before .before .before .before .put-part .ensures) (c .before .before .put-digits .ensures)) _))
+    (λ c.
+    let put-part = c .before .before .before .before .before .before in
+    exact-pen (pair-pen (put-part .put-part .ensures) (c .before .before .put-digits .ensures)) _))

@@ -13,4 +13,6 @@ put-set-period-spec =
     (λ c κs. search needs)
     (λ c κs. search needs)
     (λ c. search needs)
-    (λ c. exact-pen (pair-pen (c .before .before .before .before .before .before .put-number .ensures _) (c .before .before .put-terminals .ensures)) _))
+    (λ c.
+    let put-number = c .before .before .before .before .before .before in
+    exact-pen (pair-pen (put-number .put-number .ensures _) (c .before .before .put-terminals .ensures)) _))

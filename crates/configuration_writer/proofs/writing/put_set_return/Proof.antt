@@ -14,4 +14,8 @@ put-set-return-spec =
     (λ c κs. search needs)
     (λ c κs. search needs)
     (λ c. search needs)
-    (λ c. exact-pen (after-number _ (c .before .before .before .before .before .before .before .before .before .before .put-told-among .ensures _) (pair-pen (c .before .before .before .before .before .before .put-address .ensures) (c .before .before .put-terminals .ensures))) _))
+    (λ c.
+    let put-address = c .before .before .before .before .before .before in
+    let put-told-among = put-address .before .before .before .before in
+    exact-pen (after-number _ (put-told-among .put-told-among .ensures _)
+    (pair-pen (put-address .put-address .ensures) (c .before .before .put-terminals .ensures))) _))

@@ -13,4 +13,6 @@ put-set-volume-spec =
     (λ c κs. search needs)
     (λ c κs. search needs)
     (λ c. search needs)
-    (λ c. exact-pen (pair-pen (c .before .before .before .before .before .before .put-among .ensures _) (c .before .before .put-terminals .ensures)) _))
+    (λ c.
+    let put-among = c .before .before .before .before .before .before in
+    exact-pen (pair-pen (put-among .put-among .ensures _) (c .before .before .put-terminals .ensures)) _))

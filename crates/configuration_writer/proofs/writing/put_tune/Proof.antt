@@ -15,4 +15,9 @@ put-tune-spec =
     (λ c κs. search needs)
     (λ c κs. search needs)
     (λ c. search needs)
-    (λ c. exact-pen (pair-pen (c .before .before .before .before .before .before .before .before .before .before .before .before .before .before .put-number .ensures _) (pair-pen (c .before .before .before .before .before .before .before .before .before .before .put-number2 .ensures _) (pair-pen (c .before .before .before .before .before .before .put-among .ensures _) (c .before .before .put-terminals .ensures)))) _))
+    (λ c.
+    let put-among = c .before .before .before .before .before .before in
+    let put-number2 = put-among .before .before .before .before in
+    let put-number = put-number2 .before .before .before .before in
+    exact-pen (pair-pen (put-number .put-number .ensures _)
+    (pair-pen (put-number2 .put-number2 .ensures _) (pair-pen (put-among .put-among .ensures _) (c .before .before .put-terminals .ensures)))) _))

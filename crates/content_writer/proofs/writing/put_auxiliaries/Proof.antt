@@ -1,4 +1,5 @@
--- `content_writer::writing::put_auxiliaries` meets its contract: each turn puts one more, the first refusal ends them, and the turns are as many as the count says.
+-- `content_writer::writing::put_auxiliaries` meets its contract: each turn puts one more, the first refusal ends them, and the turns are
+-- as many as the count says.
 use mathlib.Core.Path.{_≡_, refl}
 use lib.ListN.{length}
 use native.Mathlib.Omega.{arith}
@@ -26,10 +27,20 @@ put-auxiliaries-spec =
     (λ c κs. search needs)
     (λ c. search needs)
     (λ c. search needs)
-    (λ c. list-pen _ (c .before .before .before .before .before .before .before .before .before .before .before .put-reserved-among .ensures _) (times-stop (c .before .before .before .before .before .before .before .before .loop .inv .1) (c .before .before .before .before .before .before .before .loop-test .taken) (c .before .before .before .before .before .put-auxiliary .ensures) _ (c .before .r .given .1)))
+    (λ c.
+    let put-auxiliary = c .before .before .before .before .before in
+    let tested = put-auxiliary .before .before in
+    let turn = tested .before in
+    let put-reserved-among = turn .before .before .before in
+    list-pen _ (put-reserved-among .put-reserved-among .ensures _)
+    (times-stop (turn .loop .inv .1) (tested .loop-test .taken) (put-auxiliary .put-auxiliary .ensures) _ (c .before .r .given .1)))
     (λ c. search needs)
     (λ c. search needs)
     (λ c. search needs)
-    (λ c. (search needs, times-turn (c .before .before .before .before .before .before .before .before .loop .inv .1) (c .before .before .before .before .before .before .before .loop-test .taken) (c .before .before .before .before .before .put-auxiliary .ensures) _ (c .before .size .given .1)))
+    (λ c.
+    let put-auxiliary = c .before .before .before .before .before in
+    let tested = put-auxiliary .before .before in
+    let turn = tested .before in
+    (search needs, times-turn (turn .loop .inv .1) (tested .loop-test .taken) (put-auxiliary .put-auxiliary .ensures) _ (c .before .size .given .1)))
     (λ c. search needs)
     (λ c. list-pen _ (c .before .before .before .before .put-reserved-among .ensures _) (times-done (c .before .loop .inv .1) (omega arith))))

@@ -15,4 +15,8 @@ put-content-spec =
     (λ c κs. search needs)
     (λ c κs. search needs)
     (λ c. search needs)
-    (λ c. exact-pen (view-pen (pair-pen (c .before .before .before .before .before .before .before .before .before .before .put-identifier .ensures) (pair-pen (c .before .before .before .before .before .before .put-languages .ensures) (c .before .before .put-part .ensures))) _ _ (λ a. refl)) _))
+    (λ c.
+    let put-languages = c .before .before .before .before .before .before in
+    let put = put-languages .before .before .before .before in
+    exact-pen (view-pen (pair-pen (put .put-identifier .ensures) (pair-pen (put-languages .put-languages .ensures) (c .before .before .put-part .ensures)))
+    _ _ (λ a. refl)) _))

@@ -17,16 +17,31 @@ put-language-spec =
     (λ c κs. search needs)
     (λ c κs. search needs)
     (λ c κs. search needs)
-    (λ c κs. c .before .before .before .before .before .before .before .before .before .before .before .before .before .before .before .before .before .before .before .before .before .pre)
+    (λ c κs.
+    let agency = c .before .before .before in
+    let text = agency .before .before .before .before in
+    let set = text .before .before .before .before in
+    let letters = set .before .before .before .before in
+    let room = letters .before .before in
+    let start = room .before .before .before .before in
+    start .pre)
     (λ c κs. search needs)
     (λ c. search needs)
-    (λ c. length-pen 4 (c .before .before .before .before .before .before .before .before .before .before .before .before .before .before .before .before .before .before .before .before .before .before .before .before .gap .ensures)
+    (λ c.
+    let closed = c .before .before in
+    let files = closed .before .before .before .before in
+    let agency = files .before .before .before .before in
+    let text = agency .before .before .before .before in
+    let set = text .before .before .before .before in
+    let letters = set .before .before .before .before in
+    let room = letters .before .before in
+    length-pen 4 (room .gap .ensures)
     (exact-pen
     (view-pen
-    (pair-pen (c .before .before .before .before .before .before .before .before .before .before .before .before .before .before .before .before .before .before .before .before .before .before .put-bytes .ensures)
-    (pair-pen (c .before .before .before .before .before .before .before .before .before .before .before .before .before .before .before .before .before .before .put-reserved-among .ensures _ .past)
-    (pair-pen (c .before .before .before .before .before .before .before .before .before .before .before .before .before .before .put-part .ensures)
-    (pair-pen (c .before .before .before .before .before .before .before .before .before .before .put-part2 .ensures) (c .before .before .before .before .before .before .put-auxiliaries .ensures)))))
+    (pair-pen (letters .put-bytes .ensures)
+    (pair-pen (set .put-reserved-among .ensures _ .past)
+    (pair-pen (text .put-part .ensures)
+    (pair-pen (agency .put-part2 .ensures) (files .put-auxiliaries .ensures)))))
     _ _ (λ a. refl))
     _)
-    (c .before .before .close .ensures)))
+    (closed .close .ensures)))

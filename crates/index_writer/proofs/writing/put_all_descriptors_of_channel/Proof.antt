@@ -1,4 +1,5 @@
--- `index_writer::writing::put_all_descriptors_of_channel` meets its contract: each turn puts one more, the first refusal ends them, and the turns are as many as the count says.
+-- `index_writer::writing::put_all_descriptors_of_channel` meets its contract: each turn puts one more, the first refusal ends them, and
+-- the turns are as many as the count says.
 use mathlib.Core.Path.{_≡_, refl}
 use native.Mathlib.Omega.{arith}
 use lib.ListN.{length}
@@ -25,10 +26,20 @@ put-all-descriptors-of-channel-spec =
     (λ c κs. search needs)
     (λ c. search needs)
     (λ c. search needs)
-    (λ c. many-pen _ (c .before .before .before .before .before .before .before .before .before .take-count .ensures _ _ _) (times-stop (c .before .before .before .before .before .before .before .before .loop .inv .1) (c .before .before .before .before .before .before .before .loop-test .taken) (c .before .before .before .before .before .put-descriptor .ensures) _ (c .before .r .given .1)))
+    (λ c.
+    let put-descriptor = c .before .before .before .before .before in
+    let tested = put-descriptor .before .before in
+    let turn = tested .before in
+    let take-count = turn .before in
+    many-pen _ (take-count .take-count .ensures _ _ _) (times-stop (turn .loop .inv .1) (tested .loop-test .taken)
+    (put-descriptor .put-descriptor .ensures) _ (c .before .r .given .1)))
     (λ c. search needs)
     (λ c. search needs)
     (λ c. search needs)
-    (λ c. (search needs, times-turn (c .before .before .before .before .before .before .before .before .loop .inv .1) (c .before .before .before .before .before .before .before .loop-test .taken) (c .before .before .before .before .before .put-descriptor .ensures) _ (c .before .size .given .1)))
+    (λ c.
+    let put-descriptor = c .before .before .before .before .before in
+    let tested = put-descriptor .before .before in
+    let turn = tested .before in
+    (search needs, times-turn (turn .loop .inv .1) (tested .loop-test .taken) (put-descriptor .put-descriptor .ensures) _ (c .before .size .given .1)))
     (λ c. search needs)
     (λ c. many-pen _ (c .before .before .take-count .ensures _ _ _) (times-done (c .before .loop .inv .1) (omega arith))))

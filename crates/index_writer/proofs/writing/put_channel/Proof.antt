@@ -18,10 +18,17 @@ put-channel-spec =
     (λ c κs. search needs)
     (λ c κs. search needs)
     (λ c. search needs)
-    (λ c. view-pen
-    (pair-pen (c .before .before .before .before .before .before .before .before .before .before .before .before .before .before .before .before .before .before .before .before .before .before .put-number .ensures _)
-    (pair-pen (c .before .before .before .before .before .before .before .before .before .before .before .before .before .before .before .before .before .before .put-number2 .ensures _)
-    (pair-pen (c .before .before .before .before .before .before .before .before .before .before .before .before .before .before .put-number3 .ensures _)
-    (pair-pen (c .before .before .before .before .before .before .before .before .before .before .put-reserved .ensures _ .past)
-    (pair-pen (c .before .before .before .before .before .before .put-descriptors-of-channel .ensures) (c .before .before .put-streams .ensures))))))
+    (λ c.
+    let streams = c .before .before in
+    let descriptors = streams .before .before .before .before in
+    let clock = descriptors .before .before .before .before in
+    let program = clock .before .before .before .before in
+    let stream = program .before .before .before .before in
+    let network = stream .before .before .before .before in
+    view-pen
+    (pair-pen (network .put-number .ensures _)
+    (pair-pen (stream .put-number2 .ensures _)
+    (pair-pen (program .put-number3 .ensures _)
+    (pair-pen (clock .put-reserved .ensures _ .past)
+    (pair-pen (descriptors .put-descriptors-of-channel .ensures) (streams .put-streams .ensures))))))
     _ _ (λ a. refl)))

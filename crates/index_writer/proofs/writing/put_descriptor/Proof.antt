@@ -14,4 +14,6 @@ put-descriptor-spec =
     (λ c κs. search needs)
     (λ c κs. search needs)
     (λ c. search needs)
-    (λ c. view-pen (pair-pen (c .before .before .before .before .before .before .put-number .ensures _) (c .before .before .put-part .ensures)) _ _ (λ a. refl)))
+    (λ c.
+    let put-number = c .before .before .before .before .before .before in
+    view-pen (pair-pen (put-number .put-number .ensures _) (c .before .before .put-part .ensures)) _ _ (λ a. refl)))

@@ -14,4 +14,7 @@ put-descriptors-spec =
     (λ c κs. search needs)
     (λ c κs. search needs)
     (λ c. search needs)
-    (λ c. length12-pen (c .before .before .before .before .before .before .before .before .gap .ensures) (c .before .before .before .before .before .before .put-all-descriptors .ensures) (c .before .before .close .ensures)))
+    (λ c.
+    let put-all-descriptors = c .before .before .before .before .before .before in
+    let gap = put-all-descriptors .before .before in
+    length12-pen (gap .gap .ensures) (put-all-descriptors .put-all-descriptors .ensures) (c .before .before .close .ensures)))

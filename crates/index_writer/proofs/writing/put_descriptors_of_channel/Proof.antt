@@ -14,4 +14,7 @@ put-descriptors-of-channel-spec =
     (λ c κs. search needs)
     (λ c κs. search needs)
     (λ c. search needs)
-    (λ c. length12-pen (c .before .before .before .before .before .before .before .before .gap .ensures) (c .before .before .before .before .before .before .put-all-descriptors-of-channel .ensures) (c .before .before .close .ensures)))
+    (λ c.
+    let put-all-descriptors-of-channel = c .before .before .before .before .before .before in
+    let gap = put-all-descriptors-of-channel .before .before in
+    length12-pen (gap .gap .ensures) (put-all-descriptors-of-channel .put-all-descriptors-of-channel .ensures) (c .before .before .close .ensures)))

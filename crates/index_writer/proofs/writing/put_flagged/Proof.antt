@@ -16,4 +16,7 @@ put-flagged-spec =
     (λ c. flag-none _ (c .before .before .before .put-reserved .ensures _) (c .if1 .taken))
     (λ c κs. search needs)
     (λ c. search needs)
-    (λ c. flag-some _ (c .before .before .before .before .before .before .before .put-reserved .ensures _) (omega arith) (c .before .before .put-channel .ensures)))
+    (λ c.
+    let channel = c .before .before in
+    let flag = channel .before .before .before .before .before in
+    flag-some _ (flag .put-reserved .ensures _) (omega arith) (channel .put-channel .ensures)))

@@ -18,8 +18,14 @@ put-head-spec =
     (λ c κs. search needs)
     (λ c. search needs)
     (λ c.
-    pair-pen (c .before .before .before .before .before .before .before .before .before .before .before .before .before .before .before .before .before .before .before .before .before .before .put-identifier .ensures)
-    (pair-pen (c .before .before .before .before .before .before .before .before .before .before .before .before .before .before .before .before .before .before .put-number .ensures _)
-    (pair-pen (c .before .before .before .before .before .before .before .before .before .before .before .before .before .before .put-time .ensures _)
-    (pair-pen (c .before .before .before .before .before .before .before .before .before .before .put-end .ensures _)
-    (pair-pen (c .before .before .before .before .before .before .put-bytes .ensures) (c .before .before .put-nibbles .ensures _)))))))
+    let class = c .before .before in
+    let type = class .before .before .before .before in
+    let end = type .before .before .before .before in
+    let start = end .before .before .before .before in
+    let network = start .before .before .before .before in
+    let identifier = network .before .before .before .before in
+    pair-pen (identifier .put-identifier .ensures)
+    (pair-pen (network .put-number .ensures _)
+    (pair-pen (start .put-time .ensures _)
+    (pair-pen (end .put-end .ensures _)
+    (pair-pen (type .put-bytes .ensures) (class .put-nibbles .ensures _)))))))

@@ -14,4 +14,6 @@ put-index-spec =
     (λ c κs. search needs)
     (λ c κs. search needs)
     (λ c. search needs)
-    (λ c. exact-pen (view-pen (pair-pen (c .before .before .before .before .before .before .put-messages .ensures) (c .before .before .put-part .ensures)) _ _ (λ a. refl)) _))
+    (λ c.
+    let put-messages = c .before .before .before .before .before .before in
+    exact-pen (view-pen (pair-pen (put-messages .put-messages .ensures) (c .before .before .put-part .ensures)) _ _ (λ a. refl)) _))

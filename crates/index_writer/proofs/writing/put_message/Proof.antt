@@ -18,8 +18,14 @@ put-message-spec =
     (λ c κs. search needs)
     (λ c κs. search needs)
     (λ c. search needs)
-    (λ c. length-pen 2 (c .before .before .before .before .before .before .before .before .before .before .before .before .before .before .before .before .gap .ensures)
+    (λ c.
+    let closed = c .before .before in
+    let channel = closed .before .before .before .before in
+    let resources = channel .before .before .before .before in
+    let head = resources .before .before .before .before in
+    let room = head .before .before in
+    length-pen 2 (room .gap .ensures)
     (exact-pen
-    (view-pen (pair-pen (c .before .before .before .before .before .before .before .before .before .before .before .before .before .before .put-head .ensures) (pair-pen (c .before .before .before .before .before .before .before .before .before .before .put-resources .ensures) (c .before .before .before .before .before .before .put-flagged .ensures))) _ _ (λ a. refl))
+    (view-pen (pair-pen (head .put-head .ensures) (pair-pen (resources .put-resources .ensures) (channel .put-flagged .ensures))) _ _ (λ a. refl))
     _)
-    (c .before .before .close .ensures)))
+    (closed .close .ensures)))

@@ -15,4 +15,8 @@ put-stream-spec =
     (λ c κs. search needs)
     (λ c κs. search needs)
     (λ c. search needs)
-    (λ c. view-pen (pair-pen (c .before .before .before .before .before .before .before .before .before .before .put-number .ensures _) (pair-pen (c .before .before .before .before .before .before .put-reserved .ensures _ .past) (c .before .before .put-descriptors .ensures))) _ _ (λ a. refl)))
+    (λ c.
+    let put-reserved = c .before .before .before .before .before .before in
+    let put-number = put-reserved .before .before .before .before in
+    view-pen (pair-pen (put-number .put-number .ensures _)
+    (pair-pen (put-reserved .put-reserved .ensures _ .past) (c .before .before .put-descriptors .ensures))) _ _ (λ a. refl)))

@@ -14,4 +14,7 @@ put-streams-spec =
     (λ c κs. search needs)
     (λ c κs. search needs)
     (λ c. search needs)
-    (λ c. length-pen 2 (c .before .before .before .before .before .before .before .before .gap .ensures) (c .before .before .before .before .before .before .put-all-streams .ensures) (c .before .before .close .ensures)))
+    (λ c.
+    let put-all-streams = c .before .before .before .before .before .before in
+    let gap = put-all-streams .before .before in
+    length-pen 2 (gap .gap .ensures) (put-all-streams .put-all-streams .ensures) (c .before .before .close .ensures)))
