@@ -2,6 +2,8 @@
 use body_formats::Number;
 use body_formats::Part;
 use body_formats::Step;
+use ground_numbers::BODY_MOST;
+use ground_numbers::wide;
 use ground_refusal::Refusal;
 use time_fields::EndTimed;
 use time_fields::Timed;
@@ -24,16 +26,10 @@ pub fn open_body(own: u32, kind: u32, s: &[u8]) -> Step
     if kind != own {
         return Step::Refused(Refusal::OtherKind);
     }
-    if 1045504 < s.len() {
+    if BODY_MOST < s.len() {
         return Step::Refused(Refusal::TooLarge);
     }
     Step::At(0)
-}
-
-fn wide(x: u8) -> u64
-    ensures { λ r. ⌜ (r ≡ x) × (r < 256) ⌝ }
-{
-    x as u64
 }
 
 // The number in w bytes at p, the high one first, a byte a turn.

@@ -5,6 +5,7 @@ use mathlib.Core.Bool.{not}
 use lib.ListN.{length}
 use lib.Dec.{leb, eqb}
 use Rattle.ground_placing.specs.Placed.{placed}
+use Rattle.ground_numbers.specs.Sizes.{bodyMost}
 use Rattle.ground_refusal.specs.declared.Refusal.the-variants.{OtherKind, OutsideSet, OutputTooSmall, TooLarge}
 use Rattle.body_formats.specs.Reading.{Reading, found, refused, andThen, need, placeless}
 use Rattle.body_formats.specs.Format.{Format, nothing}
@@ -13,7 +14,7 @@ use Rattle.body_formats.specs.declared.Step.{Step}
 
 -- "a body above 1,045,504 bytes"
 abbrev pub longest : ℕ
-longest = 1045504
+longest = bodyMost
 
 -- "2 for a wrong kind, then 22, come first", and then the fields
 unfoldable pub reading : {A : Type 0} → Format A → ℕ → ℕ → List ℕ → Reading A

@@ -5,6 +5,7 @@ use mathlib.Core.List.{List, [], _∷_}
 use mathlib.Core.Bool.{Bool, true, false, not}
 use lib.ListN.{length}
 use lib.Dec.{ltb, leb}
+use Rattle.ground_numbers.specs.Sizes.{bodyMost}
 use Rattle.ground_choices.specs.Choice.{if_then_else_}
 use Rattle.ground_placing.specs.Placed.{placed}
 use Rattle.ground_refusal.specs.declared.Refusal.{Refusal}
@@ -21,7 +22,7 @@ use Rattle.body_pen.specs.declared.Count.{Count}
 -- The bytes so far and n more: 1,045,505, one more than a body may have, stands for all that are too many, and for a count or a
 -- length that is too large for its field. Both are 22.
 unfoldable pub more : ℕ → ℕ → Bool → ℕ
-more size n over = if over then 1045505 else min (size + n) 1045505
+more size n over = if over then bodyMost + 1 else min (size + n) (bodyMost + 1)
 
 abbrev pub penOnward : {A : Type 0} → Format A → ℕ → Reading A → Pen
 penOnward F size (found a k) = At (more size (length (F .print a)) (F .tooLarge a)) k
@@ -38,7 +39,7 @@ pub record Penned {A : Type 0} (F : Format A) (pool tape : List ℕ) (x : Pen) (
   pub said : r ≡ penned F pool tape x
   pub dry : wet ≡ false → out′ ≡ out
   pub put : wet ≡ true → (size k : ℕ) → x ≡ At size k → (a : A) (j : ℕ) → F .form pool tape k ≡ found a j → F .tooLarge a ≡ false
-      → size + length (F .print a) ≤ 1045504 → size + length (F .print a) ≤ length out → out′ ≡ placed out size (F .print a)
+      → size + length (F .print a) ≤ bodyMost → size + length (F .print a) ≤ length out → out′ ≡ placed out size (F .print a)
 
 -- the number that the form lays out, 0 for none
 unfoldable pub valuePenned : Format ℕ → List ℕ → List ℕ → Pen → ℕ

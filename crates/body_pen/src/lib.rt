@@ -3,6 +3,9 @@
 use body_formats::Number;
 use body_formats::Part;
 use body_formats::Step;
+use ground_numbers::BODY_MOST;
+use ground_numbers::less;
+use ground_numbers::wide;
 use ground_refusal::Refusal;
 use time_fields::EndTimed;
 use time_fields::Timed;
@@ -35,18 +38,21 @@ pub struct Count {
     pub n: u64,
 }
 
+// The size of a body that is too long.
+const ABOVE_BODY: usize = BODY_MOST + 1;
+
 // The bytes so far with n more, or those of a body that is too long.
 fn grown(size: usize, n: u64, over: bool) -> usize
     ensures { λ r. ⌜ r ≡ more size n over ⌝ }
 {
     if over {
-        return 1045505;
+        return ABOVE_BODY;
     }
-    if 1045505 <= size {
-        return 1045505;
+    if ABOVE_BODY <= size {
+        return ABOVE_BODY;
     }
-    if ((1045505 - size) as u64) <= n {
-        return 1045505;
+    if ((ABOVE_BODY - size) as u64) <= n {
+        return ABOVE_BODY;
     }
     size + (n as usize)
 }
@@ -361,12 +367,6 @@ pub fn put_bytes(
     }
 }
 
-fn wide(x: u8) -> u64
-    ensures { λ r. ⌜ (r ≡ x) × (r < 256) ⌝ }
-{
-    x as u64
-}
-
 // Four reserved bits and 2 h + 1 decimal digits, in h + 1 bytes: the pool's reserved bits are not looked at.
 pub fn put_digits(pool: &[u8], tape: &[u64], x: Pen, h: usize, out: &mut [u8], wet: bool) -> Pen
     ensures { λ r. ⌜ Penned (digits h) (now (pool .entry)) (now (tape .entry)) x wet (now (out .entry)) r (now (out .exit)) ⌝ }
@@ -493,15 +493,6 @@ pub fn gap(x: Pen, w: usize) -> Pen
     }
 }
 
-fn less(a: usize, b: usize) -> usize
-    ensures { λ r. ⌜ r ≡ a - b ⌝ }
-{
-    if a < b {
-        return 0;
-    }
-    a - b
-}
-
 // The length of a part, in the w bytes left for it: x is the pen before them, b the one after the part; top are its reserved bits.
 pub fn close(x: Pen, b: Pen, w: usize, top: u64, limit: u64, out: &mut [u8], wet: bool) -> Pen
     requires { ⌜ top + limit ≤ 0x1_0000_0000_0000_0000 ⌝ }
@@ -514,7 +505,7 @@ pub fn close(x: Pen, b: Pen, w: usize, top: u64, limit: u64, out: &mut [u8], wet
             Pen::At(end, j) => {
                 let n = less(less(end, size), w) as u64;
                 if limit <= n {
-                    return Pen::At(1045505, j);
+                    return Pen::At(ABOVE_BODY, j);
                 }
                 put_at(out, size, w, top + n, wet);
                 Pen::At(grown(end, 0, false), j)

@@ -2,6 +2,7 @@
 use body_formats::Number;
 use body_formats::Part;
 use body_formats::Step;
+use ground_numbers::less;
 use ground_refusal::Refusal;
 ghost use mathlib.Core.Path.{_≡_};
 ghost use mathlib.Core.List.{[], _∷_};
@@ -32,16 +33,6 @@ pub struct Count {
 pub struct Opened {
     pub walk: Walk,
     pub end: usize,
-}
-
-// The room that n entries leave.
-pub fn less(room: usize, n: usize) -> usize
-    ensures { λ r. ⌜ r ≡ room - n ⌝ }
-{
-    if room < n {
-        return 0;
-    }
-    room - n
 }
 
 // One entry, if it fits.

@@ -9,8 +9,9 @@ use lib.ListN.{length, getD, take, drop, length-drop}
 use lib.Seq.{drop-cons, length-take-le}
 use lib.Dec.{leb}
 use borrow.Author.Tests.{le-leb, lt-leb, eq-eqb, ne-eqb}
+use Rattle.ground_numbers.specs.Characters.{isDigit, colon}
 use Rattle.body_formats.specs.Format.{every}
-use Rattle.configuration_addresses.specs.Address.{isDigit, colon, portWorth, isPort, inName, nameGoesOn, hostAndPort}
+use Rattle.configuration_addresses.specs.Address.{portWorth, isPort, inName, nameGoesOn, hostAndPort}
 
 -- the bytes from p up to end
 abbrev pub part : List ℕ → ℕ → ℕ → List ℕ

@@ -4,7 +4,8 @@ use mathlib.Core.List.{List, [], _∷_}
 use mathlib.Core.Bool.{Bool, true, false}
 use Prim.Native.Nat.{ℕ}
 use Rattle.body_formats.specs.Format.{every}
-use Rattle.configuration_addresses.specs.Address.{colon, portWorth, isPort, nameGoesOn, hostAndPort, lengthFits}
+use Rattle.ground_numbers.specs.Characters.{colon}
+use Rattle.configuration_addresses.specs.Address.{portWorth, isPort, nameGoesOn, hostAndPort, lengthFits}
 
 -- the standard's www.chinaeb-lab.org with a port
 abbrev withPort : List ℕ → Bool

@@ -5,15 +5,8 @@ use mathlib.Core.Bool.{Bool, true, false, not, _&&_}
 use lib.ListN.{length}
 use lib.Dec.{leb, eqb}
 use Rattle.ground_choices.specs.Choice.{if_then_else_}
+use Rattle.ground_numbers.specs.Characters.{isDigit, colon}
 use Rattle.body_formats.specs.Format.{every}
-
--- '0' to '9'
-abbrev pub isDigit : ℕ → Bool
-isDigit c = leb 0x30 c && leb c 0x39
-
--- ':'
-abbrev pub colon : ℕ
-colon = 0x3A
 
 -- what a string of digits is worth, after those before it
 unfoldable pub portWorth : ℕ → List ℕ → ℕ

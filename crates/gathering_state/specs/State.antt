@@ -4,6 +4,7 @@ use mathlib.Core.Bool.{Bool, _&&_, _||_}
 use mathlib.Core.List.{List}
 use lib.Dec.{eqb, leb, ltb}
 use lib.ListN.{getD, set, replicate, take, drop}
+use Rattle.ground_numbers.specs.Sizes.{payloadMost, versionMost}
 use Rattle.section_reader.specs.Section.{isKind}
 use Rattle.section_reader.specs.declared.Heading.{Heading}
 use Rattle.gathering_state.specs.Lists.{greatest, part}
@@ -23,8 +24,8 @@ isFresh g =
 -- "a kind FB to FE, a version up to 31, at least one held number, none above last, and held lengths up to 4,084"; the mark `spoiled` is 0 or 1
 unfoldable pub isBegun : Gathering → Bool
 isBegun g =
-    isKind (g .kind) && leb (g .version) 31 && leb (g .spoiled) 1
-    && ltb 0 (greatest (g .held)) && eqb (greatest (drop (g .last + 1) (g .held))) 0 && leb (greatest (g .held)) (4084 + 1)
+    isKind (g .kind) && leb (g .version) versionMost && leb (g .spoiled) 1
+    && ltb 0 (greatest (g .held)) && eqb (greatest (drop (g .last + 1) (g .held))) 0 && leb (greatest (g .held)) (payloadMost + 1)
 
 -- "A state is possible if it is exactly the fresh one, or" begun
 unfoldable pub possibleOf : Gathering → Bool
@@ -38,11 +39,11 @@ nothingBegun g = eqb (g .kind) 0
 
 -- "A taken payload of number k goes to byte k × 4,084 of the store"
 unfoldable pub place : ℕ → ℕ
-place k = k * 4084
+place k = k * payloadMost
 
 -- a store of `bytes` bytes is not "shorter than (last + 1) × 4,084 bytes"
 unfoldable pub hasRoom : ℕ → ℕ → Bool
-hasRoom bytes last = leb ((last + 1) * 4084) bytes
+hasRoom bytes last = leb ((last + 1) * payloadMost) bytes
 
 -- the held lengths of the numbers that the table has
 unfoldable pub lengths : Gathering → List ℕ

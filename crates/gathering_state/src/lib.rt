@@ -1,8 +1,10 @@
 // The state of a gathering, and the small functions on it and on its store that feeding and handing out rest on.
+use ground_numbers::PAYLOAD_MOST;
 use section_reader::Heading;
 ghost use mathlib.Core.Path.{_≡_};
 ghost use Prim.Native.Nat.{_-_, _<_, _≤_, max};
 ghost use lib.ListN.{length, drop};
+ghost use Rattle.ground_numbers.specs.Sizes.{payloadMost, versionMost};
 ghost use Rattle.gathering_state.specs.Lists.{greatest, smallestMissing, total, sameBytes};
 ghost use Rattle.gathering_state.specs.State.{freshState, isFresh, isBegun, possibleOf, place, hasRoom, withSection, spoiledState};
 
@@ -72,7 +74,7 @@ pub fn smallest_missing(s: &[u16]) -> usize
 pub fn less_one(n: u16) -> usize
     ensures { λ r. ⌜ (r ≡ n - 1) × (r < 65535) ⌝ }
 {
-    if n == 0 { 0 } else { (n - 1) as usize }
+    ground_numbers::less(n as usize, 1)
 }
 
 // The sum of the payloads' lengths.
@@ -190,21 +192,21 @@ pub fn possible(g: Gathering) -> bool
 pub fn place_of(k: u8) -> usize
     ensures { λ r. ⌜ r ≡ place k ⌝ }
 {
-    k as usize * 4084
+    k as usize * PAYLOAD_MOST
 }
 
 // Has a store of so many bytes room for the numbers 0 to last?
 pub fn has_room(bytes: usize, last: u8) -> bool
     ensures { λ r. ⌜ r ≡ hasRoom bytes last ⌝ }
 {
-    (last as usize + 1) * 4084 <= bytes
+    (last as usize + 1) * PAYLOAD_MOST <= bytes
 }
 
 // ---- how a state changes: for feeding
 
 // The state with a section taken, whose payload has n bytes.
 pub fn with_section(g: Gathering, h: Heading, n: usize) -> Gathering
-    requires { ⌜ (n ≤ 4084) × (h .version ≤ 31) ⌝ }
+    requires { ⌜ (n ≤ payloadMost) × (h .version ≤ versionMost) ⌝ }
     ensures { λ r. ⌜ r ≡ withSection g h n ⌝ }
 {
     let mut next = g;

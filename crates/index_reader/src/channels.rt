@@ -28,7 +28,7 @@ fn walk_each_descriptor(
     ensures { λ r. ⌜ Walked (many descriptor) (now (s .entry)) l (At p room) wet (now (tape .entry)) r (now (tape .exit)) ⌝ }
 {
     let mut at = p;
-    let mut left = body_walk::less(room, 1);
+    let mut left = ground_numbers::less(room, 1);
     let mut n: u64 = 0;
     while at < l {
         match walk_descriptor(s, l, Walk::At(at, left), tape, wet) {
@@ -81,7 +81,7 @@ fn walk_each_stream(s: &[u8], l: usize, p: usize, room: usize, tape: &mut [u64],
     ensures { λ r. ⌜ Walked (many stream) (now (s .entry)) l (At p room) wet (now (tape .entry)) r (now (tape .exit)) ⌝ }
 {
     let mut at = p;
-    let mut left = body_walk::less(room, 1);
+    let mut left = ground_numbers::less(room, 1);
     let mut n: u64 = 0;
     while at < l {
         match walk_stream(s, l, Walk::At(at, left), tape, wet) {

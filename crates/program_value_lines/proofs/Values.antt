@@ -7,7 +7,7 @@ use Rattle.time_days.specs.Calendar.{leap, monthLength, isDate, monthsFrom, yea
 use Rattle.time_fields.specs.Field.{twoDigits, isInstant, fieldOf, writeTime}
 use Rattle.time_offset.specs.Offset.{floorDiv, floorMod, isOffset, timedAt, minuteMoved, dayMoved, secondMoved, moved, toUtc}
 use Rattle.time_local.specs.Clock.{isClock, secondOf, onDay, localMoment, written, packedAt, packOf}
-use Rattle.time_local.specs.Text.{form, isDigit, fits, formed, two, typed, readText}
+use Rattle.time_local.specs.Text.{form, fits, formed, two, typed, readText}
 use Rattle.time_local.proofs.Values as local
 use Rattle.body_formats.specs.Format.{numberAt, count, followed, repeat, listOf, rest, exact, view, lengthOf, counted}
 use Rattle.body_formats.specs.Body.{reading, bodyRead}
@@ -28,7 +28,7 @@ unfolding ofTime
 november = ap fieldValue (local.values .0)
 
 march : ofTime (ascii "01/03/1900 00:00:00") ≡ Refused (ImpossibleDay 0)
-unfolding ofTime leap monthLength isDate monthsFrom yearOf monthOf daysOf monthStart dayNumber inRange hasDay dayOf twoDigits isInstant fieldOf writeTime floorDiv floorMod isOffset timedAt minuteMoved dayMoved secondMoved moved toUtc isClock secondOf onDay localMoment written packedAt packOf form isDigit fits formed two typed readText
+unfolding ofTime leap monthLength isDate monthsFrom yearOf monthOf daysOf monthStart dayNumber inRange hasDay dayOf twoDigits isInstant fieldOf writeTime floorDiv floorMod isOffset timedAt minuteMoved dayMoved secondMoved moved toUtc isClock secondOf onDay localMoment written packedAt packOf form fits formed two typed readText
 march = refl
 
 -- "index body 00 00 00 accepted, 00 00 refused (14, place 1), 00 00 00 00 refused (16, place 3)"

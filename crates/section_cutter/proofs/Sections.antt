@@ -16,7 +16,8 @@ use Rattle.section_cutter.specs.declared.Cut.the-variants.{Written}
 use Rattle.section_cutter.proofs.Counting.{place-zero, place-suc, ends-within, count-most, counted-is, part-length}
 use Rattle.section_cutter.proofs.Cuts.{cut-fitting, written-is}
 use Rattle.section_reader.proofs.Printing.{printed-length}
-use Rattle.section_reader.proofs.Reading.{both, kind-within}
+use Rattle.ground_choices.proofs.Tests.{both}
+use Rattle.section_reader.proofs.Reading.{kind-within}
 use Rattle.section_reader.proofs.RoundTrip.{reads-back}
 
 -- ---- one section

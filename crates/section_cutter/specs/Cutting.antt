@@ -5,6 +5,7 @@ use mathlib.Core.List.{List, [], _++_}
 use mathlib.Core.Path.{_≡_}
 use lib.Dec.{eqb, leb, ltb}
 use lib.ListN.{length, take, drop}
+use Rattle.ground_numbers.specs.Sizes.{payloadMost, bodyMost, versionMost}
 use Rattle.ground_placing.specs.Placed.{placed}
 use Rattle.ground_refusal.specs.declared.Refusal.{Refusal}
 use Rattle.ground_refusal.specs.declared.Refusal.the-variants.{OtherKind, NumberAboveLast, PastBody, OutsideSet, OutputTooSmall, TooLarge}
@@ -20,15 +21,15 @@ use Rattle.section_reader.specs.declared.Heading.{Heading}
 
 -- where the part that section k carries begins
 unfoldable pub partStart : ℕ → ℕ
-partStart k = k * 4084
+partStart k = k * payloadMost
 
 -- "A body of L bytes makes the ceiling of L ÷ 4,084 sections"
 unfoldable pub sectionCount : ℕ → ℕ
-sectionCount length = (length + 4083) / 4084
+sectionCount length = (length + (payloadMost - 1)) / payloadMost
 
 -- "each section carries a consecutive part": "every section but the last" 4,084 bytes
 unfoldable pub partCarried : List ℕ → ℕ → List ℕ
-partCarried body k = take 4084 (drop (partStart k) body)
+partCarried body k = take payloadMost (drop (partStart k) body)
 
 -- the payloads of the first n of some sections, joined
 unfoldable pub partsJoined : (ℕ → List ℕ) → ℕ → List ℕ
@@ -39,7 +40,7 @@ partsJoined sections (suc n) = partsJoined sections n ++ payloadOf (sections n)
 unfoldable pub countedOf : ℕ → Counted
 countedOf length =
     if eqb length 0 then NotCounted (PastBody 0) else
-    if ltb 1045504 length then NotCounted TooLarge else
+    if ltb bodyMost length then NotCounted TooLarge else
     Sections (sectionCount length)
 
 -- ---- cutting
@@ -73,9 +74,9 @@ cutIfRoom room bytes = if ltb room (length bytes) then refuses OutputTooSmall el
 unfoldable pub cutting : List ℕ → ℕ → ℕ → ℕ → ℕ → ℕ → Verdict
 cutting body kind extension version number room =
     if not (isKind kind) then refuses OtherKind else
-    if not (leb version 31 && leb extension 0xFFFF) then refuses (OutsideSet 0) else
+    if not (leb version versionMost && leb extension 0xFFFF) then refuses (OutsideSet 0) else
     if eqb (length body) 0 then refuses (PastBody 0) else
-    if ltb 1045504 (length body) then refuses TooLarge else
+    if ltb bodyMost (length body) then refuses TooLarge else
     if leb (sectionCount (length body)) number then refuses NumberAboveLast else
     cutIfRoom room (sectionOf body kind extension version number)
 
@@ -101,12 +102,12 @@ cutOutput body kind extension version number out = outputBy (cutting body kind e
 -- refusals 2 and 19 do not apply
 pub record Allowed (kind extension version : ℕ) : Type 0 where
   pub kind-of : isKind kind ≡ true
-  pub version-high : version ≤ 31
+  pub version-high : version ≤ versionMost
   pub extension-high : extension ≤ 0xFFFF
 
 -- nor 14, 22 and 6, for a body of so many bytes: 21 alone is left
 pub record Askable (length kind extension version number : ℕ) : Type 0 where
   pub allowed : Allowed kind extension version
   pub some : 0 < length
-  pub most : length ≤ 1045504
+  pub most : length ≤ bodyMost
   pub within : number < sectionCount length

@@ -1,11 +1,16 @@
 // The cutter: how many sections a body makes, and each of them written.
+use ground_numbers::BODY_MOST;
+use ground_numbers::PAYLOAD_MOST;
+use ground_numbers::VERSION_MOST;
+use ground_numbers::least;
 use ground_refusal::Refusal;
 use section_reader::Heading;
 ghost use mathlib.Core.Path.{_≡_};
-ghost use Prim.Native.Nat.{_+_, _≤_, min};
+ghost use Prim.Native.Nat.{_+_, _≤_};
 ghost use lib.ListN.{length};
 ghost use Rattle.crc.specs.Crc.{bigEndian, digit};
 ghost use Rattle.ground_placing.specs.Placed.{placed};
+ghost use Rattle.ground_numbers.specs.Sizes.{payloadMost, versionMost};
 ghost use Rattle.section_reader.specs.Section.{headingBytes, printed};
 ghost use Rattle.section_cutter.specs.Cutting.{partStart, partCarried, countedOf, cutIfRoom, cutBy, outputBy, cutAnswer, cutOutput};
 
@@ -32,7 +37,7 @@ fn bit(b: bool) -> u8
 
 // The eight bytes of a heading before n bytes of payload.
 fn put_heading(h: Heading, n: usize, out: &mut [u8])
-    requires { ⌜ (h .version ≤ 31) × (n ≤ 4084) × (8 ≤ length (now out)) ⌝ }
+    requires { ⌜ (h .version ≤ versionMost) × (n ≤ payloadMost) × (8 ≤ length (now out)) ⌝ }
     ensures { λ _. ⌜ now (out .exit) ≡ placed (now (out .entry)) 0 (headingBytes h n) ⌝ }
 {
     let length = 0xF000 + (n + 9);
@@ -59,7 +64,7 @@ fn put_check(check: u32, out: &mut [u8], at: usize)
 
 // The good section of a heading and a payload, at the start of out.
 fn put_section(h: Heading, payload: &[u8], out: &mut [u8])
-    requires { ⌜ (h .version ≤ 31) × (length (now payload) ≤ 4084) × (length (now payload) + 12 ≤ length (now out)) ⌝ }
+    requires { ⌜ (h .version ≤ versionMost) × (length (now payload) ≤ payloadMost) × (length (now payload) + 12 ≤ length (now out)) ⌝ }
     ensures { λ _. ⌜ now (out .exit) ≡ placed (now (out .entry)) 0 (printed h (now (payload .entry))) ⌝ }
 {
     let n = payload.len();
@@ -79,27 +84,20 @@ pub fn section_count(length: usize) -> Counted
     if length == 0 {
         return Counted::Refused(Refusal::PastBody(0));
     }
-    if 1045504 < length {
+    if BODY_MOST < length {
         return Counted::Refused(Refusal::TooLarge);
     }
-    Counted::Sections((length + 4083) / 4084)
-}
-
-// The smaller of two.
-fn least(a: usize, b: usize) -> usize
-    ensures { λ r. ⌜ r ≡ min a b ⌝ }
-{
-    if a < b { a } else { b }
+    Counted::Sections((length + (PAYLOAD_MOST - 1)) / PAYLOAD_MOST)
 }
 
 // The section with the heading h of a body, if out has room for it: refusal 21.
 fn cut_part(h: Heading, body: &[u8], out: &mut [u8]) -> Cut
-    requires { ⌜ (h .version ≤ 31) × (partStart (h .number) ≤ length (now body)) ⌝ }
+    requires { ⌜ (h .version ≤ versionMost) × (partStart (h .number) ≤ length (now body)) ⌝ }
     ensures { λ r. ⌜ r ≡ cutBy (cutIfRoom (length (now (out .entry))) (printed h (partCarried (now (body .entry)) (h .number)))) ⌝ }
     ensures { λ _. ⌜ now (out .exit) ≡ outputBy (cutIfRoom (length (now (out .entry))) (printed h (partCarried (now (body .entry)) (h .number)))) (now (out .entry)) ⌝ }
 {
-    let at = h.number as usize * 4084;
-    let n = least(4084, body.len() - at);
+    let at = h.number as usize * PAYLOAD_MOST;
+    let n = least(PAYLOAD_MOST, body.len() - at);
     if out.len() < n + 12 {
         return Cut::Refused(Refusal::OutputTooSmall);
     }
@@ -123,7 +121,7 @@ pub fn cut_section(
     if !section_reader::is_kind(kind) {
         return Cut::Refused(Refusal::OtherKind);
     }
-    if 31 < version || 0xFFFF < extension {
+    if VERSION_MOST < version || 0xFFFF < extension {
         return Cut::Refused(Refusal::OutsideSet(0));
     }
     match section_count(body.len()) {

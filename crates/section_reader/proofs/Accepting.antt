@@ -16,7 +16,9 @@ use Rattle.section_reader.specs.declared.Heading.{Heading}
 use Rattle.section_reader.specs.declared.Sectioned.{Sectioned}
 use Rattle.section_reader.specs.declared.Sectioned.the-variants.{Good, Refused}
 use Rattle.section_reader.specs.declared.Stated.the-variants.{Length}
-use Rattle.section_reader.proofs.Reading.{Framed, within-known, good, states}
+use Rattle.ground_numbers.specs.Sizes.{sectionLengthMost, payloadMost}
+use Rattle.ground_numbers.proofs.Ranges.{within-known}
+use Rattle.section_reader.proofs.Reading.{Framed, good, states}
 
 -- none of refusals 1 to 7 applies
 pub record Accepted (s : List ℕ) (h : Heading) (n : ℕ) : Type 0 where
@@ -40,7 +42,7 @@ accepted s h n e =
     let a = past (ltb (length s) 12) _ _ h n e in
     let b = past (not (isKind (getD s 0 0))) _ _ h n (a .1) in
     let c = past (not (fixedBits s)) _ _ h n (b .1) in
-    let d = past (not (leb 9 (sectionLength s) && leb (sectionLength s) 4093)) _ _ h n (c .1) in
+    let d = past (not (leb 9 (sectionLength s) && leb (sectionLength s) sectionLengthMost)) _ _ h n (c .1) in
     let f = past (not (eqb (length s) (sectionLength s + 3))) _ _ h n (d .1) in
     let g = past (ltb (getD s 7 0) (getD s 6 0)) _ _ h n (f .1) in
     let i = past (not (eqb (crc32Of s) 0)) _ _ h n (g .1) in
@@ -66,13 +68,13 @@ accepts s h n a = rw (a .size) (good s (a .framed) (a .ordered) h (a .heading) (
 -- ---- lengths
 
 pub framed-long : (s : List ℕ) → Framed s → (12 ≤ length s) × (length s ≤ 4096)
-framed-long s f = let w = within-known 9 (sectionLength s) 4093 (f .counted) in let l = f .whole in (omega arith, omega arith)
+framed-long s f = let w = within-known 9 (sectionLength s) sectionLengthMost (f .counted) in let l = f .whole in (omega arith, omega arith)
 
 module _ (s : List ℕ) (h : Heading) (n : ℕ) (a : Accepted s h n) where
   pub accepted-length : length s ≡ n + 12
   accepted-length = let l = framed-long s (a .framed) in let e = a .size in omega arith
 
-  pub accepted-short : n ≤ 4084
+  pub accepted-short : n ≤ payloadMost
   accepted-short = let l = framed-long s (a .framed) in let e = a .size in omega arith
 
   pub payload-length : length (payloadOf s) ≡ n

@@ -4,40 +4,26 @@ use mathlib.Core.Bool.{Bool, true, false, _&&_}
 use mathlib.Core.List.{List}
 use mathlib.Core.Path.{_≡_, refl, ap}
 use native.Mathlib.Omega.{arith}
-use borrow.Author.Tests.{lt-ltb, le-ltb, le-leb, lt-leb, eq-eqb, ne-eqb, leb-true, eqb-true}
+use borrow.Author.Tests.{lt-ltb, le-ltb, eq-eqb, ne-eqb, eqb-true}
 use lib.Dec.{eqb, leb}
 use lib.ListN.{length, getD}
 use Rattle.crc.specs.Crc.{crc32Of}
+use Rattle.ground_choices.proofs.Tests.{both}
+use Rattle.ground_numbers.specs.Sizes.{configurationKind, contentKind, sectionLengthMost}
+use Rattle.ground_numbers.proofs.Ranges.{within-known}
 use Rattle.ground_refusal.specs.declared.Refusal.the-variants.{SectionTooShort, OtherKind, FixedBitZero, SectionLengthOutside, OtherLength, NumberAboveLast, CheckNotZero}
 use Rattle.section_reader.specs.Section.{isKind, word, fixedBits, sectionLength, lengthInRange, headingOf, readSection, statedLength}
 use Rattle.section_reader.specs.declared.Heading.{Heading}
 use Rattle.section_reader.specs.declared.Sectioned.the-variants.{Good, Refused}
 use Rattle.section_reader.specs.declared.Stated.the-variants as stated
 
--- ---- two tests in one
+-- ---- the kind
 
-pub within : (a n b : ℕ) → a ≤ n → n ≤ b → leb a n && leb n b ≡ true
-within a n b h h′ = rw (le-leb a n h, le-leb n b h′)
-
-pub not-from : (a n b : ℕ) → n < a → leb a n && leb n b ≡ false
-not-from a n b h = rw (lt-leb a n h)
-
-pub from-then : (a n b : ℕ) → a ≤ n → leb a n && leb n b ≡ leb n b
-from-then a n b h = rw (le-leb a n h)
-
-pub both : (a b : Bool) → a && b ≡ true → (a ≡ true) × (b ≡ true)
-both true true e = (refl, refl)
-both true false e = (refl, e)
-both false b e = (e, absurd (let z : _≡_ {A = ℕ} 0 1 = cc in omega arith))
-
-pub within-known : (a n b : ℕ) → leb a n && leb n b ≡ true → (a ≤ n) × (n ≤ b)
-within-known a n b e = let t = both (leb a n) (leb n b) e in (leb-true a n (t .0), leb-true n b (t .1))
-
-pub kind-within : (k : ℕ) → isKind k ≡ true → (0xFB ≤ k) × (k ≤ 0xFE)
+pub kind-within : (k : ℕ) → isKind k ≡ true → (configurationKind ≤ k) × (k ≤ contentKind)
 unfolding isKind
-kind-within k e = within-known 0xFB k 0xFE e
+kind-within k e = within-known configurationKind k contentKind e
 
-pub is-kind-is : (k : ℕ) → leb 0xFB k && leb k 0xFE ≡ isKind k
+pub is-kind-is : (k : ℕ) → leb configurationKind k && leb k contentKind ≡ isKind k
 unfolding isKind
 is-kind-is k = refl
 
@@ -85,11 +71,11 @@ module _ (s : List ℕ) where
       fixed-bit-zero h = simp (le-ltb (length s) 12 long, kind, h)
 
       module _ (fixed : fixedBits s ≡ true) where
-        pub length-outside : leb 9 (sectionLength s) && leb (sectionLength s) 4093 ≡ false → readSection s ≡ Refused SectionLengthOutside
+        pub length-outside : leb 9 (sectionLength s) && leb (sectionLength s) sectionLengthMost ≡ false → readSection s ≡ Refused SectionLengthOutside
         unfolding readSection
         length-outside h = simp (le-ltb (length s) 12 long, kind, fixed, h)
 
-        pub other-length : leb 9 (sectionLength s) && leb (sectionLength s) 4093 ≡ true → (length s ≡ sectionLength s + 3 → ⊥) → readSection s ≡ Refused OtherLength
+        pub other-length : leb 9 (sectionLength s) && leb (sectionLength s) sectionLengthMost ≡ true → (length s ≡ sectionLength s + 3 → ⊥) → readSection s ≡ Refused OtherLength
         unfolding readSection
         other-length counted h = simp (le-ltb (length s) 12 long, kind, fixed, counted, ne-eqb (length s) (sectionLength s + 3) h)
 
@@ -98,7 +84,7 @@ pub record Framed (s : List ℕ) : Type 0 where
   pub long : 12 ≤ length s
   pub kind : isKind (getD s 0 0) ≡ true
   pub fixed : fixedBits s ≡ true
-  pub counted : leb 9 (sectionLength s) && leb (sectionLength s) 4093 ≡ true
+  pub counted : leb 9 (sectionLength s) && leb (sectionLength s) sectionLengthMost ≡ true
   pub whole : length s ≡ sectionLength s + 3
 
 module _ (s : List ℕ) (f : Framed s) where

@@ -17,7 +17,9 @@ use Rattle.section_reader.specs.declared.Heading.{Heading}
 use Rattle.section_reader.specs.declared.Sectioned.the-variants.{Good}
 use Rattle.section_reader.proofs.Accepting.{Accepted, accepted, accepts, accepted-length, accepted-short, payload-length}
 use Rattle.section_reader.proofs.Printing.{eightBytes, heading-is, printed-length}
-use Rattle.section_reader.proofs.Reading.{Framed, within, fixed-known, kind-within}
+use Rattle.ground_numbers.specs.Sizes.{configurationKind, contentKind, sectionLengthMost, payloadMost}
+use Rattle.ground_numbers.proofs.Ranges.{within}
+use Rattle.section_reader.proofs.Reading.{Framed, fixed-known, kind-within}
 
 -- ---- from the wire
 
@@ -138,7 +140,7 @@ unfolding digit
 digit-small true = omega arith
 digit-small false = omega arith
 
-module _ (h : Heading) (p : List ℕ) (w : WellFormed h) (short : length p ≤ 4084) where
+module _ (h : Heading) (p : List ℕ) (w : WellFormed h) (short : length p ≤ payloadMost) where
   length-printed : sectionLength (printed h p) ≡ length p + 9
   unfolding sectionLength word
   length-printed = rw (printed-is h p) (omega arith)
@@ -154,7 +156,7 @@ module _ (h : Heading) (p : List ℕ) (w : WellFormed h) (short : length p ≤ 4
 
   kind-printed : isKind (getD (printed h p) 0 0) ≡ true
   unfolding isKind
-  kind-printed = rw (printed-is h p) (within 0xFB (h .kind) 0xFE (w .kind-low) (w .kind-high))
+  kind-printed = rw (printed-is h p) (within configurationKind (h .kind) contentKind (w .kind-low) (w .kind-high))
 
   ordered-printed : getD (printed h p) 6 0 ≤ getD (printed h p) 7 0
   ordered-printed = rw (printed-is h p) (w .number-high)
@@ -191,7 +193,7 @@ module _ (h : Heading) (p : List ℕ) (w : WellFormed h) (short : length p ≤ 4
                     long = omega arith;
                     kind = kind-printed;
                     fixed = fixed-printed;
-                    counted = rw length-printed (within 9 (length p + 9) 4093 (omega arith) (omega arith));
+                    counted = rw length-printed (within 9 (length p + 9) sectionLengthMost (omega arith) (omega arith));
                     whole = omega arith;
                   };
               ordered = ordered-printed;

@@ -7,6 +7,7 @@ use lib.Dec.{eqb, leb, ltb}
 use lib.ListN.{length, getD, take, drop}
 use Rattle.ground_choices.specs.Choice.{if_then_else_}
 use Rattle.crc.specs.Crc.{bigEndian, crc32Of, digit}
+use Rattle.ground_numbers.specs.Sizes.{configurationKind, contentKind, sectionLengthMost, payloadMost, versionMost}
 use Rattle.ground_refusal.specs.declared.Refusal.the-variants.{SectionTooShort, OtherKind, FixedBitZero, SectionLengthOutside, OtherLength, NumberAboveLast, CheckNotZero}
 use Rattle.section_reader.specs.declared.Heading.{Heading}
 use Rattle.section_reader.specs.declared.Sectioned.{Sectioned}
@@ -18,7 +19,7 @@ use Rattle.section_reader.specs.declared.Stated.the-variants as stated
 
 -- "table_id: 8 bits: FB configuration, FC certificate, FD index, FE content"
 unfoldable pub isKind : ℕ → Bool
-isKind kind = leb 0xFB kind && leb kind 0xFE
+isKind kind = leb configurationKind kind && leb kind contentKind
 
 -- the 16 bits from byte i on
 unfoldable pub word : List ℕ → ℕ → ℕ
@@ -30,7 +31,7 @@ sectionLength s = word s 1 % 4096
 
 -- "counts all bytes after itself, 9 to 4,093"
 abbrev pub lengthInRange : ℕ → Bool
-lengthInRange n = leb 9 n && leb n 4093
+lengthInRange n = leb 9 n && leb n sectionLengthMost
 
 -- the six fixed bits: four before section_length, two before the version
 unfoldable pub fixedBits : List ℕ → Bool
@@ -92,10 +93,10 @@ printed h payload = checked (headingBytes h (length payload) ++ payload)
 
 -- a heading that a section can have
 pub record WellFormed (h : Heading) : Type 0 where
-  pub kind-low : 0xFB ≤ h .kind
-  pub kind-high : h .kind ≤ 0xFE
+  pub kind-low : configurationKind ≤ h .kind
+  pub kind-high : h .kind ≤ contentKind
   pub extension-high : h .extension ≤ 0xFFFF
-  pub version-high : h .version ≤ 31
+  pub version-high : h .version ≤ versionMost
   pub number-high : h .number ≤ h .last
   pub last-high : h .last ≤ 255
 
@@ -109,7 +110,7 @@ pub record IsGood (s : List ℕ) (h : Heading) (payload : List ℕ) : Type 0 whe
 -- s is the section printed of a heading that a section can have and of a payload of at most 4,084 bytes
 pub record IsPrinted (s : List ℕ) (h : Heading) (payload : List ℕ) : Type 0 where
   pub formed : WellFormed h
-  pub short : length payload ≤ 4084
+  pub short : length payload ≤ payloadMost
   pub is : s ≡ printed h payload
 
 -- the bit of value 2 ^ k in byte i is one of the six fixed ones

@@ -1,9 +1,12 @@
 // A section on the wire: read and judged.
+use ground_numbers::CONFIGURATION_KIND;
+use ground_numbers::CONTENT_KIND;
+use ground_numbers::SECTION_LENGTH_MOST;
+use ground_numbers::wide;
+use ground_numbers::within;
 use ground_refusal::Refusal;
 ghost use mathlib.Core.Path.{_≡_};
-ghost use mathlib.Core.Bool.{_&&_};
 ghost use Prim.Native.Nat.{_+_, _*_, _≤_};
-ghost use lib.Dec.{leb};
 ghost use lib.ListN.{length};
 ghost use Rattle.section_reader.specs.Section.{isKind, fixedBits, sectionLength, lengthInRange, headingOf, readSection, statedLength};
 
@@ -30,35 +33,18 @@ pub enum Stated {
     Refused(Refusal),
 }
 
-// A byte as a wider number.
-fn wide(x: u8) -> u32
-    ensures { λ r. ⌜ (r ≡ x) × (r ≤ 255) ⌝ }
-{
-    x as u32
-}
-
 // The 16 bits of two bytes.
-fn word_of(high: u8, low: u8) -> u32
+fn word_of(high: u8, low: u8) -> u64
     ensures { λ r. ⌜ (r ≡ high * 256 + low) × (r ≤ 0xFFFF) ⌝ }
 {
     wide(high) * 256 + wide(low)
-}
-
-// Is n one of low to high?
-fn within(low: u32, n: u32, high: u32) -> bool
-    ensures { λ r. ⌜ r ≡ (leb low n && leb n high) ⌝ }
-{
-    if n < low {
-        return false;
-    }
-    n <= high
 }
 
 // Is it the table_id of one of the four tables? For later crates too.
 pub fn is_kind(kind: u32) -> bool
     ensures { λ r. ⌜ r ≡ isKind kind ⌝ }
 {
-    within(0xFB, kind, 0xFE)
+    within(CONFIGURATION_KIND as u64, kind as u64, CONTENT_KIND as u64)
 }
 
 // Are the six fixed bits ones?
@@ -73,14 +59,14 @@ fn fixed_bits(s: &[u8]) -> bool
 }
 
 // Is it a section_length that a section may have?
-fn length_in_range(length: u32) -> bool
+fn length_in_range(length: u64) -> bool
     ensures { λ r. ⌜ r ≡ lengthInRange length ⌝ }
 {
-    within(9, length, 4093)
+    within(9, length, SECTION_LENGTH_MOST)
 }
 
 // The field section_length.
-fn section_length(s: &[u8]) -> u32
+fn section_length(s: &[u8]) -> u64
     requires { ⌜ 3 ≤ length (now s) ⌝ }
     ensures { λ r. ⌜ r ≡ sectionLength (now (s .entry)) ⌝ }
 {
@@ -109,7 +95,7 @@ pub fn read_section(s: &[u8]) -> Sectioned
     if s.len() < 12 {
         return Sectioned::Refused(Refusal::SectionTooShort);
     }
-    if !is_kind(wide(s[0])) {
+    if !is_kind(wide(s[0]) as u32) {
         return Sectioned::Refused(Refusal::OtherKind);
     }
     if !fixed_bits(s) {

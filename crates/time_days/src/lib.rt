@@ -44,10 +44,7 @@ const LAST_MONTH: u64 = 2038 * 12 + 4;
 pub fn in_range(day: u64) -> bool
     ensures { λ r. ⌜ r ≡ inRange day ⌝ }
 {
-    if day < FIRST_DAY {
-        return false;
-    }
-    day <= LAST_DAY
+    ground_numbers::within(FIRST_DAY, day, LAST_DAY)
 }
 
 // The first day of a month, counted from March 1900.

@@ -3,6 +3,7 @@ ghost use mathlib.Core.Path.{_≡_};
 ghost use Prim.Native.Nat.{_*_, _^_, _≤_, _<_};
 ghost use Rattle.time_fields.specs.Field.{twoDigits, worth, decimalPair, isDecimal, possible, momentOf, readTime, readEnd, isInstant, fieldOf, writeTime, fieldBytes, bytesField};
 ghost use Rattle.time_fields.specs.Showing.{earlier, shownBy, showing};
+use ground_numbers::wide;
 use ground_refusal::Refusal;
 
 // A day by its number (MJD) and a second of it, UTC.
@@ -182,13 +183,6 @@ pub fn field_bytes(field: u64) -> [u8; 5]
         (field / 256 % 256) as u8,
         (field % 256) as u8,
     ]
-}
-
-// A byte as a number that has room to grow.
-fn wide(byte: u8) -> u64
-    ensures { λ r. ⌜ (r ≡ byte) × (r < 256) ⌝ }
-{
-    byte as u64
 }
 
 // The field that five bytes hold.

@@ -14,7 +14,7 @@ use Rattle.ground_choices.proofs.Tests.{and-of}
 use Rattle.time_offset.specs.Offset.{isOffset}
 use Rattle.time_local.specs.declared.LocalTime.{LocalTime}
 use Rattle.time_local.specs.Clock.{packOf}
-use Rattle.time_local.specs.Text.{form, isDigit, fits, formed, TwoDigits, two, typed, readText, Typable, tens, units, textOf, IsText}
+use Rattle.time_local.specs.Text.{form, fits, formed, TwoDigits, two, typed, readText, Typable, tens, units, textOf, IsText}
 use Rattle.time_local.proofs.Clocks.{pack-by}
 use Rattle.time_local.proofs.Forms.{same-length, fits-at, places, no-offset, by-form}
 use Rattle.time_local.proofs.RoundTrip.{unpack-packed}
@@ -22,11 +22,11 @@ use Rattle.time_local.proofs.RoundTrip.{unpack-packed}
 -- ---- from numbers to characters and back
 
 tens-fits : (n : ℕ) → n ≤ 99 → fits 48 (tens n) ≡ true
-unfolding fits isDigit tens
+unfolding fits tens
 tens-fits n h = and-of (le-leb 48 (48 + n / 10) (omega arith)) (le-leb (48 + n / 10) 57 (omega arith))
 
 units-fits : (n : ℕ) → fits 48 (units n) ≡ true
-unfolding fits isDigit units
+unfolding fits units
 units-fits n = and-of (le-leb 48 (48 + n % 10) (omega arith)) (le-leb (48 + n % 10) 57 (omega arith))
 
 pair-fits : (n : ℕ) {rest : Bool} → n ≤ 99 → rest ≡ true → (fits 48 (tens n) && (fits 48 (units n) && rest)) ≡ true

@@ -6,17 +6,19 @@ use Prim.Native.Nat.{ℕ, zero, suc, _+_, _≤_, _<_}
 use native.Mathlib.Nat.{le-of-suc-le-suc}
 use native.Mathlib.Numerals.{add-one}
 use native.Mathlib.Omega.{arith}
-use lib.Dec.{leb, eqb}
-use borrow.Author.Tests.{leb-true, le-leb, lt-leb, eq-eqb, ne-eqb}
+use lib.Dec.{eqb}
+use borrow.Author.Tests.{eq-eqb, ne-eqb}
 use lib.IntN.{ℤ}
 use lib.ListN.{length, getD, drop, drop-of-length-le}
 use lib.Seq.{drop-cons}
 use Rattle.ground_refusal.specs.declared.Refusal.the-variants.{OutsideSet, NotOfTheForm}
 use Rattle.time_fields.specs.declared.Fielded.the-variants.{Refused}
 use Rattle.ground_choices.proofs.Tests.{both}
+use Rattle.ground_numbers.specs.Characters.{isDigit}
+use Rattle.ground_numbers.proofs.Ranges.{digit-within}
 use Rattle.time_offset.specs.Offset.{isOffset}
 use Rattle.time_local.specs.Clock.{packOf}
-use Rattle.time_local.specs.Text.{form, isDigit, fits, formed, TwoDigits, typed, readText}
+use Rattle.time_local.specs.Text.{form, fits, formed, TwoDigits, typed, readText}
 
 -- ---- the loop: another length, one turn, and the end
 
@@ -40,13 +42,9 @@ at-end fs s i h k = rw (drop-of-length-le fs h, drop-of-length-le s k)
 -- ---- one character
 
 module _ (f c : ℕ) where
-  pub no-digit-below : f ≡ 48 → c < 48 → fits f c ≡ false
-  unfolding fits isDigit
-  no-digit-below e h = simp (eq-eqb _ _ e, lt-leb _ _ h)
-
-  pub digit-from : f ≡ 48 → 48 ≤ c → fits f c ≡ leb c 57
-  unfolding fits isDigit
-  digit-from e h = simp (eq-eqb _ _ e, le-leb _ _ h)
+  pub any-digit : f ≡ 48 → fits f c ≡ isDigit c
+  unfolding fits
+  any-digit e = simp (eq-eqb _ _ e)
 
   pub own-byte : (f ≡ 48 → ⊥) → fits f c ≡ eqb c f
   unfolding fits
@@ -68,10 +66,6 @@ fits-at (f ∷ fs) [] i e h = let z : _≡_ {A = ℕ} 0 1 = cc in absurd (omega 
 fits-at (f ∷ fs) (c ∷ s) zero e h = both (fits f c) (formed fs s) e .0
 fits-at (f ∷ fs) (c ∷ s) (suc i) e h = fits-at fs s i (both (fits f c) (formed fs s) e .1) (le-of-suc-le-suc h)
 
-digit : (c : ℕ) → isDigit c ≡ true → (48 ≤ c) × (c ≤ 57)
-unfolding isDigit
-digit c e = let b = both _ _ e in (leb-true _ _ (b .0), leb-true _ _ (b .1))
-
 -- the places of a text that have two digits each
 pub record Places (s : List ℕ) : Type 0 where
   pub day : TwoDigits s 0
@@ -89,8 +83,8 @@ module _ (s : List ℕ) (e : formed form s ≡ true) where
   two-digits i p q h =
       record {
         inside = omega (arith, same-length form s e);
-        first = digit _ (rw p at (fits-at form s i e (omega arith)));
-        second = digit _ (rw q at (fits-at form s (i + 1) e h));
+        first = digit-within _ (rw p at (fits-at form s i e (omega arith)));
+        second = digit-within _ (rw q at (fits-at form s (i + 1) e h));
       }
 
   pub places : Places s

@@ -10,7 +10,7 @@ use Rattle.time_fields.specs.Field.{twoDigits, isInstant, fieldOf, writeTime}
 use Rattle.time_offset.specs.Offset.{floorDiv, floorMod, isOffset, timedAt, minuteMoved, dayMoved, secondMoved, moved, toUtc}
 use Rattle.time_local.specs.declared.LocalTime.{LocalTime}
 use Rattle.time_local.specs.Clock.{isClock, secondOf, onDay, localMoment, written, packedAt, packOf}
-use Rattle.time_local.specs.Text.{form, isDigit, fits, formed, two, typed, readText}
+use Rattle.time_local.specs.Text.{form, fits, formed, two, typed, readText}
 
 -- 03/11/2024 07:45:00
 abbrev third-november : List ℕ
@@ -41,5 +41,5 @@ pub values :
     × (packOf (local 1900 3 1 0 0 0) (pos 480) ≡ Refused (ImpossibleDay 0))
     × (packOf (local 1900 3 1 8 0 0) (pos 480) ≡ Field 0x3AE7000000)
     × (packOf (local 2024 11 3 24 0 0) (pos 0) ≡ Refused (ImpossibleDay 0))
-unfolding leap monthLength isDate monthsFrom yearOf monthOf daysOf monthStart dayNumber inRange hasDay dayOf twoDigits isInstant fieldOf writeTime floorDiv floorMod isOffset timedAt minuteMoved dayMoved secondMoved moved toUtc isClock secondOf onDay localMoment written packedAt packOf form isDigit fits formed two typed readText
+unfolding leap monthLength isDate monthsFrom yearOf monthOf daysOf monthStart dayNumber inRange hasDay dayOf twoDigits isInstant fieldOf writeTime floorDiv floorMod isOffset timedAt minuteMoved dayMoved secondMoved moved toUtc isClock secondOf onDay localMoment written packedAt packOf form fits formed two typed readText
 values = (refl, refl, refl, refl, refl, refl, refl, refl, refl)

@@ -3,9 +3,10 @@ use mathlib.Core.Path.{_≡_}
 use mathlib.Core.Bool.{Bool, true, false, _&&_, cond}
 use mathlib.Core.List.{List, [], _∷_}
 use Prim.Native.Nat.{ℕ, _+_, _-_, _*_, _/_, _%_, _≤_, _<_}
-use lib.Dec.{leb, eqb}
+use lib.Dec.{eqb}
 use lib.IntN.{ℤ}
 use lib.ListN.{length, getD}
+use Rattle.ground_numbers.specs.Characters.{isDigit, colon}
 use Rattle.ground_refusal.specs.declared.Refusal.the-variants.{OutsideSet, NotOfTheForm}
 use Rattle.time_fields.specs.declared.Fielded.{Fielded}
 use Rattle.time_fields.specs.declared.Fielded.the-variants.{Field, Refused}
@@ -14,15 +15,12 @@ use Rattle.time_local.specs.declared.LocalTime.{LocalTime}
 use Rattle.time_local.specs.declared.Unpacked.the-variants.{At}
 use Rattle.time_local.specs.Clock.{packOf, unpackOf}
 
--- the three characters that are no digits
+-- the characters that are no digits, beside the colon
 abbrev pub slash : ℕ
 slash = 47
 
 abbrev pub space : ℕ
 space = 32
-
-abbrev pub colon : ℕ
-colon = 58
 
 -- ---- the form
 
@@ -30,10 +28,6 @@ colon = 58
 unfoldable pub form : List ℕ
 form =
     48 ∷ 48 ∷ slash ∷ 48 ∷ 48 ∷ slash ∷ 48 ∷ 48 ∷ 48 ∷ 48 ∷ space ∷ 48 ∷ 48 ∷ colon ∷ 48 ∷ 48 ∷ colon ∷ 48 ∷ 48 ∷ []
-
--- '0' to '9'
-unfoldable pub isDigit : ℕ → Bool
-isDigit c = leb 48 c && leb c 57
 
 -- one character by the form's: a digit where it has a 0, else the form's own
 unfoldable pub fits : ℕ → ℕ → Bool

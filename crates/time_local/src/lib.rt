@@ -148,10 +148,7 @@ fn fitting(form: u8, byte: u8) -> bool
     ensures { λ r. ⌜ r ≡ fits form byte ⌝ }
 {
     if form == b'0' {
-        if byte < b'0' {
-            return false;
-        }
-        return byte <= b'9';
+        return ground_numbers::is_digit(byte);
     }
     byte == form
 }

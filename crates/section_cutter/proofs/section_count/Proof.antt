@@ -14,4 +14,5 @@ section-count-spec =
     (λ c. sym (count-none _ (omega arith)))
     (λ c. sym (count-large _ (omega arith)))
     (λ c. search needs)
+    (λ c. search needs)
     (λ c. ap Sections (ceiling _) ∙ sym (counted-is _ (omega arith) (omega arith))))

@@ -1,4 +1,5 @@
 -- `section_reader::read_section` meets its contract: each refusal in its turn, and then the heading and the length of the payload.
+use Prim.Native.Nat.{_≤_}
 use mathlib.Core.Bool.{true}
 use mathlib.Core.Path.{_≡_, sym, ap, _∙_}
 use native.Mathlib.Omega.{arith}
@@ -6,6 +7,8 @@ use borrow.Author.Needs.{needs}
 use borrow.Author.Tests.{not-true, not-false}
 use denote.Ref.{now}
 use lib.ListN.{getD}
+use Rattle.ground_numbers.specs.Sizes.{sectionLengthMost}
+use Rattle.ground_numbers.proofs.Ranges.{within-known}
 use Rattle.section_reader.specs.Section.{isKind, fixedBits, sectionLength, lengthInRange}
 use Rattle.section_reader.proofs.Reading.{too-short, other-kind, fixed-bit-zero, length-outside, other-length, Framed, number-above, check-not-zero, good}
 use Rattle.section_reader.proofs.read_section.Statement.{statement}
@@ -27,6 +30,9 @@ length-tested c = c .length-in-range .ensures ∙ ap lengthInRange (c .before .s
 length-known : (c : tie.Else4) → lengthInRange (sectionLength (now (c .before .before .before .before .before .before .before .before .before .before .before .args .s))) ≡ true
 length-known c = sym (length-tested (c .before)) ∙ not-false _ (c .if4 .left)
 
+counted : (c : tie.Else4) → c .before .before .section-length .result ≤ sectionLengthMost
+counted c = within-known 9 _ sectionLengthMost (sym (c .before .length-in-range .ensures) ∙ not-false _ (c .if4 .left)) .1
+
 framed : (c : tie.Else5) → Framed (now (c .before .before .before .before .before .before .before .before .before .before .before .before .args .s))
 framed c = let d = c .before .before .before .before in record { long = omega arith; kind = kind-known (d .before .before); fixed = fixed-known d; counted = length-known (c .before); whole = omega arith }
 
@@ -37,6 +43,7 @@ read-section-spec =
     (λ c. sym (too-short _ (omega arith)))
     (λ c. search needs)
     (λ c κs. search needs)
+    (λ c. omega arith)
     (λ c κs. search needs)
     (λ c. sym (other-kind _ (omega arith) (sym (kind-tested (c .before)) ∙ not-true _ (c .if2 .taken))))
     (λ c κs. search needs)
@@ -44,8 +51,7 @@ read-section-spec =
     (λ c κs. search needs)
     (λ c κs. search needs)
     (λ c. let d = c .before .before .before in sym (length-outside _ (omega arith) (kind-known (d .before .before)) (fixed-known d) (sym (length-tested (c .before)) ∙ not-true _ (c .if4 .taken))))
-    (λ c. search needs)
-    (λ c. search needs)
+    (λ c. omega (arith, counted c))
     (λ c. let d = c .before .before .before .before in sym (other-length _ (omega arith) (kind-known (d .before .before)) (fixed-known d) (length-known (c .before)) (omega arith)))
     (λ c. search needs)
     (λ c. search needs)

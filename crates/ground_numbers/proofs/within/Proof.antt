@@ -1,9 +1,9 @@
--- `section_reader::within` meets its contract: the first test fails, or the second is the answer.
+-- `ground_numbers::within` meets its contract: the first test fails, or the second is the answer.
 use mathlib.Core.Path.{sym}
 use native.Mathlib.Omega.{arith}
-use Rattle.section_reader.proofs.Reading.{not-from, from-then}
-use Rattle.section_reader.proofs.within.Statement.{statement}
-use Rattle.section_reader.proofs.within.Tie as tie
+use Rattle.ground_numbers.proofs.Ranges.{not-from, from-then}
+use Rattle.ground_numbers.proofs.within.Statement.{statement}
+use Rattle.ground_numbers.proofs.within.Tie as tie
 
 pub within-spec : {M : Type 1} → statement M
 within-spec =
