@@ -576,7 +576,7 @@ pub fn measured(x: Pen, entries: usize) -> Step
             if k < entries {
                 return Step::Refused(Refusal::OutsideSet(k));
             }
-            if 1045504 < size {
+            if BODY_MOST < size {
                 return Step::Refused(Refusal::TooLarge);
             }
             Step::At(size)
