@@ -107,8 +107,8 @@ enum nw_refusal {
     NW_OUTPUT_TOO_SMALL = 21,       /* the output buffer or the record list is too small */
     NW_TOO_LARGE = 22,              /* a length or count too large for its field; a body too long */
     NW_OTHER_CHECKSUM = 23,         /* the extension is not the CRC-16 of the identifier */
-    NW_NOT_OF_THE_FORM = 24,        /* date text not of the exact form */
-    NW_BODY_TOO_LONG = 25           /* the joined body is above 1,045,504 bytes */
+    NW_NOT_OF_THE_FORM = 24         /* date text not of the exact form */
+    /* 25 was a joined body above 1,045,504 bytes, which no possible state has; it is not given again */
 };
 
 /* What a refusal's number means, in words for a person; any other number is no such refusal. Plain C in
@@ -141,7 +141,6 @@ static inline const char *nw_refusal_text(unsigned number)
     case NW_TOO_LARGE: return "a length, a count or a body is too large";
     case NW_OTHER_CHECKSUM: return "the extension is not the CRC-16 of the identifier";
     case NW_NOT_OF_THE_FORM: return "the text is not dd/mm/yyyy hh:mm:ss";
-    case NW_BODY_TOO_LONG: return "the joined body is above 1,045,504 bytes";
     default: return "no such refusal";
     }
 }
@@ -274,8 +273,8 @@ enum nw_fed { NW_FED_TAKEN = 0, NW_FED_HELD_ALREADY = 1 };
  * bytes of out after it stay, and so do store and state. It is written exactly when every number is
  * held and no contradiction was fed. Refusals, in this order, with nothing written: 12, not a
  * possible state; 13, nothing is begun (place 0); 10, the store is too short; 11, spoiled; 13, with
- * the smallest missing number as its place; 25, a body above NW_MOST_BODY bytes; 21, out is too small:
- * NW_STORE_BYTES(g->last) are enough. */
+ * the smallest missing number as its place; 21, out is too small: NW_STORE_BYTES(g->last) are enough,
+ * and no body is longer than NW_MOST_BODY bytes. */
 nw_answer nw_gathering_hand_out(const nw_gathering *g, const uint8_t *store, size_t store_bytes,
                                 uint8_t *out, size_t out_bytes);
 

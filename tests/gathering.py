@@ -281,6 +281,7 @@ def long_table(payloads):
         if len(box.lengths) == 255:
             hand_out(0)
     body = b''.join(payloads)
+    assert len(body) <= MOST_BODY
     assert hand_out(len(body)) == (0, len(body), body)
     assert hand_out(len(body) - 1)[0] == 21
     ask('gathering_show')
@@ -289,6 +290,7 @@ def long_table(payloads):
 def long_tables():
     for _ in range(20):
         long_table([chance.randbytes(chance.randrange(30)) for _ in range(256)])
+    # 256 full sections: 1,045,504 bytes, the longest body that there is
     long_table([chance.randbytes(MOST_PAYLOAD) for _ in range(256)])
     for missing in (0, 1, 127, 128, 254, 255):
         lend(packed((0xFE, 1, 2, 255), 0, {number: 9 for number in range(256) if number != missing}), filled(MOST_BODY))
@@ -302,7 +304,7 @@ def main():
         part()
     for _ in range(SEQUENCES):
         sequence()
-    # Every answer that there is: 25 can't be given, since no possible state holds more than 1,045,504 bytes.
+    # Every answer that there is.
     assert sorted(told['gathering_feed']) == list(range(13))
     assert sorted(told['gathering_hand_out']) == [0, 10, 11, 12, 13, 21]
     calls.agree('a second program', requests, calls.answers(requests), expected)

@@ -100,7 +100,6 @@ plain_answer plain_gathering_feed(nw_gathering *g, uint8_t *store, size_t store_
     return value(NW_FED_TAKEN);
 }
 
-// 25 does not come: 256 payloads of 4,084 bytes are no longer than the longest body.
 plain_answer plain_gathering_hand_out(const nw_gathering *g, const uint8_t *store, size_t store_bytes, uint8_t *out,
                                       size_t out_bytes) {
     if (!is_possible(g)) return NW_IMPOSSIBLE_STATE;
@@ -112,7 +111,6 @@ plain_answer plain_gathering_hand_out(const nw_gathering *g, const uint8_t *stor
         if (g->held[k] == 0) return refused(NW_MISSING, k);
         length += g->held[k] - (size_t)1;
     }
-    if (length > NW_MOST_BODY) return NW_BODY_TOO_LONG;
     if (length > out_bytes) return NW_OUTPUT_TOO_SMALL;
     for (size_t k = 0; k <= g->last; out += g->held[k++] - 1) memcpy(out, store + k * NW_MOST_PAYLOAD, g->held[k] - 1u);
     return value(length);

@@ -73,8 +73,6 @@ class Gathering:
             if number not in self.lengths:
                 raise Refused(13, number)
         body = b''.join(map(self.payload, numbers))
-        if len(body) > MOST_BODY:
-            raise Refused(25, 0)
         if len(body) > room:
             raise Refused(21, 0)
         return body

@@ -12,7 +12,7 @@ use borrow.Author.Tests.{leb-true}
 use Rattle.ground_choices.specs.Choice.{if_then_else_}
 use Rattle.ground_refusal.specs.Numbers.{refusalNumber, refusalPlace}
 use Rattle.ground_refusal.specs.declared.Refusal.{Refusal}
-use Rattle.ground_refusal.specs.declared.Refusal.the-variants.{SectionTooShort, OtherKind, FixedBitZero, SectionLengthOutside, OtherLength, NumberAboveLast, CheckNotZero, NotCurrent, OtherHeading, StoreTooShort, Contradiction, ImpossibleState, Missing, PastBody, PastPart, LeftOver, ReservedBitZero, DigitAboveNine, OutsideSet, ImpossibleDay, OutputTooSmall, TooLarge, OtherChecksum, NotOfTheForm, BodyTooLong}
+use Rattle.ground_refusal.specs.declared.Refusal.the-variants.{SectionTooShort, OtherKind, FixedBitZero, SectionLengthOutside, OtherLength, NumberAboveLast, CheckNotZero, NotCurrent, OtherHeading, StoreTooShort, Contradiction, ImpossibleState, Missing, PastBody, PastPart, LeftOver, ReservedBitZero, DigitAboveNine, OutsideSet, ImpossibleDay, OutputTooSmall, TooLarge, OtherChecksum, NotOfTheForm}
 use Rattle.time_fields.specs.Field.{readTime, readEnd, isDecimal as decimalField, possible, momentOf, liveMark, asEnd}
 use Rattle.time_fields.specs.declared.Timed.{Timed}
 use Rattle.time_fields.specs.declared.Timed.the-variants.{At, Refused}
@@ -351,7 +351,6 @@ placeless-is OutputTooSmall = (refl, refl)
 placeless-is TooLarge = (refl, refl)
 placeless-is OtherChecksum = (refl, refl)
 placeless-is NotOfTheForm = (refl, refl)
-placeless-is BodyTooLong = (refl, refl)
 
 -- ---- whole bodies
 

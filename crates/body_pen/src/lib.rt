@@ -613,7 +613,6 @@ fn placeless(r: Refusal) -> Refusal
         Refusal::TooLarge => Refusal::TooLarge,
         Refusal::OtherChecksum => Refusal::OtherChecksum,
         Refusal::NotOfTheForm => Refusal::NotOfTheForm,
-        Refusal::BodyTooLong => Refusal::BodyTooLong,
     }
 }
 

@@ -16,7 +16,7 @@ use Rattle.gathering_state.specs.declared.Gathering.{Gathering}
 use Rattle.gathering_state.proofs.Lists.{missing-before}
 use Rattle.gathering_hand_out.specs.Handing.{bodyHeld as joinedBody, completeOf}
 use Rattle.gathering_hand_out.specs.declared.Completeness.the-variants.{Complete as AllThere, Refused as NotAllThere}
-use Rattle.gathering_hand_out.proofs.Handing.{missing-some, Whole, complete-fresh, complete-spoiled, complete-calm, whole-complete, body-most}
+use Rattle.gathering_hand_out.proofs.Handing.{missing-some, Whole, complete-fresh, complete-spoiled, complete-calm, whole-complete}
 use Rattle.gathering_account.specs.Account.{Section, Account, idle, table, Agree, Present, Covered, Complete, contentsOf, inOrder, bodyOf}
 use Rattle.gathering_account.specs.Gathers.{Box, SmallestMissing}
 use Rattle.gathering_account.proofs.Keeping.{Kept, kept-agree}
@@ -29,7 +29,7 @@ pub data Finds (g : Gathering) (store : List ℕ) : Account → Type 0 where
   finds-missing : {t : Heading} {S : List Section} (k : ℕ) → Agree S → SmallestMissing k (t .last) S
       → completeOf g (length store) ≡ NotAllThere (Missing k) → Finds g store (table t S)
   finds-whole : {t : Heading} {S : List Section} → Complete (table t S) → completeOf g (length store) ≡ AllThere
-      → joinedBody g store ≡ bodyOf (table t S) → length (joinedBody g store) ≤ 1045504 → Finds g store (table t S)
+      → joinedBody g store ≡ bodyOf (table t S) → Finds g store (table t S)
 
 -- the smallest missing number is missing
 missing-here : (s : List ℕ) → smallestMissing s < length s → getD s (smallestMissing s) 0 ≡ 0
@@ -97,9 +97,7 @@ module _ (g : Gathering) (store : List ℕ) (t : Heading) (S : List Section) (x 
   calm-finds false e =
       let m = ltb-false (smallestMissing (lengths g)) (length (lengths g)) e in
       let c = covered m in
-      let l = x .long in
-      let n = body-most g store (omega arith) (whole m) in
-      finds-whole (c, kept-agree kept) (whole-complete g (length store) (whole m)) (body-is c) (omega arith)
+      finds-whole (c, kept-agree kept) (whole-complete g (length store) (whole m)) (body-is c)
 
 -- ---- any box
 

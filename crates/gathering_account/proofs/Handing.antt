@@ -28,21 +28,21 @@ module _ (box : Box) (out : List ℕ) where
 
   -- all is there: its body, if the output has room for it
   hands : (t : Heading) (S : List Section) → Complete (table t S) → completeOf (box .state) (length (box .store)) ≡ AllThere → joined ≡ bodyOf (table t S)
-      → length joined ≤ 1045504 → (b : Bool) → ltb (length out) (length joined) ≡ b → Answers box out (table t S)
+      → (b : Bool) → ltb (length out) (length joined) ≡ b → Answers box out (table t S)
   unfolding outBy
-  hands t S c e b n true f =
+  hands t S c e b true f =
       let l = ltb-true (length out) (length joined) f in
       let m = ap length b in
-      let h = hands-complete (box .state) (box .store) out e (Refused OutputTooSmall) (fitting-small _ _ n l) out refl in
+      let h = hands-complete (box .state) (box .store) out e (Refused OutputTooSmall) (fitting-small _ _ l) out refl in
       too-small {h = t} {S = S} c (omega arith) (record { answers = sym (h .0); writes = sym (h .1) })
-  hands t S c e b n false f =
+  hands t S c e b false f =
       let l = ltb-false (length out) (length joined) f in
       let m = ap length b in
-      let h = hands-complete (box .state) (box .store) out e (Body (length joined)) (fitting-body _ _ n l) (placed out 0 joined) refl in
+      let h = hands-complete (box .state) (box .store) out e (Body (length joined)) (fitting-body _ _ l) (placed out 0 joined) refl in
       handed-out {h = t} {S = S} c (omega arith) (record { answers = sym (h .0) ∙ ap Body m; writes = sym (h .1) ∙ ap (placed out 0) b })
 
   pub answers-by : {a : Account} → Finds (box .state) (box .store) a → Answers box out a
   answers-by (finds-nothing e) = nothing-begun (refuses (Missing 0) e)
   answers-by (finds-differing d e) = two-differ d (refuses Contradiction e)
   answers-by (finds-missing k a s e) = one-missing k a s (refuses (Missing k) e)
-  answers-by (finds-whole {t} {S} c e b n) = hands t S c e b n (ltb (length out) (length joined)) refl
+  answers-by (finds-whole {t} {S} c e b) = hands t S c e b (ltb (length out) (length joined)) refl

@@ -9,7 +9,7 @@ use borrow.Author.Tests.{not-false, eq-eqb, ne-eqb, eqb-true, lt-ltb, le-ltb, lt
 use lib.Dec.{eqb, ltb}
 use lib.ListN.{length, getD, length-take}
 use Rattle.ground_refusal.specs.declared.Refusal.{Refusal}
-use Rattle.ground_refusal.specs.declared.Refusal.the-variants.{StoreTooShort, Contradiction, ImpossibleState, Missing, OutputTooSmall, BodyTooLong}
+use Rattle.ground_refusal.specs.declared.Refusal.the-variants.{StoreTooShort, Contradiction, ImpossibleState, Missing, OutputTooSmall}
 use Rattle.ground_placing.specs.Placed.{placed}
 use Rattle.gathering_state.specs.Lists.{smallestMissing, total}
 use Rattle.gathering_state.specs.State.{possibleOf, nothingBegun, place, hasRoom, lengths}
@@ -22,7 +22,7 @@ use Rattle.gathering_hand_out.specs.declared.Completeness.{Completeness}
 use Rattle.gathering_hand_out.specs.declared.Completeness.the-variants.{Complete, Refused as NotComplete}
 use Rattle.gathering_hand_out.specs.declared.Handed.{Handed}
 use Rattle.gathering_hand_out.specs.declared.Handed.the-variants.{Body, Refused}
-use Rattle.gathering_hand_out.proofs.Joining.{joined-length}
+use Rattle.gathering_hand_out.proofs.Joining.{joined-length, joined-most}
 
 -- ---- is all of a table there?
 
@@ -109,31 +109,27 @@ module _ (g : Gathering) (store : List ℕ) (l : length (g .held) ≤ 256) (w : 
         within = λ k h. place-within (length store) (g .last) k (w .roomy) (omega arith);
       }
 
-  -- no possible state joins to more than 256 × 4,084 bytes
-  pub body-most : length (bodyHeld g store) ≤ 256 * 4084
-  unfolding bodyHeld
-  body-most =
-      let i = whole-in-store in
-      let e = in-store-length (lengths g) store i in
-      let t = total-most (lengths g) (i .short) in
-      let f = i .few in
-      omega arith
+-- no possible state joins to more than 256 × 4,084 bytes, whatever the store holds
+pub body-most : (g : Gathering) (store : List ℕ) → length (g .held) ≤ 256 → possibleOf g ≡ true → length (bodyHeld g store) ≤ 256 * 4084
+unfolding bodyHeld lengths
+body-most g store l p =
+    let few = length-take (g .last + 1) (g .held) in
+    let taken = greatest-take (g .last + 1) (g .held) in
+    let short = possible-short g p in
+    let long = joined-most place store 0 (lengths g) in
+    let most = total-most (lengths g) (omega arith) in
+    omega arith
 
 -- ---- the answer and the output
 
 module _ (n room : ℕ) where
-  pub fitting-long : 1045504 < n → Refused BodyTooLong ≡ handedIfRoom n room
+  pub fitting-small : room < n → Refused OutputTooSmall ≡ handedIfRoom n room
   unfolding handedIfRoom
-  fitting-long h = simp (lt-ltb 1045504 n h)
+  fitting-small r = simp (lt-ltb room n r)
 
-  module _ (h : n ≤ 1045504) where
-    pub fitting-small : room < n → Refused OutputTooSmall ≡ handedIfRoom n room
-    unfolding handedIfRoom
-    fitting-small r = simp (le-ltb 1045504 n h, lt-ltb room n r)
-
-    pub fitting-body : n ≤ room → Body n ≡ handedIfRoom n room
-    unfolding handedIfRoom
-    fitting-body r = simp (le-ltb 1045504 n h, le-ltb room n r)
+  pub fitting-body : n ≤ room → Body n ≡ handedIfRoom n room
+  unfolding handedIfRoom
+  fitting-body r = simp (le-ltb room n r)
 
   refused-no-body : (r : Refusal) (m : ℕ) → Refused r ≡ Body m → ⊥
   refused-no-body r m e = let z : _≡_ {A = ℕ} 0 1 = cc in omega arith
@@ -141,8 +137,7 @@ module _ (n room : ℕ) where
   pub fitting-is : (m : ℕ) → handedIfRoom n room ≡ Body m → (m ≡ n) × (m ≤ room)
   unfolding handedIfRoom
   fitting-is m e =
-      let a = past (ltb 1045504 n) _ _ _ (refused-no-body _ m) e in
-      let b = past (ltb room n) _ _ _ (refused-no-body _ m) (a .1) in
+      let b = past (ltb room n) _ _ _ (refused-no-body _ m) e in
       let c : m ≡ n = (let f = b .1 in cc) in
       let d = ltb-false room n (b .0) in
       (c, omega arith)
@@ -155,18 +150,14 @@ module _ (held store out : List ℕ) (i : InStore held store) (n : ℕ) (e : n �
   body-long : length body ≡ n
   body-long = in-store-length held store i ∙ sym e
 
-  pub held-long : 1045504 < n → (Refused BodyTooLong ≡ handedIfRoom (length body) (length out)) × (out ≡ outBy body out (Refused BodyTooLong))
+  pub held-small : length out < n → (Refused OutputTooSmall ≡ handedIfRoom (length body) (length out)) × (out ≡ outBy body out (Refused OutputTooSmall))
   unfolding outBy
-  held-long h = (rw body-long (fitting-long n (length out) h), refl)
+  held-small r = (rw body-long (fitting-small n (length out) r), refl)
 
-  module _ (h : n ≤ 1045504) where
-    pub held-small : length out < n → (Refused OutputTooSmall ≡ handedIfRoom (length body) (length out)) × (out ≡ outBy body out (Refused OutputTooSmall))
-    unfolding outBy
-    held-small r = (rw body-long (fitting-small n (length out) h r), refl)
-
-    pub held-body : n ≤ length out → (out′ : List ℕ) → out′ ≡ placed out 0 body → (Body n ≡ handedIfRoom (length body) (length out)) × (out′ ≡ outBy body out (Body n))
-    unfolding outBy
-    held-body r out′ q = (rw body-long (fitting-body n (length out) h r), q)
+  pub held-body : n ≤ length out → (out′ : List ℕ) → out′ ≡ placed out 0 body
+      → (Body n ≡ handedIfRoom (length body) (length out)) × (out′ ≡ outBy body out (Body n))
+  unfolding outBy
+  held-body r out′ q = (rw body-long (fitting-body n (length out) r), q)
 
 module _ (g : Gathering) (store out : List ℕ) where
   pub hands-refused : (r : Refusal) → completeOf g (length store) ≡ NotComplete r → (Refused r ≡ handedOf g store out) × (out ≡ outAfter g store out)
@@ -179,10 +170,10 @@ module _ (g : Gathering) (store out : List ℕ) where
   hands-complete e r f out′ q = (rw e f, rw e (q ∙ ap (outBy (bodyHeld g store) out) f))
 
   -- a whole table whose body has room is handed out
-  pub whole-handed : Whole g (length store) → length (bodyHeld g store) ≤ 1045504 → length (bodyHeld g store) ≤ length out
+  pub whole-handed : Whole g (length store) → length (bodyHeld g store) ≤ length out
       → (Body (length (bodyHeld g store)) ≡ handedOf g store out) × (placed out 0 (bodyHeld g store) ≡ outAfter g store out)
   unfolding outBy
-  whole-handed w h r = hands-complete (whole-complete g (length store) w) _ (fitting-body _ _ h r) _ refl
+  whole-handed w r = hands-complete (whole-complete g (length store) w) _ (fitting-body _ _ r) _ refl
 
   -- whatever is handed out is that
   pub handed-whole : (n : ℕ) → handedOf g store out ≡ Body n → Whole g (length store) × (n ≡ length (bodyHeld g store)) × (n ≤ length out)

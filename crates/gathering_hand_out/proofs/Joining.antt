@@ -5,7 +5,7 @@ use mathlib.Core.List.{List, [], _∷_, _++_, append-assoc, append-nil}
 use native.Mathlib.Numerals.{add-one}
 use native.Mathlib.Nat.{add-zero}
 use native.Mathlib.Omega.{arith}
-use lib.ListN.{length, getD, take, drop, length-append, drop-of-length-le}
+use lib.ListN.{length, getD, take, drop, length-take, length-append, drop-of-length-le}
 use lib.Seq.{drop-cons}
 use Rattle.ground_placing.specs.Placed.{placed}
 use Rattle.ground_placing.proofs.Placing.{placed-length, placed-next}
@@ -31,6 +31,15 @@ module _ (at : ℕ → ℕ) (store : List ℕ) where
       let a : at k + (n - 1) ≤ length store = rw (add-zero k) at (f 0 (omega arith)) in
       let b = joined-length (suc k) ns (λ i h. let e : k + suc i ≡ suc k + i = omega arith in rw e at (f (suc i) (omega arith))) in
       rw (length-append, length-part store (at k) (n - 1) a, b)
+
+  -- and never longer, whatever the store holds
+  pub joined-most : (k : ℕ) (held : List ℕ) → length (joined at k held store) ≤ total held
+  unfolding joined total part
+  joined-most k [] = omega arith
+  joined-most k (n ∷ ns) =
+      let a = length-take (n - 1) (drop (at k) store) in
+      let b = joined-most (suc k) ns in
+      simp length-append (omega arith)
 
   -- the payloads of the first k numbers are laid at the start of the output, o bytes of them
   pub record Joining (held out₀ : List ℕ) (k o : ℕ) (out : List ℕ) : Type 0 where

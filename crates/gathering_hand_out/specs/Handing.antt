@@ -4,7 +4,7 @@ use mathlib.Core.Bool.{not}
 use mathlib.Core.List.{List, [], _∷_, _++_}
 use lib.Dec.{eqb, ltb}
 use lib.ListN.{length}
-use Rattle.ground_refusal.specs.declared.Refusal.the-variants.{StoreTooShort, Contradiction, ImpossibleState, Missing, OutputTooSmall, BodyTooLong}
+use Rattle.ground_refusal.specs.declared.Refusal.the-variants.{StoreTooShort, Contradiction, ImpossibleState, Missing, OutputTooSmall}
 use Rattle.ground_choices.specs.Choice.{if_then_else_}
 use Rattle.ground_placing.specs.Placed.{placed}
 use Rattle.gathering_state.specs.Lists.{greatest, smallestMissing, part}
@@ -41,18 +41,15 @@ completeOf g bytes =
     if not (eqb (g .spoiled) 0) then NotComplete Contradiction else
     missingOf (lengths g)
 
--- "25; 21": a body of n bytes, and an output of `room` bytes
+-- 21: a body of n bytes, and an output of `room` bytes
 unfoldable pub handedIfRoom : ℕ → ℕ → Handed
-handedIfRoom n room =
-    if ltb 1045504 n then Refused BodyTooLong else
-    if ltb room n then Refused OutputTooSmall else
-    Body n
+handedIfRoom n room = if ltb room n then Refused OutputTooSmall else Body n
 
 unfoldable pub handedBy : Completeness → ℕ → ℕ → Handed
 handedBy (NotComplete r) n room = Refused r
 handedBy Complete n room = handedIfRoom n room
 
--- "Handing out: 12; 13 if nothing begun; 10; 11; 13; 25; 21"
+-- "Handing out: 12; 13 if nothing begun; 10; 11; 13; [..] 21"
 unfoldable pub handedOf : Gathering → List ℕ → List ℕ → Handed
 handedOf g store out = handedBy (completeOf g (length store)) (length (bodyHeld g store)) (length out)
 

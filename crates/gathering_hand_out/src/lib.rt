@@ -70,15 +70,12 @@ fn join(held: &[u16], store: &[u8], out: &mut [u8])
     }
 }
 
-// The body of a table that is all there: refusals 25, 21, in this order.
+// The body of a table that is all there: refusal 21.
 fn hand_held(held: &[u16], store: &[u8], out: &mut [u8]) -> Handed
     requires { ⌜ InStore (now held) (now store) ⌝ }
     ensures { λ r. ⌜ (r ≡ handedIfRoom (length (joined place 0 (now (held .entry)) (now (store .entry)))) (length (now (out .entry)))) × (now (out .exit) ≡ outBy (joined place 0 (now (held .entry)) (now (store .entry))) (now (out .entry)) r) ⌝ }
 {
     let n = gathering_state::total_of(held);
-    if 1045504 < n {
-        return Handed::Refused(Refusal::BodyTooLong);
-    }
     if out.len() < n {
         return Handed::Refused(Refusal::OutputTooSmall);
     }

@@ -3,7 +3,7 @@ use Prim.Native.Nat.{ℕ}
 use mathlib.Core.Bool.{Bool, _&&_}
 use lib.Dec.{leb}
 use Rattle.ground_refusal.specs.declared.Refusal.{Refusal}
-use Rattle.ground_refusal.specs.declared.Refusal.the-variants.{SectionTooShort, OtherKind, FixedBitZero, SectionLengthOutside, OtherLength, NumberAboveLast, CheckNotZero, NotCurrent, OtherHeading, StoreTooShort, Contradiction, ImpossibleState, Missing, PastBody, PastPart, LeftOver, ReservedBitZero, DigitAboveNine, OutsideSet, ImpossibleDay, OutputTooSmall, TooLarge, OtherChecksum, NotOfTheForm, BodyTooLong}
+use Rattle.ground_refusal.specs.declared.Refusal.the-variants.{SectionTooShort, OtherKind, FixedBitZero, SectionLengthOutside, OtherLength, NumberAboveLast, CheckNotZero, NotCurrent, OtherHeading, StoreTooShort, Contradiction, ImpossibleState, Missing, PastBody, PastPart, LeftOver, ReservedBitZero, DigitAboveNine, OutsideSet, ImpossibleDay, OutputTooSmall, TooLarge, OtherChecksum, NotOfTheForm}
 
 -- the numbers of document 01's list
 abbrev pub refusalNumber : Refusal → ℕ
@@ -31,11 +31,10 @@ refusalNumber OutputTooSmall = 21
 refusalNumber TooLarge = 22
 refusalNumber OtherChecksum = 23
 refusalNumber NotOfTheForm = 24
-refusalNumber BodyTooLong = 25
 
--- the numbers that the list has; it may have gaps
+-- the numbers that the list has; it may have gaps. 25 is gone, and not given again.
 abbrev pub isNumber : ℕ → Bool
-isNumber n = leb 1 n && leb n 25
+isNumber n = leb 1 n && leb n 24
 
 -- "A refusal returns its number and a place": the place is 0 where the list gives none
 abbrev pub refusalPlace : Refusal → ℕ
@@ -63,4 +62,3 @@ refusalPlace OutputTooSmall = 0
 refusalPlace TooLarge = 0
 refusalPlace OtherChecksum = 0
 refusalPlace NotOfTheForm = 0
-refusalPlace BodyTooLong = 0

@@ -52,8 +52,7 @@ pub enum Refusal {
     OtherChecksum,
     // 24: date text not of the exact form.
     NotOfTheForm,
-    // 25: the joined body is above 1,045,504 bytes.
-    BodyTooLong,
+    // 25 was a joined body above 1,045,504 bytes. No possible state has one, so it is gone, and its number is not given again.
 }
 
 // The number of a refusal in document 01's list.
@@ -85,7 +84,6 @@ pub fn number(r: Refusal) -> u8
         Refusal::TooLarge => 22,
         Refusal::OtherChecksum => 23,
         Refusal::NotOfTheForm => 24,
-        Refusal::BodyTooLong => 25,
     }
 }
 
@@ -118,6 +116,5 @@ pub fn place(r: Refusal) -> usize
         Refusal::TooLarge => 0,
         Refusal::OtherChecksum => 0,
         Refusal::NotOfTheForm => 0,
-        Refusal::BodyTooLong => 0,
     }
 }

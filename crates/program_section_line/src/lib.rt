@@ -9,7 +9,7 @@ use ground_refusal::Refusal;
 use program_printing::MOST_INPUT;
 use section_reader::Sectioned;
 
-// No line is longer: `refused 25` and LF have 11 bytes.
+// No line is longer: `refused 24` and LF have 11 bytes.
 pub const MOST_OUTPUT: usize = 16;
 
 // The judgement of the whole input.

@@ -28,6 +28,7 @@ use Rattle.gathering_feed.proofs.Verdicts.{verdict-impossible, verdict-bad, ver
 use Rattle.gathering_hand_out.specs.Handing.{bodyHeld, handedOf, outBy, outAfter}
 use Rattle.gathering_hand_out.specs.declared.Handed.{Handed}
 use Rattle.gathering_hand_out.specs.declared.Handed.the-variants.{Body, Refused as NotHanded}
+use Rattle.gathering_hand_out.proofs.Handing.{body-most}
 use Rattle.body_formats.specs.Reading.{Reading, found, refused}
 use Rattle.body_formats.specs.Format.{Format}
 use Rattle.body_formats.specs.Answers.{stepOf}
@@ -182,6 +183,7 @@ demand1 =
       given-exactly = given-exactly;
       places = places;
       told = told;
+      joined-most = λ g store l p. body-most g store (omega arith) p;
       writes-nothing = writes-nothing;
       only-spoils = only-spoils;
     }

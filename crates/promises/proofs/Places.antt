@@ -10,7 +10,7 @@ use borrow.Author.Tests.{leb-true, ltb-true}
 use Rattle.ground_choices.specs.Choice.{if_then_else_}
 use Rattle.ground_refusal.specs.Numbers.{refusalPlace}
 use Rattle.ground_refusal.specs.declared.Refusal.{Refusal}
-use Rattle.ground_refusal.specs.declared.Refusal.the-variants.{SectionTooShort, OtherKind, FixedBitZero, SectionLengthOutside, OtherLength, NumberAboveLast, CheckNotZero, NotCurrent, OtherHeading, StoreTooShort, Contradiction, ImpossibleState, Missing, PastBody, OutsideSet, OutputTooSmall, TooLarge, BodyTooLong}
+use Rattle.ground_refusal.specs.declared.Refusal.the-variants.{SectionTooShort, OtherKind, FixedBitZero, SectionLengthOutside, OtherLength, NumberAboveLast, CheckNotZero, NotCurrent, OtherHeading, StoreTooShort, Contradiction, ImpossibleState, Missing, PastBody, OutsideSet, OutputTooSmall, TooLarge}
 use Rattle.crc.specs.Crc.{crc32Of}
 use Rattle.section_reader.specs.Section.{isKind, sectionLength, fixedBits, headingOf, payloadOf, readSection}
 use Rattle.section_reader.specs.declared.Heading.{Heading}
@@ -209,8 +209,7 @@ module _ (g : Gathering) where
   unfolding handing.handedIfRoom
   fitting-place n room =
       let next = or-else NotHanded (λ r r′ (e : NotHanded r ≡ NotHanded r′). cc) (λ r. refusalPlace r ≤ g .last) in
-      next (ltb 1045504 n) BodyTooLong _ (λ t. zero-le)
-      (next (ltb room n) OutputTooSmall (Body n) (λ t. zero-le) (λ r (e : Body n ≡ NotHanded r). absurd-answer (cc)))
+      next (ltb room n) OutputTooSmall (Body n) (λ t. zero-le) (λ r (e : Body n ≡ NotHanded r). absurd-answer (cc))
 
   handed-place : (store out : List ℕ) (r : Refusal) → handing.handedOf g store out ≡ NotHanded r → refusalPlace r ≤ g .last
   unfolding handing.handedOf handing.handedBy

@@ -6,12 +6,11 @@ use mathlib.Core.List.{List}
 use native.Mathlib.Omega.{arith}
 use native.Mathlib.Nat.{pow-le-pow-right, lt-of-lt-of-le}
 use lib.ListN.{length}
-use lib.Dec.{leb, ltb}
+use lib.Dec.{leb}
 use lib.IntN.{ℤ}
-use borrow.Author.Tests.{leb-true, ltb-false}
-use Rattle.ground_choices.specs.Choice.{if_then_else_}
+use borrow.Author.Tests.{leb-true}
 use Rattle.ground_refusal.specs.declared.Refusal.{Refusal}
-use Rattle.ground_refusal.specs.declared.Refusal.the-variants.{OutsideSet, OutputTooSmall, BodyTooLong}
+use Rattle.ground_refusal.specs.declared.Refusal.the-variants.{OutsideSet, OutputTooSmall, TooLarge}
 use Rattle.crc_register.proofs.Laws.{crc-lt}
 use Rattle.crc.specs.Crc.{AreBytes, crc16Of}
 use Rattle.time_days.specs.Calendar.{dayOf}
@@ -42,11 +41,9 @@ use Rattle.section_cutter.specs.declared.Cut.the-variants.{Written}
 use Rattle.section_cutter.proofs.Counting.{counted-some, count-most, part-length}
 use Rattle.section_cutter.proofs.Sections.{cut-written}
 use Rattle.gathering_state.specs.declared.Gathering.{Gathering}
-use Rattle.gathering_hand_out.specs.Handing.{bodyHeld, completeOf, handedIfRoom, handedBy, handedOf}
-use Rattle.gathering_hand_out.specs.declared.Completeness.{Completeness}
-use Rattle.gathering_hand_out.specs.declared.Completeness.the-variants.{Complete, Refused as NotComplete}
-use Rattle.gathering_hand_out.specs.declared.Handed.{Handed}
+use Rattle.gathering_hand_out.specs.Handing.{handedOf}
 use Rattle.gathering_hand_out.specs.declared.Handed.the-variants.{Body, Refused as NotHanded}
+use Rattle.gathering_hand_out.proofs.Handing.{handed-whole, body-most}
 use Rattle.body_formats.specs.Reading.{Reading, found, refused}
 use Rattle.body_formats.specs.Format.{Format, count}
 use Rattle.body_formats.specs.Answers.{stepOf, numberOf, numberRead}
@@ -137,26 +134,11 @@ cut-told body kind extension version number out n e = go (cutting body kind exte
         let z : length s ≡ n = cc in
         value-told n (omega arith)
 
-past : {x : Handed} (b : Bool) (r : Refusal) (n : ℕ) → (if b then NotHanded r else x) ≡ Body n → (b ≡ false) × (x ≡ Body n)
-past true r n e = let z : _≡_ {A = ℕ} 0 1 = cc in absurd (omega arith)
-past false r n e = (refl, e)
-
-fitting-told : (size room n : ℕ) → handedIfRoom size room ≡ Body n → n ≤ 1045504
-unfolding handedIfRoom
-fitting-told size room n e =
-    let a = past (ltb 1045504 size) BodyTooLong n e in
-    let b = past (ltb room size) OutputTooSmall n (a .1) in
-    let m = ltb-false 1045504 size (a .0) in
-    let c : size ≡ n = (let f = b .1 in cc) in
-    omega arith
-
-handed-told : (g : Gathering) (store out : List ℕ) (n : ℕ) → handedOf g store out ≡ Body n → TellsValue (answerOf 0 n) n
-unfolding handedOf handedBy
-handed-told g store out n e = go (completeOf g (length store)) e
-  where
-    go : (c : Completeness) → handedBy c (length (bodyHeld g store)) (length out) ≡ Body n → TellsValue (answerOf 0 n) n
-    go (NotComplete r) e = let z : _≡_ {A = ℕ} 0 1 = cc in absurd (omega arith)
-    go Complete e = let m = fitting-told (length (bodyHeld g store)) (length out) n e in value-told n (omega arith)
+handed-told : (g : Gathering) (store out : List ℕ) (n : ℕ) → length (g .held) ≡ 256 → handedOf g store out ≡ Body n → TellsValue (answerOf 0 n) n
+handed-told g store out n l e =
+    let whole = handed-whole g store out n e in
+    let most = body-most g store (omega arith) (whole .0 .possible) in
+    value-told n (omega arith)
 
 -- ---- tables
 

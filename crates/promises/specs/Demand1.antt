@@ -1,5 +1,5 @@
 -- Demand 1, sentence by sentence: nothing faults, each refusal has one number, and a refused call writes nothing.
-use Prim.Native.Nat.{ℕ}
+use Prim.Native.Nat.{ℕ, _*_, _≤_}
 use mathlib.Core.Path.{_≡_}
 use mathlib.Core.Bool.{true}
 use mathlib.Core.List.{List}
@@ -9,11 +9,11 @@ use Rattle.ground_refusal.specs.declared.Refusal.{Refusal}
 use Rattle.ground_refusal.specs.declared.Refusal.the-variants.{Contradiction}
 use Rattle.section_cutter.specs.Cutting.{cutAnswer, cutOutput}
 use Rattle.section_cutter.specs.declared.Cut.the-variants.{Refused as NotCut}
-use Rattle.gathering_state.specs.State.{spoiledState}
+use Rattle.gathering_state.specs.State.{possibleOf, spoiledState}
 use Rattle.gathering_state.specs.declared.Gathering.{Gathering}
 use Rattle.gathering_feed.specs.Feeding.{fedOf, storeAfter}
 use Rattle.gathering_feed.specs.declared.Answer.the-variants.{HeldAlready, Refused as NotFed}
-use Rattle.gathering_hand_out.specs.Handing.{handedOf, outAfter}
+use Rattle.gathering_hand_out.specs.Handing.{bodyHeld, handedOf, outAfter}
 use Rattle.gathering_hand_out.specs.declared.Handed.the-variants.{Refused as NotHanded}
 use Rattle.body_formats.specs.Format.{Format}
 use Rattle.body_formats.specs.Body.{bodyWritten, outputWritten, bodyLaid, laidTape}
@@ -69,4 +69,6 @@ pub record Demand1 : Type 1 where
   -- and C is told it, with its place, or the value in full
   pub told : Told
   pub writes-nothing : WritesNothing
+  -- no possible state, which has 256 numbers, joins to more than 256 × 4,084 bytes, whatever the store holds: no refusal is needed for a longer body
+  pub joined-most : (g : Gathering) (store : List ℕ) → length (g .held) ≡ 256 → possibleOf g ≡ true → length (bodyHeld g store) ≤ 256 * 4084
   pub only-spoils : OnlySpoils

@@ -30,7 +30,7 @@ pub record GivenExactly : Type 0 where
   pub section : (s : List ℕ) → AsListed NotGood (λ a. a ≡ Good (headingOf s) (length s - 12)) (sectionLines s) (readSection s)
   -- "Feeding: 12, 1 to 7, 8, 9, 10, 11"
   pub feeding : (g : Gathering) (store s : List ℕ) → FedAsListed g store s
-  -- "Handing out: 12; 13 if nothing begun; 10; 11; 13; 25; 21", of which the first five say whether all of a table is there
+  -- "Handing out: 12; 13 if nothing begun; 10; 11; 13; [..] 21", of which the first five say whether all of a table is there
   pub complete : (g : Gathering) (bytes : ℕ) → AsListed NotComplete (λ a. a ≡ Complete) (completeLines g bytes) (completeOf g bytes)
   pub handing-out : (g : Gathering) (store out : List ℕ)
       → AsListed NotHanded (λ a. a ≡ Body (length (bodyHeld g store))) (handingLines g store out) (handedOf g store out)

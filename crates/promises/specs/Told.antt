@@ -72,7 +72,7 @@ pub record RefusalsTold : Type 0 where
 
 pub record Told : Type 1 where
   pub refusals : RefusalsTold
-  -- no value is taken for a refusal, whose number is 1 to 25
+  -- no value is taken for a refusal, whose number is never 0
   pub no-refusal : (value : ℕ) → refusalTold (answerOf 0 value) ≡ 0
   -- days and times: whatever is answered comes back
   pub day : (y m d n : ℕ) → dayOf y m d ≡ Day n → TellsValue (dayAnswer (Day n)) n
@@ -92,7 +92,8 @@ pub record Told : Type 1 where
       → TellsValue (lengthAnswer (Written n)) n
   pub taken : TellsValue (feedAnswer fed.Taken) 0
   pub held-already : TellsValue (feedAnswer fed.HeldAlready) 1
-  pub handed-out : (g : Gathering) (store out : List ℕ) (n : ℕ) → handedOf g store out ≡ Body n → TellsValue (handAnswer (Body n)) n
+  -- a state has 256 numbers
+  pub handed-out : (g : Gathering) (store out : List ℕ) (n : ℕ) → length (g .held) ≡ 256 → handedOf g store out ≡ Body n → TellsValue (handAnswer (Body n)) n
   -- tables: 0 for an accepted body; the length of a body measured or written; so many entries or records as the tape or the list had room for
   pub accepted : (end : ℕ) → TellsValue (readAnswer (At end)) 0
   pub measured-length : {A : Type 0} (F : Format A) (pool tape : List ℕ) (n : ℕ) → measured F pool tape ≡ At n → TellsValue (writtenAnswer (At n)) n

@@ -7,7 +7,7 @@ use mathlib.Core.Logic.{_↔_}
 use lib.Dec.{eqb, ltb}
 use lib.ListN.{length, getD}
 use Rattle.ground_refusal.specs.declared.Refusal.{Refusal}
-use Rattle.ground_refusal.specs.declared.Refusal.the-variants.{NotCurrent, OtherHeading, StoreTooShort, Contradiction, ImpossibleState, Missing, OutputTooSmall, BodyTooLong}
+use Rattle.ground_refusal.specs.declared.Refusal.the-variants.{NotCurrent, OtherHeading, StoreTooShort, Contradiction, ImpossibleState, Missing, OutputTooSmall}
 use Rattle.section_reader.specs.Section.{headingOf, payloadOf}
 use Rattle.gathering_state.specs.Lists.{smallestMissing, sameBytes}
 use Rattle.gathering_state.specs.State.{possibleOf, nothingBegun, hasRoom, lengths, heldPayload}
@@ -68,12 +68,10 @@ completeLines g bytes =
     ∷ Missing (smallestMissing (lengths g)) when ltb (smallestMissing (lengths g)) (length (lengths g))
     ∷ []
 
--- "Handing out: 12; 13 if nothing begun; 10; 11; 13; 25; 21"
+-- "Handing out: 12; 13 if nothing begun; 10; 11; 13; [..] 21"
 unfoldable pub handingLines : Gathering → List ℕ → List ℕ → List Line
 handingLines g store out =
     completeLines g (length store)
-    -- 25: "joined body above 1,045,504 bytes"
-    ++ BodyTooLong when ltb 1045504 (length (bodyHeld g store))
     -- 21: "output buffer [..] too small"
-    ∷ OutputTooSmall when ltb (length out) (length (bodyHeld g store))
+    ++ OutputTooSmall when ltb (length out) (length (bodyHeld g store))
     ∷ []
