@@ -277,6 +277,10 @@ static void call_certificate_certificate(const struct argument *a) {
     put_answer(nw_certificate_certificate(a[0].bytes, a[0].length, a[1].wide));
 }
 
+static void call_certificate_measure(const struct argument *a) {
+    put_answer(nw_certificate_measure(a[0].bytes, a[0].length, a[1].tape, a[1].length));
+}
+
 static void call_certificate_write(const struct argument *a) {
     put_answer(nw_certificate_write(a[0].bytes, a[0].length, a[1].tape, a[1].length, a[2].bytes, a[2].length));
     put_bytes(a[2].bytes, a[2].length);
@@ -413,6 +417,10 @@ static void call_index_lay(const struct argument *a) {
     put_tape(a[2].tape, a[2].length);
 }
 
+static void call_index_measure(const struct argument *a) {
+    put_answer(nw_index_measure(a[0].bytes, a[0].length, a[1].tape, a[1].length));
+}
+
 static void call_index_write(const struct argument *a) {
     put_answer(nw_index_write(a[0].bytes, a[0].length, a[1].tape, a[1].length, a[2].bytes, a[2].length));
     put_bytes(a[2].bytes, a[2].length);
@@ -504,6 +512,10 @@ static void call_content_read(const struct argument *a) {
 static void call_content_lay(const struct argument *a) {
     put_answer(nw_content_lay((uint32_t)a[0].number, a[1].bytes, a[1].length, a[2].tape, a[2].length));
     put_tape(a[2].tape, a[2].length);
+}
+
+static void call_content_measure(const struct argument *a) {
+    put_answer(nw_content_measure(a[0].bytes, a[0].length, a[1].tape, a[1].length));
 }
 
 static void call_content_write(const struct argument *a) {
@@ -604,6 +616,10 @@ static void call_configuration_lay(const struct argument *a) {
     put_tape(a[2].tape, a[2].length);
 }
 
+static void call_configuration_measure(const struct argument *a) {
+    put_answer(nw_configuration_measure(a[0].bytes, a[0].length, a[1].tape, a[1].length));
+}
+
 static void call_configuration_write(const struct argument *a) {
     put_answer(nw_configuration_write(a[0].bytes, a[0].length, a[1].tape, a[1].length, a[2].bytes, a[2].length));
     put_bytes(a[2].bytes, a[2].length);
@@ -656,11 +672,13 @@ static const struct call calls[] = {
     {"certificate_read", "ub", call_certificate_read},
     {"certificate_authorization", "bw", call_certificate_authorization},
     {"certificate_certificate", "bw", call_certificate_certificate},
+    {"certificate_measure", "bt", call_certificate_measure},
     {"certificate_write", "bto", call_certificate_write},
     {"certificate_lay", "ubl", call_certificate_lay},
     {"index_read", "ubi", call_index_read},
     {"index_records", "ubr", call_index_records},
     {"index_lay", "ubl", call_index_lay},
+    {"index_measure", "bt", call_index_measure},
     {"index_write", "bto", call_index_write},
     {"index_message_count", "b", call_index_message_count},
     {"index_message", "bw", call_index_message},
@@ -676,6 +694,7 @@ static const struct call calls[] = {
     {"stream_count", "bww", call_stream_count},
     {"content_read", "uub", call_content_read},
     {"content_lay", "ubl", call_content_lay},
+    {"content_measure", "bt", call_content_measure},
     {"content_write", "bto", call_content_write},
     {"content_fields", "b", call_content_fields},
     {"content_identifier_digit", "bw", call_content_identifier_digit},
@@ -684,6 +703,7 @@ static const struct call calls[] = {
     {"auxiliary_fields", "bwww", call_auxiliary_fields},
     {"configuration_read", "ub", call_configuration_read},
     {"configuration_lay", "ubl", call_configuration_lay},
+    {"configuration_measure", "bt", call_configuration_measure},
     {"configuration_write", "bto", call_configuration_write},
     {"configuration_fields", "b", call_configuration_fields},
     {"configuration_command", "bw", call_configuration_command},

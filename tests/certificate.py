@@ -282,11 +282,12 @@ def main():
                          (bytes(4), '0 0 0 0 0 0 0 %d' % (4 * 2**24))):
         assert calls.told(second.certificate_read, KIND, body) == answer, body
     others, writes = [*readings(), *askings(), *layings()], [*writings()]
+    others += [('certificate_measure', pool, tape) for _, pool, tape, _ in writes]
     cases = others + writes
     got = calls.compare('a second program', second, cases)
     assert checks.by_refusal(cases, got) == {
         'certificate_read': {0, 2, 14, 16, 22}, 'certificate_authorization': {0, 19}, 'certificate_certificate': {0, 19},
-        'certificate_lay': {0, 2, 14, 16, 21}, 'certificate_write': {0, 19, 21, 22}}
+        'certificate_lay': {0, 2, 14, 16, 21}, 'certificate_measure': {0, 19, 22}, 'certificate_write': {0, 19, 21, 22}}
     assert len(got) > 20000
     read_back(writes, got[-len(writes):])
 

@@ -1,6 +1,6 @@
 """What the second programs' answers to calls share, in the order of calls.c: parts, lent outputs, fields asked for."""
 from calls import Refused
-from second_fields import Reader, refuse
+from second_fields import MOST_BODY, Reader, refuse
 
 
 def part(begin, length):
@@ -59,8 +59,14 @@ def written(write, pool, tape, out):
     try:
         body = write(pool, tape, len(out))
     except Refused as refusal:
+        refusal.place = 0
         raise with_lent(refusal, out)
     return body, body + out[len(body):]
+
+
+def measured(write, pool, tape):
+    """The length of the body that a writer writes where there is room, refused at the entry of the tape."""
+    return len(write(pool, tape, MOST_BODY))
 
 
 # ---- fields asked for, each judged alone where it stands, whatever else is wrong

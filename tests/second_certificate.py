@@ -52,29 +52,31 @@ def fields(kind, body):
 
 
 def form(pool, tape):
-    """What a tape asks for, as byte strings."""
-    entries = iter(tape)
+    """What a tape asks for, as byte strings. What is wrong is refused at the entry where it begins."""
+    at = 0
 
-    def entry():
-        for value in entries:
-            return value
-        raise Refused(19)
+    def taken(width):
+        nonlocal at
+        if at + width > len(tape):
+            raise Refused(19, place=at)
+        at += width
+        return tape[at - width:at]
 
     def span():
-        begin, length = entry(), entry()
+        place, (begin, length) = at, taken(2)
         if begin + length > len(pool):
-            raise Refused(19)
+            raise Refused(19, place=place)
         return pool[begin:begin + length]
 
     def spans():
-        left, found = entry(), []
+        (left,), found = taken(1), []
         while len(found) < left:
             found.append(span())
         return found
 
     asked = spans(), spans(), span()
-    if list(entries):
-        raise Refused(19)
+    if at < len(tape):
+        raise Refused(19, place=at)
     return asked
 
 
@@ -124,6 +126,10 @@ def certificate_authorization(body, i):
 
 def certificate_certificate(body, i):
     return one_of(fields(KIND, body)[1], i)
+
+
+def certificate_measure(pool, tape):
+    return len(written(*form(pool, tape)))
 
 
 def certificate_write(pool, tape, out):

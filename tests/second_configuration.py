@@ -152,12 +152,14 @@ def form_command(taken):
 
 def form_clock(taken, command):
     """The day is judged when its three numbers are taken, the time when its three are: too large ones are impossible."""
+    begin = taken.at
     date = {name: taken.entry(name) for name in ('year', 'month', 'day')}
     if not is_day(**date):
-        refuse(20, 'year')
+        refuse(20, 'year', begin)
+    begin = taken.at
     time = {name: taken.entry(name) for name in ('hour', 'minute', 'second')}
     if not is_time(**time):
-        refuse(20, 'hour')
+        refuse(20, 'hour', begin)
     return {**date, **time}
 
 
@@ -174,11 +176,12 @@ def form_frequency(taken, command):
 
 def form_return_address(taken, command):
     kind = taken.number('address kind', 3, least=1)
+    begin = taken.at
     address = taken.span(command + ' address')
     if wrong_length(kind, address[1]):
-        refuse(15, '%s address, kind %d' % (command, kind))
+        refuse(15, '%s address, kind %d' % (command, kind), begin)
     if not is_address(kind, address[2]):
-        refuse(19, '%s address, kind %d' % (command, kind))
+        refuse(19, '%s address, kind %d' % (command, kind), begin)
     return {'kind': kind, 'address': address, 'terminals': form_terminals(taken, command)}
 
 

@@ -2,7 +2,7 @@
 import functools
 
 import second_configuration
-from second_calls import Part, answered, digit, joined, lent, part, span, unrefused, up_to, written
+from second_calls import Part, answered, digit, joined, lent, measured, part, span, unrefused, up_to, written
 from second_fields import refuse
 
 
@@ -55,6 +55,10 @@ def plain_value(value):
 
 def configuration_lay(kind, body, tape):
     return lent(tape, lambda: second_configuration.tape_of(table_of(kind, body)))
+
+
+def configuration_measure(pool, tape):
+    return measured(second_configuration.write, pool, tape)
 
 
 def configuration_write(pool, tape, out):

@@ -100,9 +100,10 @@ def form_language(taken):
 
 
 def form_letters(taken):
+    begin = taken.at
     span = taken.span('letters', 3)
     if not are_letters(span[2]):
-        refuse(19, 'letters')
+        refuse(19, 'letters', begin)
     return span
 
 

@@ -2,7 +2,7 @@
 import functools
 
 import second_content
-from second_calls import Part, answered, digit, inside, joined, lent, part, span, unrefused, up_to, written
+from second_calls import Part, answered, digit, inside, joined, lent, measured, part, span, unrefused, up_to, written
 from second_fields import refuse
 
 
@@ -39,6 +39,10 @@ def language_items(language):
 
 def content_lay(kind, body, tape):
     return lent(tape, lambda: second_content.tape_of(table_of(kind, body)))
+
+
+def content_measure(pool, tape):
+    return measured(second_content.write, pool, tape)
 
 
 def content_write(pool, tape, out):

@@ -154,43 +154,47 @@ class Reader:
 
 
 class Tape:
-    """A form's pool, and the entries of its tape that are still to be taken."""
+    """A form's pool and tape, and the entry that comes next. A field is refused at the entry where it begins."""
 
     def __init__(self, pool, tape):
-        self.pool, self.entries = pool, iter(tape)
+        self.pool, self.tape, self.at = pool, tape, 0
 
-    def entry(self, field):
-        for value in self.entries:
-            return value
-        refuse(19, field + ', tape ends')
+    def entry(self, field, begin=None):
+        """An entry, which may belong to a field that began before it."""
+        if self.at >= len(self.tape):
+            refuse(19, field + ', tape ends', self.at if begin is None else begin)
+        self.at += 1
+        return self.tape[self.at - 1]
 
     def number(self, field, most, least=0):
-        value = self.entry(field)
+        place, value = self.at, self.entry(field)
         if not least <= value <= most:
-            refuse(19, field)
+            refuse(19, field, place)
         return value
 
     def span(self, field, width=None):
         """A part of the pool, of the stated length if there is one."""
-        begin, length = self.entry(field + ' start'), self.entry(field + ' length')
+        place = self.at
+        begin, length = self.entry(field + ' start'), self.entry(field + ' length', place)
         if begin + length > len(self.pool):
-            refuse(19, field + ', outside the pool')
+            refuse(19, field + ', outside the pool', place)
         if width is not None and length != width:
-            refuse(19, field + ', wrong length')
+            refuse(19, field + ', wrong length', place)
         return begin, length, self.pool[begin:begin + length]
 
     def digits(self, field, width):
         """Digits as they stand in a body; the pool's first four bits aren't looked at."""
+        place = self.at
         begin, length, data = self.span(field, width)
         if not only_digits(data):
-            refuse(18, field)
+            refuse(18, field, place)
         return begin, length, data.hex()[1:]
 
     def time(self, field, live):
-        value = self.number(field, LIVE)
+        place, value = self.at, self.number(field, LIVE)
         fault = time_fault(value, live)
         if fault:
-            refuse(fault, field)
+            refuse(fault, field, place)
         return value
 
     def several(self, field, one):
@@ -203,8 +207,8 @@ class Tape:
     def signature(self):
         """The signature, with which the tape ends."""
         found = self.span('signature')
-        for _ in self.entries:
-            refuse(19, 'tape left over')
+        if self.at < len(self.tape):
+            refuse(19, 'tape left over', self.at)
         return found
 
 

@@ -101,9 +101,10 @@ def form_message(taken):
 
 
 def form_type(taken):
+    begin = taken.at
     span = taken.span('type', 5)
     if max(span[2]) > 0x7F:
-        refuse(19, 'type')
+        refuse(19, 'type', begin)
     return span
 
 

@@ -3,7 +3,7 @@ import functools
 
 import second_index
 import second_times
-from second_calls import Part, answered, digit, inside, joined, lent, part, span, unrefused, up_to, written
+from second_calls import Part, answered, digit, inside, joined, lent, measured, part, span, unrefused, up_to, written
 from second_fields import refuse
 
 
@@ -79,6 +79,10 @@ def index_records(kind, body, numbers):
 
 def index_lay(kind, body, tape):
     return lent(tape, lambda: second_index.tape_of(table_of(kind, body)))
+
+
+def index_measure(pool, tape):
+    return measured(second_index.write, pool, tape)
 
 
 def index_write(pool, tape, out):

@@ -39,11 +39,14 @@ class Comparison:
         return by_refusal(cases, calls.compare('a second program', self.program, cases))
 
     def compare_writings(self, table, make, numbers, refusals):
-        """The generator's forms written: these numbers are answered, these refusals met, and no others."""
-        call = table + '_write'
-        cases = [(call, pool, tape, out(room)) for pool, tape, room in make_fields.writings(make, SEED, COUNT)]
-        assert self.compare(cases) == {call: numbers} and len(cases) > COUNT
-        self.must_meet(call, refusals)
+        """The generator's forms written and measured: these numbers are answered, these refusals met, and no others."""
+        write, measure = table + '_write', table + '_measure'
+        forms = [*make_fields.writings(make, SEED, COUNT)]
+        cases = [(write, pool, tape, out(room)) for pool, tape, room in forms]
+        cases += [(measure, pool, tape) for pool, tape, _ in forms]
+        assert self.compare(cases) == {write: numbers, measure: numbers - {21}} and len(forms) > COUNT
+        self.must_meet(write, refusals)
+        self.must_meet(measure, refusals - {(21, 'room')})
 
     def must_meet(self, call, expected):
         """Every refusal of a call that can be met, with the field that it is of, was met, and no other."""
