@@ -27,7 +27,7 @@ static void ask(struct input *in, const uint8_t *body, size_t n, bool accepted) 
 static size_t enough(size_t n) { return NW_CERTIFICATE_ENTRIES(n); }
 
 static const struct table certificate = {
-    NW_CERTIFICATE, nw_certificate_read, nw_certificate_lay, nw_certificate_write, enough, make, ask,
+    NW_CERTIFICATE, nw_certificate_read, nw_certificate_lay, nw_certificate_measure, nw_certificate_write, enough, make, ask,
 };
 
 int LLVMFuzzerTestOneInput(const uint8_t *data, size_t size) {

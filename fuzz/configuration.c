@@ -113,7 +113,7 @@ static void ask(struct input *in, const uint8_t *body, size_t n, bool accepted) 
 static size_t enough(size_t n) { return NW_CONFIGURATION_ENTRIES(n); }
 
 static const struct table configuration = {
-    NW_CONFIGURATION, nw_configuration_read, nw_configuration_lay, nw_configuration_write, enough, make, ask,
+    NW_CONFIGURATION, nw_configuration_read, nw_configuration_lay, nw_configuration_measure, nw_configuration_write, enough, make, ask,
 };
 
 int LLVMFuzzerTestOneInput(const uint8_t *data, size_t size) {

@@ -85,7 +85,7 @@ static void ask(struct input *in, const uint8_t *body, size_t n, bool accepted) 
 
 static size_t enough(size_t n) { return (void)n, NW_CONTENT_ENTRIES; }
 
-static const struct table content = {NW_CONTENT, read_content, nw_content_lay, write_content, enough, make, ask};
+static const struct table content = {NW_CONTENT, read_content, nw_content_lay, nw_content_measure, write_content, enough, make, ask};
 
 int LLVMFuzzerTestOneInput(const uint8_t *data, size_t size) {
     try_table(&content, (struct input){data, size});

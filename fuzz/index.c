@@ -178,7 +178,7 @@ static void ask(struct input *in, const uint8_t *body, size_t n, bool accepted) 
 
 static size_t enough(size_t n) { return NW_INDEX_ENTRIES(n); }
 
-static const struct table index_table = {NW_INDEX, nw_index_read, nw_index_lay, nw_index_write, enough, make, ask};
+static const struct table index_table = {NW_INDEX, nw_index_read, nw_index_lay, nw_index_measure, nw_index_write, enough, make, ask};
 
 int LLVMFuzzerTestOneInput(const uint8_t *data, size_t size) {
     try_table(&index_table, (struct input){data, size});

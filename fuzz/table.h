@@ -9,11 +9,21 @@ struct table {
     uint32_t kind;
     nw_answer (*read)(uint32_t kind, const uint8_t *body, size_t n);
     nw_answer (*lay)(uint32_t kind, const uint8_t *body, size_t n, uint64_t *tape, size_t entries);
+    nw_answer (*measure)(const uint8_t *pool, size_t pool_bytes, const uint64_t *tape, size_t entries);
     nw_answer (*write)(const uint8_t *pool, size_t pool_bytes, const uint64_t *tape, size_t entries, uint8_t *out, size_t room);
     size_t (*enough)(size_t n);
     void (*make)(struct input *in, nw_form *f);
     void (*ask)(struct input *in, const uint8_t *body, size_t n, bool accepted);
 };
+
+// A form measured: the room that writing it needs, or its refusal with the entry, at most one after the last.
+static inline void hold_measure(const struct table *t, const nw_form *f, nw_answer written, size_t room) {
+    nw_answer a = t->measure(f->pool, f->pool_bytes, f->tape, f->entries);
+    unsigned number = NW_REFUSAL(written);
+    if (taken(written)) must(taken(a) && nw_value(a) == nw_value(written));
+    else if (number == NW_OUTPUT_TOO_SMALL) must(taken(a) && nw_value(a) > room && nw_value(a) <= NW_MOST_BODY);
+    else must(NW_REFUSAL(a) == number && NW_PLACE(a) <= (number == NW_TOO_LARGE ? 0 : f->entries));
+}
 
 // Writes a form into so much room. A refusal has no place and changes nothing; bytes after a body stay. No room at all can
 // be NULL.
@@ -23,6 +33,7 @@ static inline nw_answer write_form(const struct table *t, const nw_form *f, stru
     must(kept(out, taken(a) ? (size_t)nw_value(a) : 0));
     nw_answer none = t->write(f->pool, f->pool_bytes, f->tape, f->entries, NULL, 0);
     must(refused(none, taken(a) ? NW_OUTPUT_TOO_SMALL : a.packed));
+    hold_measure(t, f, a, out->size);
     return a;
 }
 
