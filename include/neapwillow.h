@@ -79,9 +79,9 @@ static inline unsigned nw_heading_last(nw_heading a) { return (unsigned)(a.packe
 static inline unsigned nw_written_extension(nw_written a) { return (unsigned)(a.packed >> 32); }
 static inline size_t nw_written_length(nw_written a) { return (size_t)(a.packed >> 8 & 0xFFFFFFu); }
 
-/* The refusals, by their numbers. The place is the offset, in the
- * body, of the byte where the refused field begins (14 to 20), the smallest missing section number
- * (13), and else 0. */
+/* The refusals, by their numbers. The place is the offset, in the body, of the byte where the refused
+ * field begins (14 to 20), of a form that is measured the entry on its tape, the smallest missing
+ * section number (13), and else 0. */
 enum nw_refusal {
     NW_TAKEN = 0,                   /* no refusal */
     NW_SECTION_TOO_SHORT = 1,       /* a section shorter than 12 bytes */
