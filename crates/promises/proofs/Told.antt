@@ -1,4 +1,4 @@
--- What C is told comes back: every value that is answered fits the bits that it is told in, and telling's laws say the rest.
+-- What C is told comes back: every value that is answered fits the bits that it is told in, and c_answers' laws say the rest.
 use Prim.Native.Nat.{ℕ, _+_, _^_, _≤_, _<_}
 use mathlib.Core.Path.{_≡_, refl, sym, ap, _∙_}
 use mathlib.Core.Bool.{Bool, true, false}
