@@ -2,16 +2,20 @@
 // gathered into tables, and the messages are shown with their texts: times day first and local, at MINUTES east of UTC, -720
 // to 840, or without them in UTC. Of a text the first lines are shown, with --whole all.
 //
-// Exit status: 0, every table that was begun is whole and accepted, each message has its text and each text its message, and
-// where bytes were damaged, the section they were came whole elsewhere. 1, something of that is not so, and it is said what,
-// or no table came at all. 2, wrong usage, a file that can't be read or is a transport stream, or output that can't be
-// written. The status says nothing about a text's characters.
+// Of a table the newest version is held: one that is 1 to 15 steps ahead, round the ring of 32, takes over from the one before,
+// and sections of other versions are left out.
+//
+// Exit status: 0, every table that was begun is whole and accepted, no section of another table or version was left out, each
+// message has its text and each text its message, and where bytes were damaged, the section they were came whole elsewhere or
+// was of an older version. 1, something of that is not so, and it is said what, or no table came at all. 2, wrong usage, a
+// file that can't be read or is a transport stream, or output that can't be written. The status says nothing about a text's
+// characters.
 //
 // A section tells its own length. Where none that is good begins, the next good one is looked for byte by byte: the library
 // looks at the heading first, and few bytes look like one. Where one does, its check is computed over up to 4 KiB; so that
 // junk of false headings, each inside the one before, can't make this long, a file has a purse of 64 times its bytes for
 // false headings. When that is spent, which is said, the search goes on after a false section and no longer inside it. With
-// one look at a good section for each table it may belong to, no more than 90 times the file's bytes are ever looked at.
+// the looks at good sections, no more than 70 times the file's bytes are ever looked at.
 //
 // Limits: 16 tables, files of 64 MiB, no signature is checked, of certificate and configuration tables nothing is shown, and
 // sections that are not current are left out, which is said.
@@ -80,6 +84,11 @@ static void fault(struct box *b, const char *form, ...) {
 
 // ---- gathering
 
+static const char *kind_name(unsigned kind) {
+    static const char *const names[] = {"configuration", "certificate", "index", "content"};
+    return names[kind - NW_CONFIGURATION];
+}
+
 // The length of the section that begins at s, as it states: 12 bytes where it states none, so that its kind is looked at
 // first, but no more than the n that there are.
 static size_t length_of(const uint8_t *s, size_t n) {
@@ -92,36 +101,61 @@ static nw_heading judge(const uint8_t *s, size_t n, size_t *length) {
     return nw_section_read(s, *length = length_of(s, n));
 }
 
-// Begins a table with a good section that belongs to none so far.
-static nw_answer begin(struct box *b, const uint8_t *s, size_t n, nw_heading heading) {
-    struct table *t = &b->tables[b->count];
-    t->store_bytes = NW_STORE_BYTES(nw_heading_last(heading));
-    t->store = malloc(t->store_bytes);
-    if (t->store == NULL) return (nw_answer){NW_STORE_TOO_SHORT};
-    nw_answer fed = nw_gathering_feed(&t->state, t->store, t->store_bytes, s, n);
-    if (NW_REFUSAL(fed) == NW_TAKEN) b->count++;
-    else free(t->store);
-    return fed;
+// The gathering that sections of this kind and extension are fed to: of such tables the box holds one, in its newest version.
+// Else one that is not begun, or none.
+static struct table *table_of(struct box *b, nw_heading heading) {
+    for (struct table *t = b->tables; t < b->tables + b->count; t++)
+        if (t->state.kind == nw_heading_kind(heading) && t->state.extension == nw_heading_extension(heading)) return t;
+    return b->count < TABLES ? &b->tables[b->count] : NULL;
 }
 
-// Feeds the good section at a byte of the file to the table it belongs to.
+// Feeds a section, with room in the store for its table, which may be newer and longer than what is held.
+static nw_answer feed_table(struct table *t, const uint8_t *s, size_t n, nw_heading heading) {
+    size_t bytes = NW_STORE_BYTES(nw_heading_last(heading));
+    if (bytes > t->store_bytes) {
+        uint8_t *more = realloc(t->store, bytes);
+        if (more == NULL) return (nw_answer){NW_STORE_TOO_SHORT};
+        t->store = more;
+        t->store_bytes = bytes;
+    }
+    return nw_gathering_feed(&t->state, t->store, t->store_bytes, s, n);
+}
+
+static void tell_refused(struct box *b, size_t at, unsigned number, const struct table *t, nw_heading heading) {
+    unsigned version = nw_heading_version(heading), held = t->state.version;
+    b->refused++;
+    if (number == NW_STORE_TOO_SHORT) fault(b, "section at byte %zu: left out, there is no memory for its table", at);
+    else if (number != NW_OTHER_HEADING)
+        printf("section at byte %zu: not taken, %s (refusal %u)\n", at, nw_refusal_text(number), number);
+    else if (version != held)
+        fault(b, "section at byte %zu: left out, its version %u is not ahead of version %u, which is held (refusal 9)", at,
+              version, held);
+    else
+        fault(b, "section at byte %zu: left out, its last number is %u, and that of its table %u (refusal 9)", at,
+              nw_heading_last(heading), t->state.last);
+}
+
+// Feeds the good section at a byte of the file to the table it belongs to. A newer version starts the table over.
 static void feed(struct box *b, size_t at, size_t n, nw_heading heading) {
-    const uint8_t *s = b->s + at;
-    nw_answer fed = {NW_OTHER_HEADING};
-    for (struct table *t = b->tables; t < b->tables + b->count && NW_REFUSAL(fed) == NW_OTHER_HEADING; t++)
-        fed = nw_gathering_feed(&t->state, t->store, t->store_bytes, s, n);
-    if (NW_REFUSAL(fed) == NW_OTHER_HEADING && b->count < TABLES) fed = begin(b, s, n, heading);
-    unsigned number = NW_REFUSAL(fed);
-    if (number == NW_TAKEN) {
-        if (nw_value(fed) == NW_FED_TAKEN) b->taken++;
-        else b->held++;
+    struct table *t = table_of(b, heading);
+    if (t == NULL) {
+        b->refused++;
+        fault(b, "section at byte %zu: left out, it belongs to one more table than the %d that this box can hold", at, TABLES);
         return;
     }
-    b->refused++;
-    if (number == NW_OTHER_HEADING)
-        fault(b, "section at byte %zu: left out, it belongs to one more table than the %d that this box can hold", at, TABLES);
-    else if (number == NW_STORE_TOO_SHORT) fault(b, "section at byte %zu: left out, there is no memory for its table", at);
-    else printf("section at byte %zu: not taken, %s (refusal %u)\n", at, nw_refusal_text(number), number);
+    bool begun = t < b->tables + b->count;
+    unsigned before = t->state.version;
+    nw_answer fed = feed_table(t, b->s + at, n, heading);
+    if (NW_REFUSAL(fed) != NW_TAKEN) {
+        tell_refused(b, at, NW_REFUSAL(fed), t, heading);
+        return;
+    }
+    if (nw_value(fed) == NW_FED_TAKEN) b->taken++;
+    else b->held++;
+    if (!begun) b->count++;
+    else if (t->state.version != before)
+        printf("section at byte %zu: version %u of the %s table, extension %04X, takes over from version %u\n", at,
+               t->state.version, kind_name(t->state.kind), t->state.extension, before);
 }
 
 static bool note_stretch(struct box *b, struct stretch bad) {
@@ -179,11 +213,6 @@ static void gather(struct box *b) {
 
 // ---- what is whole, and what is not
 
-static const char *kind_name(unsigned kind) {
-    static const char *const names[] = {"configuration", "certificate", "index", "content"};
-    return names[kind - NW_CONFIGURATION];
-}
-
 static void name_table(const struct table *t) {
     printf("%s table, extension %04X, version %u: ", kind_name(t->state.kind), t->state.extension, t->state.version);
 }
@@ -229,24 +258,27 @@ static void hand_out(struct box *b, struct table *t) {
           (unsigned)NW_PLACE(got));
 }
 
-// Whether the section that bytes were before their damage came whole elsewhere, by what their heading says: the bytes are as
-// many as it says, or the file ends among them.
-static bool came_elsewhere(const struct box *b, const struct stretch *bad) {
+// Why nothing is lost with the section that bytes were before their damage, by what their heading says, or NULL: the bytes are
+// as many as it says, or the file ends among them, and it came whole elsewhere, or its table has been taken over.
+static const char *made_good(const struct box *b, const struct stretch *bad) {
     const uint8_t *s = b->s + bad->at;
-    if (bad->refusal != NW_CHECK_NOT_ZERO && bad->refusal != NW_OTHER_LENGTH) return false;
-    if (bad->at + length_of(s, b->n - bad->at) != bad->end) return false;
+    if (bad->refusal != NW_CHECK_NOT_ZERO && bad->refusal != NW_OTHER_LENGTH) return NULL;
+    if (bad->at + length_of(s, b->n - bad->at) != bad->end) return NULL;
     for (const struct table *t = b->tables; t < b->tables + b->count; t++) {
         const nw_gathering *g = &t->state;
-        bool mine = g->kind == s[0] && g->extension == (s[3] << 8 | s[4]) && g->version == (s[5] >> 1 & 0x1F);
-        if (mine && g->last == s[7] && g->held[s[6]] != 0) return true;
+        if (g->kind != s[0] || g->extension != (s[3] << 8 | s[4])) continue;
+        unsigned steps = (g->version + 32u - (s[5] >> 1 & 0x1Fu)) % 32;
+        if (steps >= 1 && steps <= 15) return "it was of an older version than is held";
+        if (steps == 0 && g->last == s[7] && g->held[s[6]] != 0) return "it came whole elsewhere";
     }
-    return false;
+    return NULL;
 }
 
 static void show_stretch(struct box *b, const struct stretch *bad) {
     printf("bytes %zu to %zu are no good section: %s (refusal %u)", bad->at, bad->end - 1, nw_refusal_text(bad->refusal),
            bad->refusal);
-    if (came_elsewhere(b, bad)) puts("; it came whole elsewhere");
+    const char *good = made_good(b, bad);
+    if (good != NULL) printf("; %s\n", good);
     else fault(b, "; what was lost there is not known");
 }
 

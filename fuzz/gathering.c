@@ -11,7 +11,7 @@ struct cuts {
 
 // A section of the table, of another version of it, or one damaged or not current; answers its length.
 static size_t make_section(struct input *in, const struct cuts *c, uint8_t *out) {
-    uint32_t version = now_and_then(in, 8) ? 8 : 7;
+    uint32_t version = now_and_then(in, 8) ? (uint32_t)upto(in, 31) : 7;
     uint32_t number = (uint32_t)upto(in, nw_value(nw_section_count(c->n)) - 1);
     nw_answer a = nw_section_cut(c->body, c->n, NW_CONTENT, 0x1234, version, number, out, NW_MOST_SECTION);
     must(taken(a));
@@ -33,6 +33,22 @@ static void try_no_store(const nw_gathering *g, const uint8_t *s, size_t n, unsi
     must(memcmp(&after, g, sizeof after) == 0);
 }
 
+// The state with a section that was taken: alone, where it began a table or is 1 to 15 steps ahead of the one before.
+static nw_gathering after_taking(nw_gathering before, const uint8_t *s, size_t n) {
+    uint8_t version = s[5] >> 1 & 0x1F;
+    if (before.kind != 0 && before.version != version) {
+        unsigned steps = (version + 32u - before.version) % 32;
+        must(before.kind == s[0] && before.extension == (s[3] << 8 | s[4]) && steps >= 1 && steps <= 15);
+    } else must(before.kind == 0 || (before.last == s[7] && before.spoiled == 0 && before.held[s[6]] == 0));
+    if (before.version != version) memset(&before, 0, sizeof before);
+    before.kind = s[0];
+    before.extension = (uint16_t)(s[3] << 8 | s[4]);
+    before.version = version;
+    before.last = s[7];
+    before.held[s[6]] = (uint16_t)(n - 11);
+    return before;
+}
+
 // A refused feed changes nothing, but that a contradiction spoils; a taken one changes its own place only.
 static void try_feed(struct lent *state, struct lent *store, const uint8_t *section, size_t n) {
     nw_gathering *g = (nw_gathering *)(void *)state->bytes, before = *g;
@@ -42,12 +58,11 @@ static void try_feed(struct lent *state, struct lent *store, const uint8_t *sect
     try_no_store(&before, s, n, NW_REFUSAL(fed));
     if (taken(fed) && nw_value(fed) == NW_FED_TAKEN) {
         size_t at = (size_t)s[6] * NW_MOST_PAYLOAD;
-        must(g->held[s[6]] == n - 11 && memcmp(store->bytes + at, s + 8, n - 12) == 0);
+        must(memcmp(store->bytes + at, s + 8, n - 12) == 0);
         memcpy(store->before + at, s + 8, n - 12);
-    } else {
-        before.spoiled = NW_REFUSAL(fed) == NW_CONTRADICTION ? 1 : before.spoiled;
-        must(memcmp(g, &before, sizeof before) == 0);
-    }
+        before = after_taking(before, s, n);
+    } else before.spoiled = NW_REFUSAL(fed) == NW_CONTRADICTION ? 1 : before.spoiled;
+    must(memcmp(g, &before, sizeof before) == 0);
     must(kept(store, 0));
     free(s);
 }

@@ -241,7 +241,9 @@ nw_answer nw_section_cut(const uint8_t *body, size_t n, uint32_t kind, uint32_t 
  * Good, current sections of one table, fed in any order, repeats and damage among them, become its
  * body. The caller lends one state, at first all zeros, and one store; each call updates them and
  * keeps nothing else. The first section taken fixes the table: its kind, extension, version and last
- * number. State, store, section and output must not overlap, and the state is never NULL.
+ * number. A section of the same kind and extension whose version is 1 to 15 steps ahead, round the ring
+ * of 32, starts the gathering over. State, store, section and output must not overlap, and the state is
+ * never NULL.
  *
  * A state is possible if all of it is zeros, or if its kind is one of enum nw_kind, its version at most
  * 31, spoiled 0 or 1, at least one number held, none above last, and each held length at most
@@ -259,12 +261,16 @@ typedef struct nw_gathering {
 #define NW_STORE_BYTES(last) (((size_t)(last) + 1) * NW_MOST_PAYLOAD) /* what a table asks of a store */
 
 /* Feeds one byte string. Value: one of enum nw_fed. A payload that is taken goes to byte
- * number x 4,084 of the store, and all other bytes of the store stay; a section that is held already
- * changes nothing. Refusals, in this order: 12, not a possible state; 1 to 7, as nw_section_read; 8,
- * not current; 9, another table's heading; 10, the store has not NW_STORE_BYTES(last) bytes; 11, a
- * payload other than the one held for its number, or the gathering is spoiled already. A refused
- * call changes nothing, but that 11 for a contradiction spoils the gathering: make the state fresh to
- * begin again. While nothing is begun there is no 9 and no 11. */
+ * number x 4,084 of the store, and all other bytes of the store stay, an older table's too; a section
+ * that is held already changes nothing. A newer version's section is taken whatever was held, whole,
+ * spoiled or not, with whatever last number: from then on the state has that section alone. Refusals,
+ * in this order: 12, not a possible state; 1 to 7, as nw_section_read; 8, not current; 9, another
+ * table's heading: another kind or extension, the same version with another last number, or a version
+ * 16 to 31 steps ahead; 10, the store has not NW_STORE_BYTES(last) bytes for the section's table; 11, a
+ * payload other than the one held for its number, or the gathering is spoiled already. A refused call
+ * changes nothing, 8 and 10 for a newer version neither, but that 11 for a contradiction spoils the
+ * gathering: make the state fresh to begin again, or wait for a newer version. While nothing is begun,
+ * and for a newer version's section, there is no 9 and no 11. */
 nw_answer nw_gathering_feed(nw_gathering *g, uint8_t *store, size_t store_bytes, const uint8_t *s,
                             size_t n);
 enum nw_fed { NW_FED_TAKEN = 0, NW_FED_HELD_ALREADY = 1 };

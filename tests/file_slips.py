@@ -88,8 +88,7 @@ def whole():
     yield DRILL + ONE[:40], ['bytes %d to %d' % (len(DRILL), len(DRILL) + 39) + CUT_OFF + ELSEWHERE, *SHOWN]
     later = printed(INDEX, 0, 1, 0, 0, 0, b'\0\0\0')
     yield DRILL + later, ['section at byte %d: not taken, the section is not current (refusal 8)' % len(DRILL), *SHOWN]
-    (newer,) = index(message(class_level=0x24), version=1)
-    yield ONE + newer + TWO, ['  class       3, actual drill', '  version     0', '  class       2, simulated drill', '  version     1']
+    yield from taken_over()
     yield index()[0], ['index table, extension 0000, version 0: it has no message']
     certificate, = table(CERTIFICATE, b'\0\0\0\0')
     setting, = table(CONFIGURATION, b'\x01\x06\0\x02\x64\0\0\0', 0xBEEF, 3)
@@ -102,6 +101,33 @@ def whole():
            [*SHOWN, 'message ' + OTHER_DIGITS, '    | Two.'])
     g = b'G' * 60000
     yield b''.join(content(language(g))) + ONE, ['    | ' + g.decode()]  # 0x47 nearly everywhere, and no transport stream
+
+
+TAKES_OVER = 'section at byte %d: version %d of the %s table, extension %s, takes over from version %d'
+LEFT_OUT = 'section at byte %d: left out, its version %d is not ahead of version %d, which is held (refusal 9)'
+(NEWER,) = index(message(class_level=0x24), version=1)
+(CORRECTED,) = content(language(b'The drill is later.\n'), version=15)
+CONTRADICTS = 'two payloads contradict each other under one section number (refusal 11)'
+(AGAINST,) = content(language(b'That is a drill.\n'))
+
+
+def taken_over():
+    """A newer version takes over, also from a spoiled table, with fewer sections or more; the old one's damage is no loss."""
+    index_over = TAKES_OVER % (len(ONE), 1, 'index', '0000', 0)
+    simulated = [*HEAD, '  class       2, simulated drill', '  version     1']
+    yield ONE + NEWER + TWO, [index_over, 'sections: 3 taken, 0 held already, 0 refused', *simulated, '    | This is a drill.']
+    text_over = TAKES_OVER % (len(DRILL), 15, 'content', EXTENSION, 0)
+    corrected = [*HEAD, '    | The drill is later.']
+    yield DRILL + CORRECTED, [text_over, 'sections: 3 taken, 0 held already, 0 refused', *corrected]
+    yield (DRILL + AGAINST + CORRECTED,
+           ['section at byte %d: not taken, %s' % (len(DRILL), CONTRADICTS),
+            TAKES_OVER % (len(DRILL + AGAINST), 15, 'content', EXTENSION, 0), *corrected])
+    yield (changed(ONE, 30) + NEWER + TWO,
+           ['bytes 0 to %d' % (len(ONE) - 1) + CHECK + '; it was of an older version than is held', *simulated])
+    yield (ONE + b''.join(LONG) + CORRECTED,
+           [TAKES_OVER % (len(ONE) + sum(map(len, LONG)), 15, 'content', EXTENSION, 0), *corrected])
+    longer = content(language(b'Go on foot.\n' * 1000), version=15)
+    yield DRILL + b''.join(longer), [text_over, 'sections: 5 taken, 0 held already, 0 refused', *HEAD, '    | Go on foot.']
 
 
 def texts():
@@ -150,9 +176,17 @@ def faulty():
     yield ONE + LONG[2] + LONG[2], [lost + '2 of its 3 sections are missing, the first of them number 0']
     yield (ONE + printed(CONTENT, 7, 0, 1, 0, 255, b''), [
         'content table, extension 0007, version 0: not whole, 255 of its 256 sections are missing, the first of them number 1'])
-    (against,) = content(language(b'That is a drill.\n'))
-    contradict = 'two payloads contradict each other under one section number (refusal 11)'
-    yield DRILL + against, ['section at byte %d: not taken, %s' % (len(DRILL), contradict), lost + contradict, faults(2)]
+    yield DRILL + AGAINST, ['section at byte %d: not taken, %s' % (len(DRILL), CONTRADICTS), lost + CONTRADICTS, faults(2)]
+    yield NEWER + ONE + TWO, [LEFT_OUT % (len(NEWER), 0, 1), *HEAD, '  class       2, simulated drill', faults(1)]
+    (far,) = index(message(), version=17)
+    yield NEWER + far + TWO, [LEFT_OUT % (len(NEWER), 17, 1), '  version     1', faults(1)]
+    half_new = content(language(b'Go on foot.\n' * 1000), version=1)[1]
+    yield (DRILL + half_new, [
+        TAKES_OVER % (len(DRILL), 1, 'content', EXTENSION, 0),
+        'content table, extension %s, version 1: not whole, 2 of its 3 sections are missing, the first of them number 0' % EXTENSION,
+        NO_TEXT, faults(2)])
+    yield (DRILL + printed(INDEX, 0, 0, 1, 0, 1, b''), [
+        'section at byte %d: left out, its last number is 1, and that of its table 0 (refusal 9)' % len(DRILL), *SHOWN, faults(1)])
     yield from refused_bodies()
     yield from long_files()
 

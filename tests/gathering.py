@@ -86,6 +86,58 @@ def examples():
     assert ask('gathering_show')[1:] == (2018, 0xFD, 17, 1, 0, 0, 1, 1, 1)
 
 
+def takeovers():
+    """A newer version starts over, from a whole and from a spoiled gathering too, and nothing of the old table counts."""
+
+    def section(version, number, last, payload, current=1, extension=2018):
+        return printed(0xFE, extension, version, current, number, last, payload)
+
+    lend(FRESH, filled(room_for(1)))
+    assert feed(section(30, 0, 1, b'old')) == feed(section(30, 1, 1, b'text')) == (0, 0)
+    assert hand_out(7)[:2] == (0, 7)
+    # Not current, no room for its table, 16 steps ahead, another extension: all is as before.
+    assert feed(section(31, 0, 1, b'new', current=0)) == (8, 0)
+    assert feed(section(31, 0, 2, b'new')) == (10, 0)
+    assert feed(section(14, 0, 1, b'new')) == (9, 0)
+    assert feed(section(31, 0, 1, b'new', extension=2019)) == (9, 0)
+    assert ask('gathering_hand_out', bytes(7)) == (0, 7, b'oldtext')
+    # Number 1 is held with another payload, but not of this table. The old number 0 is missing from then on.
+    assert feed(section(13, 1, 1, b'newer')) == (0, 0)
+    assert ask('gathering_show')[1:] == (2018, 0xFE, 13, 1, 0, 1, 6)
+    assert hand_out(9)[:2] == (13, 0)
+    assert feed(section(30, 0, 1, b'old')) == (9, 0)
+    # A spoiled gathering is given up too, for a table with fewer sections.
+    assert feed(section(13, 1, 1, b'other')) == (11, 0)
+    assert feed(section(14, 0, 2, b'')) == (10, 0)
+    assert feed(section(13, 1, 1, b'newer')) == (11, 0)
+    assert feed(section(14, 0, 0, b'whole')) == (0, 0)
+    assert ask('gathering_hand_out', bytes(5)) == (0, 5, b'whole')
+    assert feed(section(14, 0, 0, b'whole')) == (0, 1)
+    ask('gathering_show')
+
+
+def steps_round(held, new):
+    """How often one goes on from the held version, from 31 to 0, until the new one is there."""
+    steps = 0
+    while held != new:
+        held, steps = 0 if held == 31 else held + 1, steps + 1
+    return steps
+
+
+def pairs_of_versions():
+    """Every held version with every new one, the last number the same or not, the gathering spoiled or not."""
+    for held, new, last, spoiled in itertools.product(range(32), range(32), (1, 2), (0, 1)):
+        steps = steps_round(held, new)
+        lend(packed((0xFB, 7, held, 1), spoiled, {0: 2}), b'\x55' * room_for(2))
+        answer = feed(printed(0xFB, 7, new, 1, 1, last, b'new'))
+        if 1 <= steps <= 15:
+            assert answer == (0, 0)
+            assert ask('gathering_show')[1:] == (7, 0xFB, new, last, 0, 1, 4)
+        else:
+            assert answer == ((9, 0) if steps or last == 2 else (11, 0) if spoiled else (0, 0))
+            ask('gathering_show')
+
+
 # ---- every fault with every other, which shows the order of refusals
 
 
@@ -111,9 +163,9 @@ SECTION_FAULTS = [
 
 
 def orders_of_feeding():
-    """State, section, current, heading, store, contradiction; and the same to a fresh state."""
+    """State, section, current, heading (the same, 31 steps ahead, 1 step), store, contradiction; and to a fresh state."""
     for impossible, number, current, version, short, spoiled, length in itertools.product(
-            (0, 1), range(8), (1, 0), (31, 30), (0, 1), (0, 1), (5, 6)):
+            (0, 1), range(8), (1, 0), (31, 30, 0), (0, 1), (0, 1), (5, 6)):
         s = SECTION_FAULTS[number](printed(0xFE, 0x0C29, version, current, 1, 2, b'\x77' * length))
         begun = packed((0xFE, 0x0C29, 31, 2), spoiled, {1: 5, 2 + impossible: 0})
         for state in begun, with_byte(5, impossible)(FRESH):
@@ -192,15 +244,17 @@ def store_by_chance(last):
 
 
 def stranger(kind, extension, version, last):
-    """The heading with one part changed."""
-    part = chance.randrange(4)
+    """The heading with one part changed, or of a version ahead."""
+    part = chance.randrange(5)
     if part == 0:
         kind = chance.choice([other for other in range(0xFB, 0xFF) if other != kind])
     elif part == 1:
         extension ^= 1 << chance.randrange(16)
     elif part == 2:
         version ^= 1 << chance.randrange(5)
-    else:
+    if part == 4:
+        version = (version + chance.randint(1, 17)) % 32
+    if part >= 3:
         last = chance.choice([other for other in (0, 1, 2, abs(last - 1), last + 1, 255) if other != last])
     return kind, extension, version, last
 
@@ -300,7 +354,7 @@ def long_tables():
 
 
 def main():
-    for part in examples, orders_of_feeding, orders_of_handing_out, by_hand, long_tables:
+    for part in examples, takeovers, pairs_of_versions, orders_of_feeding, orders_of_handing_out, by_hand, long_tables:
         part()
     for _ in range(SEQUENCES):
         sequence()

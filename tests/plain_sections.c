@@ -76,13 +76,21 @@ static int is_other_heading(const nw_gathering *g, plain_answer read) {
            g->version != heading_version(read) || g->last != heading_last(read);
 }
 
+// Of the same table in a version 1 to 15 steps ahead, round the ring of 32.
+static int is_newer(const nw_gathering *g, plain_answer read) {
+    unsigned steps = ((unsigned)heading_version(read) + MOST_VERSION + 1 - g->version) & MOST_VERSION;
+    return g->kind == heading_kind(read) && g->extension == heading_extension(read) && steps > 0 && steps < 16;
+}
+
 plain_answer plain_gathering_feed(nw_gathering *g, uint8_t *store, size_t store_bytes, const uint8_t *s, size_t n) {
     if (!is_possible(g)) return NW_IMPOSSIBLE_STATE;
     plain_answer read = plain_section_read(s, n);
     if (refusal_of(read)) return read;
     if (!heading_current(read)) return NW_NOT_CURRENT;
-    if (g->kind != 0 && is_other_heading(g, read)) return NW_OTHER_HEADING;
+    int begins = g->kind == 0 || is_newer(g, read);
+    if (!begins && is_other_heading(g, read)) return NW_OTHER_HEADING;
     if (store_bytes < NW_STORE_BYTES(heading_last(read))) return NW_STORE_TOO_SHORT;
+    if (begins) memset(g, 0, sizeof *g);
     if (g->spoiled) return NW_CONTRADICTION;
     size_t number = heading_number(read), length = n - FRAME;
     uint8_t *place = store + number * NW_MOST_PAYLOAD;

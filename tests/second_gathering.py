@@ -43,10 +43,14 @@ class Gathering:
         heading, payload = (kind, extension, version, last), s[8:-4]
         if not current:
             raise Refused(8)
-        if self.lengths and heading != self.heading:
+        newer = (kind, extension) == self.heading[:2] and (version - self.heading[2]) % 32 in range(1, 16)
+        begins = newer or not self.lengths
+        if not begins and heading != self.heading:
             raise Refused(9)
         if len(self.store) < (last + 1) * MOST_PAYLOAD:
             raise Refused(10)
+        if begins:
+            self.spoiled, self.lengths = 0, {}
         if self.spoiled:
             raise Refused(11)
         if number not in self.lengths:

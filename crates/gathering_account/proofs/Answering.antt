@@ -1,7 +1,7 @@
 -- An account tells what each feed answers: a box that stands for an account decides as the account says, whichever way its verdict goes.
 use Prim.Native.Nat.{ℕ}
 use mathlib.Core.Path.{_≡_, refl, sym, _∙_, ap, ap₂}
-use mathlib.Core.Bool.{Bool, true, false, or-true}
+use mathlib.Core.Bool.{Bool, true, false, _||_, or-true}
 use mathlib.Core.List.{List, [], _∷_, List·Memᴰ as In, List·Memᴰ·head, List·Memᴰ·tail}
 use lib.ListN.{length, getD}
 use Rattle.ground_refusal.specs.declared.Refusal.{Refusal}
@@ -12,19 +12,21 @@ use Rattle.section_reader.specs.declared.Heading.{Heading}
 use Rattle.section_reader.specs.declared.Sectioned.the-variants.{Good, Refused as NotGood}
 use Rattle.gathering_state.specs.State.{freshState, possibleOf, hasRoom, heldPayload}
 use Rattle.gathering_state.specs.declared.Gathering.{Gathering}
-use Rattle.gathering_feed.specs.Feeding.{agrees, verdictOf, answerBy}
+use Rattle.gathering_tables.specs.Tables.{sameTable, isNewer}
+use Rattle.gathering_feed.specs.Feeding.{agrees, begins, verdictOf, answerBy}
 use Rattle.gathering_feed.specs.declared.Answer.the-variants.{Taken, HeldAlready, Refused}
 use Rattle.gathering_feed.specs.declared.Fed.{Fed}
 use Rattle.gathering_feed.specs.declared.Verdict.{Verdict}
-use Rattle.gathering_feed.specs.declared.Verdict.the-variants.{Refuse}
-use Rattle.gathering_feed.proofs.Verdicts.{verdict-bad, verdict-good, Decided, old, other, short, spoiled, new, again, clash, decided, feeds}
-use Rattle.gathering_account.specs.Account.{heard, Section, Account, idle, table, sameTable, accountAfter, account, Agree, Present}
-use Rattle.gathering_account.specs.Answering.{present, differs, agreeing, answerOfTable, answerOfGood, answerOfRead, answerTo, answersTo}
+use Rattle.gathering_feed.specs.declared.Verdict.the-variants.{Refuse, Begin}
+use Rattle.gathering_feed.proofs.Verdicts.{verdict-bad, verdict-good, Decided, old, other, short, begun, spoiled, new, again, clash, decided, feeds}
+use Rattle.gathering_account.specs.Account.{heard, Section, Account, idle, table, accountAfter, account, Agree, Present}
+use Rattle.gathering_account.specs.Answering.{present, differs, agreeing, answerOfTable, answerOfFirst, answerOfGood, answerOfRead, answerTo, answersTo}
+use Rattle.gathering_account.specs.Latest.{beginsAfter}
 use Rattle.gathering_account.specs.Gathers.{Box, freshBox, ByteStrings, feed, boxAfter, fedAnswer, answersOf}
 use Rattle.gathering_account.proofs.Agreeing.{present-is, is-present, differs-not, alike-differs, agreeing-is, agree-agreeing}
 use Rattle.gathering_account.proofs.Keeping.{Kept, kept-agree}
 use Rattle.gathering_account.proofs.Hearing.{ReadAs, as-good, as-bad, readAs}
-use Rattle.gathering_account.proofs.Standing.{Fixed, Stands, fresh-stands, calm-stands, spoiled-stands, never, stands-possible, fresh-agrees, fresh-calm, fresh-held, fixed-agrees, fixed-not-short}
+use Rattle.gathering_account.proofs.Standing.{Fixed, Stands, fresh-stands, calm-stands, spoiled-stands, never, stands-possible, fresh-begins, fixed-agrees, fixed-begins, fixed-not-short}
 use Rattle.gathering_account.proofs.Feeds.{feed-stands, fresh-run}
 
 -- ---- what leads to each answer of the account
@@ -48,22 +50,28 @@ module _ (S : List Section) (s : Section) where
     answer-new p = rw (d, a, p)
 
 module _ (room : ℕ → Bool) (h : Heading) (p : List ℕ) where
-  answer-short : room (h .last) ≡ false → answerOfGood room idle h p ≡ Refused StoreTooShort
-  unfolding answerOfGood
+  -- a section that begins its table
+  answer-begins : (a : Account) → beginsAfter a h ≡ true → answerOfGood room a h p ≡ answerOfFirst room h
+  unfolding answerOfGood beginsAfter
+  answer-begins idle b = refl
+  answer-begins (table t S) b = rw b
+
+  answer-short : room (h .last) ≡ false → answerOfFirst room h ≡ Refused StoreTooShort
+  unfolding answerOfFirst
   answer-short r = rw r
 
-  answer-first : room (h .last) ≡ true → answerOfGood room idle h p ≡ Taken
-  unfolding answerOfGood
+  answer-first : room (h .last) ≡ true → answerOfFirst room h ≡ Taken
+  unfolding answerOfFirst
   answer-first r = rw r
 
-  module _ (t : Heading) (S : List Section) where
+  module _ (t : Heading) (S : List Section) (b : isNewer t h ≡ false) where
     answer-other : sameTable t h ≡ false → answerOfGood room (table t S) h p ≡ Refused OtherHeading
     unfolding answerOfGood
-    answer-other e = rw e
+    answer-other e = rw (b, e)
 
     answer-same : sameTable t h ≡ true → answerOfGood room (table t S) h p ≡ answerOfTable S (record { number = h .number; contents = p })
     unfolding answerOfGood
-    answer-same e = rw e
+    answer-same e = rw (b, e)
 
 module _ (room : ℕ → Bool) (a : Account) (s : List ℕ) where
   answer-bad : (r : Refusal) → readSection s ≡ NotGood r → answerTo room a s ≡ Refused r
@@ -119,50 +127,91 @@ module _ (bytes : ℕ) (box : Box) (s : List ℕ) (h : Heading) (n : ℕ) (e : r
   abbrev Ways : Verdict → Type 0
   Ways = Decided (box .state) (box .store) h (payloadOf s)
 
+  -- it begins its table
+  module _ (a : Account) (b : beginsAfter a h ≡ true) (c : h .current ≡ true) (l : length (box .store) ≡ bytes) where
+    begins-tells : answerTo (hasRoom bytes) a s ≡ answerOfFirst (hasRoom bytes) h
+    begins-tells = answer-good (hasRoom bytes) a s h n e c ∙ answer-begins (hasRoom bytes) h (payloadOf s) a b
+
+    short-tells : hasRoom (length (box .store)) (h .last) ≡ false → Tells a (Refuse StoreTooShort)
+    unfolding answerBy
+    short-tells r = begins-tells ∙ answer-short (hasRoom bytes) h (payloadOf s) (rw l at r)
+
+    first-tells : hasRoom (length (box .store)) (h .last) ≡ true → Tells a (Begin h)
+    unfolding answerBy
+    first-tells r = begins-tells ∙ answer-first (hasRoom bytes) h (payloadOf s) (rw l at r)
+
   -- nothing begun
   module _ (z : box .state ≡ freshState) (l : length (box .store) ≡ bytes) where
+    first : begins (box .state) h ≡ true
+    first = rw z (fresh-begins h)
+
+    idle-begins : beginsAfter idle h ≡ true
+    unfolding beginsAfter
+    idle-begins = refl
+
     fresh-tells : (v : Verdict) → Ways v → Tells idle v
     unfolding answerBy
     fresh-tells v (old c) = answer-old (hasRoom bytes) idle s h n e c
-    fresh-tells v (other c a) = never (agrees (box .state) h) (rw z (fresh-agrees h)) a
-    fresh-tells v (short c a r) = answer-good (hasRoom bytes) idle s h n e c ∙ answer-short (hasRoom bytes) h (payloadOf s) (rw l at r)
-    fresh-tells v (spoiled c a r x) = absurd (x (rw z fresh-calm))
-    fresh-tells v (new x u) = answer-good (hasRoom bytes) idle s h n e (x .current) ∙ answer-first (hasRoom bytes) h (payloadOf s) (rw l at (x .roomy))
-    fresh-tells v (again x u q) = absurd (u (rw z (fresh-held (h .number))))
-    fresh-tells v (clash x u q) = absurd (u (rw z (fresh-held (h .number))))
+    fresh-tells v (other c b a) = never (begins (box .state) h) first b
+    fresh-tells v (short c k r) = short-tells idle idle-begins c l r
+    fresh-tells v (begun c b r) = first-tells idle idle-begins c l r
+    fresh-tells v (spoiled c b a r x) = never (begins (box .state) h) first b
+    fresh-tells v (new x u) = never (begins (box .state) h) first (x .further)
+    fresh-tells v (again x u q) = never (begins (box .state) h) first (x .further)
+    fresh-tells v (clash x u q) = never (begins (box .state) h) first (x .further)
 
   -- a table is fixed
   module _ (t : Heading) (S : List Section) (x : Fixed (box .state) bytes t) (l : length (box .store) ≡ bytes) where
     abbrev section : Section
     section = record { number = h .number; contents = payloadOf s }
 
+    newer-begins : begins (box .state) h ≡ true → beginsAfter (table t S) h ≡ true
+    unfolding beginsAfter
+    newer-begins b = sym (fixed-begins x h) ∙ b
+
     old-tells : h .current ≡ false → Tells (table t S) (Refuse NotCurrent)
     unfolding answerBy
     old-tells = answer-old (hasRoom bytes) (table t S) s h n e
 
-    other-tells : h .current ≡ true → agrees (box .state) h ≡ false → Tells (table t S) (Refuse OtherHeading)
+    other-tells : h .current ≡ true → begins (box .state) h ≡ false → agrees (box .state) h ≡ false → Tells (table t S) (Refuse OtherHeading)
     unfolding answerBy
-    other-tells c a = answer-good (hasRoom bytes) (table t S) s h n e c ∙ answer-other (hasRoom bytes) h (payloadOf s) t S (sym (fixed-agrees x h) ∙ a)
+    other-tells c b a =
+        answer-good (hasRoom bytes) (table t S) s h n e c
+        ∙ answer-other (hasRoom bytes) h (payloadOf s) t S (sym (fixed-begins x h) ∙ b) (sym (fixed-agrees x h) ∙ a)
 
-    same-tells : h .current ≡ true → agrees (box .state) h ≡ true → answerTo (hasRoom bytes) (table t S) s ≡ answerOfTable S section
-    same-tells c a = answer-good (hasRoom bytes) (table t S) s h n e c ∙ answer-same (hasRoom bytes) h (payloadOf s) t S (sym (fixed-agrees x h) ∙ a)
+    -- 10 is of a newer table
+    shut-tells : h .current ≡ true → begins (box .state) h || agrees (box .state) h ≡ true → hasRoom (length (box .store)) (h .last) ≡ false
+        → Tells (table t S) (Refuse StoreTooShort)
+    shut-tells c k r = go (begins (box .state) h) refl k
+      where
+        go : (b : Bool) → begins (box .state) h ≡ b → b || agrees (box .state) h ≡ true → Tells (table t S) (Refuse StoreTooShort)
+        go true b k = short-tells (table t S) (newer-begins b) c l r
+        go false b k = fixed-not-short x h (box .store) l k r
+
+    same-tells : h .current ≡ true → begins (box .state) h ≡ false → agrees (box .state) h ≡ true
+        → answerTo (hasRoom bytes) (table t S) s ≡ answerOfTable S section
+    same-tells c b a =
+        answer-good (hasRoom bytes) (table t S) s h n e c
+        ∙ answer-same (hasRoom bytes) h (payloadOf s) t S (sym (fixed-begins x h) ∙ b) (sym (fixed-agrees x h) ∙ a)
 
     calm-tells : box .state .spoiled ≡ 0 → Kept (box .state) (box .store) S → (v : Verdict) → Ways v → Tells (table t S) v
     unfolding answerBy
     calm-tells z k v (old c) = old-tells c
-    calm-tells z k v (other c a) = other-tells c a
-    calm-tells z k v (short c a r) = fixed-not-short x h (box .store) l a r
-    calm-tells z k v (spoiled c a r y) = absurd (y z)
-    calm-tells z k v (new y u) = same-tells (y .current) (y .agreed) ∙ unheld k section u
-    calm-tells z k v (again y u q) = same-tells (y .current) (y .agreed) ∙ held-same k section u q
-    calm-tells z k v (clash y u q) = same-tells (y .current) (y .agreed) ∙ held-differing k section u q
+    calm-tells z k v (other c b a) = other-tells c b a
+    calm-tells z k v (short c b r) = shut-tells c b r
+    calm-tells z k v (begun c b r) = first-tells (table t S) (newer-begins b) c l r
+    calm-tells z k v (spoiled c b a r y) = absurd (y z)
+    calm-tells z k v (new y u) = same-tells (y .current) (y .further) (y .agreed) ∙ unheld k section u
+    calm-tells z k v (again y u q) = same-tells (y .current) (y .further) (y .agreed) ∙ held-same k section u q
+    calm-tells z k v (clash y u q) = same-tells (y .current) (y .further) (y .agreed) ∙ held-differing k section u q
 
     spoiled-tells : (box .state .spoiled ≡ 0 → ⊥) → (Agree S → ⊥) → (v : Verdict) → Ways v → Tells (table t S) v
     unfolding answerBy
     spoiled-tells z k v (old c) = old-tells c
-    spoiled-tells z k v (other c a) = other-tells c a
-    spoiled-tells z k v (short c a r) = fixed-not-short x h (box .store) l a r
-    spoiled-tells z k v (spoiled c a r y) = same-tells c a ∙ answer-spoiled S section (sym (refuted (agreeing S) (λ i. k (agreeing-is S i))))
+    spoiled-tells z k v (other c b a) = other-tells c b a
+    spoiled-tells z k v (short c b r) = shut-tells c b r
+    spoiled-tells z k v (begun c b r) = first-tells (table t S) (newer-begins b) c l r
+    spoiled-tells z k v (spoiled c b a r y) = same-tells c b a ∙ answer-spoiled S section (sym (refuted (agreeing S) (λ i. k (agreeing-is S i))))
     spoiled-tells z k v (new y u) = absurd (z (y .calm))
     spoiled-tells z k v (again y u q) = absurd (z (y .calm))
     spoiled-tells z k v (clash y u q) = absurd (z (y .calm))

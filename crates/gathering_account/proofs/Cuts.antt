@@ -77,7 +77,7 @@ module _ (body : List ℕ) (kind extension version : ℕ) (allowed : Allowed kin
   unfolding cutHeading
   cut-count = let a = count-some (length body) some in omega arith
 
-  cutter-cut : CutInto h (sectionOf body kind extension version)
+  pub cutter-cut : CutInto h (sectionOf body kind extension version)
   unfolding CutInto cutHeading headingAt
   cutter-cut number l =
       let c = cut-count in

@@ -1,7 +1,7 @@
 -- Each feed keeps what a box stands for, by the ways that its verdict can go; and so does a run of feeds.
 use Prim.Native.Nat.{ℕ, _+_, _≤_}
 use mathlib.Core.Path.{_≡_, refl, sym, _∙_, ap}
-use mathlib.Core.Bool.{true, false}
+use mathlib.Core.Bool.{Bool, true, false, _||_}
 use mathlib.Core.List.{List, [], _∷_, _++_, List·Memᴰ·head, List·Memᴰ·tail}
 use native.Mathlib.Omega.{arith}
 use lib.ListN.{length, getD, length-set}
@@ -10,21 +10,23 @@ use Rattle.ground_refusal.specs.declared.Refusal.{Refusal}
 use Rattle.section_reader.specs.Section.{payloadOf, readSection, WellFormed}
 use Rattle.section_reader.specs.declared.Heading.{Heading}
 use Rattle.section_reader.specs.declared.Sectioned.the-variants.{Good}
+use Rattle.ground_placing.specs.Placed.{placed}
 use Rattle.ground_placing.proofs.Placing.{placed-length}
 use Rattle.section_reader.proofs.RoundTrip.{good-printed}
 use Rattle.gathering_state.specs.State.{freshState, place, hasRoom, withSection}
 use Rattle.gathering_state.specs.declared.Gathering.{Gathering}
 use Rattle.gathering_state.proofs.State.{place-within}
-use Rattle.gathering_feed.specs.Feeding.{agrees, verdictOf, stateBy, storeBy}
+use Rattle.gathering_feed.specs.Feeding.{agrees, begins, verdictOf, stateBy, storeBy}
 use Rattle.gathering_feed.specs.declared.Verdict.{Verdict}
-use Rattle.gathering_feed.specs.declared.Verdict.the-variants.{Refuse, Repeat, Contradict, Take}
-use Rattle.gathering_feed.proofs.Verdicts.{SameHeading, Heard as Passed, verdict-bad, verdict-good, Decided, old, other, short, spoiled, new, again, clash, decided}
+use Rattle.gathering_feed.specs.declared.Verdict.the-variants.{Refuse, Repeat, Contradict, Begin, Take}
+use Rattle.gathering_feed.proofs.Verdicts.{SameHeading, verdict-bad, verdict-good, Decided, old, other, short, begun, spoiled, new, again, clash, decided}
 use Rattle.gathering_account.specs.Account.{heard, Section, Account, idle, table, accountAfter, account, Agree}
+use Rattle.gathering_account.specs.Latest.{beginsAfter}
 use Rattle.gathering_account.specs.Gathers.{Box, freshBox, ByteStrings, feed, boxAfter}
 use Rattle.gathering_account.proofs.Taking.{Ready, begun-with}
 use Rattle.gathering_account.proofs.Keeping.{Kept, agree-front, kept-again, kept-clash, kept-more, kept-none}
 use Rattle.gathering_account.proofs.Hearing.{ReadAs, as-good, as-bad, readAs, heard-bad, heard-old, heard-good, counted-nothing, counted-first, counted-none, counted-same, counted-other, feed-by}
-use Rattle.gathering_account.proofs.Standing.{Fixed, Stands, fresh-stands, calm-stands, spoiled-stands, never, stands-possible, fresh-agrees, fresh-calm, fresh-held, fresh-ready, fixed-ready, fixed-spoiled, spoiled-marked, same-with, fixed-agrees, fixed-heading, fixed-not-short, formed-kind}
+use Rattle.gathering_account.proofs.Standing.{Fixed, Stands, fresh-stands, calm-stands, spoiled-stands, never, stands-possible, fresh-begins, fresh-calm, fresh-held, fresh-ready, fixed-ready, fixed-spoiled, spoiled-marked, same-with, fixed-agrees, fixed-begins, fixed-heading, fixed-not-short, formed-kind}
 
 -- ---- a good section
 
@@ -44,28 +46,41 @@ module _ (bytes : ℕ) (box : Box) (s : List ℕ) (areBytes : AreBytes s) (h : H
   p-short : length p ≤ 4084
   p-short = let i = good-printed s h n areBytes e in omega arith
 
-  -- it is taken, as the table's first or as a further one
-  takes : (t : Heading) (S : List Section) → Ready g h → Kept g (box .store) S → SameHeading (withSection g h (length p)) t → h .last ≡ t .last
-      → Passed g (box .store) h → length (box .store) ≡ bytes → getD (g .held) (h .number) 0 ≡ 0
-      → verdictOf g (box .store) s ≡ Take h → Stands bytes (feed box s) (table t (S ++ section ∷ []))
-  unfolding stateBy storeBy withSection
-  takes t S r kept same last passed long unheld v =
+  -- it is taken into the state b: the fresh one, as its table's first, or the box's, as a further one
+  takes : (b : Gathering) (t : Heading) (S : List Section) → Ready b h → Kept b (box .store) S → b .spoiled ≡ 0 → SameHeading (withSection b h (length p)) t
+      → h .last ≡ t .last → hasRoom (length (box .store)) (h .last) ≡ true → length (box .store) ≡ bytes → getD (b .held) (h .number) 0 ≡ 0
+      → feed box s ≡ record { state = withSection b h (length p); store = placed (box .store) (place (h .number)) p }
+      → Stands bytes (feed box s) (table t (S ++ section ∷ []))
+  unfolding withSection
+  takes b t S r kept calm same last roomy long unheld fed =
       let w = formed in
       let l = p-short in
       let m = r .long in
-      let within = place-within (length (box .store)) (h .last) (h .number) (passed .roomy) (w .number-high) in
-      rw (feed-by box s (Take h) v)
+      let within = place-within (length (box .store)) (h .last) (h .number) roomy (w .number-high) in
+      rw fed
       (calm-stands
       (record {
         same = same;
-        roomy = rw (← last, ← long) (passed .roomy);
+        roomy = rw (← last, ← long) roomy;
         last-high = rw (← last) (w .last-high);
-        long = length-set (g .held) (h .number) (length p + 1) ∙ m;
-        begun = begun-with g h (length p) r (formed-kind h w) (w .version-high) (w .number-high) (w .last-high) l;
+        long = length-set (b .held) (h .number) (length p + 1) ∙ m;
+        begun = begun-with b h (length p) r (formed-kind h w) (w .version-high) (w .number-high) (w .last-high) l;
       })
       (placed-length (box .store) (place (h .number)) p (omega arith) ∙ long)
-      (passed .calm)
-      (kept-more g (box .store) S kept h p unheld (omega arith) (r .short) within l))
+      calm
+      (kept-more b (box .store) S kept h p unheld (omega arith) (r .short) within l))
+
+  -- it begins its table, whatever the box holds
+  takes-first : length (box .store) ≡ bytes → hasRoom (length (box .store)) (h .last) ≡ true → verdictOf g (box .store) s ≡ Begin h
+      → Stands bytes (feed box s) (table h (section ∷ []))
+  unfolding stateBy storeBy withSection
+  takes-first l roomy f =
+      takes freshState h [] (fresh-ready h) (kept-none freshState (box .store) fresh-held) fresh-calm
+      (record { kind = refl; extension = refl; version = refl; last = refl }) refl roomy l (fresh-held (h .number)) (feed-by box s (Begin h) f)
+
+  starts : (a : Account) → beginsAfter a h ≡ true → h .current ≡ true → length (box .store) ≡ bytes → hasRoom (length (box .store)) (h .last) ≡ true
+      → verdictOf g (box .store) s ≡ Begin h → Stands bytes (feed box s) (accountAfter (hasRoom bytes) a (heard s))
+  starts a b c l r f = rw (heard-good s h n e c, counted-first (hasRoom bytes) h p (rw l at r) a b) (takes-first l r f)
 
   -- the feed changes nothing, nor does what is heard
   still : (a : Account) → Stands bytes box a → (r : Refusal) → verdictOf g (box .store) s ≡ Refuse r → (a′ : Account) → a′ ≡ a → Stands bytes (feed box s) a′
@@ -75,45 +90,64 @@ module _ (bytes : ℕ) (box : Box) (s : List ℕ) (areBytes : AreBytes s) (h : H
   unheard : (a : Account) → h .current ≡ false → accountAfter (hasRoom bytes) a (heard s) ≡ a
   unheard a c = ap (accountAfter (hasRoom bytes) a) (heard-old s h n e c) ∙ counted-nothing (hasRoom bytes) a
 
+  -- where it would begin its table and there is no room, all stays
+  unroomed : (a : Account) → beginsAfter a h ≡ true → h .current ≡ true → length (box .store) ≡ bytes → hasRoom (length (box .store)) (h .last) ≡ false
+      → accountAfter (hasRoom bytes) a (heard s) ≡ a
+  unroomed a b c l r = ap (accountAfter (hasRoom bytes) a) (heard-good s h n e c) ∙ counted-none (hasRoom bytes) h p (rw l at r) a b
+
   -- nothing begun: it begins, unless there is no room
   module _ (z : g ≡ freshState) (l : length (box .store) ≡ bytes) where
-    empty : (k : ℕ) → getD (g .held) k 0 ≡ 0
-    empty = rw z fresh-held
+    first : begins g h ≡ true
+    first = rw z (fresh-begins h)
 
-    begins : Passed g (box .store) h → verdictOf g (box .store) s ≡ Take h → Stands bytes (feed box s) (table h (section ∷ []))
-    unfolding withSection
-    begins x f =
-        takes h [] (rw z (fresh-ready h)) (kept-none g (box .store) empty) (record { kind = refl; extension = refl; version = refl; last = refl }) refl x l
-        (empty (h .number)) f
+    idle-begins : beginsAfter idle h ≡ true
+    unfolding beginsAfter
+    idle-begins = refl
 
     good-fresh : (v : Verdict) → verdictOf g (box .store) s ≡ v → Decided g (box .store) h p v → Stands bytes (feed box s) (accountAfter (hasRoom bytes) idle (heard s))
     good-fresh v f (old c) = still idle (fresh-stands z l) _ f _ (unheard idle c)
-    good-fresh v f (other c a) = never (agrees g h) (rw z (fresh-agrees h)) a
-    good-fresh v f (short c a r) = still idle (fresh-stands z l) _ f _ (rw (heard-good s h n e c) (counted-none (hasRoom bytes) h p (rw l at r)))
-    good-fresh v f (spoiled c a r x) = absurd (x (rw z fresh-calm))
-    good-fresh v f (new x u) = rw (heard-good s h n e (x .current), counted-first (hasRoom bytes) h p (rw l at (x .roomy))) (begins x f)
-    good-fresh v f (again x u q) = absurd (u (empty (h .number)))
-    good-fresh v f (clash x u q) = absurd (u (empty (h .number)))
+    good-fresh v f (other c b a) = never (begins g h) first b
+    good-fresh v f (short c k r) = still idle (fresh-stands z l) _ f _ (unroomed idle idle-begins c l r)
+    good-fresh v f (begun c b r) = starts idle idle-begins c l r f
+    good-fresh v f (spoiled c b a r x) = never (begins g h) first b
+    good-fresh v f (new x u) = never (begins g h) first (x .further)
+    good-fresh v f (again x u q) = never (begins g h) first (x .further)
+    good-fresh v f (clash x u q) = never (begins g h) first (x .further)
 
   -- a table is fixed
   module _ (t : Heading) (S : List Section) (x : Fixed g bytes t) (l : length (box .store) ≡ bytes) where
+    newer-begins : begins g h ≡ true → beginsAfter (table t S) h ≡ true
+    unfolding beginsAfter
+    newer-begins b = sym (fixed-begins x h) ∙ b
+
     counts : h .current ≡ true → agrees g h ≡ true → accountAfter (hasRoom bytes) (table t S) (heard s) ≡ table t (S ++ section ∷ [])
     counts c a = rw (heard-good s h n e c) (counted-same (hasRoom bytes) h p t S (sym (fixed-agrees x h) ∙ a))
 
-    passes : h .current ≡ true → agrees g h ≡ false → accountAfter (hasRoom bytes) (table t S) (heard s) ≡ table t S
-    passes c a = rw (heard-good s h n e c) (counted-other (hasRoom bytes) h p t S (sym (fixed-agrees x h) ∙ a))
+    passes : h .current ≡ true → begins g h ≡ false → agrees g h ≡ false → accountAfter (hasRoom bytes) (table t S) (heard s) ≡ table t S
+    passes c b a = rw (heard-good s h n e c) (counted-other (hasRoom bytes) h p t S (sym (fixed-begins x h) ∙ b) (sym (fixed-agrees x h) ∙ a))
+
+    -- 10 is of a newer table
+    shuts : h .current ≡ true → begins g h || agrees g h ≡ true → hasRoom (length (box .store)) (h .last) ≡ false
+        → accountAfter (hasRoom bytes) (table t S) (heard s) ≡ table t S
+    shuts c k r = go (begins g h) refl k
+      where
+        go : (b : Bool) → begins g h ≡ b → b || agrees g h ≡ true → accountAfter (hasRoom bytes) (table t S) (heard s) ≡ table t S
+        go true b k = unroomed (table t S) (newer-begins b) c l r
+        go false b k = fixed-not-short x h (box .store) l k r
 
     good-calm : g .spoiled ≡ 0 → Kept g (box .store) S → (v : Verdict) → verdictOf g (box .store) s ≡ v → Decided g (box .store) h p v
         → Stands bytes (feed box s) (accountAfter (hasRoom bytes) (table t S) (heard s))
     unfolding stateBy storeBy
     good-calm z k v f (old c) = still (table t S) (calm-stands x l z k) _ f _ (unheard (table t S) c)
-    good-calm z k v f (other c a) = still (table t S) (calm-stands x l z k) _ f _ (passes c a)
-    good-calm z k v f (short c a r) = fixed-not-short x h (box .store) l a r
-    good-calm z k v f (spoiled c a r y) = absurd (y z)
+    good-calm z k v f (other c b a) = still (table t S) (calm-stands x l z k) _ f _ (passes c b a)
+    good-calm z k v f (short c b r) = still (table t S) (calm-stands x l z k) _ f _ (shuts c b r)
+    good-calm z k v f (begun c b r) = starts (table t S) (newer-begins b) c l r f
+    good-calm z k v f (spoiled c b a r y) = absurd (y z)
     good-calm z k v f (new y u) =
         let a = fixed-heading x h (y .agreed) in
         rw (counts (y .current) (y .agreed))
-        (takes t S (fixed-ready g bytes t h x (a .last)) k (same-with g t h (length p) (x .same) a) (sym (a .last) ∙ x .same .last) y l u f)
+        (takes g t S (fixed-ready g bytes t h x (a .last)) k z (same-with g t h (length p) (x .same) a) (sym (a .last) ∙ x .same .last) (y .roomy) l u
+        (feed-by box s (Take h) f))
     good-calm z k v f (again y u q) =
         rw (counts (y .current) (y .agreed), feed-by box s Repeat f) (calm-stands x l z (kept-again g (box .store) S k section u q))
     good-calm z k v f (clash y u q) =
@@ -123,9 +157,11 @@ module _ (bytes : ℕ) (box : Box) (s : List ℕ) (areBytes : AreBytes s) (h : H
     good-spoiled : (g .spoiled ≡ 0 → ⊥) → (Agree S → ⊥) → (v : Verdict) → verdictOf g (box .store) s ≡ v → Decided g (box .store) h p v
         → Stands bytes (feed box s) (accountAfter (hasRoom bytes) (table t S) (heard s))
     good-spoiled z k v f (old c) = still (table t S) (spoiled-stands x l z k) _ f _ (unheard (table t S) c)
-    good-spoiled z k v f (other c a) = still (table t S) (spoiled-stands x l z k) _ f _ (passes c a)
-    good-spoiled z k v f (short c a r) = fixed-not-short x h (box .store) l a r
-    good-spoiled z k v f (spoiled c a r y) = still (table t (S ++ section ∷ [])) (spoiled-stands x l z (λ i. k (agree-front S (section ∷ []) i))) _ f _ (counts c a)
+    good-spoiled z k v f (other c b a) = still (table t S) (spoiled-stands x l z k) _ f _ (passes c b a)
+    good-spoiled z k v f (short c b r) = still (table t S) (spoiled-stands x l z k) _ f _ (shuts c b r)
+    good-spoiled z k v f (begun c b r) = starts (table t S) (newer-begins b) c l r f
+    good-spoiled z k v f (spoiled c b a r y) =
+        still (table t (S ++ section ∷ [])) (spoiled-stands x l z (λ i. k (agree-front S (section ∷ []) i))) _ f _ (counts c a)
     good-spoiled z k v f (new y u) = absurd (z (y .calm))
     good-spoiled z k v f (again y u q) = absurd (z (y .calm))
     good-spoiled z k v f (clash y u q) = absurd (z (y .calm))

@@ -11,7 +11,10 @@ use Rattle.section_reader.specs.declared.Sectioned.the-variants.{Good, Refused}
 use Rattle.gathering_feed.specs.Feeding.{verdictOf, stateBy, storeBy}
 use Rattle.gathering_feed.specs.declared.Verdict.{Verdict}
 use Rattle.gathering_feed.proofs.Verdicts.{feeds}
-use Rattle.gathering_account.specs.Account.{nothing, goodCurrent, heardAs, heard, Section, Account, idle, table, sameTable, accountAfter}
+use Rattle.gathering_tables.specs.Tables.{sameTable, isNewer}
+use Rattle.gathering_tables.proofs.Tables.{same-not-newer}
+use Rattle.gathering_account.specs.Account.{nothing, goodCurrent, heardAs, heard, Section, Account, idle, table, begun, accountAfter}
+use Rattle.gathering_account.specs.Latest.{beginsAfter}
 use Rattle.gathering_account.specs.Gathers.{Box, feed}
 
 -- ---- heard
@@ -50,22 +53,37 @@ module _ (room : ℕ → Bool) where
   counted-nothing a = refl
 
   module _ (h : Heading) (p : List ℕ) where
-    pub counted-first : room (h .last) ≡ true → accountAfter room idle (goodCurrent h p) ≡ table h (record { number = h .number; contents = p } ∷ [])
-    unfolding accountAfter
-    counted-first r = rw r
+    -- a section that begins its table
+    module _ (r : room (h .last) ≡ true) where
+      begun-first : (a : Account) → begun room a h p ≡ table h (record { number = h .number; contents = p } ∷ [])
+      unfolding begun
+      begun-first a = rw r
 
-    pub counted-none : room (h .last) ≡ false → accountAfter room idle (goodCurrent h p) ≡ idle
-    unfolding accountAfter
-    counted-none r = rw r
+      pub counted-first : (a : Account) → beginsAfter a h ≡ true
+          → accountAfter room a (goodCurrent h p) ≡ table h (record { number = h .number; contents = p } ∷ [])
+      unfolding accountAfter beginsAfter
+      counted-first idle b = begun-first idle
+      counted-first (table t S) b = rw b (begun-first (table t S))
+
+    -- one that finds no room for it
+    module _ (r : room (h .last) ≡ false) where
+      begun-none : (a : Account) → begun room a h p ≡ a
+      unfolding begun
+      begun-none a = rw r
+
+      pub counted-none : (a : Account) → beginsAfter a h ≡ true → accountAfter room a (goodCurrent h p) ≡ a
+      unfolding accountAfter beginsAfter
+      counted-none idle b = begun-none idle
+      counted-none (table t S) b = rw b (begun-none (table t S))
 
     module _ (t : Heading) (S : List Section) where
       pub counted-same : sameTable t h ≡ true → accountAfter room (table t S) (goodCurrent h p) ≡ table t (S ++ record { number = h .number; contents = p } ∷ [])
       unfolding accountAfter
-      counted-same k = rw k
+      counted-same k = rw (same-not-newer t h k, k)
 
-      pub counted-other : sameTable t h ≡ false → accountAfter room (table t S) (goodCurrent h p) ≡ table t S
+      pub counted-other : isNewer t h ≡ false → sameTable t h ≡ false → accountAfter room (table t S) (goodCurrent h p) ≡ table t S
       unfolding accountAfter
-      counted-other k = rw k
+      counted-other n k = rw (n, k)
 
 -- ---- fed
 

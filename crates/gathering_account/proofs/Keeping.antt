@@ -45,7 +45,7 @@ unfolding Present
 present-last S s k e = (s, Memᴰ·append-right S (List·Memᴰ·head refl), e)
 
 -- what holds of all, and of one more
-pub all-more : (P : Section → Type 0) (S : List Section) (s : Section) → ((t : Section) → In t S → P t) → P s → (t : Section) → In t (S ++ s ∷ []) → P t
+pub all-more : {A : Type 0} (P : A → Type 0) (S : List A) (s : A) → ((t : A) → In t S → P t) → P s → (t : A) → In t (S ++ s ∷ []) → P t
 all-more P S s f e t i = go (List·Memᴰ·append-cases S i)
   where
     go : In t S ⊎ In t (s ∷ []) → P t

@@ -12,6 +12,7 @@ pub mod Finding
 pub mod Handing
 pub mod Demand3
 pub mod Growing
+pub mod Latest
 pub mod Whole
 pub mod Cuts
 pub mod Bytes

@@ -1,7 +1,7 @@
 -- There are such feeds: sections fed one after the other meet what 'arrives whole' asks for, so what our cutter cuts comes back as it was.
 use Prim.Native.Nat.{ℕ, zero, suc, _+_, _≤_, _<_}
-use mathlib.Core.Path.{_≡_, ap}
-use mathlib.Core.Bool.{Bool, true}
+use mathlib.Core.Path.{_≡_, refl, _∙_, ap}
+use mathlib.Core.Bool.{Bool, true, false}
 use mathlib.Core.List.{List, [], List·Memᴰ as In, List·Memᴰ·head, List·Memᴰ·tail, List·Memᴰ·cases-cons, List·Memᴰ·not-nil}
 use mathlib.Core.Logic.{_⊎_, inl, inr}
 use native.Mathlib.Nat.{zero-add}
@@ -16,8 +16,13 @@ use Rattle.section_cutter.proofs.Counting.{count-most}
 use Rattle.section_reader.proofs.Reading.{kind-within}
 use Rattle.gathering_state.specs.State.{hasRoom}
 use Rattle.gathering_account.specs.Gathers.{freshBox, ByteStrings, boxAfter, HandsOut}
-use Rattle.gathering_account.specs.Arrival.{Arrives, sectionsListed}
-use Rattle.gathering_account.proofs.Cuts.{cut-count, cut-arrives}
+use Rattle.gathering_tables.specs.Tables.{isNewer}
+use Rattle.gathering_account.specs.Account.{goodCurrent, heard, account}
+use Rattle.gathering_account.specs.Latest.{beginsAfter}
+use Rattle.gathering_account.specs.Arrival.{CutInto, Arrives, sectionsListed}
+use Rattle.gathering_account.proofs.Standing.{never}
+use Rattle.gathering_account.proofs.Growing.{heard-same, own-not-newer}
+use Rattle.gathering_account.proofs.Cuts.{cut-count, cutter-cut, cut-arrives}
 use Rattle.gathering_account.proofs.Bytes.{part-bytes, printed-bytes}
 
 module _ (sections : ℕ → List ℕ) where
@@ -39,19 +44,27 @@ module _ (sections : ℕ → List ℕ) where
       go (inl e) next = (k, omega arith, e)
       go (inr j) next = let r = next j in (r .0, omega arith, r .2)
 
-  pub listed-arrives : (room : ℕ → Bool) (h : Heading) → room (h .last) ≡ true → Arrives room h sections (sectionsListed sections 0 (h .last + 1))
-  unfolding sectionsListed
-  listed-arrives room h r =
+  -- none of a table's own sections is ahead of it
+  own-behind : (h : Heading) → CutInto h sections → (k : ℕ) → k ≤ h .last → (s : List ℕ) → s ≡ sections k
+      → (i : Heading) (p : List ℕ) → heard s ≡ goodCurrent i p → isNewer h i ≡ false
+  unfolding CutInto
+  own-behind h cut k l s q i p e = ap (isNewer h) (heard-same s _ _ _ _ e (ap heard q ∙ cut k l) .0) ∙ own-not-newer h k
+
+  pub listed-arrives : (room : ℕ → Bool) (h : Heading) → CutInto h sections → room (h .last) ≡ true
+      → Arrives room h sections (sectionsListed sections 0 (h .last + 1))
+  unfolding sectionsListed beginsAfter account
+  listed-arrives room h cut r =
       record {
         roomy = r;
-        all = λ k l. rw (zero-add k) at (listed-in 0 (h .last + 1) k (omega arith));
-        no-stranger = λ s i t p e f. let o = listed-only 0 (h .last + 1) s i in (o .0, omega arith, o .2);
         before = [];
         first = 0;
         after = sectionsListed sections 1 (h .last);
         of-table = omega arith;
         fed-is = rw (add-one (h .last));
-        none-first = λ s i. absurd (List·Memᴰ·not-nil i);
+        begins = refl;
+        all = λ k l. rw (zero-add k, add-one (h .last)) at (listed-in 0 (h .last + 1) k (omega arith));
+        no-stranger = λ s i t p e f. let o = listed-only 1 (h .last) s i in (o .0, omega arith, o .2);
+        none-ahead = λ s i t p e f. let o = listed-only 1 (h .last) s i in never (isNewer h t) f (own-behind h cut (o .0) (omega arith) s (o .2) t p e);
       }
 
 -- what our cutter cuts, fed section by section to a fresh state with room in the store, comes back
@@ -85,4 +98,5 @@ module _ (body : List ℕ) (kind extension version : ℕ) (bytes : AreBytes body
   comes-back store room out l =
       cut-arrives body kind extension version allowed some most store (sectionsListed (sectionOf body kind extension version) 0 (sectionCount (length body)))
       (λ s i. let o = listed-only (sectionOf body kind extension version) 0 (sectionCount (length body)) s i in rw (o .2) (section-bytes (o .0) (omega arith)))
-      (rw (cut-count body kind extension version allowed some most) at (listed-arrives (sectionOf body kind extension version) (hasRoom (length store)) h room)) out l
+      (rw (cut-count body kind extension version allowed some most) at (listed-arrives (sectionOf body kind extension version) (hasRoom (length store)) h
+      (cutter-cut body kind extension version allowed some most) room)) out l

@@ -13,9 +13,10 @@ use Rattle.gathering_state.specs.State.{freshState, possibleOf, nothingBegun, h
 use Rattle.gathering_state.specs.declared.Gathering.{Gathering}
 use Rattle.gathering_state.proofs.Lists.{greatest-most, zeros-at}
 use Rattle.gathering_state.proofs.State.{Begun, begun-test, possible-some, possible-none, fresh-one}
-use Rattle.gathering_feed.specs.Feeding.{agrees}
-use Rattle.gathering_feed.proofs.Verdicts.{SameHeading, agrees-none, agrees-is}
-use Rattle.gathering_account.specs.Account.{Section, Account, idle, table, sameTable, Agree}
+use Rattle.gathering_tables.specs.Tables.{sameTable, isNewer}
+use Rattle.gathering_feed.specs.Feeding.{agrees, begins}
+use Rattle.gathering_feed.proofs.Verdicts.{SameHeading, agrees-is, begins-none, begins-newer}
+use Rattle.gathering_account.specs.Account.{Section, Account, idle, table, Agree}
 use Rattle.gathering_account.specs.Gathers.{Box}
 use Rattle.gathering_account.proofs.Taking.{Ready}
 use Rattle.gathering_account.proofs.Keeping.{Kept}
@@ -55,10 +56,10 @@ pub fresh-possible : possibleOf freshState ≡ true
 unfolding freshState
 fresh-possible = possible-none freshState refl ∙ fresh-one
 
--- the fresh state agrees with every heading, is not spoiled and holds no number
-pub fresh-agrees : (h : Heading) → agrees freshState h ≡ true
+-- in the fresh state every section begins; it is not spoiled and holds no number
+pub fresh-begins : (h : Heading) → begins freshState h ≡ true
 unfolding freshState
-fresh-agrees h = sym (agrees-none freshState h refl)
+fresh-begins h = sym (begins-none freshState h refl)
 
 pub fresh-calm : freshState .spoiled ≡ 0
 unfolding freshState
@@ -112,14 +113,18 @@ same-with g t h n a b =
       last = sym (b .last) ∙ a .last;
     }
 
--- a state of t's table agrees with the headings of this table, which has found room
+-- a state of t's table agrees with the headings of this table, which has found room, and begins with those of a newer one
 module _ {g : Gathering} {bytes : ℕ} {t : Heading} (x : Fixed g bytes t) (h : Heading) where
   pub fixed-agrees : agrees g h ≡ sameTable t h
-  unfolding agrees nothingBegun sameTable
-  fixed-agrees = let s = x .same in rw (ne-eqb (g .kind) 0 (begun-kind g (x .begun)), s .kind, s .extension, s .version, s .last)
+  unfolding agrees sameTable
+  fixed-agrees = let s = x .same in rw (s .kind, s .extension, s .version, s .last)
+
+  pub fixed-begins : begins g h ≡ isNewer t h
+  unfolding isNewer
+  fixed-begins = let s = x .same in begins-newer g h (begun-kind g (x .begun)) ∙ rw (s .kind, s .extension, s .version)
 
   pub fixed-heading : agrees g h ≡ true → SameHeading g h
-  fixed-heading = agrees-is g h (begun-kind g (x .begun))
+  fixed-heading = agrees-is g h
 
   -- so 10 can't be
   pub fixed-not-short : {A : Type 0} (store : List ℕ) → length store ≡ bytes → agrees g h ≡ true → hasRoom (length store) (h .last) ≡ false → A

@@ -1,7 +1,7 @@
 -- What a reader has to believe of a run of feeds: what it gathers, told by the byte strings alone, with no state and no store.
 use Prim.Native.Nat.{ℕ, zero, suc, _+_, _≤_}
 use mathlib.Core.Path.{_≡_}
-use mathlib.Core.Bool.{Bool, _&&_}
+use mathlib.Core.Bool.{Bool}
 use mathlib.Core.List.{List, [], _∷_, _++_, List·Memᴰ as In}
 use lib.Dec.{eqb}
 use Rattle.ground_choices.specs.Choice.{if_then_else_}
@@ -9,6 +9,7 @@ use Rattle.section_reader.specs.Section.{payloadOf, readSection}
 use Rattle.section_reader.specs.declared.Heading.{Heading}
 use Rattle.section_reader.specs.declared.Sectioned.{Sectioned}
 use Rattle.section_reader.specs.declared.Sectioned.the-variants.{Good, Refused}
+use Rattle.gathering_tables.specs.Tables.{sameTable, isNewer}
 
 -- ---- what is heard
 
@@ -37,17 +38,20 @@ pub data Account : Type 0 where
   idle : Account
   table : Heading → List Section → Account
 
--- "heading differs from the gathering's (kind, extension, version, last number)": these two do not
-unfoldable pub sameTable : Heading → Heading → Bool
-sameTable h h′ = eqb (h .kind) (h′ .kind) && eqb (h .extension) (h′ .extension) && eqb (h .version) (h′ .version) && eqb (h .last) (h′ .last)
-
--- "Nothing begun: no 9 or 11, and 10 begins nothing": the first section that finds room fixes the table; later ones count if their heading is the same.
+-- a section begins its table if there is room for it; if not, all is as before.
 -- `room last` says whether there is room for a table with this last number.
+unfoldable pub begun : (ℕ → Bool) → Account → Heading → List ℕ → Account
+begun room a h p = if room (h .last) then table h (record { number = h .number; contents = p } ∷ []) else a
+
+-- "Nothing begun: no 9 or 11, and 10 begins nothing": the first section that finds room fixes the table. Later ones count if their heading is the same;
+-- one of a newer version starts over: "Demand 3 then reads from the latest takeover", and "10 leaves the old gathering".
 unfoldable pub accountAfter : (ℕ → Bool) → Account → Heard → Account
 accountAfter room a nothing = a
-accountAfter room idle (goodCurrent h p) = if room (h .last) then table h (record { number = h .number; contents = p } ∷ []) else idle
-accountAfter room (table h S) (goodCurrent h′ p) =
-    if sameTable h h′ then table h (S ++ record { number = h′ .number; contents = p } ∷ []) else table h S
+accountAfter room idle (goodCurrent h p) = begun room idle h p
+accountAfter room (table t S) (goodCurrent h p) =
+    if isNewer t h then begun room (table t S) h p else
+    if sameTable t h then table t (S ++ record { number = h .number; contents = p } ∷ []) else
+    table t S
 
 -- the account of all that is fed, in its order
 unfoldable pub account : (ℕ → Bool) → Account → List (List ℕ) → Account

@@ -10,9 +10,10 @@ use Rattle.section_reader.specs.declared.Heading.{Heading}
 use Rattle.section_reader.specs.declared.Sectioned.{Sectioned}
 use Rattle.section_reader.specs.declared.Sectioned.the-variants.{Good, Refused as NotGood}
 use Rattle.gathering_state.specs.Lists.{sameBytes}
+use Rattle.gathering_tables.specs.Tables.{sameTable, isNewer}
 use Rattle.gathering_feed.specs.declared.Answer.{Answer}
 use Rattle.gathering_feed.specs.declared.Answer.the-variants.{Taken, HeldAlready, Refused}
-use Rattle.gathering_account.specs.Account.{heard, Section, Account, idle, table, sameTable, accountAfter}
+use Rattle.gathering_account.specs.Account.{heard, Section, Account, idle, table, accountAfter}
 
 -- ---- `Present` and `Agree`, as tests
 
@@ -45,11 +46,16 @@ answerOfTable S s =
     if present (s .number) S then HeldAlready else
     Taken
 
--- a good, current section: 9, 10, 11. "Nothing begun: no 9 or 11, and 10 begins nothing"; the fixed table found room for its last number, so no 10.
+-- a section that begins a table: "no 9 or 11"; a newer one's, that finds room, is taken whatever the older table has.
 -- `room last` says whether there is room for a table with this last number.
+unfoldable pub answerOfFirst : (ℕ → Bool) → Heading → Answer
+answerOfFirst room h = if not (room (h .last)) then Refused StoreTooShort else Taken
+
+-- a good, current section: 9, 10, 11. The fixed table found room for its last number, so its own sections get no 10.
 unfoldable pub answerOfGood : (ℕ → Bool) → Account → Heading → List ℕ → Answer
-answerOfGood room idle h p = if not (room (h .last)) then Refused StoreTooShort else Taken
+answerOfGood room idle h p = answerOfFirst room h
 answerOfGood room (table t S) h p =
+    if isNewer t h then answerOfFirst room h else
     if not (sameTable t h) then Refused OtherHeading else
     answerOfTable S (record { number = h .number; contents = p })
 

@@ -1,11 +1,11 @@
 -- Laws of feeding: what leads to each verdict, what is known where it is given, and what it makes of answer, state and store.
 use Prim.Native.Nat.{ℕ, _+_, _-_, _≤_}
-use mathlib.Core.Path.{_≡_, refl, sym, _∙_}
-use mathlib.Core.Bool.{Bool, true, false, _&&_, _||_, false≢true}
+use mathlib.Core.Path.{_≡_, refl, sym, _∙_, ap}
+use mathlib.Core.Bool.{Bool, true, false, not, _||_, false≢true}
 use mathlib.Core.List.{List}
 use native.Mathlib.Omega.{arith}
-use borrow.Author.Tests.{eq-eqb, ne-eqb, eqb-true, eqb-false}
-use lib.Dec.{eqb}
+use borrow.Author.Tests.{eq-eqb, ne-eqb, eqb-true, eqb-false, le-leb}
+use lib.Dec.{eqb, leb}
 use lib.ListN.{length, getD, take, drop, length-drop}
 use lib.Seq.{length-take-le}
 use Rattle.ground_refusal.specs.declared.Refusal.{Refusal}
@@ -17,49 +17,38 @@ use Rattle.section_reader.specs.declared.Sectioned.{Sectioned}
 use Rattle.section_reader.specs.declared.Sectioned.the-variants.{Good, Refused as NotGood}
 use Rattle.section_reader.proofs.Accepting.{accepted, accepted-length, accepted-short}
 use Rattle.gathering_state.specs.Lists.{sameBytes}
-use Rattle.gathering_state.specs.State.{possibleOf, nothingBegun, place, hasRoom, heldPayload, withSection, spoiledState}
+use Rattle.gathering_state.specs.State.{freshState, possibleOf, nothingBegun, place, hasRoom, heldPayload, withSection}
 use Rattle.gathering_state.specs.declared.Gathering.{Gathering}
 use Rattle.gathering_state.proofs.Lists.{part-between, same-refl, same-is}
 use Rattle.gathering_state.proofs.State.{place-within}
 use Rattle.ground_choices.proofs.Tests.{both, refuted}
-use Rattle.gathering_feed.specs.Feeding.{agrees, numberVerdict, goodVerdict, sectionVerdict, verdictOf, answerBy, stateBy, storeBy, fedOf, storeAfter}
+use Rattle.gathering_tables.specs.Tables.{isNewer}
+use Rattle.gathering_feed.specs.Feeding.{fixedHeading, agrees, begins, numberVerdict, goodVerdict, sectionVerdict, verdictOf, answerBy, stateBy, storeBy, fedOf, storeAfter}
 use Rattle.gathering_feed.specs.declared.Verdict.{Verdict}
-use Rattle.gathering_feed.specs.declared.Verdict.the-variants.{Refuse, Repeat, Contradict, Take}
-use Rattle.gathering_feed.specs.declared.Answer.the-variants.{Taken, Refused}
+use Rattle.gathering_feed.specs.declared.Verdict.the-variants.{Refuse, Repeat, Contradict, Begin, Take}
+use Rattle.gathering_feed.specs.declared.Answer.the-variants.{Taken}
+use Rattle.gathering_tables.proofs.Tables.{SameTable, same-fields}
 
 -- ---- the heading
 
-pub record SameHeading (g : Gathering) (h : Heading) : Type 0 where
-  pub kind : g .kind ≡ h .kind
-  pub extension : g .extension ≡ h .extension
-  pub version : g .version ≡ h .version
-  pub last : g .last ≡ h .last
+-- the section has the gathering's heading
+abbrev pub SameHeading : Gathering → Heading → Type 0
+SameHeading g h = SameTable (fixedHeading g) h
 
 module _ (g : Gathering) (h : Heading) where
-  -- nothing begun agrees with every heading
-  pub agrees-none : g .kind ≡ 0 → true ≡ agrees g h
-  unfolding agrees nothingBegun
-  agrees-none k = simp (eq-eqb _ _ k)
-
-  pub agrees-same : SameHeading g h → true ≡ agrees g h
+  pub agrees-is : agrees g h ≡ true → SameHeading g h
   unfolding agrees
-  agrees-same s = go (nothingBegun g)
-    where
-      go : (b : Bool) → true ≡ b || eqb (g .kind) (h .kind) && eqb (g .extension) (h .extension) && eqb (g .version) (h .version) && eqb (g .last) (h .last)
-      go true = refl
-      go false = simp (eq-eqb _ _ (s .kind), eq-eqb _ _ (s .extension), eq-eqb _ _ (s .version), eq-eqb _ _ (s .last))
+  agrees-is e = same-fields (fixedHeading g) h e
 
-  module _ (k : g .kind ≡ 0 → ⊥) where
-    pub agrees-is : agrees g h ≡ true → SameHeading g h
-    unfolding agrees nothingBegun
-    agrees-is e =
-        let l = both _ (eqb (g .last) (h .last)) (rw (ne-eqb _ _ k) at e) in
-        let v = both _ (eqb (g .version) (h .version)) (l .0) in
-        let x = both (eqb (g .kind) (h .kind)) (eqb (g .extension) (h .extension)) (v .0) in
-        record { kind = eqb-true _ _ (x .0); extension = eqb-true _ _ (x .1); version = eqb-true _ _ (v .1); last = eqb-true _ _ (l .1) }
+  -- nothing begun: every section begins
+  pub begins-none : g .kind ≡ 0 → true ≡ begins g h
+  unfolding begins nothingBegun
+  begins-none k = simp (eq-eqb _ _ k)
 
-    pub agrees-not : (SameHeading g h → ⊥) → false ≡ agrees g h
-    agrees-not f = refuted (agrees g h) (λ e. f (agrees-is e))
+  -- else a newer table's section
+  pub begins-newer : (g .kind ≡ 0 → ⊥) → begins g h ≡ isNewer (fixedHeading g) h
+  unfolding begins nothingBegun
+  begins-newer k = rw (ne-eqb (g .kind) 0 k)
 
 -- ---- what leads to each verdict
 
@@ -69,12 +58,19 @@ pub compared : (g : Gathering) (store : List ℕ) (k : ℕ) (payload : List ℕ)
 unfolding heldPayload
 compared g store k payload at n a e r f = rw (← a, ← e, ← part-between store at n) (sym f)
 
--- a good section that none of 8 to 11 stops
+-- a good section of the gathering's table that none of 8 to 11 stops
 pub record Heard (g : Gathering) (store : List ℕ) (h : Heading) : Type 0 where
   pub current : h .current ≡ true
+  pub further : begins g h ≡ false
   pub agreed : agrees g h ≡ true
   pub roomy : hasRoom (length store) (h .last) ≡ true
   pub calm : g .spoiled ≡ 0
+
+-- a good section that none of 8 to 10 stops, by the tests
+pub record Past (g : Gathering) (store : List ℕ) (h : Heading) : Type 0 where
+  pub current : not (h .current) ≡ false
+  pub known : not (begins g h || agrees g h) ≡ false
+  pub roomy : not (hasRoom (length store) (h .last)) ≡ false
 
 module _ (g : Gathering) (store : List ℕ) (h : Heading) (payload : List ℕ) where
   pub number-new : getD (g .held) (h .number) 0 ≡ 0 → numberVerdict g store h payload ≡ Take h
@@ -90,27 +86,34 @@ module _ (g : Gathering) (store : List ℕ) (h : Heading) (payload : List ℕ) w
     unfolding numberVerdict
     number-other t = rw (ne-eqb _ _ e, t)
 
-  pub good-old : h .current ≡ false → goodVerdict g store h payload ≡ Refuse NotCurrent
+  -- by the tests, in their order
+  pub good-old : not (h .current) ≡ true → goodVerdict g store h payload ≡ Refuse NotCurrent
   unfolding goodVerdict
-  good-old c = simp c
+  good-old c = rw c
 
-  module _ (c : h .current ≡ true) where
-    pub good-other : agrees g h ≡ false → goodVerdict g store h payload ≡ Refuse OtherHeading
+  module _ (c : not (h .current) ≡ false) where
+    pub good-other : not (begins g h || agrees g h) ≡ true → goodVerdict g store h payload ≡ Refuse OtherHeading
     unfolding goodVerdict
-    good-other a = simp (c, a)
+    good-other a = rw (c, a)
 
-    module _ (a : agrees g h ≡ true) where
-      pub good-short : hasRoom (length store) (h .last) ≡ false → goodVerdict g store h payload ≡ Refuse StoreTooShort
+    pub good-short : not (begins g h || agrees g h) ≡ false → not (hasRoom (length store) (h .last)) ≡ true
+        → goodVerdict g store h payload ≡ Refuse StoreTooShort
+    unfolding goodVerdict
+    good-short a r = rw (c, a, r)
+
+  module _ (p : Past g store h) where
+    pub good-begins : begins g h ≡ true → goodVerdict g store h payload ≡ Begin h
+    unfolding goodVerdict
+    good-begins b = rw (p .current, p .known, p .roomy, b)
+
+    module _ (b : begins g h ≡ false) where
+      pub good-spoiled : (g .spoiled ≡ 0 → ⊥) → goodVerdict g store h payload ≡ Refuse Contradiction
       unfolding goodVerdict
-      good-short r = simp (c, a, r)
+      good-spoiled s = rw (p .current, p .known, p .roomy, b, ne-eqb _ _ s)
 
-      pub good-spoiled : hasRoom (length store) (h .last) ≡ true → (g .spoiled ≡ 0 → ⊥) → goodVerdict g store h payload ≡ Refuse Contradiction
+      pub good-further : g .spoiled ≡ 0 → goodVerdict g store h payload ≡ numberVerdict g store h payload
       unfolding goodVerdict
-      good-spoiled r s = simp (c, a, r, ne-eqb _ _ s)
-
-  pub good-heard : Heard g store h → goodVerdict g store h payload ≡ numberVerdict g store h payload
-  unfolding goodVerdict
-  good-heard d = simp (d .current, d .agreed, d .roomy, eq-eqb _ _ (d .calm))
+      good-further s = rw (p .current, p .known, p .roomy, b, eq-eqb _ _ s)
 
 module _ (g : Gathering) (store s : List ℕ) where
   pub verdict-impossible : possibleOf g ≡ false → verdictOf g store s ≡ Refuse ImpossibleState
@@ -149,9 +152,11 @@ payload-part s h n q = let l = q .long in let e : 8 + n - 8 ≡ length s - 12 = 
 -- the ways out for a good section
 pub data Decided (g : Gathering) (store : List ℕ) (h : Heading) (payload : List ℕ) : Verdict → Type 0 where
   old : h .current ≡ false → Decided g store h payload (Refuse NotCurrent)
-  other : h .current ≡ true → agrees g h ≡ false → Decided g store h payload (Refuse OtherHeading)
-  short : h .current ≡ true → agrees g h ≡ true → hasRoom (length store) (h .last) ≡ false → Decided g store h payload (Refuse StoreTooShort)
-  spoiled : h .current ≡ true → agrees g h ≡ true → hasRoom (length store) (h .last) ≡ true → (g .spoiled ≡ 0 → ⊥) → Decided g store h payload (Refuse Contradiction)
+  other : h .current ≡ true → begins g h ≡ false → agrees g h ≡ false → Decided g store h payload (Refuse OtherHeading)
+  short : h .current ≡ true → begins g h || agrees g h ≡ true → hasRoom (length store) (h .last) ≡ false → Decided g store h payload (Refuse StoreTooShort)
+  begun : h .current ≡ true → begins g h ≡ true → hasRoom (length store) (h .last) ≡ true → Decided g store h payload (Begin h)
+  spoiled : h .current ≡ true → begins g h ≡ false → agrees g h ≡ true → hasRoom (length store) (h .last) ≡ true → (g .spoiled ≡ 0 → ⊥)
+      → Decided g store h payload (Refuse Contradiction)
   new : Heard g store h → getD (g .held) (h .number) 0 ≡ 0 → Decided g store h payload (Take h)
   again : Heard g store h → (getD (g .held) (h .number) 0 ≡ 0 → ⊥) → heldPayload g store (h .number) ≡ payload → Decided g store h payload Repeat
   clash : Heard g store h → (getD (g .held) (h .number) 0 ≡ 0 → ⊥) → (heldPayload g store (h .number) ≡ payload → ⊥) → Decided g store h payload Contradict
@@ -163,59 +168,89 @@ module _ (g : Gathering) (store : List ℕ) (h : Heading) (payload : List ℕ) w
   decided-number d false e true f = let z = eqb-false _ _ e in rw (number-same g store h payload z f) (again d z (same-is _ _ f))
   decided-number d false e false f = let z = eqb-false _ _ e in rw (number-other g store h payload z f) (clash d z (λ q. false≢true (sym f ∙ rw q (same-refl payload))))
 
-  decided-by : (c : Bool) → h .current ≡ c → (a : Bool) → agrees g h ≡ a → (r : Bool) → hasRoom (length store) (h .last) ≡ r → (s : Bool) → eqb (g .spoiled) 0 ≡ s
-      → Decided g store h payload (goodVerdict g store h payload)
-  decided-by false c a p r q s x = rw (good-old g store h payload c) (old c)
-  decided-by true c false p r q s x = rw (good-other g store h payload c p) (other c p)
-  decided-by true c true p false q s x = rw (good-short g store h payload c p q) (short c p q)
-  decided-by true c true p true q false x = let z = eqb-false _ _ x in rw (good-spoiled g store h payload c p q z) (spoiled c p q z)
-  decided-by true c true p true q true x =
-      let d : Heard g store h = record { current = c; agreed = p; roomy = q; calm = eqb-true _ _ x } in
-      rw (good-heard g store h payload d) (decided-number d (eqb (getD (g .held) (h .number) 0) 0) refl (sameBytes (heldPayload g store (h .number)) payload) refl)
+  decided-by : (c : Bool) → h .current ≡ c → (b : Bool) → begins g h ≡ b → (a : Bool) → agrees g h ≡ a → (r : Bool) → hasRoom (length store) (h .last) ≡ r
+      → (s : Bool) → eqb (g .spoiled) 0 ≡ s → Decided g store h payload (goodVerdict g store h payload)
+  decided-by false c b o a p r q s x = rw (good-old g store h payload (rw c)) (old c)
+  decided-by true c false o false p r q s x = rw (good-other g store h payload (rw c) (rw (o, p))) (other c o p)
+  decided-by true c true o a p false q s x = rw (good-short g store h payload (rw c) (rw o) (rw q)) (short c (rw o) q)
+  decided-by true c true o a p true q s x =
+      rw (good-begins g store h payload (record { current = rw c; known = rw o; roomy = rw q }) o) (begun c o q)
+  decided-by true c false o true p false q s x = rw (good-short g store h payload (rw c) (rw (o, p)) (rw q)) (short c (rw (o, p)) q)
+  decided-by true c false o true p true q false x =
+      let z = eqb-false _ _ x in
+      rw (good-spoiled g store h payload (record { current = rw c; known = rw (o, p); roomy = rw q }) o z) (spoiled c o p q z)
+  decided-by true c false o true p true q true x =
+      let z = eqb-true _ _ x in
+      let d : Heard g store h = record { current = c; further = o; agreed = p; roomy = q; calm = z } in
+      rw (good-further g store h payload (record { current = rw c; known = rw (o, p); roomy = rw q }) o z)
+      (decided-number d (eqb (getD (g .held) (h .number) 0) 0) refl (sameBytes (heldPayload g store (h .number)) payload) refl)
 
   pub decided : Decided g store h payload (goodVerdict g store h payload)
-  decided = decided-by (h .current) refl (agrees g h) refl (hasRoom (length store) (h .last)) refl (eqb (g .spoiled) 0) refl
+  decided =
+      decided-by (h .current) refl (begins g h) refl (agrees g h) refl (hasRoom (length store) (h .last)) refl (eqb (g .spoiled) 0) refl
 
--- what is known of a section that is taken
-pub record TakeIs (g : Gathering) (store s : List ℕ) (h : Heading) : Type 0 where
-  pub possible : possibleOf g ≡ true
+-- a verdict by which a section with the heading h is taken, as the first of its table or as a further one
+pub data TakenBy (h : Heading) (v : Verdict) : Type 0 where
+  as-first : v ≡ Begin h → TakenBy h v
+  as-further : v ≡ Take h → TakenBy h v
+
+-- what is known of it: the store has room for its table
+pub record TakeIs (store s : List ℕ) (h : Heading) : Type 0 where
   pub length-of : ℕ
   pub reads : readSection s ≡ Good h length-of
-  pub heard : Heard g store h
-  pub new : getD (g .held) (h .number) 0 ≡ 0
+  pub roomy : hasRoom (length store) (h .last) ≡ true
 
 module _ (g : Gathering) (store s : List ℕ) (h : Heading) where
-  refuse-not-take : (r : Refusal) → Refuse r ≡ Take h → ⊥
-  refuse-not-take r e = let z : _≡_ {A = ℕ} 0 1 = cc in omega arith
+  not-refused : {A : Type 0} (r : Refusal) → TakenBy h (Refuse r) → A
+  not-refused r (as-first e) = let z : _≡_ {A = ℕ} 0 1 = cc in absurd (omega arith)
+  not-refused r (as-further e) = let z : _≡_ {A = ℕ} 0 1 = cc in absurd (omega arith)
 
-  take-good : possibleOf g ≡ true → (i : Heading) (n : ℕ) → readSection s ≡ Good i n → {v : Verdict} → Decided g store i (payloadOf s) v → v ≡ Take h → TakeIs g store s h
-  take-good p i n r (new d z) e = let q : i ≡ h = cc in rw (← q) (record { possible = p; length-of = n; reads = r; heard = d; new = z })
-  take-good p i n r (old c) e = absurd (refuse-not-take NotCurrent e)
-  take-good p i n r (other c a) e = absurd (refuse-not-take OtherHeading e)
-  take-good p i n r (short c a b) e = absurd (refuse-not-take StoreTooShort e)
-  take-good p i n r (spoiled c a b z) e = absurd (refuse-not-take Contradiction e)
-  take-good p i n r (again d z q) e = let z : _≡_ {A = ℕ} 0 1 = cc in absurd (omega arith)
-  take-good p i n r (clash d z q) e = let z : _≡_ {A = ℕ} 0 1 = cc in absurd (omega arith)
+  take-good : (i : Heading) (n : ℕ) → readSection s ≡ Good i n → {v : Verdict} → Decided g store i (payloadOf s) v → TakenBy h v → TakeIs store s h
+  take-good i n r (begun c b q) (as-first e) = let same : i ≡ h = cc in rw (← same) (record { length-of = n; reads = r; roomy = q })
+  take-good i n r (new d z) (as-further e) = let same : i ≡ h = cc in rw (← same) (record { length-of = n; reads = r; roomy = d .roomy })
+  take-good i n r (begun c b q) (as-further e) = let z : _≡_ {A = ℕ} 0 1 = cc in absurd (omega arith)
+  take-good i n r (new d z) (as-first e) = let z : _≡_ {A = ℕ} 0 1 = cc in absurd (omega arith)
+  take-good i n r (old c) t = not-refused NotCurrent t
+  take-good i n r (other c b a) t = not-refused OtherHeading t
+  take-good i n r (short c b q) t = not-refused StoreTooShort t
+  take-good i n r (spoiled c b a q z) t = not-refused Contradiction t
+  take-good i n r (again d z q) (as-first e) = let z : _≡_ {A = ℕ} 0 1 = cc in absurd (omega arith)
+  take-good i n r (again d z q) (as-further e) = let z : _≡_ {A = ℕ} 0 1 = cc in absurd (omega arith)
+  take-good i n r (clash d z q) (as-first e) = let z : _≡_ {A = ℕ} 0 1 = cc in absurd (omega arith)
+  take-good i n r (clash d z q) (as-further e) = let z : _≡_ {A = ℕ} 0 1 = cc in absurd (omega arith)
 
-  take-read : possibleOf g ≡ true → (a : Sectioned) → readSection s ≡ a → verdictOf g store s ≡ Take h → TakeIs g store s h
-  take-read p (NotGood r) f e = absurd (refuse-not-take r (sym (verdict-bad g store s p r f) ∙ e))
-  take-read p (Good i n) f e = take-good p i n f (decided g store i (payloadOf s)) (sym (verdict-good g store s p i n f) ∙ e)
+  take-read : possibleOf g ≡ true → (a : Sectioned) → readSection s ≡ a → TakenBy h (verdictOf g store s) → TakeIs store s h
+  take-read p (NotGood r) f t = not-refused r (rw (verdict-bad g store s p r f) at t)
+  take-read p (Good i n) f t = take-good i n f (decided g store i (payloadOf s)) (rw (verdict-good g store s p i n f) at t)
 
-  pub take-is : verdictOf g store s ≡ Take h → TakeIs g store s h
-  take-is e = go (possibleOf g) refl
+  take-is : TakenBy h (verdictOf g store s) → TakeIs store s h
+  take-is t = go (possibleOf g) refl
     where
-      go : (b : Bool) → possibleOf g ≡ b → TakeIs g store s h
-      go true p = take-read p (readSection s) refl e
-      go false p = absurd (refuse-not-take ImpossibleState (sym (verdict-impossible g store s p) ∙ e))
+      go : (b : Bool) → possibleOf g ≡ b → TakeIs store s h
+      go true p = take-read p (readSection s) refl t
+      go false p = not-refused ImpossibleState (rw (verdict-impossible g store s p) at t)
 
   -- the payload lies in the byte string, is at most 4,084 bytes long, and has its place in the store
-  pub take-fits : verdictOf g store s ≡ Take h → (12 ≤ length s) × (length s ≤ 4096) × (place (h .number) + 4084 ≤ length store) × (h .version ≤ 31)
-  take-fits e =
-      let t = take-is e in
-      let q = sized s h (t .length-of) (t .reads) in
-      (omega arith, omega arith, place-within (length store) (h .last) (h .number) (t .heard .roomy) (q .numbered), q .versioned)
+  pub take-fits : TakenBy h (verdictOf g store s) → (12 ≤ length s) × (length s ≤ 4096) × (place (h .number) + 4084 ≤ length store) × (h .version ≤ 31)
+  take-fits t =
+      let i = take-is t in
+      let q = sized s h (i .length-of) (i .reads) in
+      (omega arith, omega arith, place-within (length store) (h .last) (h .number) (i .roomy) (q .numbered), q .versioned)
 
 -- ---- answer, state and store
+
+-- the part of the byte string that is copied is its payload
+pub takes : (g : Gathering) (h : Heading) (store s : List ℕ)
+    → (state : Gathering) → state ≡ withSection g h (length s - 4 - 8)
+    → (at : ℕ) → at ≡ place (h .number) → (store′ : List ℕ) → store′ ≡ placed store at (take (length s - 4 - 8) (drop 8 s))
+    → (state ≡ withSection g h (length (payloadOf s))) × (store′ ≡ placed store (place (h .number)) (payloadOf s))
+unfolding payloadOf
+takes g h store s state f at k store′ q =
+    let l = length-take-le (length s - 12) (drop 8 s) (simp length-drop (omega arith)) in
+    (rw (l, ← sub-twice (length s)) f, rw (← k, ← sub-twice (length s)) q)
+  where
+    sub-twice : (n : ℕ) → n - 4 - 8 ≡ n - 12
+    sub-twice n = omega arith
 
 module _ (g : Gathering) (store s : List ℕ) where
   pub feeds : (v : Verdict) → verdictOf g store s ≡ v
@@ -223,21 +258,15 @@ module _ (g : Gathering) (store s : List ℕ) where
   unfolding fedOf storeAfter
   feeds v e = (rw e, rw e)
 
-  pub feeds-contradict : verdictOf g store s ≡ Contradict → (state : Gathering) → state ≡ spoiledState g
-      → (record { answer = Refused Contradiction; state = state } ≡ fedOf g store s) × (store ≡ storeAfter g store s)
-  unfolding answerBy stateBy storeBy
-  feeds-contradict e state f = rw f (feeds Contradict e)
+  -- the state by the verdict, as a callee made it
+  pub feeds-with : (v : Verdict) → verdictOf g store s ≡ v → (state : Gathering) → state ≡ stateBy g (payloadOf s) v
+      → (store′ : List ℕ) → store′ ≡ storeBy store (payloadOf s) v
+      → (record { answer = answerBy v; state = state } ≡ fedOf g store s) × (store′ ≡ storeAfter g store s)
+  feeds-with v e state f store′ q = rw (f, q) (feeds v e)
 
-  pub feeds-take : (h : Heading) → verdictOf g store s ≡ Take h
-      → (state : Gathering) → state ≡ withSection g h (length s - 4 - 8)
-      → (at : ℕ) → at ≡ place (h .number) → (store′ : List ℕ) → store′ ≡ placed store at (take (length s - 4 - 8) (drop 8 s))
+  pub feeds-begin : (h : Heading) → verdictOf g store s ≡ Begin h → (fresh : Gathering) → fresh ≡ freshState
+      → (state : Gathering) → state ≡ withSection fresh h (length (payloadOf s))
+      → (store′ : List ℕ) → store′ ≡ placed store (place (h .number)) (payloadOf s)
       → (record { answer = Taken; state = state } ≡ fedOf g store s) × (store′ ≡ storeAfter g store s)
-  unfolding answerBy stateBy storeBy payloadOf
-  feeds-take h e state f at k store′ q =
-      let t = take-fits g store s h e in
-      let l = length-take-le (length s - 12) (drop 8 s) (simp length-drop (omega arith)) in
-      let a = feeds (Take h) e in
-      (rw (f, sub-twice (length s), ← l) (a .0), rw (q, k, sub-twice (length s)) (a .1))
-    where
-      sub-twice : (n : ℕ) → n - 4 - 8 ≡ n - 12
-      sub-twice n = omega arith
+  unfolding answerBy stateBy storeBy
+  feeds-begin h e fresh z state f = feeds-with (Begin h) e state (f ∙ ap (λ (b : Gathering). withSection b h (length (payloadOf s))) z)

@@ -1,6 +1,6 @@
 -- What a reader has to believe of feeding: the order of its refusals, and what each verdict makes of answer, state and store.
 use Prim.Native.Nat.{ℕ}
-use mathlib.Core.Bool.{Bool, not, _&&_, _||_}
+use mathlib.Core.Bool.{Bool, true, not, _||_}
 use mathlib.Core.List.{List}
 use lib.Dec.{eqb}
 use lib.ListN.{length, getD}
@@ -12,21 +12,28 @@ use Rattle.section_reader.specs.declared.Heading.{Heading}
 use Rattle.section_reader.specs.declared.Sectioned.{Sectioned}
 use Rattle.section_reader.specs.declared.Sectioned.the-variants.{Good, Refused as NotGood}
 use Rattle.gathering_state.specs.Lists.{sameBytes}
-use Rattle.gathering_state.specs.State.{possibleOf, nothingBegun, place, hasRoom, heldPayload, withSection, spoiledState}
+use Rattle.gathering_state.specs.State.{freshState, possibleOf, nothingBegun, place, hasRoom, heldPayload, withSection, spoiledState}
 use Rattle.gathering_state.specs.declared.Gathering.{Gathering}
+use Rattle.gathering_tables.specs.Tables.{sameTable, isNewer}
 use Rattle.gathering_feed.specs.declared.Verdict.{Verdict}
-use Rattle.gathering_feed.specs.declared.Verdict.the-variants.{Refuse, Repeat, Contradict, Take}
+use Rattle.gathering_feed.specs.declared.Verdict.the-variants.{Refuse, Repeat, Contradict, Begin, Take}
 use Rattle.gathering_feed.specs.declared.Answer.{Answer}
 use Rattle.gathering_feed.specs.declared.Answer.the-variants.{Taken, HeldAlready, Refused}
 use Rattle.gathering_feed.specs.declared.Fed.{Fed}
 
 -- ---- the verdict
 
--- the heading does not differ from the gathering's "(kind, extension, version, last number)", or "Nothing begun"
+-- the gathering's heading, with no section's number
+abbrev pub fixedHeading : Gathering → Heading
+fixedHeading g = record { kind = g .kind; extension = g .extension; version = g .version; current = true; number = 0; last = g .last }
+
+-- the section has the gathering's heading "(kind, extension, version, last number)"
 unfoldable pub agrees : Gathering → Heading → Bool
-agrees g h =
-    nothingBegun g
-    || eqb (g .kind) (h .kind) && eqb (g .extension) (h .extension) && eqb (g .version) (h .version) && eqb (g .last) (h .last)
+agrees g h = sameTable (fixedHeading g) h
+
+-- the section begins a gathering: "Nothing begun", or its table is newer, and "the gathering shall start over with that section, spoiled or not"
+unfoldable pub begins : Gathering → Heading → Bool
+begins g h = nothingBegun g || isNewer (fixedHeading g) h
 
 -- a section of the gathering's table: its number is not held, or held with the same payload, or "same heading and number, other payload"
 unfoldable pub numberVerdict : Gathering → List ℕ → Heading → List ℕ → Verdict
@@ -35,12 +42,13 @@ numberVerdict g store h payload =
     if sameBytes (heldPayload g store (h .number)) payload then Repeat else
     Contradict
 
--- a good section: 8, 9, 10, 11. A fresh state is not spoiled and holds nothing: "no 9 or 11".
+-- a good section: 8, 9, 10, 11. What begins gets "no 9 or 11"; "The store check is made for the new table first".
 unfoldable pub goodVerdict : Gathering → List ℕ → Heading → List ℕ → Verdict
 goodVerdict g store h payload =
     if not (h .current) then Refuse NotCurrent else
-    if not (agrees g h) then Refuse OtherHeading else
+    if not (begins g h || agrees g h) then Refuse OtherHeading else
     if not (hasRoom (length store) (h .last)) then Refuse StoreTooShort else
+    if begins g h then Begin h else
     if not (eqb (g .spoiled) 0) then Refuse Contradiction else
     numberVerdict g store h payload
 
@@ -61,13 +69,16 @@ unfoldable pub answerBy : Verdict → Answer
 answerBy (Refuse r) = Refused r
 answerBy Repeat = HeldAlready
 answerBy Contradict = Refused Contradiction
+answerBy (Begin h) = Taken
 answerBy (Take h) = Taken
 
--- "Only 11 for a contradiction changes state: the gathering is spoiled"; "A repeat [..] changes nothing"
+-- "Only 11 for a contradiction changes state: the gathering is spoiled"; "A repeat [..] changes nothing". What begins does so in a fresh state:
+-- nothing of an older table is held, nor is its spoil.
 unfoldable pub stateBy : Gathering → List ℕ → Verdict → Gathering
 stateBy g payload (Refuse r) = g
 stateBy g payload Repeat = g
 stateBy g payload Contradict = spoiledState g
+stateBy g payload (Begin h) = withSection freshState h (length payload)
 stateBy g payload (Take h) = withSection g h (length payload)
 
 -- "A taken payload of number k goes to byte k × 4,084 of the store; all other store bytes stay"
@@ -75,6 +86,7 @@ unfoldable pub storeBy : List ℕ → List ℕ → Verdict → List ℕ
 storeBy store payload (Refuse r) = store
 storeBy store payload Repeat = store
 storeBy store payload Contradict = store
+storeBy store payload (Begin h) = placed store (place (h .number)) payload
 storeBy store payload (Take h) = placed store (place (h .number)) payload
 
 -- the answer and the state after the byte string s is fed

@@ -4,12 +4,14 @@ use ground_refusal::Refusal;
 use section_reader::Heading;
 use section_reader::Sectioned;
 ghost use mathlib.Core.Path.{_≡_};
-ghost use Prim.Native.Nat.{_≤_};
+ghost use Prim.Native.Nat.{_+_, _≤_, _<_};
 ghost use lib.ListN.{length};
 ghost use mathlib.Core.Bool.{true};
 ghost use Rattle.gathering_state.specs.Lists.{greatest};
-ghost use Rattle.gathering_state.specs.State.{hasRoom};
-ghost use Rattle.gathering_feed.specs.Feeding.{agrees, numberVerdict, goodVerdict, verdictOf, fedOf, storeAfter};
+ghost use Rattle.gathering_state.specs.State.{place, hasRoom, withSection};
+ghost use Rattle.ground_placing.specs.Placed.{placed};
+ghost use Rattle.section_reader.specs.Section.{payloadOf};
+ghost use Rattle.gathering_feed.specs.Feeding.{fixedHeading, agrees, begins, numberVerdict, goodVerdict, verdictOf, fedOf, storeAfter};
 
 // What a feed decides: answer, state and store follow from it.
 pub enum Verdict {
@@ -19,6 +21,8 @@ pub enum Verdict {
     Repeat,
     // Held already, with another payload: the gathering is spoiled.
     Contradict,
+    // The gathering begins with the section of this heading; what was gathered before is given up.
+    Begin(Heading),
     // The payload of the section with this heading is stored.
     Take(Heading),
 }
@@ -36,26 +40,36 @@ pub struct Fed {
     pub state: Gathering,
 }
 
-// Is the heading the gathering's, or nothing begun?
+// The heading that the gathering has fixed.
+fn fixed_heading(g: Gathering) -> Heading
+    ensures { λ r. ⌜ (r ≡ fixedHeading g) × (r .version < 256) ⌝ }
+{
+    Heading {
+        kind: g.kind,
+        extension: g.extension,
+        version: g.version as u16,
+        current: true,
+        number: 0,
+        last: g.last,
+    }
+}
+
+// Is the heading the gathering's?
 fn heading_agrees(g: Gathering, h: Heading) -> bool
     ensures { λ r. ⌜ r ≡ agrees g h ⌝ }
+{
+    gathering_tables::same_table(fixed_heading(g), h)
+}
+
+// Does the section begin a gathering: is nothing begun, or is its table newer?
+fn begins_gathering(g: Gathering, h: Heading) -> bool
+    requires { ⌜ h .version ≤ 31 ⌝ }
+    ensures { λ r. ⌜ r ≡ begins g h ⌝ }
 {
     if g.kind == 0 {
         return true;
     }
-    if g.kind != h.kind {
-        return false;
-    }
-    if g.extension != h.extension {
-        return false;
-    }
-    if (g.version as u16) != h.version {
-        return false;
-    }
-    if g.last != h.last {
-        return false;
-    }
-    true
+    gathering_tables::is_newer(fixed_heading(g), h)
 }
 
 // A section of the gathering's table: is its number held, and with the same payload?
@@ -78,17 +92,22 @@ fn decide_number(g: Gathering, store: &[u8], h: Heading, payload: &[u8]) -> Verd
 
 // A good section: refusals 8, 9, 10, 11, in this order.
 fn decide_good(g: Gathering, store: &[u8], h: Heading, payload: &[u8]) -> Verdict
-    requires { ⌜ (h .number ≤ h .last) × (greatest (g .held) ≤ 4085) ⌝ }
+    requires { ⌜ (h .number ≤ h .last) × (h .version ≤ 31) × (greatest (g .held) ≤ 4085) ⌝ }
     ensures { λ r. ⌜ r ≡ goodVerdict g (now (store .entry)) h (now (payload .entry)) ⌝ }
 {
     if !h.current {
         return Verdict::Refuse(Refusal::NotCurrent);
     }
-    if !heading_agrees(g, h) {
+    let begins = begins_gathering(g, h);
+    let agrees = heading_agrees(g, h);
+    if !(begins | agrees) {
         return Verdict::Refuse(Refusal::OtherHeading);
     }
     if !gathering_state::has_room(store.len(), h.last) {
         return Verdict::Refuse(Refusal::StoreTooShort);
+    }
+    if begins {
+        return Verdict::Begin(h);
     }
     if g.spoiled != 0 {
         return Verdict::Refuse(Refusal::Contradiction);
@@ -112,6 +131,18 @@ fn decide(g: Gathering, store: &[u8], s: &[u8]) -> Verdict
     }
 }
 
+// The section s with the heading h is taken: its payload goes to its place in the store, and the state g has it.
+fn take_section(g: Gathering, h: Heading, store: &mut [u8], s: &[u8]) -> Gathering
+    requires { ⌜ (12 ≤ length (now s)) × (length (now s) ≤ 4096) × (place (h .number) + 4084 ≤ length (now store)) × (h .version ≤ 31) ⌝ }
+    ensures kept { λ r. ⌜ r ≡ withSection g h (length (payloadOf (now (s .entry)))) ⌝ }
+    ensures stored { λ _. ⌜ now (store .exit) ≡ placed (now (store .entry)) (place (h .number)) (payloadOf (now (s .entry))) ⌝ }
+{
+    let end = s.len() - 4;
+    let at = gathering_state::place_of(h.number);
+    ground_placing::copy_at(&s[8..end], store, at);
+    gathering_state::with_section(g, h, end - 8)
+}
+
 // One byte string is fed. A taken payload goes to its place in the store, and nothing else of the store changes.
 pub fn feed_step(g: Gathering, store: &mut [u8], s: &[u8]) -> Fed
     ensures { λ r. ⌜ (r ≡ fedOf g (now (store .entry)) (now (s .entry))) × (now (store .exit) ≡ storeAfter g (now (store .entry)) (now (s .entry))) ⌝ }
@@ -132,11 +163,16 @@ pub fn feed_step(g: Gathering, store: &mut [u8], s: &[u8]) -> Fed
                 state: state,
             }
         }
+        Verdict::Begin(h) => {
+            let fresh = gathering_state::fresh();
+            let state = take_section(fresh, h, store, s);
+            Fed {
+                answer: Answer::Taken,
+                state: state,
+            }
+        }
         Verdict::Take(h) => {
-            let end = s.len() - 4;
-            let at = gathering_state::place_of(h.number);
-            ground_placing::copy_at(&s[8..end], store, at);
-            let state = gathering_state::with_section(g, h, end - 8);
+            let state = take_section(g, h, store, s);
             Fed {
                 answer: Answer::Taken,
                 state: state,

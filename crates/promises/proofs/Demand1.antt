@@ -22,9 +22,9 @@ use Rattle.gathering_state.specs.declared.Gathering.{Gathering}
 use Rattle.gathering_state.proofs.State.{possible-fresh, possible-begun}
 use Rattle.gathering_feed.specs.Feeding as feeding
 use Rattle.gathering_feed.specs.declared.Verdict.{Verdict}
-use Rattle.gathering_feed.specs.declared.Verdict.the-variants.{Refuse, Repeat, Contradict, Take}
+use Rattle.gathering_feed.specs.declared.Verdict.the-variants.{Refuse, Repeat, Contradict, Begin, Take}
 use Rattle.gathering_feed.specs.declared.Answer.the-variants.{HeldAlready, Refused as NotFed}
-use Rattle.gathering_feed.proofs.Verdicts.{verdict-impossible, verdict-bad, verdict-good, Decided, old, other, short, spoiled, new, again, clash, decided}
+use Rattle.gathering_feed.proofs.Verdicts.{verdict-impossible, verdict-bad, verdict-good, Decided, old, other, short, begun, spoiled, new, again, clash, decided}
 use Rattle.gathering_hand_out.specs.Handing.{bodyHeld, handedOf, outBy, outAfter}
 use Rattle.gathering_hand_out.specs.declared.Handed.{Handed}
 use Rattle.gathering_hand_out.specs.declared.Handed.the-variants.{Body, Refused as NotHanded}
@@ -81,6 +81,7 @@ unfolding feeding.answerBy feeding.storeBy
 fed-keeps store payload (Refuse r′) r e = refl
 fed-keeps store payload Repeat r e = refl
 fed-keeps store payload Contradict r e = refl
+fed-keeps store payload (Begin h) r e = absurd-answer (cc)
 fed-keeps store payload (Take h) r e = absurd-answer (cc)
 
 writes-nothing : WritesNothing
@@ -103,6 +104,7 @@ unfolding feeding.answerBy feeding.stateBy
 state-keeps g payload (Refuse r′) r e n = refl
 state-keeps g payload Repeat r e n = refl
 state-keeps g payload Contradict r e n = absurd (n (cc))
+state-keeps g payload (Begin h) r e n = absurd-answer (cc)
 state-keeps g payload (Take h) r e n = absurd-answer (cc)
 
 repeat-keeps : (g : Gathering) (store payload : List ℕ) (v : Verdict) → feeding.answerBy v ≡ HeldAlready
@@ -111,6 +113,7 @@ unfolding feeding.answerBy feeding.stateBy feeding.storeBy
 repeat-keeps g store payload (Refuse r) e = absurd-answer (cc)
 repeat-keeps g store payload Repeat e = (refl, refl)
 repeat-keeps g store payload Contradict e = absurd-answer (cc)
+repeat-keeps g store payload (Begin h) e = absurd-answer (cc)
 repeat-keeps g store payload (Take h) e = absurd-answer (cc)
 
 -- a state that is spoiled already stays as it is
@@ -150,9 +153,10 @@ module _ (g : Gathering) (store s : List ℕ) where
   good-spoils : possibleOf g ≡ true → (h : Heading) {v : Verdict} → Decided g store h (payloadOf s) v → Spoils v
   unfolding feeding.answerBy feeding.stateBy
   good-spoils p h (old c) e = refuses-other NotCurrent (differs NotCurrent refl) e
-  good-spoils p h (other c a) e = refuses-other OtherHeading (differs OtherHeading refl) e
-  good-spoils p h (short c a r) e = refuses-other StoreTooShort (differs StoreTooShort refl) e
-  good-spoils p h (spoiled c a r z) e = spoiled-stays g p z
+  good-spoils p h (other c b a) e = refuses-other OtherHeading (differs OtherHeading refl) e
+  good-spoils p h (short c b r) e = refuses-other StoreTooShort (differs StoreTooShort refl) e
+  good-spoils p h (begun c b r) e = absurd-answer (cc)
+  good-spoils p h (spoiled c b a r z) e = spoiled-stays g p z
   good-spoils p h (new d z) e = absurd-answer (cc)
   good-spoils p h (again d z q) e = absurd-answer (cc)
   good-spoils p h (clash d z q) e = refl

@@ -1,15 +1,39 @@
--- Demand 3: the theorems of account.
+-- Demand 3: the theorems of account, and a takeover by the laws of feeding.
+use Prim.Native.Nat.{ℕ}
+use mathlib.Core.Path.{_≡_, sym, _∙_}
+use mathlib.Core.Bool.{true, or-true}
+use mathlib.Core.List.{List}
 use lib.ListN.{length}
-use Rattle.gathering_state.specs.State.{hasRoom}
+use Rattle.section_reader.specs.Section.{payloadOf, readSection}
+use Rattle.section_reader.specs.declared.Heading.{Heading}
+use Rattle.section_reader.specs.declared.Sectioned.the-variants.{Good}
+use Rattle.gathering_state.specs.State.{possibleOf, nothingBegun, hasRoom}
+use Rattle.gathering_state.specs.declared.Gathering.{Gathering}
+use Rattle.gathering_tables.specs.Tables.{isNewer}
+use Rattle.gathering_feed.specs.Feeding.{fixedHeading, begins, verdictOf, answerBy, stateBy, storeBy}
+use Rattle.gathering_feed.specs.declared.Verdict.the-variants.{Begin}
+use Rattle.gathering_feed.proofs.Verdicts.{good-begins, verdict-good, feeds}
 use Rattle.gathering_account.proofs.Demand3.{demand-3, handing-answers}
 use Rattle.gathering_account.proofs.Answering.{run-possible, feed-answers, run-answers}
 use Rattle.gathering_account.proofs.Growing.{table-room}
-use Rattle.gathering_account.proofs.Whole.{arrives-whole}
+use Rattle.gathering_account.proofs.Latest.{latest, first-alone}
+use Rattle.gathering_account.proofs.Whole.{arrives-whole, first-arrives}
 use Rattle.gathering_account.proofs.Cuts.{printed-arrives, cut-arrives}
 use Rattle.gathering_account.proofs.Listed.{comes-back}
 use Rattle.promises.specs.Demand3.{Demand3}
 
+-- a newer table's section that finds room begins
+module _ (g : Gathering) (store s : List ℕ) (h : Heading) (n : ℕ) (p : possibleOf g ≡ true) (e : readSection s ≡ Good h n) (c : h .current ≡ true)
+    (newer : isNewer (fixedHeading g) h ≡ true) (r : hasRoom (length store) (h .last) ≡ true) where
+  first : begins g h ≡ true
+  unfolding begins
+  first = rw newer (or-true (nothingBegun g))
+
+  over : verdictOf g store s ≡ Begin h
+  over = verdict-good g store s p h n e ∙ good-begins g store h (payloadOf s) (record { current = rw c; known = rw first; roomy = rw r }) first
+
 pub demand3 : Demand3
+unfolding answerBy stateBy storeBy
 demand3 =
     record {
       only-when = λ store fed b out. demand-3 store fed b out .only-when;
@@ -20,7 +44,11 @@ demand3 =
       all-feeds = run-answers;
       possible = run-possible;
       has-room = λ store. table-room (hasRoom (length store));
+      takes-over = λ g store s h n p e c newer r. let f = feeds g store s (Begin h) (over g store s h n p e c newer r) in (sym (f .0), sym (f .1));
+      latest = λ store. latest (hasRoom (length store));
+      no-takeover = λ store. first-alone (hasRoom (length store));
       arrives = arrives-whole;
+      arrives-first = λ store fed b h sections cut x. arrives-whole store fed b h sections cut (first-arrives (hasRoom (length store)) h sections cut fed x);
       printed-arrives = printed-arrives;
       cut-arrives = cut-arrives;
       comes-back = comes-back;

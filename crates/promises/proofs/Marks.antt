@@ -19,10 +19,11 @@ use Rattle.gathering_state.specs.State.{nothingBegun, hasRoom}
 use Rattle.gathering_state.specs.declared.Gathering.{Gathering}
 use Rattle.gathering_feed.specs.Feeding.{verdictOf, storeBy, storeAfter}
 use Rattle.gathering_feed.specs.declared.Verdict.{Verdict}
-use Rattle.gathering_feed.specs.declared.Verdict.the-variants.{Refuse, Repeat, Contradict, Take}
+use Rattle.gathering_feed.specs.declared.Verdict.the-variants.{Refuse, Repeat, Contradict, Begin, Take}
 use Rattle.gathering_hand_out.specs.Handing.{joined, bodyHeld, outBy, outAfter}
 use Rattle.gathering_account.specs.Account.{Account, idle, table, account}
 use Rattle.gathering_account.specs.Gathers.{Box, freshBox, ByteStrings, feed, boxAfter, HandsOut, Fixes}
+use Rattle.gathering_account.specs.Latest.{beginsAfter}
 use Rattle.gathering_account.specs.Arrival.{headingAt, CutInto, sectionsOf, sectionsListed}
 use Rattle.gathering_account.proofs.Bytes.{printed-bytes}
 use Rattle.gathering_account.proofs.Hearing.{counted-first}
@@ -99,6 +100,7 @@ empty-stays g store s e = go (verdictOf g store s)
     go (Refuse r) = refl
     go Repeat = refl
     go Contradict = refl
+    go (Begin h) = rw e (placed-none store _)
     go (Take h) = rw e (placed-none store _)
 
 -- ---- the two sections fed
@@ -141,12 +143,15 @@ roomy = refl
 comes : HandsOut (boxAfter (freshBox store) fed) (0 ∷ []) (1 ∷ [])
 unfolding flatten heading sectionsListed
 comes =
-    printed-arrives heading payloads well short refl store fed all-bytes (listed-arrives sections (hasRoom (length store)) heading roomy) (0 ∷ []) (omega arith)
+    printed-arrives heading payloads well short refl store fed all-bytes
+    (listed-arrives sections (hasRoom (length store)) heading (printed-cut heading payloads well short) roomy) (0 ∷ []) (omega arith)
 
 -- the first one begins the gathering
 first-heard : account (hasRoom (length store)) idle (sections 0 ∷ []) ≡ table (headingAt heading 0) (record { number = 0; contents = payloadOf (sections 0) } ∷ [])
-unfolding account CutInto headingAt
-first-heard = rw (printed-cut heading payloads well short 0 (omega arith)) (counted-first (hasRoom (length store)) (headingAt heading 0) (payloadOf (sections 0)) roomy)
+unfolding account CutInto headingAt beginsAfter
+first-heard =
+    rw (printed-cut heading payloads well short 0 (omega arith))
+    (counted-first (hasRoom (length store)) (headingAt heading 0) (payloadOf (sections 0)) roomy idle refl)
 
 abbrev after-first : Gathering
 after-first = boxAfter (freshBox store) (sections 0 ∷ []) .state

@@ -25,7 +25,7 @@ use Rattle.gathering_feed.specs.Feeding as feeding
 use Rattle.gathering_feed.specs.declared.Verdict.{Verdict}
 use Rattle.gathering_feed.specs.declared.Verdict.the-variants.{Refuse}
 use Rattle.gathering_feed.specs.declared.Answer.the-variants.{Refused as NotFed}
-use Rattle.gathering_feed.proofs.Verdicts.{verdict-impossible, verdict-bad, verdict-good, Decided, old, other, short, spoiled, new, again, clash, decided}
+use Rattle.gathering_feed.proofs.Verdicts.{verdict-impossible, verdict-bad, verdict-good, Decided, old, other, short, begun, spoiled, new, again, clash, decided}
 use Rattle.gathering_hand_out.specs.Handing as handing
 use Rattle.gathering_hand_out.specs.declared.Completeness.{Completeness}
 use Rattle.gathering_hand_out.specs.declared.Completeness.the-variants.{Complete, Refused as NotComplete}
@@ -146,9 +146,10 @@ module _ (g : Gathering) (store s : List ℕ) where
   good-nowhere : (h : Heading) {v : Verdict} → Decided g store h (payloadOf s) v → Nowhere v
   unfolding feeding.answerBy
   good-nowhere h (old c) r e = refuse-nowhere NotCurrent refl r e
-  good-nowhere h (other c a) r e = refuse-nowhere OtherHeading refl r e
-  good-nowhere h (short c a m) r e = refuse-nowhere StoreTooShort refl r e
-  good-nowhere h (spoiled c a m z) r e = refuse-nowhere Contradiction refl r e
+  good-nowhere h (other c b a) r e = refuse-nowhere OtherHeading refl r e
+  good-nowhere h (short c b m) r e = refuse-nowhere StoreTooShort refl r e
+  good-nowhere h (begun c b m) r e = absurd-answer (cc)
+  good-nowhere h (spoiled c b a m z) r e = refuse-nowhere Contradiction refl r e
   good-nowhere h (new d z) r e = absurd-answer (cc)
   good-nowhere h (again d z q) r e = absurd-answer (cc)
   good-nowhere h (clash d z q) r e = refuse-nowhere Contradiction refl r e

@@ -1,21 +1,28 @@
--- Demand 3: the gathering, over any byte strings that are fed to a fresh state and any store. Its words are defined in account's `Account`
--- and `Answering`, with no state and no store: `gathering_account` is the fixed table with its good, current sections, `Complete` that they "cover every
--- number and no two of one number differ", `bodyOf` "their contents in number order", and `answerTo` what a feed answers.
+-- Demand 3: the gathering, over any byte strings that are fed to a fresh state and any store. Its words are defined in `Account`, `Latest` and `Answering`
+-- of `gathering_account`, with no state and no store: `account` is the fixed table with its good, current sections from the latest takeover on,
+-- `Complete` that they "cover every number and no two of one number differ", `bodyOf` "their contents in number order", and `answerTo` what a feed answers.
 use Prim.Native.Nat.{ℕ, _+_, _≤_, _<_}
 use mathlib.Core.Path.{_≡_}
 use mathlib.Core.Bool.{true}
-use mathlib.Core.List.{List, [], flatten}
+use mathlib.Core.List.{List, [], _∷_, _++_, flatten}
 use lib.ListN.{length, getD}
 use Rattle.section_cutter.specs.Cutting.{partsJoined, sectionCount, cutHeading, sectionOf, Allowed}
-use Rattle.section_reader.specs.Section.{WellFormed}
+use Rattle.section_reader.specs.Section.{payloadOf, readSection, WellFormed}
 use Rattle.section_reader.specs.declared.Heading.{Heading}
-use Rattle.gathering_state.specs.State.{possibleOf, hasRoom}
+use Rattle.section_reader.specs.declared.Sectioned.the-variants.{Good}
+use Rattle.ground_placing.specs.Placed.{placed}
+use Rattle.gathering_state.specs.State.{freshState, possibleOf, place, hasRoom, withSection}
+use Rattle.gathering_state.specs.declared.Gathering.{Gathering}
+use Rattle.gathering_tables.specs.Tables.{isNewer}
+use Rattle.gathering_feed.specs.Feeding.{fixedHeading, fedOf, storeAfter}
+use Rattle.gathering_feed.specs.declared.Answer.the-variants.{Taken}
 use Rattle.gathering_hand_out.specs.declared.Handed.the-variants.{Body}
 use Rattle.crc.specs.Crc.{AreBytes}
-use Rattle.gathering_account.specs.Account.{Section, Account, idle, table, account, Complete, bodyOf}
+use Rattle.gathering_account.specs.Account.{goodCurrent, heard, Section, Account, idle, table, account, Complete, bodyOf}
 use Rattle.gathering_account.specs.Answering.{answerTo, answersTo}
 use Rattle.gathering_account.specs.Gathers.{Box, freshBox, ByteStrings, boxAfter, fedAnswer, answersOf, handing, HandsOut, Answers}
-use Rattle.gathering_account.specs.Arrival.{CutInto, sectionsOf, Arrives, sectionsListed}
+use Rattle.gathering_account.specs.Latest.{Latest, NoneNewer, beginsAfter}
+use Rattle.gathering_account.specs.Arrival.{CutInto, sectionsOf, Arrives, ArrivesFirst, sectionsListed}
 
 -- the account of what was fed, where the store has so many bytes; and the box after it
 abbrev pub heardBy : List ℕ → List (List ℕ) → Account
@@ -44,9 +51,24 @@ pub record Demand3 : Type 0 where
   pub possible : (store : List ℕ) (fed : List (List ℕ)) → ByteStrings fed → possibleOf (fedTo store fed .state) ≡ true
   -- nor is 10 for a section of the fixed table: the store is not "shorter than (last + 1) × 4,084 bytes"
   pub has-room : (store : List ℕ) (fed : List (List ℕ)) (t : Heading) (S : List Section) → heardBy store fed ≡ table t S → hasRoom (length store) (t .last) ≡ true
-  -- a table cut anywhere and fed whole, in any order and with repeats, is handed out;
+  -- "the gathering shall start over with that section, spoiled or not", whatever possible state C has lent: 'taken', the fresh state with the section
+  -- alone, and of the store only its payload's place is written;
+  pub takes-over : (g : Gathering) (store s : List ℕ) (h : Heading) (n : ℕ) → possibleOf g ≡ true → readSection s ≡ Good h n → h .current ≡ true
+      → isNewer (fixedHeading g) h ≡ true → hasRoom (length store) (h .last) ≡ true
+      → (fedOf g store s ≡ record { answer = Taken; state = withSection freshState h (length (payloadOf s)) })
+      × (storeAfter g store s ≡ placed store (place (h .number)) (payloadOf s))
+  -- "Demand 3 then reads from the latest takeover": what is fixed is what one section began and those of its heading after it
+  pub latest : (store : List ℕ) (fed : List (List ℕ)) → Latest (hasRoom (length store)) fed (heardBy store fed)
+  -- without a takeover that is the first section that found room
+  pub no-takeover : (store : List ℕ) (fed : List (List ℕ)) → NoneNewer fed → (before after : List (List ℕ)) (s : List ℕ) → fed ≡ before ++ s ∷ after
+      → (h : Heading) (p : List ℕ) → heard s ≡ goodCurrent h p → beginsAfter (heardBy store before) h ≡ true → heardBy store before ≡ idle
+  -- a table cut anywhere and fed whole, in any order and with repeats, is handed out, whatever was held before;
   pub arrives : (store : List ℕ) (fed : List (List ℕ)) → ByteStrings fed → (h : Heading) (sections : ℕ → List ℕ) → CutInto h sections
       → Arrives (hasRoom (length store)) h sections fed → (out : List ℕ) → length (partsJoined sections (h .last + 1)) ≤ length out
+      → HandsOut (fedTo store fed) out (partsJoined sections (h .last + 1))
+  -- also one that is the first to find room, in a run without a takeover;
+  pub arrives-first : (store : List ℕ) (fed : List (List ℕ)) → ByteStrings fed → (h : Heading) (sections : ℕ → List ℕ) → CutInto h sections
+      → ArrivesFirst (hasRoom (length store)) h sections fed → (out : List ℕ) → length (partsJoined sections (h .last + 1)) ≤ length out
       → HandsOut (fedTo store fed) out (partsJoined sections (h .last + 1))
   -- "each section carries a consecutive part, possibly empty": so it is with any parts of at most 4,084 bytes, printed with one heading;
   pub printed-arrives : (h : Heading) (parts : List (List ℕ)) → WellFormed h → ((k : ℕ) → length (getD parts k []) ≤ 4084) → length parts ≡ h .last + 1

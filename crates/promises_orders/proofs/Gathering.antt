@@ -1,10 +1,11 @@
--- Feeding and handing out go through their lines as they are listed; a fresh state is not spoiled and holds nothing, so that 11 isn't given.
-use Prim.Native.Nat.{ℕ}
+-- Feeding and handing out go through their lines as they are listed; the versions of a possible state and of a section are at most 31, so that 9 is
+-- given for what is neither the gathering's table nor a newer one.
+use Prim.Native.Nat.{ℕ, _≤_}
 use mathlib.Core.Path.{_≡_, refl, sym, ap, _∙_}
-use mathlib.Core.Bool.{Bool, true, false, not, _&&_, _||_}
+use mathlib.Core.Bool.{Bool, true, false, not, _&&_, _||_, true≢false}
 use mathlib.Core.List.{List, [], _∷_, _++_}
 use native.Mathlib.Omega.{arith}
-use borrow.Author.Tests.{not-false, eq-eqb}
+use borrow.Author.Tests.{not-false}
 use lib.Dec.{eqb}
 use lib.ListN.{length, getD}
 use Rattle.ground_choices.specs.Choice.{if_then_else_}
@@ -15,11 +16,12 @@ use Rattle.section_reader.specs.declared.Sectioned.the-variants.{Good, Refused 
 use Rattle.gathering_state.specs.Lists.{sameBytes}
 use Rattle.gathering_state.specs.State.{possibleOf, nothingBegun, hasRoom, heldPayload}
 use Rattle.gathering_state.specs.declared.Gathering.{Gathering}
-use Rattle.gathering_state.proofs.Lists.{greatest-at}
-use Rattle.gathering_state.proofs.State.{possible-fresh}
-use Rattle.gathering_feed.specs.Feeding.{agrees, numberVerdict, goodVerdict, sectionVerdict, verdictOf, answerBy, fedOf}
+use Rattle.gathering_state.proofs.State.{possible-fresh, possible-begun}
+use Rattle.gathering_tables.specs.Tables.{isOther}
+use Rattle.gathering_tables.proofs.Tables.{other-exactly}
+use Rattle.gathering_feed.specs.Feeding.{fixedHeading, agrees, begins, numberVerdict, goodVerdict, sectionVerdict, verdictOf, answerBy, fedOf}
 use Rattle.gathering_feed.specs.declared.Verdict.{Verdict}
-use Rattle.gathering_feed.specs.declared.Verdict.the-variants.{Refuse, Repeat, Contradict, Take}
+use Rattle.gathering_feed.specs.declared.Verdict.the-variants.{Refuse, Repeat, Contradict, Begin, Take}
 use Rattle.gathering_feed.specs.declared.Answer.{Answer}
 use Rattle.gathering_feed.specs.declared.Answer.the-variants.{Taken, HeldAlready, Refused as NotFed}
 use Rattle.gathering_hand_out.specs.Handing.{bodyHeld, missingOf, completeOf, handedIfRoom, handedBy, handedOf}
@@ -35,69 +37,97 @@ use Rattle.promises_orders.proofs.Order.{Told, outcome, outcome-told, o
 -- ---- feeding
 
 module _ (g : Gathering) (store s : List ℕ) where
-  -- the lines before 11
-  abbrev beforeLast : List Line
-  beforeLast =
+  -- the lines before 11, where 9 has this condition
+  abbrev linesWith : Bool → List Line
+  linesWith other =
       ImpossibleState when not (possibleOf g)
       ∷ sectionLines s
       ++ NotCurrent when not (headingOf s .current)
-      ∷ OtherHeading when not (agrees g (headingOf s))
+      ∷ OtherHeading when other
       ∷ StoreTooShort when not (hasRoom (length store) (headingOf s .last))
       ∷ []
 
+  abbrev beforeLast : List Line
+  beforeLast = linesWith (not (nothingBegun g) && isOther (fixedHeading g) (headingOf s))
+
   -- 11, and what is answered behind it
   abbrev last : Line
-  last = Contradiction when (not (nothingBegun g) && (contradictsHeld g store s || not (eqb (g .spoiled) 0)))
+  last = Contradiction when (contradictsHeld g store s || not (begins g (headingOf s)) && not (eqb (g .spoiled) 0))
 
   abbrev value : Answer
   value = if isHeld g s then HeldAlready else Taken
 
   -- what feeding decides behind them
   abbrev behind : Verdict
-  behind = if not (eqb (g .spoiled) 0) then Refuse Contradiction else numberVerdict g store (headingOf s) (payloadOf s)
+  behind =
+      if begins g (headingOf s) then Begin (headingOf s) else
+      if not (eqb (g .spoiled) 0) then Refuse Contradiction else
+      numberVerdict g store (headingOf s) (payloadOf s)
+
+  -- 9, of a possible state
+  version-low : possibleOf g ≡ true → g .version ≤ 31
+  version-low p = go (nothingBegun g) refl
+    where
+      go : (b : Bool) → nothingBegun g ≡ b → g .version ≤ 31
+      go true k = let f = possible-fresh g p k in omega arith
+      go false k = possible-begun g p k .version
+
+  section-low : headingOf s .version ≤ 31
+  unfolding headingOf
+  section-low = omega arith
+
+  other-line : possibleOf g ≡ true → not (begins g (headingOf s) || agrees g (headingOf s)) ≡ (not (nothingBegun g) && isOther (fixedHeading g) (headingOf s))
+  unfolding begins agrees
+  other-line p = rw (other-exactly (fixedHeading g) (headingOf s) (version-low p) section-low) (go (nothingBegun g) _ _)
+    where
+      go : (none newer same : Bool) → not (none || newer || same) ≡ (not none && not (newer || same))
+      go true newer same = refl
+      go false newer same = refl
 
   section-decides : sectionVerdict g store s (readSection s) ≡ outcome Refuse (sectionLines s) (goodVerdict g store (headingOf s) (payloadOf s))
   unfolding readSection sectionLines sectionVerdict outcome headingOf
   section-decides = outcome-told (sectionVerdict g store s) NotGood Refuse (λ r. refl) (sectionLines s) (Good (headingOf s) _)
 
-  decides : verdictOf g store s ≡ outcome Refuse beforeLast behind
+  decides-by : verdictOf g store s ≡ outcome Refuse (linesWith (not (begins g (headingOf s) || agrees g (headingOf s)))) behind
   unfolding verdictOf goodVerdict sectionLines outcome
-  decides = ap (λ v. if not (possibleOf g) then Refuse ImpossibleState else v) section-decides
+  decides-by = ap (λ v. if not (possibleOf g) then Refuse ImpossibleState else v) section-decides
 
-  -- a table is begun, with the section's heading
-  begun-last : nothingBegun g ≡ false → agrees g (headingOf s) ≡ true → answerBy behind ≡ outcome NotFed (last ∷ []) value
-  unfolding outcome answerBy numberVerdict contradictsHeld isHeld
-  begun-last b a =
-      let number = headingOf s .number in
-      rw (b, a) (go (eqb (g .spoiled) 0) (eqb (getD (g .held) number 0) 0) (sameBytes (heldPayload g store number) (payloadOf s)))
+  decides : verdictOf g store s ≡ outcome Refuse beforeLast behind
+  unfolding outcome
+  decides = decides-by ∙ go (possibleOf g) refl
     where
-      go : (calm new same : Bool)
-          → answerBy (if not calm then Refuse Contradiction else if new then Take (headingOf s) else if same then Repeat else Contradict)
-          ≡ (if not new && not same || not calm then NotFed Contradiction else if not new then HeldAlready else Taken)
-      go true true same = refl
-      go true false true = refl
-      go true false false = refl
-      go false true same = refl
-      go false false true = refl
-      go false false false = refl
-
-  fresh-last : possibleOf g ≡ true → nothingBegun g ≡ true → answerBy behind ≡ outcome NotFed (last ∷ []) value
-  unfolding outcome answerBy numberVerdict isHeld
-  fresh-last p b =
-      let f = possible-fresh g p b in
-      let h = greatest-at (g .held) (headingOf s .number) in
-      let none-held : getD (g .held) (headingOf s .number) 0 ≡ 0 = omega arith in
-      simp (b, eq-eqb _ _ (f .spoiled), eq-eqb _ _ none-held)
+      go : (b : Bool) → possibleOf g ≡ b
+          → outcome Refuse (linesWith (not (begins g (headingOf s) || agrees g (headingOf s)))) behind ≡ outcome Refuse beforeLast behind
+      go true p = ap (λ other. outcome Refuse (linesWith other) behind) (other-line p)
+      go false p = rw p
 
   last-line : None beforeLast → answerBy behind ≡ outcome NotFed (last ∷ []) value
+  unfolding outcome answerBy numberVerdict contradictsHeld isHeld
   last-line n =
       let p = not-false _ (first-not n) in
       let t = none-append (sectionLines s) _ (rest-not n) .1 in
-      by p (not-false _ (first-not (rest-not t))) (nothingBegun g) refl
+      let number = headingOf s .number in
+      go (begins g (headingOf s)) (agrees g (headingOf s)) (eqb (g .spoiled) 0) (eqb (getD (g .held) number 0) 0)
+      (sameBytes (heldPayload g store number) (payloadOf s))
+      (other-line p ∙ first-not (rest-not t))
     where
-      by : possibleOf g ≡ true → agrees g (headingOf s) ≡ true → (b : Bool) → nothingBegun g ≡ b → answerBy behind ≡ outcome NotFed (last ∷ []) value
-      by p a true b = fresh-last p b
-      by p a false b = begun-last b a
+      go : (first same calm new equal : Bool) → not (first || same) ≡ false
+          → answerBy
+          (if first then Begin (headingOf s) else
+          if not calm then Refuse Contradiction else
+          if new then Take (headingOf s) else
+          if equal then Repeat else Contradict)
+          ≡ (if same && (not first && not new) && not equal || not first && not calm then NotFed Contradiction else
+          if not first && not new then HeldAlready else Taken)
+      go true true calm new equal e = refl
+      go true false calm new equal e = refl
+      go false false calm new equal e = absurd (true≢false e)
+      go false true true true equal e = refl
+      go false true true false true e = refl
+      go false true true false false e = refl
+      go false true false true equal e = refl
+      go false true false false true e = refl
+      go false true false false false e = refl
 
   feeds : fedOf g store s .answer ≡ outcome NotFed (feedingLines g store s) value
   unfolding fedOf feedingLines sectionLines outcome answerBy

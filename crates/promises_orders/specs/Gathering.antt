@@ -12,7 +12,8 @@ use Rattle.section_reader.specs.Section.{headingOf, payloadOf}
 use Rattle.gathering_state.specs.Lists.{smallestMissing, sameBytes}
 use Rattle.gathering_state.specs.State.{possibleOf, nothingBegun, hasRoom, lengths, heldPayload}
 use Rattle.gathering_state.specs.declared.Gathering.{Gathering}
-use Rattle.gathering_feed.specs.Feeding.{agrees, fedOf}
+use Rattle.gathering_tables.specs.Tables.{isOther}
+use Rattle.gathering_feed.specs.Feeding.{fixedHeading, agrees, begins, fedOf}
 use Rattle.gathering_feed.specs.declared.Answer.the-variants.{Taken, HeldAlready, Refused as NotFed}
 use Rattle.gathering_hand_out.specs.Handing.{bodyHeld}
 use Rattle.promises_orders.specs.Order.{Line, _when_, Given, None}
@@ -20,9 +21,9 @@ use Rattle.promises_orders.specs.Sections.{sectionLines}
 
 -- ---- feeding
 
--- the number of the section s is held
+-- the section s is no beginning, and its number is held
 unfoldable pub isHeld : Gathering → List ℕ → Bool
-isHeld g s = not (eqb (getD (g .held) (headingOf s .number) 0) 0)
+isHeld g s = not (begins g (headingOf s)) && not (eqb (getD (g .held) (headingOf s .number) 0) 0)
 
 -- "same heading and number, other payload"
 unfoldable pub contradictsHeld : Gathering → List ℕ → List ℕ → Bool
@@ -37,12 +38,12 @@ feedingLines g store s =
     ∷ sectionLines s
     -- 8: "current is 0"
     ++ NotCurrent when not (headingOf s .current)
-    -- 9: "heading differs from the gathering's (kind, extension, version, last number)"; "Nothing begun: no 9 or 11"
-    ∷ OtherHeading when not (agrees g (headingOf s))
+    -- 9: "for another kind or extension, for 0 steps with another last number, and for 16 to 31 steps"; "Nothing begun: no 9 or 11"
+    ∷ OtherHeading when (not (nothingBegun g) && isOther (fixedHeading g) (headingOf s))
     -- 10: "store shorter than (last + 1) × 4,084 bytes"
     ∷ StoreTooShort when not (hasRoom (length store) (headingOf s .last))
-    -- 11: "same heading and number, other payload; or the gathering is spoiled already"; "Nothing begun: no 9 or 11"
-    ∷ Contradiction when (not (nothingBegun g) && (contradictsHeld g store s || not (eqb (g .spoiled) 0)))
+    -- 11: "same heading and number, other payload; or the gathering is spoiled already"; a newer table's section starts over "spoiled or not"
+    ∷ Contradiction when (contradictsHeld g store s || not (begins g (headingOf s)) && not (eqb (g .spoiled) 0))
     ∷ []
 
 -- feeding has two values: "A repeat with the same payload is answered "held already"", any other section is taken

@@ -41,6 +41,8 @@ decide-spec =
     (λ c. search needs)
     (λ c. search needs)
     within
-    (λ c κs. (good-at (c .before .before) .numbered, possible-short _ (possible-at (c .before .before .before .before .before))))
+    (λ c κs.
+    let here = c .before .before in
+    (good-at here .numbered, good-at here .versioned, possible-short _ (possible-at (here .before .before .before))))
     (λ c. sym (verdict-bad _ _ _ (possible-at (c .before .before .before .before)) _ (sym (c .before .before .before .read-section .ensures) ∙ c .before .r .given .1)))
     (λ c. c .decide-good .ensures ∙ ap (goodVerdict _ _ _) (payload-part _ _ _ (good-at (c .before .before .before))) ∙ sym (verdict-good _ _ _ (possible-at (c .before .before .before .before .before .before)) _ _ (read-at (c .before .before .before)))))

@@ -1,0 +1,14 @@
+-- `gathering_feed::begins_gathering` meets its contract: nothing is begun, or the fixed heading's table is compared.
+use borrow.Author.Needs.{needs}
+use Rattle.gathering_feed.proofs.Verdicts.{begins-none, begins-newer}
+use Rattle.gathering_feed.proofs.begins_gathering.Statement.{statement}
+use Rattle.gathering_feed.proofs.begins_gathering.Tie as tie
+
+pub begins-gathering-spec : {M : Type 1} → statement M
+begins-gathering-spec =
+    tie.close
+    (tie.spec
+    (λ c. begins-none _ _ (c .if1 .taken))
+    (λ c κs. search needs)
+    (λ c κs. search needs)
+    (λ c. let begun = c .before .before in let start = begun .before .before .args in cc (begins-newer (start .g) (start .h) (begun .if1 .left))))
