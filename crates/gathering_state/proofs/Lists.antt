@@ -16,50 +16,13 @@ use Rattle.gathering_state.specs.Lists.{greatest, smallestMissing, total
 -- ---- the greatest
 
 module _ (s : List ℕ) (i : ℕ) where
-  greatest-step : i < length s → greatest (drop i s) ≡ max (getD s i 0) (greatest (drop (i + 1) s))
+  pub greatest-step : i < length s → greatest (drop i s) ≡ max (getD s i 0) (greatest (drop (i + 1) s))
   unfolding greatest
   greatest-step h = rw (add-one, drop-cons s i 0 h)
 
-  greatest-end : length s ≤ i → greatest (drop i s) ≡ 0
+  pub greatest-end : length s ≤ i → greatest (drop i s) ≡ 0
   unfolding greatest
   greatest-end h = rw (drop-of-length-le s h)
-
--- where a pass over the lengths stands at number i: what it found, and what the numbers from i on add to it
-pub record Surveyed (s : List ℕ) (beyond i most above : ℕ) : Type 0 where
-  pub within : i ≤ length s
-  pub most-is : greatest s ≡ max most (greatest (drop i s))
-  pub above-is : greatest (drop beyond s) ≡ max above (greatest (drop (max beyond i) s))
-
-pub survey-start : (s : List ℕ) (beyond : ℕ) → Surveyed s beyond 0 0 0
-survey-start s beyond =
-    let e : max beyond 0 ≡ beyond = omega arith in
-    record { within = omega arith; most-is = omega arith; above-is = rw e (omega arith) }
-
-module _ (s : List ℕ) (beyond i most above : ℕ) (v : Surveyed s beyond i most above) where
-  module _ (h : i < length s) (most′ : ℕ) (m : most′ ≡ max most (getD s i 0)) (above′ : ℕ) where
-    pub survey-above : beyond ≤ i → above′ ≡ max above (getD s i 0) → Surveyed s beyond (i + 1) most′ above′
-    survey-above b a =
-        let e = greatest-step s i h in
-        let here : max beyond i ≡ i = omega arith in
-        let next : max beyond (i + 1) ≡ i + 1 = omega arith in
-        let f = rw here at (v .above-is) in
-        let g = v .most-is in
-        record { within = omega arith; most-is = omega arith; above-is = rw next (omega arith) }
-
-    pub survey-below : i < beyond → above′ ≡ above → Surveyed s beyond (i + 1) most′ above′
-    survey-below b a =
-        let e = greatest-step s i h in
-        let still : max beyond i ≡ max beyond (i + 1) = omega arith in
-        let g = v .most-is in
-        record { within = omega arith; most-is = omega arith; above-is = v .above-is ∙ ap₂ (λ m k. max m (greatest (drop k s))) (sym a) still }
-
-  pub survey-end : length s ≤ i → (most ≡ greatest s) × (above ≡ greatest (drop beyond s))
-  survey-end h =
-      let e = greatest-end s i h in
-      let f = greatest-end s (max beyond i) (omega arith) in
-      let m = v .most-is in
-      let a = v .above-is in
-      (omega arith, omega arith)
 
 -- none is above the greatest
 pub greatest-at : (s : List ℕ) (i : ℕ) → getD s i 0 ≤ greatest s

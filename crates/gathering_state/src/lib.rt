@@ -1,5 +1,6 @@
 // The state of a gathering, and the small functions on it and on its store that feeding and handing out rest on.
 use ground_numbers::PAYLOAD_MOST;
+use ground_numbers::VERSION_MOST;
 use section_reader::Heading;
 ghost use mathlib.Core.Path.{_≡_};
 ghost use Prim.Native.Nat.{_-_, _<_, _≤_, max};
@@ -24,36 +25,24 @@ pub struct Gathering {
 
 // ---- leaves on slices: feeding and handing out call those that are public
 
-// What one pass over the held lengths tells.
-struct Survey {
-    // The greatest of all.
-    most: u16,
-    // The greatest of those above the last number.
-    above: u16,
-}
-
 fn larger(a: u16, b: u16) -> u16
     ensures { λ r. ⌜ r ≡ max a b ⌝ }
 {
     if a < b { b } else { a }
 }
 
-// One pass over the lengths; the numbers from `beyond` on are those above the last.
-fn survey_of(s: &[u16], beyond: usize) -> Survey
-    ensures { λ r. ⌜ (r .most ≡ greatest (now (s .entry))) × (r .above ≡ greatest (drop beyond (now (s .entry)))) ⌝ }
+// The greatest of the lengths from index `from` on. The loop has no branch, so that it runs on many lengths at once.
+fn greatest_from(s: &[u16], from: usize) -> u16
+    requires { ⌜ from ≤ length (now s) ⌝ }
+    ensures { λ r. ⌜ r ≡ greatest (drop from (now (s .entry))) ⌝ }
 {
     let mut most: u16 = 0;
-    let mut above: u16 = 0;
-    let mut i = 0;
+    let mut i = from;
     while i < s.len() {
-        let n = s[i];
-        most = larger(most, n);
-        if beyond <= i {
-            above = larger(above, n);
-        }
+        most = larger(most, s[i]);
         i += 1;
     }
-    Survey { most, above }
+    most
 }
 
 // The smallest number that is not held: "The search for a missing number stops at the first one found."
@@ -144,7 +133,7 @@ fn is_fresh(g: Gathering) -> bool
     if g.spoiled != 0 {
         return false;
     }
-    if survey_of(&g.held, 0).most != 0 {
+    if greatest_from(&g.held, 0) != 0 {
         return false;
     }
     true
@@ -156,20 +145,22 @@ fn is_begun(g: Gathering) -> bool
     if !section_reader::is_kind(g.kind as u32) {
         return false;
     }
-    if 31 < g.version {
+    if VERSION_MOST < g.version as u32 {
         return false;
     }
     if 1 < g.spoiled {
         return false;
     }
-    let seen = survey_of(&g.held, g.last as usize + 1);
-    if seen.most == 0 {
+    let most = greatest_from(&g.held, 0);
+    if most == 0 {
         return false;
     }
-    if 4085 < seen.most {
+    if PAYLOAD_MOST + 1 < most as usize {
         return false;
     }
-    if seen.above != 0 {
+    let beyond = g.last as usize + 1;
+    let above = greatest_from(&g.held, beyond);
+    if above != 0 {
         return false;
     }
     true

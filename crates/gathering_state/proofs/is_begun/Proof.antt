@@ -12,13 +12,6 @@ use Rattle.gathering_state.proofs.is_begun.Tie as tie
 kind-at : (c : tie.Else1) → isKind (c .before .before .args .t1 .kind) ≡ true
 kind-at c = met _ (c .before .is-kind .ensures) (c .if1 .left)
 
--- back from past the last test to past the first: over the tests of what the pass found, the pass, the tests of spoiled and version
-abbrev past-kind : (c : tie.Else6) → tie.Else1
-past-kind c =
-    let most-seen = c .before .before .before .before in
-    let looked = most-seen .before .before .before .before .before .before in
-    looked .before .before
-
 pub is-begun-spec : {M : Type 1} → statement M
 is-begun-spec =
     tie.close
@@ -26,12 +19,19 @@ is-begun-spec =
     (λ c. search needs)
     (λ c κs. search needs)
     (λ c. not-begun _ (λ f. false≢true (sym (unmet _ (c .before .is-kind .ensures) (c .if1 .taken)) ∙ f .kind)))
+    (λ c. search needs)
     (λ c. not-begun _ (λ f. omega arith))
+    (λ c. not-begun _ (λ f. omega arith))
+    (λ c κs. search needs)
+    (λ c. not-begun _ (λ f. omega arith))
+    (λ c. search needs)
+    (λ c. search needs)
     (λ c. not-begun _ (λ f. omega arith))
     (λ c. search needs)
     (λ c. search needs)
     (λ c κs. search needs)
     (λ c. not-begun _ (λ f. omega arith))
-    (λ c. not-begun _ (λ f. omega arith))
-    (λ c. not-begun _ (λ f. omega arith))
-    (λ c. begun-test _ (record { kind = kind-at (past-kind c); version = omega arith; spoiled = omega arith; some = omega arith; above = omega arith; short = omega arith })))
+    (λ c.
+    let looked = c .before .before .before .before .before .before .before .before .before in
+    let known = looked .before .before .before .before in
+    begun-test _ (record { kind = kind-at known; version = omega arith; spoiled = omega arith; some = omega arith; above = omega arith; short = omega arith })))
