@@ -129,6 +129,21 @@ static uint64_t gather_slicing(const uint8_t *s, size_t n) {
     return gather(plain_gathering_feed, plain_gathering_hand_out, s, n);
 }
 
+// ---- one section fed: it is taken into a table of two, of which the other one is held
+
+static struct nw_gathering half;
+static uint8_t half_store[NW_STORE_BYTES(1)];
+
+static uint64_t feed_library(const uint8_t *s, size_t n) {
+    struct nw_gathering g = half;
+    return packed_gathering_feed(&g, half_store, sizeof half_store, s, n);
+}
+
+static uint64_t feed_slicing(const uint8_t *s, size_t n) {
+    struct nw_gathering g = half;
+    return plain_gathering_feed(&g, half_store, sizeof half_store, s, n);
+}
+
 // ---- a certificate body read, and written from a form: as many parts as there can be
 
 enum { LISTS = 255, CERTIFICATES = 255, MOST_CERTIFICATE = 255 };
@@ -447,6 +462,18 @@ static void fill_section(size_t n) {
     if (refusal_of(read_slicing(input, n))) abort();
 }
 
+// The first of two sections, n bytes of it; the second, without a payload, is held.
+static void fill_feeding(size_t n) {
+    static uint8_t payload[NW_MOST_PAYLOAD];
+    fill_bytes(n - 12);
+    memcpy(payload, input, n - 12);
+    memset(&half, 0, sizeof half);
+    plain_section_put(input, &(struct plain_heading){0xFD, 0x0C29, 17, 1, 1, 1}, payload, 0);
+    plain_answer held = plain_gathering_feed(&half, half_store, sizeof half_store, input, 12);
+    plain_section_put(input, &(struct plain_heading){0xFD, 0x0C29, 17, 1, 0, 1}, payload, n - 12);
+    if (refusal_of(held) || feed_slicing(input, n) != NW_FED_TAKEN) abort();
+}
+
 // The section of some number of a table of so many sections, in place i.
 static void put_full_section(size_t i, size_t number, size_t sections) {
     static uint8_t payload[NW_MOST_PAYLOAD];
@@ -673,6 +700,10 @@ static const struct operation operations[] = {
      fill_bytes,
      {{"neapwillow", cut_library}, {"C, slicing by 8", cut_slicing}},
      {4084, 16 * 4084, 256 * 4084}},
+    {"feeding",
+     fill_feeding,
+     {{"neapwillow", feed_library}, {"C, slicing by 8", feed_slicing}},
+     {12, 4096}},
     {"gathering, in order",
      fill_in_order,
      {{"neapwillow", gather_library}, {"C, slicing by 8", gather_slicing}},

@@ -1,6 +1,7 @@
 // box [--whole] FILE [MINUTES]: the sections in a file, one after the other in any order, repeats and damage among them, are
 // gathered into tables, and the messages are shown with their texts: times day first and local, at MINUTES east of UTC, -720
-// to 840, or without them in UTC. Of a text the first lines are shown, with --whole all.
+// to 840, or without them in UTC. Of a text the first lines are shown, with --whole all. As a table comes in, it is said how
+// many of its sections have come and how many bytes are held.
 //
 // Of a table the newest version is held: one that is 1 to 15 steps ahead, round the ring of 32, takes over from the one before,
 // and sections of other versions are left out.
@@ -89,6 +90,10 @@ static const char *kind_name(unsigned kind) {
     return names[kind - NW_CONFIGURATION];
 }
 
+static void name_table(const struct table *t) {
+    printf("%s table, extension %04X, version %u: ", kind_name(t->state.kind), t->state.extension, t->state.version);
+}
+
 // The length of the section that begins at s, as it states: 12 bytes where it states none, so that its kind is looked at
 // first, but no more than the n that there are.
 static size_t length_of(const uint8_t *s, size_t n) {
@@ -135,6 +140,13 @@ static void tell_refused(struct box *b, size_t at, unsigned number, const struct
               nw_heading_last(heading), t->state.last);
 }
 
+// How far a table has come, as its state keeps it.
+static void tell_progress(const struct table *t) {
+    unsigned count = t->state.last + 1u;
+    name_table(t);
+    printf("%u of %u sections, %lu bytes\n", count - t->state.missing, count, (unsigned long)t->state.bytes);
+}
+
 // Feeds the good section at a byte of the file to the table it belongs to. A newer version starts the table over.
 static void feed(struct box *b, size_t at, size_t n, nw_heading heading) {
     struct table *t = table_of(b, heading);
@@ -150,12 +162,16 @@ static void feed(struct box *b, size_t at, size_t n, nw_heading heading) {
         tell_refused(b, at, NW_REFUSAL(fed), t, heading);
         return;
     }
-    if (nw_value(fed) == NW_FED_TAKEN) b->taken++;
-    else b->held++;
+    if (nw_value(fed) == NW_FED_HELD_ALREADY) {
+        b->held++;
+        return;
+    }
+    b->taken++;
     if (!begun) b->count++;
     else if (t->state.version != before)
         printf("section at byte %zu: version %u of the %s table, extension %04X, takes over from version %u\n", at,
                t->state.version, kind_name(t->state.kind), t->state.extension, before);
+    tell_progress(t);
 }
 
 static bool note_stretch(struct box *b, struct stretch bad) {
@@ -213,10 +229,6 @@ static void gather(struct box *b) {
 
 // ---- what is whole, and what is not
 
-static void name_table(const struct table *t) {
-    printf("%s table, extension %04X, version %u: ", kind_name(t->state.kind), t->state.extension, t->state.version);
-}
-
 static nw_answer read_table(const struct table *t) {
     switch (t->state.kind) {
     case NW_CONFIGURATION: return nw_configuration_read(t->state.kind, t->body, t->n);
@@ -227,8 +239,7 @@ static nw_answer read_table(const struct table *t) {
 }
 
 static void tell_missing(struct box *b, const struct table *t, uint64_t first) {
-    unsigned missing = 0;
-    for (unsigned i = 0; i <= t->state.last; i++) missing += t->state.held[i] == 0;
+    unsigned missing = t->state.missing;
     name_table(t);
     fault(b, "not whole, %u of its %u sections %s missing, the first of them number %u", missing, t->state.last + 1u,
           missing == 1 ? "is" : "are", (unsigned)first);

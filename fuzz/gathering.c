@@ -46,6 +46,11 @@ static nw_gathering after_taking(nw_gathering before, const uint8_t *s, size_t n
     before.version = version;
     before.last = s[7];
     before.held[s[6]] = (uint16_t)(n - 11);
+    before.bytes = before.missing = 0; // counted afresh
+    for (size_t k = 0; k <= before.last; k++) {
+        before.missing += before.held[k] == 0;
+        before.bytes += before.held[k] ? before.held[k] - 1u : 0;
+    }
     return before;
 }
 

@@ -25,9 +25,9 @@ extern "C" {
 
 /* The version that this header is of: as text, its three numbers, and these as one, two decimal digits
  * for each but the first. */
-#define NW_VERSION "0.1.0"
+#define NW_VERSION "0.2.0"
 #define NW_VERSION_MAJOR 0
-#define NW_VERSION_MINOR 1
+#define NW_VERSION_MINOR 2
 #define NW_VERSION_PATCH 0
 #define NW_VERSION_NUMBER (NW_VERSION_MAJOR * 10000 + NW_VERSION_MINOR * 100 + NW_VERSION_PATCH)
 
@@ -245,10 +245,21 @@ nw_answer nw_section_cut(const uint8_t *body, size_t n, uint32_t kind, uint32_t 
  * of 32, starts the gathering over. State, store, section and output must not overlap, and the state is
  * never NULL.
  *
+ * A state tells how far its table has come: how many of its last + 1 sections are missing, and how many
+ * bytes of payload are held. Both are right after every call, and are the caller's to read, not to set.
+ * Once a table is begun and none of it is missing, bytes is the length of its body.
+ *
  * A state is possible if all of it is zeros, or if its kind is one of enum nw_kind, its version at most
- * 31, spoiled 0 or 1, at least one number held, none above last, and each held length at most
- * NW_MOST_PAYLOAD. From a fresh state on, feeds leave only possible ones. */
+ * 31, spoiled 0 or 1, at least one number held, none above last, each held length at most
+ * NW_MOST_PAYLOAD, and missing and bytes are what counting them in held gives. From a fresh state on, or
+ * any possible one, feeds leave only possible ones.
+ *
+ * The struct has 524 bytes. It grew with version 0.2.0, by bytes and missing: before, it had 518, and a
+ * program with such states must be compiled anew, for this library looks at all 524 and would read and
+ * write past their end. nw_version() other than NW_VERSION_NUMBER tells a library of another version. */
 typedef struct nw_gathering {
+    uint32_t bytes;     /* how many bytes of payload are held */
+    uint16_t missing;   /* how many sections are missing; 0 while nothing is begun */
     uint16_t extension;
     uint8_t kind;       /* table_id; 0 while nothing is begun */
     uint8_t version;
@@ -257,20 +268,21 @@ typedef struct nw_gathering {
     uint16_t held[256]; /* by section number: the payload's length + 1, or 0 where it is not held */
 } nw_gathering;
 
-#define NW_FRESH {0, 0, 0, 0, 0, {0}}                             /* a state that holds nothing */
+#define NW_FRESH {0, 0, 0, 0, 0, 0, 0, {0}}                       /* a state that holds nothing */
 #define NW_STORE_BYTES(last) (((size_t)(last) + 1) * NW_MOST_PAYLOAD) /* what a table asks of a store */
 
 /* Feeds one byte string. Value: one of enum nw_fed. A payload that is taken goes to byte
- * number x 4,084 of the store, and all other bytes of the store stay, an older table's too; a section
- * that is held already changes nothing. A newer version's section is taken whatever was held, whole,
- * spoiled or not, with whatever last number: from then on the state has that section alone. Refusals,
- * in this order: 12, not a possible state; 1 to 7, as nw_section_read; 8, not current; 9, another
- * table's heading: another kind or extension, the same version with another last number, or a version
- * 16 to 31 steps ahead; 10, the store has not NW_STORE_BYTES(last) bytes for the section's table; 11, a
- * payload other than the one held for its number, or the gathering is spoiled already. A refused call
- * changes nothing, 8 and 10 for a newer version neither, but that 11 for a contradiction spoils the
- * gathering: make the state fresh to begin again, or wait for a newer version. While nothing is begun,
- * and for a newer version's section, there is no 9 and no 11. */
+ * number x 4,084 of the store, and all other bytes of the store stay, an older table's too; one section
+ * less is missing, and so many bytes more are held. A section that is held already changes nothing. A
+ * newer version's section is taken whatever was held, whole, spoiled or not, with whatever last number:
+ * from then on the state has and counts that section alone. Refusals, in this order: 12, not a possible
+ * state; 1 to 7, as nw_section_read; 8, not current; 9, another table's heading: another kind or
+ * extension, the same version with another last number, or a version 16 to 31 steps ahead; 10, the store
+ * has not NW_STORE_BYTES(last) bytes for the section's table; 11, a payload other than the one held for
+ * its number, or the gathering is spoiled already. A refused call changes nothing, 8 and 10 for a newer
+ * version neither, but that 11 for a contradiction spoils the gathering, which keeps its counts: make the
+ * state fresh to begin again, or wait for a newer version. While nothing is begun, and for a newer
+ * version's section, there is no 9 and no 11. */
 nw_answer nw_gathering_feed(nw_gathering *g, uint8_t *store, size_t store_bytes, const uint8_t *s,
                             size_t n);
 enum nw_fed { NW_FED_TAKEN = 0, NW_FED_HELD_ALREADY = 1 };
@@ -279,8 +291,8 @@ enum nw_fed { NW_FED_TAKEN = 0, NW_FED_HELD_ALREADY = 1 };
  * bytes of out after it stay, and so do store and state. It is written exactly when every number is
  * held and no contradiction was fed. Refusals, in this order, with nothing written: 12, not a
  * possible state; 13, nothing is begun (place 0); 10, the store is too short; 11, spoiled; 13, with
- * the smallest missing number as its place; 21, out is too small: NW_STORE_BYTES(g->last) are enough,
- * and no body is longer than NW_MOST_BODY bytes. */
+ * the smallest missing number as its place; 21, out is too small: g->bytes are enough, and no body is
+ * longer than NW_MOST_BODY bytes. */
 nw_answer nw_gathering_hand_out(const nw_gathering *g, const uint8_t *store, size_t store_bytes,
                                 uint8_t *out, size_t out_bytes);
 

@@ -241,6 +241,8 @@ static void call_gathering_show(const struct argument *a) {
     (void)a;
     const struct nw_gathering *g = lent_state();
     put_number(adler32(store.bytes, store.length));
+    put_number(g->bytes);
+    put_number(g->missing);
     put_number(g->extension);
     put_number(g->kind);
     put_number(g->version);
@@ -251,6 +253,13 @@ static void call_gathering_show(const struct argument *a) {
             put_number(k);
             put_number(g->held[k]);
         }
+}
+
+static void call_gathering_counts(const struct argument *a) {
+    (void)a;
+    const struct nw_gathering *g = lent_state();
+    put_number(g->missing);
+    put_number(g->bytes);
 }
 
 // ---- the certificate table
@@ -669,6 +678,7 @@ static const struct call calls[] = {
     {"gathering_feed", "b", call_gathering_feed},
     {"gathering_hand_out", "o", call_gathering_hand_out},
     {"gathering_show", "", call_gathering_show},
+    {"gathering_counts", "", call_gathering_counts},
     {"certificate_read", "ub", call_certificate_read},
     {"certificate_authorization", "bw", call_certificate_authorization},
     {"certificate_certificate", "bw", call_certificate_certificate},

@@ -64,6 +64,17 @@ def faults(count):
     return 'faults: %d, each of them named above' % count
 
 
+# How far a table has come, told once for each section that is taken, and for no repeat.
+PROGRESS = re.compile(rb'^[a-z]+ table, extension [0-9A-F]{4}, version \d+: \d+ of \d+ sections, \d+ bytes$', re.M)
+TAKEN = re.compile(rb'^sections: (\d+) taken,', re.M)
+
+
+def progress(name, its_extension, version, last, *sections):
+    """What is said as these sections of a table come in, one after the other."""
+    said = '%s table, extension %s, version %d: %%d of %d sections, %%d bytes' % (name, its_extension, version, last + 1)
+    return [said % (count, sum(len(section) - 12 for section in sections[:count])) for count in range(1, len(sections) + 1)]
+
+
 def changed(section, at):
     """A section with a bit changed at a byte."""
     return section[:at] + bytes([section[at] ^ 1]) + section[at + 1:]
@@ -77,9 +88,11 @@ def packets(data, count):
 
 def whole():
     """Files with status 0: the file, and lines that are shown, in their order."""
-    yield DRILL, ['sections: 2 taken, 0 held already, 0 refused', *SHOWN]
-    yield TWO + ONE + TWO, ['sections: 2 taken, 1 held already, 0 refused', *SHOWN]
-    yield (ONE + b''.join(LONG[::-1]), ['sections: 4 taken, 0 held already, 0 refused', '    | Go on foot.',
+    came = [*progress('index', '0000', 0, 0, ONE), *progress('content', EXTENSION, 0, 0, TWO)]
+    yield DRILL, [*came, 'sections: 2 taken, 0 held already, 0 refused', *SHOWN]
+    yield TWO + ONE + TWO, [*came[::-1], 'sections: 2 taken, 1 held already, 0 refused', *SHOWN]
+    yield (ONE + b''.join(LONG[::-1]), [*progress('content', EXTENSION, 0, 2, *LONG[::-1]),
+                                        'sections: 4 taken, 0 held already, 0 refused', '    | Go on foot.',
                                         '    (more lines: 996, which box --whole shows)'])
     last = len(TWO) - 1
     yield changed(TWO, last) + DRILL, ['bytes 0 to %d' % last + CHECK + ELSEWHERE, *SHOWN]
@@ -127,7 +140,8 @@ def taken_over():
     yield (ONE + b''.join(LONG) + CORRECTED,
            [TAKES_OVER % (len(ONE) + sum(map(len, LONG)), 15, 'content', EXTENSION, 0), *corrected])
     longer = content(language(b'Go on foot.\n' * 1000), version=15)
-    yield DRILL + b''.join(longer), [text_over, 'sections: 5 taken, 0 held already, 0 refused', *HEAD, '    | Go on foot.']
+    yield (DRILL + b''.join(longer), [text_over, *progress('content', EXTENSION, 15, 2, *longer),
+                                      'sections: 5 taken, 0 held already, 0 refused', *HEAD, '    | Go on foot.'])
 
 
 def texts():
@@ -173,7 +187,8 @@ def faulty():
     yield (ONE + changed(LONG[0], 99) + LONG[0] + LONG[2],
            ['bytes %d to %d' % (len(ONE), len(ONE) + 4095) + CHECK + ELSEWHERE, NO_TEXT, faults(2)])
     yield DRILL + TWO[:30] + TWO, ['bytes %d to %d' % (len(DRILL), len(DRILL) + 29) + CHECK + UNKNOWN, *SHOWN, faults(1)]
-    yield ONE + LONG[2] + LONG[2], [lost + '2 of its 3 sections are missing, the first of them number 0']
+    yield (ONE + LONG[2] + LONG[2], [*progress('content', EXTENSION, 0, 2, LONG[2]),
+                                     lost + '2 of its 3 sections are missing, the first of them number 0'])
     yield (ONE + printed(CONTENT, 7, 0, 1, 0, 255, b''), [
         'content table, extension 0007, version 0: not whole, 255 of its 256 sections are missing, the first of them number 1'])
     yield DRILL + AGAINST, ['section at byte %d: not taken, %s' % (len(DRILL), CONTRADICTS), lost + CONTRADICTS, faults(2)]

@@ -4,14 +4,16 @@ import itertools
 import random
 
 import calls
-from second_gathering import MOST_BODY, MOST_PAYLOAD, Gathering, packed
+from second_gathering import LAYOUT, MOST_BODY, MOST_PAYLOAD, Gathering, counted, packed
 from second_sections import checked, printed
 
 SEQUENCES = 12000
-FRESH = bytes(518)
+FRESH = bytes(LAYOUT.size)
 chance = random.Random(86)
 
 requests, expected = [], []
+# Where the last number and the mark of a spoiled gathering stand in a state.
+LAST, SPOILED = 10, 11
 # How often each call was given each refusal.
 told = {'gathering_feed': collections.Counter(), 'gathering_hand_out': collections.Counter()}
 box = Gathering()
@@ -33,7 +35,15 @@ def lend(state, store):
 
 
 def feed(s):
-    return ask('gathering_feed', s)
+    """Feeds a byte string, and asks what is missing and held after it."""
+    answer = ask('gathering_feed', s)
+    ask('gathering_counts')
+    return answer
+
+
+def counts():
+    """How many sections are missing, and how many bytes are held."""
+    return ask('gathering_counts')
 
 
 def hand_out(room):
@@ -58,32 +68,38 @@ def examples():
     def section(number, last, payload, current=1):
         return printed(*index, current, number, last, payload)
 
+    assert LAYOUT.size == 524
     lend(FRESH, filled(room_for(1)))
     assert hand_out(9)[:2] == (13, 0)
-    # Joined by number, not by arrival, and not padded; a repeat completes nothing.
+    assert counts() == (0, 0)
+    # Joined by number, not by arrival, and not padded; a repeat completes nothing, and is not counted.
     assert feed(section(1, 1, b'late')) == (0, 0)
+    assert counts() == (1, 4)
     assert feed(section(1, 1, b'late')) == (0, 1)
+    assert counts() == (1, 4)
     assert hand_out(9)[:2] == (13, 0)
     assert feed(section(0, 1, b'early', current=0)) == (8, 0)
     assert feed(section(0, 0, b'early')) == (9, 0)
     assert feed(section(0, 1, b'early')) == (0, 0)
+    assert counts() == (0, 9)
     assert ask('gathering_hand_out', b'\x5A' * 11) == (0, 9, b'earlylate\x5A\x5A')
     assert hand_out(8)[0] == 21
     # A contradiction spoils: its heading is 11 from then on, another one 9.
     assert feed(section(0, 1, b'earl')) == (11, 0)
+    assert counts() == (0, 9)
     assert feed(section(0, 1, b'early')) == (11, 0)
     assert feed(section(0, 2, b'early')) == (9, 0)
     assert hand_out(9)[:2] == (11, 0)
     # 10 begins nothing.
     lend(FRESH, filled(room_for(1)))
     assert feed(section(0, 2, b'')) == (10, 0)
-    assert ask('gathering_show')[1:] == (0, 0, 0, 0, 0)
+    assert ask('gathering_show')[1:] == (0, 0, 0, 0, 0, 0, 0)
     # The empty body.
     assert feed(section(1, 1, b'')) == (0, 0)
     assert hand_out(0)[:2] == (13, 0)
     assert feed(section(0, 1, b'')) == (0, 0)
     assert hand_out(0) == (0, 0, b'')
-    assert ask('gathering_show')[1:] == (2018, 0xFD, 17, 1, 0, 0, 1, 1, 1)
+    assert ask('gathering_show')[1:] == (0, 0, 2018, 0xFD, 17, 1, 0, 0, 1, 1, 1)
 
 
 def takeovers():
@@ -103,7 +119,7 @@ def takeovers():
     assert ask('gathering_hand_out', bytes(7)) == (0, 7, b'oldtext')
     # Number 1 is held with another payload, but not of this table. The old number 0 is missing from then on.
     assert feed(section(13, 1, 1, b'newer')) == (0, 0)
-    assert ask('gathering_show')[1:] == (2018, 0xFE, 13, 1, 0, 1, 6)
+    assert ask('gathering_show')[1:] == (5, 1, 2018, 0xFE, 13, 1, 0, 1, 6)
     assert hand_out(9)[:2] == (13, 0)
     assert feed(section(30, 0, 1, b'old')) == (9, 0)
     # A spoiled gathering is given up too, for a table with fewer sections.
@@ -132,7 +148,7 @@ def pairs_of_versions():
         answer = feed(printed(0xFB, 7, new, 1, 1, last, b'new'))
         if 1 <= steps <= 15:
             assert answer == (0, 0)
-            assert ask('gathering_show')[1:] == (7, 0xFB, new, last, 0, 1, 4)
+            assert ask('gathering_show')[1:] == (3, last, 7, 0xFB, new, last, 0, 1, 4)
         else:
             assert answer == ((9, 0) if steps or last == 2 else (11, 0) if spoiled else (0, 0))
             ask('gathering_show')
@@ -168,7 +184,7 @@ def orders_of_feeding():
             (0, 1), range(8), (1, 0), (31, 30, 0), (0, 1), (0, 1), (5, 6)):
         s = SECTION_FAULTS[number](printed(0xFE, 0x0C29, version, current, 1, 2, b'\x77' * length))
         begun = packed((0xFE, 0x0C29, 31, 2), spoiled, {1: 5, 2 + impossible: 0})
-        for state in begun, with_byte(5, impossible)(FRESH):
+        for state in begun, with_byte(SPOILED, impossible)(FRESH):
             lend(state, b'\x77' * (room_for(2) - short))
             answer = feed(s)
             assert answer[0] == 12 if impossible else answer[0] == number or number == 0
@@ -180,7 +196,7 @@ def orders_of_handing_out():
         lengths = {0: 6, 1: 7, 2 + impossible: 8}
         if missing:
             del lengths[1]
-        state = packed((0xFB, 1, 0, 2), spoiled, lengths) if begun else with_byte(4, impossible)(FRESH)
+        state = packed((0xFB, 1, 0, 2), spoiled, lengths) if begun else with_byte(LAST, impossible)(FRESH)
         lend(state, filled(room_for(2) - short))
         hand_out(21 - less)
         ask('gathering_show')
@@ -191,7 +207,7 @@ def orders_of_handing_out():
 
 def states():
     """The fresh state with one byte changed; then good states with each field at, and past, its ends."""
-    for at, value in itertools.product(range(518), (1, 128, 0xFD)):
+    for at, value in itertools.product(range(LAYOUT.size), (1, 128, 0xFD)):
         yield with_byte(at, value)(FRESH)
     for n in range(256):
         yield packed((n, 7, 3, 2), 0, {0: 1, 1: 2, 2: 3})
@@ -204,6 +220,11 @@ def states():
         yield packed((0xFC, 7, 3, 255), n % 2, {n: 4085})
     for extension, length in itertools.product((0, 1, 7, 255, 256, 65535), (0, 1, 4083, 4084, 4085, 8191, 65534)):
         yield packed((0xFC, extension, 3, 2), 0, {0: 1, 1: length, 2: 3})
+    # What is kept, and near it: a state that counts wrong is not possible.
+    for last, lengths in (2, {0: 1, 1: 2, 2: 3}), (2, {1: 2}), (0, {0: 0}), (255, {1: 2}):
+        missing, held = counted(last, lengths)
+        for more, longer in itertools.product((-1, 0, 1, 256), (-1, 0, 1, 65536)):
+            yield packed((0xFC, 7, 3, last), 0, lengths, (max(0, missing + more), max(0, held + longer)))
 
 
 def by_hand():
@@ -233,7 +254,7 @@ def state_by_chance(heading):
         return FRESH
     numbers = chance.sample(range(heading[3] + 1), chance.randint(1, heading[3] + 1))
     state = packed(heading, int(chance.random() < 0.2), {number: length_by_chance() for number in numbers})
-    return chance.choice((state, state, with_byte(chance.randrange(518), chance.randrange(256))(state)))
+    return chance.choice((state, state, with_byte(chance.randrange(LAYOUT.size), chance.randrange(256))(state)))
 
 
 def store_by_chance(last):

@@ -62,13 +62,26 @@ plain_answer plain_section_cut(const uint8_t *body, size_t n, uint32_t kind, uin
 
 // ---- gathering
 
+// Counted afresh: the bytes that are held, and the sections of the table that are missing.
+static unsigned count_bytes(const nw_gathering *g) {
+    unsigned bytes = 0;
+    for (size_t k = 0; k < 256; k++) bytes += g->held[k] ? g->held[k] - 1u : 0;
+    return bytes;
+}
+
+static unsigned count_missing(const nw_gathering *g) {
+    unsigned missing = 0;
+    for (size_t k = 0; k <= g->last; k++) missing += g->held[k] == 0;
+    return missing;
+}
+
 static int is_possible(const nw_gathering *g) {
     unsigned most = 0, above = 0;
     for (size_t k = 0; k < 256; k++) most = g->held[k] > most ? g->held[k] : most;
-    if (g->kind == 0) return (most | g->extension | g->version | g->last | g->spoiled) == 0;
+    if (g->kind == 0) return (most | g->extension | g->version | g->last | g->spoiled | g->missing | g->bytes) == 0;
     for (size_t k = g->last + (size_t)1; k < 256; k++) above |= g->held[k];
     return is_kind(g->kind) && g->version <= MOST_VERSION && g->spoiled <= 1 && most > 0 &&
-           most <= NW_MOST_PAYLOAD + 1 && above == 0;
+           most <= NW_MOST_PAYLOAD + 1 && above == 0 && g->missing == count_missing(g) && g->bytes == count_bytes(g);
 }
 
 static int is_other_heading(const nw_gathering *g, plain_answer read) {
@@ -105,6 +118,8 @@ plain_answer plain_gathering_feed(nw_gathering *g, uint8_t *store, size_t store_
     g->version = (uint8_t)heading_version(read);
     g->last = (uint8_t)heading_last(read);
     g->held[number] = (uint16_t)(length + 1);
+    g->missing = (uint16_t)count_missing(g);
+    g->bytes = count_bytes(g);
     return value(NW_FED_TAKEN);
 }
 

@@ -8,28 +8,38 @@ from calls import Refused
 
 MOST_PAYLOAD = 4084
 MOST_BODY = 1045504
-# As C has a state: extension, kind, version, last, spoiled; by section number the payload's length and one more, or 0.
-LAYOUT = struct.Struct('<H4B256H')
+# As C has a state: bytes, missing, extension, kind, version, last, spoiled; by section number the payload's length and one more, or 0.
+LAYOUT = struct.Struct('<IHH4B256H')
 section_read = functools.lru_cache(4096)(second_sections.section_read)
 
 
-def packed(heading, spoiled, lengths):
-    """A state, as C has it."""
+def counted(last, lengths):
+    """Of a table that is begun, counted afresh: how many of its sections are missing, and how many bytes are held."""
+    return sum(number not in lengths for number in range(last + 1)), sum(lengths.values())
+
+
+def packed(heading, spoiled, lengths, kept=None):
+    """A state, as C has it; what it keeps is counted, unless it is given."""
     kind, extension, version, last = heading
-    return LAYOUT.pack(extension, kind, version, last, spoiled, *(lengths.get(k, -1) + 1 for k in range(256)))
+    missing, held = kept or counted(last, lengths)
+    return LAYOUT.pack(held, missing, extension, kind, version, last, spoiled, *(lengths.get(k, -1) + 1 for k in range(256)))
 
 
 class Gathering:
-    """A state, possible or not, and a store, with the calls of calls.c. The lengths are those of the held numbers."""
+    """A state, possible or not, and a store, with the calls of calls.c. The lengths are those of the held numbers.
 
-    heading, spoiled, lengths, store = (0, 0, 0, 0), 0, {}, bytearray()
+    What the state keeps, missing and bytes, is never updated: it is counted afresh whenever a section is taken.
+    """
+
+    heading, spoiled, lengths, kept, store = (0, 0, 0, 0), 0, {}, (0, 0), bytearray()
 
     def possible(self):
         kind, _, version, last = self.heading
-        if (self.heading, self.spoiled, self.lengths) == ((0, 0, 0, 0), 0, {}):
+        if (self.heading, self.spoiled, self.lengths, self.kept) == ((0, 0, 0, 0), 0, {}, (0, 0)):
             return True
         begun = 0xFB <= kind <= 0xFE and version <= 31 and self.spoiled in (0, 1) and len(self.lengths) > 0
-        return begun and max(self.lengths) <= last and max(self.lengths.values()) <= MOST_PAYLOAD
+        held = begun and max(self.lengths) <= last and max(self.lengths.values()) <= MOST_PAYLOAD
+        return held and self.kept == counted(last, self.lengths)
 
     def payload(self, number):
         """What is held of a number."""
@@ -57,6 +67,7 @@ class Gathering:
             at = number * MOST_PAYLOAD
             self.store[at:at + len(payload)] = payload
             self.heading, self.lengths = heading, {**self.lengths, number: len(payload)}
+            self.kept = counted(last, self.lengths)
             return 0
         if payload != self.payload(number):
             self.spoiled = 1
@@ -84,8 +95,8 @@ class Gathering:
     # ---- the calls: each gives its answer, as numbers and bytes
 
     def gathering_state(self, state):
-        extension, kind, version, last, self.spoiled, *held = LAYOUT.unpack(state)
-        self.heading = kind, extension, version, last
+        held_bytes, missing, extension, kind, version, last, self.spoiled, *held = LAYOUT.unpack(state)
+        self.heading, self.kept = (kind, extension, version, last), (missing, held_bytes)
         self.lengths = {number: n - 1 for number, n in enumerate(held) if n > 0}
         return ()
 
@@ -109,4 +120,7 @@ class Gathering:
     def gathering_show(self):
         kind, extension, version, last = self.heading
         held = (item for number in sorted(self.lengths) for item in (number, self.lengths[number] + 1))
-        return zlib.adler32(self.store), extension, kind, version, last, self.spoiled, *held
+        return zlib.adler32(self.store), *reversed(self.kept), extension, kind, version, last, self.spoiled, *held
+
+    def gathering_counts(self):
+        return self.kept

@@ -114,7 +114,11 @@ def try_adapter_calls():
 
 def try_file(data, status, wanted, words=(), **more):
     write('received', data)
-    expect('box on %d bytes, %.60r %r' % (len(data), data, words), run('box', [*words, 'received'], **more), status, wanted)
+    what, got = 'box on %d bytes, %.60r %r' % (len(data), data, words), run('box', [*words, 'received'], **more)
+    expect(what, got, status, wanted)
+    told, taken = len(files.PROGRESS.findall(got[1])), files.TAKEN.search(got[1])
+    if told != (int(taken[1]) if taken else 0):
+        wrong.append('%s: progress is told %d times: %r' % (what, told, got[1][:600]))
 
 
 def try_files():

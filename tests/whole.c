@@ -326,12 +326,22 @@ static void hand_out(size_t store_bytes) {
     unchanged(&input, store);
 }
 
+// A held length that is perhaps too long, and counted.
+static void lengthen_held(void) {
+    uint16_t *held = &state.held[below(state.last + 1u)], longer = (uint16_t)(4083 + below(5));
+    state.missing = (uint16_t)(state.missing - (*held == 0 && state.kind != 0));
+    state.bytes += longer - 1u - (*held ? *held - 1u : 0);
+    *held = longer;
+}
+
 // A state that is perhaps not possible.
 static void damage_state(void) {
     uint8_t *bytes = (uint8_t *)&state;
-    switch (below(5)) {
-    case 0: bytes[below(8)] = (uint8_t)chance(); break;
-    case 1: state.held[below(state.last + 1u)] = (uint16_t)(4083 + below(5)); break;
+    switch (below(7)) {
+    case 0: bytes[below(14)] = (uint8_t)chance(); break;
+    case 1: lengthen_held(); break;
+    case 5: state.missing = (uint16_t)(state.missing + 1 - below(3)); break;
+    case 6: state.bytes += 1 - (uint32_t)below(3); break;
     case 2: state.kind = (uint8_t)(0xFA + below(6)); break;
     case 3: memset(&state, 0, sizeof state); state.spoiled = (uint8_t)below(3); break;
     default: bytes[below(sizeof state)] ^= (uint8_t)(1 << below(8));

@@ -5,6 +5,6 @@ use Prim.Native.Nat.{ℕ, _+_, _*_}
 unfoldable pub versionNumber : ℕ → ℕ → ℕ → ℕ
 versionNumber major minor patch = major * 10000 + minor * 100 + patch
 
--- the file VERSION says "0.1.0"
+-- the file VERSION says "0.2.0"
 unfoldable pub version : ℕ
-version = versionNumber 0 1 0
+version = versionNumber 0 2 0

@@ -47,7 +47,7 @@ fn answered(value: u64) -> u64
 // The three numbers of the file VERSION.
 const MAJOR: u32 = 0;
 
-const MINOR: u32 = 1;
+const MINOR: u32 = 2;
 
 const PATCH: u32 = 0;
 

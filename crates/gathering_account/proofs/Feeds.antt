@@ -13,9 +13,9 @@ use Rattle.section_reader.specs.declared.Sectioned.the-variants.{Good}
 use Rattle.ground_placing.specs.Placed.{placed}
 use Rattle.ground_placing.proofs.Placing.{placed-length}
 use Rattle.section_reader.proofs.RoundTrip.{good-printed}
-use Rattle.gathering_state.specs.State.{freshState, place, hasRoom, withSection}
+use Rattle.gathering_state.specs.State.{freshState, place, hasRoom, opened, withSection}
 use Rattle.gathering_state.specs.declared.Gathering.{Gathering}
-use Rattle.gathering_state.proofs.State.{place-within}
+use Rattle.gathering_state.proofs.State.{place-within, OfTable, opened-table, section-begun}
 use Rattle.gathering_feed.specs.Feeding.{agrees, begins, verdictOf, stateBy, storeBy}
 use Rattle.gathering_feed.specs.declared.Verdict.{Verdict}
 use Rattle.gathering_feed.specs.declared.Verdict.the-variants.{Refuse, Repeat, Contradict, Begin, Take}
@@ -23,10 +23,9 @@ use Rattle.gathering_feed.proofs.Verdicts.{SameHeading, verdict-bad, verdict-go
 use Rattle.gathering_account.specs.Account.{heard, Section, Account, idle, table, accountAfter, account, Agree}
 use Rattle.gathering_account.specs.Latest.{beginsAfter}
 use Rattle.gathering_account.specs.Gathers.{Box, freshBox, ByteStrings, feed, boxAfter}
-use Rattle.gathering_account.proofs.Taking.{Ready, begun-with}
 use Rattle.gathering_account.proofs.Keeping.{Kept, agree-front, kept-again, kept-clash, kept-more, kept-none}
 use Rattle.gathering_account.proofs.Hearing.{ReadAs, as-good, as-bad, readAs, heard-bad, heard-old, heard-good, counted-nothing, counted-first, counted-none, counted-same, counted-other, feed-by}
-use Rattle.gathering_account.proofs.Standing.{Fixed, Stands, fresh-stands, calm-stands, spoiled-stands, never, stands-possible, fresh-begins, fresh-calm, fresh-held, fresh-ready, fixed-ready, fixed-spoiled, spoiled-marked, same-with, fixed-agrees, fixed-begins, fixed-heading, fixed-not-short, formed-kind}
+use Rattle.gathering_account.proofs.Standing.{Fixed, Stands, fresh-stands, calm-stands, spoiled-stands, never, stands-possible, fresh-begins, opened-calm, opened-long, opened-held, fixed-spoiled, spoiled-marked, fixed-agrees, fixed-begins, fixed-heading, fixed-not-short, formed-kind}
 
 -- ---- a good section
 
@@ -46,37 +45,39 @@ module _ (bytes : ℕ) (box : Box) (s : List ℕ) (areBytes : AreBytes s) (h : H
   p-short : length p ≤ 4084
   p-short = let i = good-printed s h n areBytes e in omega arith
 
-  -- it is taken into the state b: the fresh one, as its table's first, or the box's, as a further one
-  takes : (b : Gathering) (t : Heading) (S : List Section) → Ready b h → Kept b (box .store) S → b .spoiled ≡ 0 → SameHeading (withSection b h (length p)) t
-      → h .last ≡ t .last → hasRoom (length (box .store)) (h .last) ≡ true → length (box .store) ≡ bytes → getD (b .held) (h .number) 0 ≡ 0
-      → feed box s ≡ record { state = withSection b h (length p); store = placed (box .store) (place (h .number)) p }
+  -- it is taken into the state b: that of its table opened, as the first, or the box's, as a further one
+  takes : (b : Gathering) (t : Heading) (S : List Section) → OfTable b → length (b .held) ≡ 256 → Kept b (box .store) S → b .spoiled ≡ 0
+      → SameHeading b t → h .last ≡ t .last → hasRoom (length (box .store)) (h .last) ≡ true → length (box .store) ≡ bytes
+      → getD (b .held) (h .number) 0 ≡ 0
+      → feed box s ≡ record { state = withSection b (h .number) (length p); store = placed (box .store) (place (h .number)) p }
       → Stands bytes (feed box s) (table t (S ++ section ∷ []))
   unfolding withSection
-  takes b t S r kept calm same last roomy long unheld fed =
+  takes b t S of-table m kept calm same last roomy long unheld fed =
       let w = formed in
       let l = p-short in
-      let m = r .long in
+      let to = same .last in
       let within = place-within (length (box .store)) (h .last) (h .number) roomy (w .number-high) in
       rw fed
       (calm-stands
       (record {
-        same = same;
+        same = record { kind = same .kind; extension = same .extension; version = same .version; last = same .last };
         roomy = rw (← last, ← long) roomy;
         last-high = rw (← last) (w .last-high);
         long = length-set (b .held) (h .number) (length p + 1) ∙ m;
-        begun = begun-with b h (length p) r (formed-kind h w) (w .version-high) (w .number-high) (w .last-high) l;
+        begun = section-begun b (h .number) of-table m (omega arith) (omega arith) unheld (length p) l;
       })
       (placed-length (box .store) (place (h .number)) p (omega arith) ∙ long)
       calm
-      (kept-more b (box .store) S kept h p unheld (omega arith) (r .short) within l))
+      (kept-more b (box .store) S kept (h .number) p unheld (omega arith) (of-table .short) within l))
 
   -- it begins its table, whatever the box holds
   takes-first : length (box .store) ≡ bytes → hasRoom (length (box .store)) (h .last) ≡ true → verdictOf g (box .store) s ≡ Begin h
       → Stands bytes (feed box s) (table h (section ∷ []))
-  unfolding stateBy storeBy withSection
+  unfolding stateBy storeBy opened
   takes-first l roomy f =
-      takes freshState h [] (fresh-ready h) (kept-none freshState (box .store) fresh-held) fresh-calm
-      (record { kind = refl; extension = refl; version = refl; last = refl }) refl roomy l (fresh-held (h .number)) (feed-by box s (Begin h) f)
+      let w = formed in
+      takes (opened h) h [] (opened-table h (formed-kind h w) (w .version-high)) (opened-long h) (kept-none (opened h) (box .store) (opened-held h))
+      (opened-calm h) (record { kind = refl; extension = refl; version = refl; last = refl }) refl roomy l (opened-held h (h .number)) (feed-by box s (Begin h) f)
 
   starts : (a : Account) → beginsAfter a h ≡ true → h .current ≡ true → length (box .store) ≡ bytes → hasRoom (length (box .store)) (h .last) ≡ true
       → verdictOf g (box .store) s ≡ Begin h → Stands bytes (feed box s) (accountAfter (hasRoom bytes) a (heard s))
@@ -146,8 +147,7 @@ module _ (bytes : ℕ) (box : Box) (s : List ℕ) (areBytes : AreBytes s) (h : H
     good-calm z k v f (new y u) =
         let a = fixed-heading x h (y .agreed) in
         rw (counts (y .current) (y .agreed))
-        (takes g t S (fixed-ready g bytes t h x (a .last)) k z (same-with g t h (length p) (x .same) a) (sym (a .last) ∙ x .same .last) (y .roomy) l u
-        (feed-by box s (Take h) f))
+        (takes g t S (x .begun .of-table) (x .long) k z (x .same) (sym (a .last) ∙ x .same .last) (y .roomy) l u (feed-by box s (Take h) f))
     good-calm z k v f (again y u q) =
         rw (counts (y .current) (y .agreed), feed-by box s Repeat f) (calm-stands x l z (kept-again g (box .store) S k section u q))
     good-calm z k v f (clash y u q) =

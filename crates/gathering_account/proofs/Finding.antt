@@ -14,13 +14,14 @@ use Rattle.gathering_state.specs.Lists.{smallestMissing, part}
 use Rattle.gathering_state.specs.State.{place, hasRoom, lengths, heldPayload}
 use Rattle.gathering_state.specs.declared.Gathering.{Gathering}
 use Rattle.gathering_state.proofs.Lists.{missing-before}
+use Rattle.gathering_state.proofs.State.{begun-possible, begun-some, fresh-possible}
 use Rattle.gathering_hand_out.specs.Handing.{bodyHeld as joinedBody, completeOf}
 use Rattle.gathering_hand_out.specs.declared.Completeness.the-variants.{Complete as AllThere, Refused as NotAllThere}
 use Rattle.gathering_hand_out.proofs.Handing.{missing-some, Whole, complete-fresh, complete-spoiled, complete-calm, whole-complete}
 use Rattle.gathering_account.specs.Account.{Section, Account, idle, table, Agree, Present, Covered, Complete, contentsOf, inOrder, bodyOf}
 use Rattle.gathering_account.specs.Gathers.{Box, SmallestMissing}
 use Rattle.gathering_account.proofs.Keeping.{Kept, kept-agree}
-use Rattle.gathering_account.proofs.Standing.{Fixed, Stands, fresh-stands, calm-stands, spoiled-stands, begun-possible, begun-some, fresh-possible, fresh-none}
+use Rattle.gathering_account.proofs.Standing.{Fixed, Stands, fresh-stands, calm-stands, spoiled-stands, fresh-none}
 use Rattle.gathering_account.proofs.Joining.{contents-are, joined-order}
 
 pub data Finds (g : Gathering) (store : List ℕ) : Account → Type 0 where

@@ -10,7 +10,6 @@ use lib.Dec.{eqb}
 use lib.ListN.{length, getD}
 use lib.Seq.{getD-set-same, getD-set-other}
 use Rattle.ground_placing.specs.Placed.{placed}
-use Rattle.section_reader.specs.declared.Heading.{Heading}
 use Rattle.gathering_state.specs.Lists.{greatest}
 use Rattle.gathering_state.specs.State.{place, heldPayload, withSection}
 use Rattle.gathering_state.specs.declared.Gathering.{Gathering}
@@ -73,28 +72,28 @@ module _ (g : Gathering) (store : List ℕ) (S : List Section) (kept : Kept g st
       other (ap (heldPayload g store) (sym (x .2)) ∙ kept .stored (x .0) (x .1) ∙ e)
 
 -- it is taken
-module _ (g : Gathering) (store : List ℕ) (S : List Section) (kept : Kept g store S) (h : Heading) (p : List ℕ) (new : getD (g .held) (h .number) 0 ≡ 0)
-    (listed : h .number < length (g .held)) (most : greatest (g .held) ≤ 4085) (within : place (h .number) + 4084 ≤ length store) (short : length p ≤ 4084) where
+module _ (g : Gathering) (store : List ℕ) (S : List Section) (kept : Kept g store S) (k : ℕ) (p : List ℕ) (new : getD (g .held) k 0 ≡ 0)
+    (listed : k < length (g .held)) (most : greatest (g .held) ≤ 4085) (within : place k + 4084 ≤ length store) (short : length p ≤ 4084) where
   abbrev g′ : Gathering
-  g′ = withSection g h (length p)
+  g′ = withSection g k (length p)
 
   abbrev store′ : List ℕ
-  store′ = placed store (place (h .number)) p
+  store′ = placed store (place k) p
 
   abbrev s : Section
-  s = record { number = h .number; contents = p }
+  s = record { number = k; contents = p }
 
   -- the sections so far have other numbers
-  other : (t : Section) → In t S → t .number ≡ h .number → ⊥
-  other t i e = kept .held t i (ap (λ (k : ℕ). getD (g .held) k 0) e ∙ new)
+  other : (t : Section) → In t S → t .number ≡ k → ⊥
+  other t i e = kept .held t i (ap (λ (j : ℕ). getD (g .held) j 0) e ∙ new)
 
-  held-is : getD (g′ .held) (h .number) 0 ≡ length p + 1
+  held-is : getD (g′ .held) k 0 ≡ length p + 1
   unfolding withSection
-  held-is = getD-set-same (g .held) (h .number) (length p + 1) 0 listed
+  held-is = getD-set-same (g .held) k (length p + 1) 0 listed
 
-  held-beside : (k : ℕ) → (k ≡ h .number → ⊥) → getD (g′ .held) k 0 ≡ getD (g .held) k 0
+  held-beside : (j : ℕ) → (j ≡ k → ⊥) → getD (g′ .held) j 0 ≡ getD (g .held) j 0
   unfolding withSection
-  held-beside k ne = getD-set-other (g .held) (h .number) k (length p + 1) 0 ne
+  held-beside j ne = getD-set-other (g .held) k j (length p + 1) 0 ne
 
   held-still : (t : Section) → In t S → getD (g′ .held) (t .number) 0 ≡ 0 → ⊥
   held-still t i e = kept .held t i (sym (held-beside (t .number) (other t i)) ∙ e)
@@ -102,18 +101,18 @@ module _ (g : Gathering) (store : List ℕ) (S : List Section) (kept : Kept g st
   stored-still : (t : Section) → In t S → heldPayload g′ store′ (t .number) ≡ t .contents
   stored-still t i =
       let m = greatest-at (g .held) (t .number) in
-      held-other g store h p within short (t .number) (other t i) (omega arith) ∙ kept .stored t i
+      held-other g store k p within short (t .number) (other t i) (omega arith) ∙ kept .stored t i
 
-  only-these : (k : ℕ) → (b : Bool) → eqb k (h .number) ≡ b → (getD (g′ .held) k 0 ≡ 0 → ⊥) → Present k (S ++ s ∷ [])
-  only-these k true e n = present-last S s k (sym (eqb-true k (h .number) e))
-  only-these k false e n = present-front k S (s ∷ []) (kept .only k (λ z. n (held-beside k (eqb-false k (h .number) e) ∙ z)))
+  only-these : (j : ℕ) → (b : Bool) → eqb j k ≡ b → (getD (g′ .held) j 0 ≡ 0 → ⊥) → Present j (S ++ s ∷ [])
+  only-these j true e n = present-last S s j (sym (eqb-true j k e))
+  only-these j false e n = present-front j S (s ∷ []) (kept .only j (λ z. n (held-beside j (eqb-false j k e) ∙ z)))
 
   pub kept-more : Kept g′ store′ (S ++ s ∷ [])
   kept-more =
       record {
         held = all-more (λ (t : Section). getD (g′ .held) (t .number) 0 ≡ 0 → ⊥) S s held-still (λ e. let l = held-is in omega arith);
-        stored = all-more (λ (t : Section). heldPayload g′ store′ (t .number) ≡ t .contents) S s stored-still (held-new g store h p within short listed);
-        only = λ k n. only-these k (eqb k (h .number)) refl n;
+        stored = all-more (λ (t : Section). heldPayload g′ store′ (t .number) ≡ t .contents) S s stored-still (held-new g store k p within short listed);
+        only = λ j n. only-these j (eqb j k) refl n;
       }
 
 -- nothing is kept where nothing is held

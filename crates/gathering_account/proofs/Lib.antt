@@ -7,6 +7,7 @@ pub mod Agreeing
 pub mod Standing
 pub mod Feeds
 pub mod Answering
+pub mod Counts
 pub mod Joining
 pub mod Finding
 pub mod Handing

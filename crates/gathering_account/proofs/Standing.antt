@@ -1,24 +1,22 @@
 -- What a box stands for: an account. The fresh state stands for the idle one, and a state that is not spoiled keeps the sections counted.
-use Prim.Native.Nat.{ℕ, _+_, _≤_}
+use Prim.Native.Nat.{ℕ, _≤_}
 use mathlib.Core.Path.{_≡_, refl, sym, _∙_}
 use mathlib.Core.Bool.{Bool, true, false, false≢true}
 use mathlib.Core.List.{List}
 use native.Mathlib.Omega.{arith}
-use borrow.Author.Tests.{ne-eqb, le-leb}
-use lib.ListN.{length, getD, drop, replicate}
-use lib.Seq.{getD-drop}
+use borrow.Author.Tests.{le-leb}
+use lib.ListN.{length, getD}
 use Rattle.section_reader.specs.Section.{isKind, WellFormed}
 use Rattle.section_reader.specs.declared.Heading.{Heading}
-use Rattle.gathering_state.specs.State.{freshState, possibleOf, nothingBegun, hasRoom, withSection, spoiledState}
+use Rattle.gathering_state.specs.State.{freshState, possibleOf, nothingBegun, hasRoom, opened, spoiledState}
 use Rattle.gathering_state.specs.declared.Gathering.{Gathering}
-use Rattle.gathering_state.proofs.Lists.{greatest-most, zeros-at}
-use Rattle.gathering_state.proofs.State.{Begun, begun-test, possible-some, possible-none, fresh-one}
+use Rattle.gathering_state.proofs.Lists.{zeros-at}
+use Rattle.gathering_state.proofs.State.{Begun, begun-kind, begun-possible, fresh-possible, spoiled-begun}
 use Rattle.gathering_tables.specs.Tables.{sameTable, isNewer}
 use Rattle.gathering_feed.specs.Feeding.{agrees, begins}
 use Rattle.gathering_feed.proofs.Verdicts.{SameHeading, agrees-is, begins-none, begins-newer}
 use Rattle.gathering_account.specs.Account.{Section, Account, idle, table, Agree}
 use Rattle.gathering_account.specs.Gathers.{Box}
-use Rattle.gathering_account.proofs.Taking.{Ready}
 use Rattle.gathering_account.proofs.Keeping.{Kept}
 
 -- the state is that of a table with the heading t, which has room in a store of so many bytes
@@ -41,77 +39,43 @@ never b p q = absurd (false≢true (sym q ∙ p))
 
 -- ---- states
 
-begun-kind : (g : Gathering) → Begun g → g .kind ≡ 0 → ⊥
-unfolding isKind
-begun-kind g b e = false≢true (rw e at (b .kind))
-
-pub begun-some : (g : Gathering) → Begun g → nothingBegun g ≡ false
-unfolding nothingBegun
-begun-some g b = ne-eqb (g .kind) 0 (begun-kind g b)
-
-pub begun-possible : (g : Gathering) → Begun g → possibleOf g ≡ true
-begun-possible g b = possible-some g (begun-kind g b) ∙ sym (begun-test g b)
-
-pub fresh-possible : possibleOf freshState ≡ true
-unfolding freshState
-fresh-possible = possible-none freshState refl ∙ fresh-one
-
--- in the fresh state every section begins; it is not spoiled and holds no number
+-- in the fresh state every section begins
 pub fresh-begins : (h : Heading) → begins freshState h ≡ true
 unfolding freshState
 fresh-begins h = sym (begins-none freshState h refl)
-
-pub fresh-calm : freshState .spoiled ≡ 0
-unfolding freshState
-fresh-calm = refl
-
-pub fresh-held : (k : ℕ) → getD (freshState .held) k 0 ≡ 0
-unfolding freshState
-fresh-held k = zeros-at 256 k
 
 pub fresh-none : nothingBegun freshState ≡ true
 unfolding nothingBegun freshState
 fresh-none = refl
 
-pub fresh-ready : (h : Heading) → Ready freshState h
-unfolding freshState
-fresh-ready h =
-    let none : List ℕ = replicate 256 0 in
-    let a = greatest-most (drop (h .last + 1) none) 0 (λ i _. let z = getD-drop (h .last + 1) none i 0 in let y = zeros-at 256 (h .last + 1 + i) in omega arith) in
-    let b = greatest-most none 4085 (λ i _. let z = zeros-at 256 i in omega arith) in
-    record { long = refl; spoiled = omega arith; above = omega arith; short = b }
+-- a table that is opened is not spoiled and holds no number
+pub opened-calm : (h : Heading) → opened h .spoiled ≡ 0
+unfolding opened
+opened-calm h = refl
 
-pub fixed-ready : (g : Gathering) (bytes : ℕ) (t h : Heading) → Fixed g bytes t → g .last ≡ h .last → Ready g h
-fixed-ready g bytes t h f e =
-    record { long = f .long; spoiled = f .begun .spoiled; above = rw e at (f .begun .above); short = f .begun .short }
+pub opened-long : (h : Heading) → length (opened h .held) ≡ 256
+unfolding opened
+opened-long h = refl
+
+pub opened-held : (h : Heading) (k : ℕ) → getD (opened h .held) k 0 ≡ 0
+unfolding opened
+opened-held h k = zeros-at 256 k
 
 -- a contradiction changes the mark alone
 pub fixed-spoiled : (g : Gathering) (bytes : ℕ) (t : Heading) → Fixed g bytes t → Fixed (spoiledState g) bytes t
 unfolding spoiledState
 fixed-spoiled g bytes t f =
-    let b = f .begun in
     record {
       same = record { kind = f .same .kind; extension = f .same .extension; version = f .same .version; last = f .same .last };
       roomy = f .roomy;
       last-high = f .last-high;
       long = f .long;
-      begun = record { kind = b .kind; version = b .version; spoiled = omega arith; some = b .some; above = b .above; short = b .short };
+      begun = spoiled-begun g (f .begun);
     }
 
 pub spoiled-marked : (g : Gathering) → spoiledState g .spoiled ≡ 0 → ⊥
 unfolding spoiledState
 spoiled-marked g e = omega arith
-
--- a further section of the table leaves the heading
-pub same-with : (g : Gathering) (t h : Heading) (n : ℕ) → SameHeading g t → SameHeading g h → SameHeading (withSection g h n) t
-unfolding withSection
-same-with g t h n a b =
-    record {
-      kind = sym (b .kind) ∙ a .kind;
-      extension = sym (b .extension) ∙ a .extension;
-      version = sym (b .version) ∙ a .version;
-      last = sym (b .last) ∙ a .last;
-    }
 
 -- a state of t's table agrees with the headings of this table, which has found room, and begins with those of a newer one
 module _ {g : Gathering} {bytes : ℕ} {t : Heading} (x : Fixed g bytes t) (h : Heading) where

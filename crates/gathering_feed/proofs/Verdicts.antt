@@ -1,5 +1,5 @@
 -- Laws of feeding: what leads to each verdict, what is known where it is given, and what it makes of answer, state and store.
-use Prim.Native.Nat.{ℕ, _+_, _-_, _≤_}
+use Prim.Native.Nat.{ℕ, _+_, _-_, _*_, _≤_}
 use mathlib.Core.Path.{_≡_, refl, sym, _∙_, ap}
 use mathlib.Core.Bool.{Bool, true, false, not, _||_, false≢true}
 use mathlib.Core.List.{List}
@@ -17,13 +17,13 @@ use Rattle.section_reader.specs.declared.Sectioned.{Sectioned}
 use Rattle.section_reader.specs.declared.Sectioned.the-variants.{Good, Refused as NotGood}
 use Rattle.section_reader.proofs.Accepting.{accepted, accepted-length, accepted-short}
 use Rattle.gathering_state.specs.Lists.{sameBytes}
-use Rattle.gathering_state.specs.State.{freshState, possibleOf, nothingBegun, place, hasRoom, heldPayload, withSection}
+use Rattle.gathering_state.specs.State.{possibleOf, nothingBegun, place, hasRoom, heldPayload, opened, withSection}
 use Rattle.gathering_state.specs.declared.Gathering.{Gathering}
 use Rattle.gathering_state.proofs.Lists.{part-between, same-refl, same-is}
-use Rattle.gathering_state.proofs.State.{place-within}
+use Rattle.gathering_state.proofs.State.{place-within, Begun, possible-begun, unheld-counts}
 use Rattle.ground_choices.proofs.Tests.{both, refuted}
 use Rattle.gathering_tables.specs.Tables.{isNewer}
-use Rattle.gathering_feed.specs.Feeding.{fixedHeading, agrees, begins, numberVerdict, goodVerdict, sectionVerdict, verdictOf, answerBy, stateBy, storeBy, fedOf, storeAfter}
+use Rattle.gathering_feed.specs.Feeding.{fixedHeading, agrees, begins, numberVerdict, goodVerdict, sectionVerdict, verdictOf, answerBy, stateBy, storeBy, fedOf, storeAfter, Takes}
 use Rattle.gathering_feed.specs.declared.Verdict.{Verdict}
 use Rattle.gathering_feed.specs.declared.Verdict.the-variants.{Refuse, Repeat, Contradict, Begin, Take}
 use Rattle.gathering_feed.specs.declared.Answer.the-variants.{Taken}
@@ -49,6 +49,15 @@ module _ (g : Gathering) (h : Heading) where
   pub begins-newer : (g .kind ≡ 0 → ⊥) → begins g h ≡ isNewer (fixedHeading g) h
   unfolding begins nothingBegun
   begins-newer k = rw (ne-eqb (g .kind) 0 k)
+
+  -- what does not begin finds a table begun
+  pub further-begun : begins g h ≡ false → nothingBegun g ≡ false
+  unfolding begins
+  further-begun e = go (nothingBegun g) refl
+    where
+      go : (b : Bool) → nothingBegun g ≡ b → b ≡ false
+      go true k = absurd (false≢true (sym e ∙ rw k))
+      go false k = refl
 
 -- ---- what leads to each verdict
 
@@ -194,60 +203,101 @@ pub data TakenBy (h : Heading) (v : Verdict) : Type 0 where
   as-first : v ≡ Begin h → TakenBy h v
   as-further : v ≡ Take h → TakenBy h v
 
--- what is known of it: the store has room for its table
-pub record TakeIs (store s : List ℕ) (h : Heading) : Type 0 where
+-- a further section of the gathering's table: its number is one of the table's, and not held
+pub record Further (g : Gathering) (h : Heading) : Type 0 where
+  pub begun : Begun g
+  pub within : h .number ≤ g .last
+  pub new : getD (g .held) (h .number) 0 ≡ 0
+
+-- what is known of a section that is taken: the store has room for its table
+pub record TakeIs (g : Gathering) (store s : List ℕ) (h : Heading) (v : Verdict) : Type 0 where
   pub length-of : ℕ
   pub reads : readSection s ≡ Good h length-of
   pub roomy : hasRoom (length store) (h .last) ≡ true
+  pub further : v ≡ Take h → Further g h
 
 module _ (g : Gathering) (store s : List ℕ) (h : Heading) where
   not-refused : {A : Type 0} (r : Refusal) → TakenBy h (Refuse r) → A
   not-refused r (as-first e) = let z : _≡_ {A = ℕ} 0 1 = cc in absurd (omega arith)
   not-refused r (as-further e) = let z : _≡_ {A = ℕ} 0 1 = cc in absurd (omega arith)
 
-  take-good : (i : Heading) (n : ℕ) → readSection s ≡ Good i n → {v : Verdict} → Decided g store i (payloadOf s) v → TakenBy h v → TakeIs store s h
-  take-good i n r (begun c b q) (as-first e) = let same : i ≡ h = cc in rw (← same) (record { length-of = n; reads = r; roomy = q })
-  take-good i n r (new d z) (as-further e) = let same : i ≡ h = cc in rw (← same) (record { length-of = n; reads = r; roomy = d .roomy })
-  take-good i n r (begun c b q) (as-further e) = let z : _≡_ {A = ℕ} 0 1 = cc in absurd (omega arith)
-  take-good i n r (new d z) (as-first e) = let z : _≡_ {A = ℕ} 0 1 = cc in absurd (omega arith)
-  take-good i n r (old c) t = not-refused NotCurrent t
-  take-good i n r (other c b a) t = not-refused OtherHeading t
-  take-good i n r (short c b q) t = not-refused StoreTooShort t
-  take-good i n r (spoiled c b a q z) t = not-refused Contradiction t
-  take-good i n r (again d z q) (as-first e) = let z : _≡_ {A = ℕ} 0 1 = cc in absurd (omega arith)
-  take-good i n r (again d z q) (as-further e) = let z : _≡_ {A = ℕ} 0 1 = cc in absurd (omega arith)
-  take-good i n r (clash d z q) (as-first e) = let z : _≡_ {A = ℕ} 0 1 = cc in absurd (omega arith)
-  take-good i n r (clash d z q) (as-further e) = let z : _≡_ {A = ℕ} 0 1 = cc in absurd (omega arith)
+  module _ (p : possibleOf g ≡ true) where
+    heard-further : (i : Heading) (n : ℕ) → readSection s ≡ Good i n → Heard g store i → getD (g .held) (i .number) 0 ≡ 0 → Further g i
+    heard-further i n r d z =
+        let q = sized s i n r in
+        let a = agrees-is g i (d .agreed) in
+        let last = a .last in
+        record { begun = possible-begun g p (further-begun g i (d .further)); within = omega arith; new = z }
 
-  take-read : possibleOf g ≡ true → (a : Sectioned) → readSection s ≡ a → TakenBy h (verdictOf g store s) → TakeIs store s h
-  take-read p (NotGood r) f t = not-refused r (rw (verdict-bad g store s p r f) at t)
-  take-read p (Good i n) f t = take-good i n f (decided g store i (payloadOf s)) (rw (verdict-good g store s p i n f) at t)
+    take-good : (i : Heading) (n : ℕ) → readSection s ≡ Good i n → {v : Verdict} → Decided g store i (payloadOf s) v → TakenBy h v → TakeIs g store s h v
+    take-good i n r (begun c b q) (as-first e) =
+        let same : i ≡ h = cc in
+        rw (← same) (record { length-of = n; reads = r; roomy = q; further = λ t. let z : _≡_ {A = ℕ} 0 1 = cc in absurd (omega arith) })
+    take-good i n r (new d z) (as-further e) =
+        let same : i ≡ h = cc in
+        rw (← same) (record { length-of = n; reads = r; roomy = d .roomy; further = λ t. heard-further i n r d z })
+    take-good i n r (begun c b q) (as-further e) = let z : _≡_ {A = ℕ} 0 1 = cc in absurd (omega arith)
+    take-good i n r (new d z) (as-first e) = let z : _≡_ {A = ℕ} 0 1 = cc in absurd (omega arith)
+    take-good i n r (old c) t = not-refused NotCurrent t
+    take-good i n r (other c b a) t = not-refused OtherHeading t
+    take-good i n r (short c b q) t = not-refused StoreTooShort t
+    take-good i n r (spoiled c b a q z) t = not-refused Contradiction t
+    take-good i n r (again d z q) (as-first e) = let z : _≡_ {A = ℕ} 0 1 = cc in absurd (omega arith)
+    take-good i n r (again d z q) (as-further e) = let z : _≡_ {A = ℕ} 0 1 = cc in absurd (omega arith)
+    take-good i n r (clash d z q) (as-first e) = let z : _≡_ {A = ℕ} 0 1 = cc in absurd (omega arith)
+    take-good i n r (clash d z q) (as-further e) = let z : _≡_ {A = ℕ} 0 1 = cc in absurd (omega arith)
 
-  take-is : TakenBy h (verdictOf g store s) → TakeIs store s h
+    take-read : (a : Sectioned) → readSection s ≡ a → TakenBy h (verdictOf g store s) → TakeIs g store s h (verdictOf g store s)
+    take-read (NotGood r) f t = not-refused r (rw (verdict-bad g store s p r f) at t)
+    take-read (Good i n) f t =
+        rw (verdict-good g store s p i n f) (take-good i n f (decided g store i (payloadOf s)) (rw (verdict-good g store s p i n f) at t))
+
+  pub take-is : TakenBy h (verdictOf g store s) → TakeIs g store s h (verdictOf g store s)
   take-is t = go (possibleOf g) refl
     where
-      go : (b : Bool) → possibleOf g ≡ b → TakeIs store s h
+      go : (b : Bool) → possibleOf g ≡ b → TakeIs g store s h (verdictOf g store s)
       go true p = take-read p (readSection s) refl t
       go false p = not-refused ImpossibleState (rw (verdict-impossible g store s p) at t)
 
   -- the payload lies in the byte string, is at most 4,084 bytes long, and has its place in the store
-  pub take-fits : TakenBy h (verdictOf g store s) → (12 ≤ length s) × (length s ≤ 4096) × (place (h .number) + 4084 ≤ length store) × (h .version ≤ 31)
-  take-fits t =
+  take-fits : TakenBy h (verdictOf g store s) → (b : Gathering) → 1 ≤ b .missing → b .bytes ≤ 256 * 4084 → Takes b (h .number) store s
+  take-fits t b missing bytes =
       let i = take-is t in
       let q = sized s h (i .length-of) (i .reads) in
-      (omega arith, omega arith, place-within (length store) (h .last) (h .number) (i .roomy) (q .numbered), q .versioned)
+      record {
+        long = omega arith;
+        short = omega arith;
+        within = place-within (length store) (h .last) (h .number) (i .roomy) (q .numbered);
+        missing = missing;
+        bytes = bytes;
+      }
+
+  -- it begins its table, whose sections are all missing;
+  pub first-versioned : verdictOf g store s ≡ Begin h → h .version ≤ 31
+  first-versioned e = let i = take-is (as-first e) in sized s h (i .length-of) (i .reads) .versioned
+
+  pub first-takes : verdictOf g store s ≡ Begin h → (b : Gathering) → b ≡ opened h → Takes b (h .number) store s
+  unfolding opened
+  first-takes e b o = rw o (take-fits (as-first e) (opened h) (omega arith) (omega arith))
+
+  -- or it is one of those that the gathering's table misses
+  pub further-takes : verdictOf g store s ≡ Take h → length (g .held) ≡ 256 → h .number ≤ 255 → Takes g (h .number) store s
+  further-takes e long low =
+      let f = take-is (as-further e) .further e in
+      let u = unheld-counts g (h .number) (f .begun .of-table) long low (f .within) (f .new) in
+      take-fits (as-further e) g (u .0) (omega arith)
 
 -- ---- answer, state and store
 
 -- the part of the byte string that is copied is its payload
-pub takes : (g : Gathering) (h : Heading) (store s : List ℕ)
-    → (state : Gathering) → state ≡ withSection g h (length s - 4 - 8)
-    → (at : ℕ) → at ≡ place (h .number) → (store′ : List ℕ) → store′ ≡ placed store at (take (length s - 4 - 8) (drop 8 s))
-    → (state ≡ withSection g h (length (payloadOf s))) × (store′ ≡ placed store (place (h .number)) (payloadOf s))
+pub takes : (g : Gathering) (k : ℕ) (store s : List ℕ)
+    → (state : Gathering) → state ≡ withSection g k (length s - 4 - 8)
+    → (at : ℕ) → at ≡ place k → (store′ : List ℕ) → store′ ≡ placed store at (take (length s - 4 - 8) (drop 8 s))
+    → (state ≡ withSection g k (length (payloadOf s))) × (store′ ≡ placed store (place k) (payloadOf s))
 unfolding payloadOf
-takes g h store s state f at k store′ q =
+takes g k store s state f at e store′ q =
     let l = length-take-le (length s - 12) (drop 8 s) (simp length-drop (omega arith)) in
-    (rw (l, ← sub-twice (length s)) f, rw (← k, ← sub-twice (length s)) q)
+    (rw (l, ← sub-twice (length s)) f, rw (← e, ← sub-twice (length s)) q)
   where
     sub-twice : (n : ℕ) → n - 4 - 8 ≡ n - 12
     sub-twice n = omega arith
@@ -264,9 +314,10 @@ module _ (g : Gathering) (store s : List ℕ) where
       → (record { answer = answerBy v; state = state } ≡ fedOf g store s) × (store′ ≡ storeAfter g store s)
   feeds-with v e state f store′ q = rw (f, q) (feeds v e)
 
-  pub feeds-begin : (h : Heading) → verdictOf g store s ≡ Begin h → (fresh : Gathering) → fresh ≡ freshState
-      → (state : Gathering) → state ≡ withSection fresh h (length (payloadOf s))
+  pub feeds-begin : (h : Heading) → verdictOf g store s ≡ Begin h → (b : Gathering) → b ≡ opened h
+      → (state : Gathering) → state ≡ withSection b (h .number) (length (payloadOf s))
       → (store′ : List ℕ) → store′ ≡ placed store (place (h .number)) (payloadOf s)
       → (record { answer = Taken; state = state } ≡ fedOf g store s) × (store′ ≡ storeAfter g store s)
-  unfolding answerBy stateBy storeBy
-  feeds-begin h e fresh z state f = feeds-with (Begin h) e state (f ∙ ap (λ (b : Gathering). withSection b h (length (payloadOf s))) z)
+  unfolding answerBy stateBy storeBy opened
+  feeds-begin h e b o state f =
+      feeds-with (Begin h) e state (f ∙ ap (λ (t : Gathering). withSection t (h .number) (length (payloadOf s))) o)

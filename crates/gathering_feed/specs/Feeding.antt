@@ -1,5 +1,5 @@
 -- What a reader has to believe of feeding: the order of its refusals, and what each verdict makes of answer, state and store.
-use Prim.Native.Nat.{ℕ}
+use Prim.Native.Nat.{ℕ, _+_, _*_, _≤_}
 use mathlib.Core.Bool.{Bool, true, not, _||_}
 use mathlib.Core.List.{List}
 use lib.Dec.{eqb}
@@ -12,7 +12,7 @@ use Rattle.section_reader.specs.declared.Heading.{Heading}
 use Rattle.section_reader.specs.declared.Sectioned.{Sectioned}
 use Rattle.section_reader.specs.declared.Sectioned.the-variants.{Good, Refused as NotGood}
 use Rattle.gathering_state.specs.Lists.{sameBytes}
-use Rattle.gathering_state.specs.State.{freshState, possibleOf, nothingBegun, place, hasRoom, heldPayload, withSection, spoiledState}
+use Rattle.gathering_state.specs.State.{possibleOf, nothingBegun, place, hasRoom, heldPayload, opened, withSection, spoiledState}
 use Rattle.gathering_state.specs.declared.Gathering.{Gathering}
 use Rattle.gathering_tables.specs.Tables.{sameTable, isNewer}
 use Rattle.gathering_feed.specs.declared.Verdict.{Verdict}
@@ -72,14 +72,14 @@ answerBy Contradict = Refused Contradiction
 answerBy (Begin h) = Taken
 answerBy (Take h) = Taken
 
--- "Only 11 for a contradiction changes state: the gathering is spoiled"; "A repeat [..] changes nothing". What begins does so in a fresh state:
--- nothing of an older table is held, nor is its spoil.
+-- "Only 11 for a contradiction changes state: the gathering is spoiled"; "A repeat [..] changes nothing". What begins does so in a table of its own:
+-- nothing of an older one is held or counted, nor is its spoil kept.
 unfoldable pub stateBy : Gathering → List ℕ → Verdict → Gathering
 stateBy g payload (Refuse r) = g
 stateBy g payload Repeat = g
 stateBy g payload Contradict = spoiledState g
-stateBy g payload (Begin h) = withSection freshState h (length payload)
-stateBy g payload (Take h) = withSection g h (length payload)
+stateBy g payload (Begin h) = withSection (opened h) (h .number) (length payload)
+stateBy g payload (Take h) = withSection g (h .number) (length payload)
 
 -- "A taken payload of number k goes to byte k × 4,084 of the store; all other store bytes stay"
 unfoldable pub storeBy : List ℕ → List ℕ → Verdict → List ℕ
@@ -96,3 +96,12 @@ fedOf g store s = record { answer = answerBy (verdictOf g store s); state = stat
 -- the store after it
 unfoldable pub storeAfter : Gathering → List ℕ → List ℕ → List ℕ
 storeAfter g store s = storeBy store (payloadOf s) (verdictOf g store s)
+
+-- ---- what taking a section asks for: its payload lies in the byte string and has a place in the store, and the state counts it among the missing
+
+pub record Takes (g : Gathering) (k : ℕ) (store s : List ℕ) : Type 0 where
+  pub long : 12 ≤ length s
+  pub short : length s ≤ 4096
+  pub within : place k + 4084 ≤ length store
+  pub missing : 1 ≤ g .missing
+  pub bytes : g .bytes ≤ 256 * 4084

@@ -11,7 +11,7 @@ ghost use Rattle.gathering_state.specs.Lists.{greatest};
 ghost use Rattle.gathering_state.specs.State.{place, hasRoom, withSection};
 ghost use Rattle.ground_placing.specs.Placed.{placed};
 ghost use Rattle.section_reader.specs.Section.{payloadOf};
-ghost use Rattle.gathering_feed.specs.Feeding.{fixedHeading, agrees, begins, numberVerdict, goodVerdict, verdictOf, fedOf, storeAfter};
+ghost use Rattle.gathering_feed.specs.Feeding.{fixedHeading, agrees, begins, numberVerdict, goodVerdict, verdictOf, fedOf, storeAfter, Takes};
 
 // What a feed decides: answer, state and store follow from it.
 pub enum Verdict {
@@ -131,16 +131,16 @@ fn decide(g: Gathering, store: &[u8], s: &[u8]) -> Verdict
     }
 }
 
-// The section s with the heading h is taken: its payload goes to its place in the store, and the state g has it.
-fn take_section(g: Gathering, h: Heading, store: &mut [u8], s: &[u8]) -> Gathering
-    requires { ⌜ (12 ≤ length (now s)) × (length (now s) ≤ 4096) × (place (h .number) + 4084 ≤ length (now store)) × (h .version ≤ 31) ⌝ }
-    ensures kept { λ r. ⌜ r ≡ withSection g h (length (payloadOf (now (s .entry)))) ⌝ }
-    ensures stored { λ _. ⌜ now (store .exit) ≡ placed (now (store .entry)) (place (h .number)) (payloadOf (now (s .entry))) ⌝ }
+// The section s of number k is taken: its payload goes to its place in the store, and the state g has it.
+fn take_section(g: Gathering, k: u8, store: &mut [u8], s: &[u8]) -> Gathering
+    requires { ⌜ Takes g k (now store) (now s) ⌝ }
+    ensures kept { λ r. ⌜ r ≡ withSection g k (length (payloadOf (now (s .entry)))) ⌝ }
+    ensures stored { λ _. ⌜ now (store .exit) ≡ placed (now (store .entry)) (place k) (payloadOf (now (s .entry))) ⌝ }
 {
     let end = s.len() - 4;
-    let at = gathering_state::place_of(h.number);
+    let at = gathering_state::place_of(k);
     ground_placing::copy_at(&s[8..end], store, at);
-    gathering_state::with_section(g, h, end - 8)
+    gathering_state::with_section(g, k, end - 8)
 }
 
 // One byte string is fed. A taken payload goes to its place in the store, and nothing else of the store changes.
@@ -164,15 +164,15 @@ pub fn feed_step(g: Gathering, store: &mut [u8], s: &[u8]) -> Fed
             }
         }
         Verdict::Begin(h) => {
-            let fresh = gathering_state::fresh();
-            let state = take_section(fresh, h, store, s);
+            let opened = gathering_state::open_table(h);
+            let state = take_section(opened, h.number, store, s);
             Fed {
                 answer: Answer::Taken,
                 state: state,
             }
         }
         Verdict::Take(h) => {
-            let state = take_section(g, h, store, s);
+            let state = take_section(g, h.number, store, s);
             Fed {
                 answer: Answer::Taken,
                 state: state,

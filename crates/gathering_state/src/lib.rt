@@ -3,15 +3,19 @@ use ground_numbers::PAYLOAD_MOST;
 use ground_numbers::VERSION_MOST;
 use section_reader::Heading;
 ghost use mathlib.Core.Path.{_≡_};
-ghost use Prim.Native.Nat.{_-_, _<_, _≤_, max};
+ghost use Prim.Native.Nat.{_-_, _<_, _≤_, min, max};
 ghost use lib.ListN.{length, drop};
-ghost use Rattle.ground_numbers.specs.Sizes.{payloadMost, versionMost};
-ghost use Rattle.gathering_state.specs.Lists.{greatest, smallestMissing, total, sameBytes};
-ghost use Rattle.gathering_state.specs.State.{freshState, isFresh, isBegun, possibleOf, place, hasRoom, withSection, spoiledState};
+ghost use Rattle.ground_numbers.specs.Sizes.{payloadMost, bodyMost, versionMost};
+ghost use Rattle.gathering_state.specs.Lists.{greatest, smallestMissing, total, heldCount, sameBytes, Surveyed};
+ghost use Rattle.gathering_state.specs.State.{freshState, isFresh, isBegun, possibleOf, place, hasRoom, opened, withSection, spoiledState};
 
 // What a gathering knows of its table. All zeros is the fresh state. Laid out so that C sees no padding.
 #[repr(C)]
 pub struct Gathering {
+    // The sum of the lengths of the held payloads.
+    pub bytes: u32,
+    // How many sections of the table are not held, and 0 while nothing is begun.
+    pub missing: u16,
     pub extension: u16,
     // table_id, and 0 while nothing is begun.
     pub kind: u8,
@@ -25,13 +29,29 @@ pub struct Gathering {
 
 // ---- leaves on slices: feeding and handing out call those that are public
 
+// What a pass over some lengths tells.
+struct Tally {
+    // The greatest of them.
+    most: u16,
+    // How many numbers are held.
+    held: u16,
+    // The sum of the payloads' lengths.
+    bytes: u32,
+}
+
+// What one pass over all lengths tells: a tally of those of the table's numbers, and the greatest of those above the last number.
+struct Survey {
+    table: Tally,
+    above: u16,
+}
+
 fn larger(a: u16, b: u16) -> u16
     ensures { λ r. ⌜ r ≡ max a b ⌝ }
 {
     if a < b { b } else { a }
 }
 
-// The greatest of the lengths from index `from` on. The loop has no branch, so that it runs on many lengths at once.
+// The greatest of the lengths from index `from` on. This loop and the next have no branch, so that they run on many lengths at once.
 fn greatest_from(s: &[u16], from: usize) -> u16
     requires { ⌜ from ≤ length (now s) ⌝ }
     ensures { λ r. ⌜ r ≡ greatest (drop from (now (s .entry))) ⌝ }
@@ -43,6 +63,42 @@ fn greatest_from(s: &[u16], from: usize) -> u16
         i += 1;
     }
     most
+}
+
+// 1 where the number is held, else 0.
+fn one_if_held(n: u16) -> u16
+    ensures { λ r. ⌜ r ≡ min n 1 ⌝ }
+{
+    if n == 0 { 0 } else { 1 }
+}
+
+fn tally_of(s: &[u16]) -> Tally
+    requires { ⌜ length (now s) ≤ 256 ⌝ }
+    ensures { λ r. ⌜ (r .most ≡ greatest (now (s .entry))) × (r .held ≡ heldCount (now (s .entry))) × (r .bytes ≡ total (now (s .entry))) ⌝ }
+{
+    let mut most: u16 = 0;
+    let mut held: u16 = 0;
+    let mut bytes: u32 = 0;
+    let mut i = 0;
+    while i < s.len() {
+        let n = s[i];
+        let one = one_if_held(n);
+        most = larger(most, n);
+        held += one;
+        bytes += (n - one) as u32;
+        i += 1;
+    }
+    Tally { most, held, bytes }
+}
+
+// Each length is read once; the table has `count` numbers.
+fn survey_of(s: &[u16], count: usize) -> Survey
+    requires { ⌜ (count ≤ length (now s)) × (length (now s) ≤ 256) ⌝ }
+    ensures { λ r. ⌜ Surveyed (now (s .entry)) count (r .table .most) (r .table .held) (r .table .bytes) (r .above) ⌝ }
+{
+    let table = tally_of(&s[..count]);
+    let above = greatest_from(s, count);
+    Survey { table, above }
 }
 
 // The smallest number that is not held: "The search for a missing number stops at the first one found."
@@ -106,6 +162,8 @@ pub fn fresh() -> Gathering
     ensures { λ r. ⌜ r ≡ freshState ⌝ }
 {
     Gathering {
+        bytes: 0,
+        missing: 0,
         extension: 0,
         kind: 0,
         version: 0,
@@ -136,7 +194,10 @@ fn is_fresh(g: Gathering) -> bool
     if greatest_from(&g.held, 0) != 0 {
         return false;
     }
-    true
+    if g.missing != 0 {
+        return false;
+    }
+    g.bytes == 0
 }
 
 fn is_begun(g: Gathering) -> bool
@@ -151,19 +212,21 @@ fn is_begun(g: Gathering) -> bool
     if 1 < g.spoiled {
         return false;
     }
-    let most = greatest_from(&g.held, 0);
-    if most == 0 {
+    let count = g.last as usize + 1;
+    let seen = survey_of(&g.held, count);
+    if seen.above != 0 {
         return false;
     }
-    if PAYLOAD_MOST + 1 < most as usize {
+    if seen.table.most == 0 {
         return false;
     }
-    let beyond = g.last as usize + 1;
-    let above = greatest_from(&g.held, beyond);
-    if above != 0 {
+    if PAYLOAD_MOST + 1 < seen.table.most as usize {
         return false;
     }
-    true
+    if g.missing as usize + seen.table.held as usize != count {
+        return false;
+    }
+    g.bytes == seen.table.bytes
 }
 
 // Is it a state that a gathering can be in?
@@ -195,17 +258,32 @@ pub fn has_room(bytes: usize, last: u8) -> bool
 
 // ---- how a state changes: for feeding
 
-// The state with a section taken, whose payload has n bytes.
-pub fn with_section(g: Gathering, h: Heading, n: usize) -> Gathering
-    requires { ⌜ (n ≤ payloadMost) × (h .version ≤ versionMost) ⌝ }
-    ensures { λ r. ⌜ r ≡ withSection g h n ⌝ }
+// The state of the heading's table while nothing of it is held.
+pub fn open_table(h: Heading) -> Gathering
+    requires { ⌜ h .version ≤ versionMost ⌝ }
+    ensures { λ r. ⌜ r ≡ opened h ⌝ }
+{
+    Gathering {
+        bytes: 0,
+        missing: h.last as u16 + 1,
+        extension: h.extension,
+        kind: h.kind,
+        version: h.version as u8,
+        last: h.last,
+        spoiled: 0,
+        held: [0u16; 256],
+    }
+}
+
+// The state with number k taken, whose payload has n bytes.
+pub fn with_section(g: Gathering, k: u8, n: usize) -> Gathering
+    requires { ⌜ (n ≤ payloadMost) × (1 ≤ g .missing) × (g .bytes ≤ bodyMost) ⌝ }
+    ensures { λ r. ⌜ r ≡ withSection g k n ⌝ }
 {
     let mut next = g;
-    next.extension = h.extension;
-    next.kind = h.kind;
-    next.version = h.version as u8;
-    next.last = h.last;
-    next.held[h.number as usize] = n as u16 + 1;
+    next.bytes += n as u32;
+    next.missing -= 1;
+    next.held[k as usize] = n as u16 + 1;
     next
 }
 

@@ -123,12 +123,13 @@ spoiled-stays g p n = go (nothingBegun g) refl
   where
     most : (b : Bool) → nothingBegun g ≡ b → g .spoiled ≤ 1
     most true e = let f = possible-fresh g p e .spoiled in omega arith
-    most false e = possible-begun g p e .spoiled
+    most false e = possible-begun g p e .of-table .spoiled
 
-    same : g .spoiled ≡ 1 → g ≡ record { extension = g .extension; kind = g .kind; version = g .version; last = g .last; spoiled = 1; held = g .held }
-    same e = λ i. record { extension = g .extension; kind = g .kind; version = g .version; last = g .last; spoiled = e i; held = g .held }
+    same : g .spoiled ≡ 1 → g ≡ spoiledState g
+    same e =
+        λ i. record { bytes = g .bytes; missing = g .missing; extension = g .extension; kind = g .kind; version = g .version; last = g .last; spoiled = e i; held = g .held }
 
-    go : (b : Bool) → nothingBegun g ≡ b → g ≡ record { extension = g .extension; kind = g .kind; version = g .version; last = g .last; spoiled = 1; held = g .held }
+    go : (b : Bool) → nothingBegun g ≡ b → g ≡ spoiledState g
     go b e = let m = most b e in same (omega (arith, n, m))
 
 -- the other refusals have other numbers

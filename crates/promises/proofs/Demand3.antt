@@ -9,18 +9,20 @@ use Rattle.section_reader.specs.declared.Heading.{Heading}
 use Rattle.section_reader.specs.declared.Sectioned.the-variants.{Good}
 use Rattle.gathering_state.specs.State.{possibleOf, nothingBegun, hasRoom}
 use Rattle.gathering_state.specs.declared.Gathering.{Gathering}
+use Rattle.gathering_state.proofs.State.{counts-right, first-counts}
 use Rattle.gathering_tables.specs.Tables.{isNewer}
-use Rattle.gathering_feed.specs.Feeding.{fixedHeading, begins, verdictOf, answerBy, stateBy, storeBy}
+use Rattle.gathering_feed.specs.Feeding.{fixedHeading, begins, verdictOf, answerBy, stateBy, storeBy, fedOf}
 use Rattle.gathering_feed.specs.declared.Verdict.the-variants.{Begin}
 use Rattle.gathering_feed.proofs.Verdicts.{good-begins, verdict-good, feeds}
 use Rattle.gathering_account.proofs.Demand3.{demand-3, handing-answers}
 use Rattle.gathering_account.proofs.Answering.{run-possible, feed-answers, run-answers}
+use Rattle.gathering_account.proofs.Counts.{stays-possible, counts-stay-right, untaken-counts, whole-counts}
 use Rattle.gathering_account.proofs.Growing.{table-room}
 use Rattle.gathering_account.proofs.Latest.{latest, first-alone}
 use Rattle.gathering_account.proofs.Whole.{arrives-whole, first-arrives}
 use Rattle.gathering_account.proofs.Cuts.{printed-arrives, cut-arrives}
 use Rattle.gathering_account.proofs.Listed.{comes-back}
-use Rattle.promises.specs.Demand3.{Demand3}
+use Rattle.promises.specs.Demand3.{fedTo, Demand3}
 
 -- a newer table's section that finds room begins
 module _ (g : Gathering) (store s : List ℕ) (h : Heading) (n : ℕ) (p : possibleOf g ≡ true) (e : readSection s ≡ Good h n) (c : h .current ≡ true)
@@ -31,6 +33,10 @@ module _ (g : Gathering) (store s : List ℕ) (h : Heading) (n : ℕ) (p : possi
 
   over : verdictOf g store s ≡ Begin h
   over = verdict-good g store s p h n e ∙ good-begins g store h (payloadOf s) (record { current = rw c; known = rw first; roomy = rw r }) first
+
+  new-alone : (fedOf g store s .state .missing ≡ h .last) × (fedOf g store s .state .bytes ≡ length (payloadOf s))
+  unfolding stateBy
+  new-alone = rw (← (feeds g store s (Begin h) over .0)) (first-counts h (length (payloadOf s)))
 
 pub demand3 : Demand3
 unfolding answerBy stateBy storeBy
@@ -45,6 +51,12 @@ demand3 =
       possible = run-possible;
       has-room = λ store. table-room (hasRoom (length store));
       takes-over = λ g store s h n p e c newer r. let f = feeds g store s (Begin h) (over g store s h n p e c newer r) in (sym (f .0), sym (f .1));
+      counts-right = λ store fed b. counts-right (fedTo store fed .state) (run-possible store fed b);
+      stays-possible = stays-possible;
+      counts-stay-right = counts-stay-right;
+      counts-stay = untaken-counts;
+      takeover-counts = new-alone;
+      whole-counts = whole-counts;
       latest = λ store. latest (hasRoom (length store));
       no-takeover = λ store. first-alone (hasRoom (length store));
       arrives = arrives-whole;

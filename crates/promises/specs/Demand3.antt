@@ -11,11 +11,12 @@ use Rattle.section_reader.specs.Section.{payloadOf, readSection, WellFormed}
 use Rattle.section_reader.specs.declared.Heading.{Heading}
 use Rattle.section_reader.specs.declared.Sectioned.the-variants.{Good}
 use Rattle.ground_placing.specs.Placed.{placed}
-use Rattle.gathering_state.specs.State.{freshState, possibleOf, place, hasRoom, withSection}
+use Rattle.gathering_state.specs.State.{possibleOf, CountsRight, place, hasRoom, opened, withSection}
 use Rattle.gathering_state.specs.declared.Gathering.{Gathering}
 use Rattle.gathering_tables.specs.Tables.{isNewer}
 use Rattle.gathering_feed.specs.Feeding.{fixedHeading, fedOf, storeAfter}
 use Rattle.gathering_feed.specs.declared.Answer.the-variants.{Taken}
+use Rattle.gathering_hand_out.specs.Handing.{handedOf}
 use Rattle.gathering_hand_out.specs.declared.Handed.the-variants.{Body}
 use Rattle.crc.specs.Crc.{AreBytes}
 use Rattle.gathering_account.specs.Account.{goodCurrent, heard, Section, Account, idle, table, account, Complete, bodyOf}
@@ -51,12 +52,30 @@ pub record Demand3 : Type 0 where
   pub possible : (store : List ℕ) (fed : List (List ℕ)) → ByteStrings fed → possibleOf (fedTo store fed .state) ≡ true
   -- nor is 10 for a section of the fixed table: the store is not "shorter than (last + 1) × 4,084 bytes"
   pub has-room : (store : List ℕ) (fed : List (List ℕ)) (t : Heading) (S : List Section) → heardBy store fed ≡ table t S → hasRoom (length store) (t .last) ≡ true
-  -- "the gathering shall start over with that section, spoiled or not", whatever possible state C has lent: 'taken', the fresh state with the section
-  -- alone, and of the store only its payload's place is written;
+  -- "the gathering shall start over with that section, spoiled or not", whatever possible state C has lent: 'taken', the state of the new table with the
+  -- section alone, and of the store only its payload's place is written;
   pub takes-over : (g : Gathering) (store s : List ℕ) (h : Heading) (n : ℕ) → possibleOf g ≡ true → readSection s ≡ Good h n → h .current ≡ true
       → isNewer (fixedHeading g) h ≡ true → hasRoom (length store) (h .last) ≡ true
-      → (fedOf g store s ≡ record { answer = Taken; state = withSection freshState h (length (payloadOf s)) })
+      → (fedOf g store s ≡ record { answer = Taken; state = withSection (opened h) (h .number) (length (payloadOf s)) })
       × (storeAfter g store s ≡ placed store (place (h .number)) (payloadOf s))
+  -- "After every operation they equal what counting afresh gives": how many sections are missing and how many bytes are held, as the state keeps them,
+  -- from a fresh state on,
+  pub counts-right : (store : List ℕ) (fed : List (List ℕ)) → ByteStrings fed → CountsRight (fedTo store fed .state)
+  -- and from any possible one, which stays possible; handing out changes no state
+  pub stays-possible : (box : Box) → length (box .state .held) ≡ 256 → possibleOf (box .state) ≡ true → (fed : List (List ℕ)) → ByteStrings fed
+      → possibleOf (boxAfter box fed .state) ≡ true
+  pub counts-stay-right : (box : Box) → length (box .state .held) ≡ 256 → possibleOf (box .state) ≡ true → (fed : List (List ℕ)) → ByteStrings fed
+      → CountsRight (boxAfter box fed .state)
+  -- what is not 'taken' leaves them: a repeat, a contradiction, by which a gathering is spoiled, and every other refusal;
+  pub counts-stay : (g : Gathering) (store s : List ℕ) → (fedOf g store s .answer ≡ Taken → ⊥)
+      → (fedOf g store s .state .missing ≡ g .missing) × (fedOf g store s .state .bytes ≡ g .bytes)
+  -- after a takeover they count the new table alone;
+  pub takeover-counts : (g : Gathering) (store s : List ℕ) (h : Heading) (n : ℕ) → possibleOf g ≡ true → readSection s ≡ Good h n → h .current ≡ true
+      → isNewer (fixedHeading g) h ≡ true → hasRoom (length store) (h .last) ≡ true
+      → (fedOf g store s .state .missing ≡ h .last) × (fedOf g store s .state .bytes ≡ length (payloadOf s))
+  -- and of a table that is handed out none is missing, and its bytes are the body's
+  pub whole-counts : (g : Gathering) (store out : List ℕ) (n : ℕ) → length (g .held) ≡ 256 → g .last ≤ 255 → handedOf g store out ≡ Body n
+      → (g .missing ≡ 0) × (g .bytes ≡ n)
   -- "Demand 3 then reads from the latest takeover": what is fixed is what one section began and those of its heading after it
   pub latest : (store : List ℕ) (fed : List (List ℕ)) → Latest (hasRoom (length store)) fed (heardBy store fed)
   -- without a takeover that is the first section that found room

@@ -70,7 +70,7 @@ module _ (g : Gathering) (store s : List ℕ) where
     where
       go : (b : Bool) → nothingBegun g ≡ b → g .version ≤ 31
       go true k = let f = possible-fresh g p k in omega arith
-      go false k = possible-begun g p k .version
+      go false k = possible-begun g p k .of-table .version
 
   section-low : headingOf s .version ≤ 31
   unfolding headingOf

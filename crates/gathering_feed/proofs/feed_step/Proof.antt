@@ -4,7 +4,7 @@ use borrow.Author.Needs.{needs}
 use denote.Ref.{now}
 use Rattle.gathering_feed.specs.Feeding.{verdictOf, answerBy, stateBy, storeBy}
 use Rattle.gathering_feed.specs.declared.Verdict.the-variants.{Begin, Take}
-use Rattle.gathering_feed.proofs.Verdicts.{as-first, as-further, take-fits, feeds, feeds-with, feeds-begin}
+use Rattle.gathering_feed.proofs.Verdicts.{first-versioned, first-takes, further-takes, feeds, feeds-with, feeds-begin}
 use Rattle.gathering_feed.proofs.feed_step.Statement.{statement}
 use Rattle.gathering_feed.proofs.feed_step.Tie as tie
 
@@ -30,10 +30,10 @@ feed-step-spec =
     (λ c. search needs)
     (λ c κs. search needs)
     (λ c. search needs)
-    (λ c κs. search needs)
-    (λ c κs. take-fits _ _ _ _ (as-first (begun-at (c .before .before .before))))
+    (λ c κs. first-versioned _ _ _ _ (begun-at (c .before)))
+    (λ c κs. let opened = c .before in first-takes _ _ _ _ (begun-at (opened .before .before)) _ (opened .open-table .ensures))
     (λ c. search needs)
-    (λ c κs. take-fits _ _ _ _ (as-further (taken-at (c .before .before))))
+    (λ c κs. further-takes _ _ _ _ (taken-at (c .before .before)) (search needs) (search needs))
     (λ c. search needs)
     (λ c. feeds _ _ _ _ (sym (c .before .before .before .decide .ensures) ∙ c .before .r .given .1))
     (λ c. search needs)
@@ -43,8 +43,8 @@ feed-step-spec =
     (λ c. search needs)
     (λ c.
     let taken = c .before .before in
-    let fresh = taken .before .before in
-    feeds-begin _ _ _ _ (begun-at (fresh .before .before)) _ (fresh .fresh .ensures) _ (taken .take-section .ensures .0) _ (taken .take-section .ensures .1))
+    let opened = taken .before .before in
+    feeds-begin _ _ _ _ (begun-at (opened .before .before)) _ (opened .open-table .ensures) _ (taken .take-section .ensures .0) _ (taken .take-section .ensures .1))
     (λ c. search needs)
     (λ c.
     let taken = c .before .before in

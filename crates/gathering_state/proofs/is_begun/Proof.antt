@@ -4,7 +4,7 @@ use mathlib.Core.Path.{_≡_, sym, _∙_}
 use native.Mathlib.Omega.{arith}
 use borrow.Author.Needs.{needs}
 use Rattle.section_reader.specs.Section.{isKind}
-use Rattle.gathering_state.proofs.State.{begun-test, not-begun}
+use Rattle.gathering_state.proofs.State.{not-begun, not-begun-seen, begun-seen}
 use Rattle.ground_choices.proofs.Tests.{unmet, met}
 use Rattle.gathering_state.proofs.is_begun.Statement.{statement}
 use Rattle.gathering_state.proofs.is_begun.Tie as tie
@@ -18,20 +18,23 @@ is-begun-spec =
     (tie.spec
     (λ c. search needs)
     (λ c κs. search needs)
-    (λ c. not-begun _ (λ f. false≢true (sym (unmet _ (c .before .is-kind .ensures) (c .if1 .taken)) ∙ f .kind)))
+    (λ c. not-begun _ (λ b. false≢true (sym (unmet _ (c .before .is-kind .ensures) (c .if1 .taken)) ∙ b .of-table .kind)))
     (λ c. search needs)
-    (λ c. not-begun _ (λ f. omega arith))
-    (λ c. not-begun _ (λ f. omega arith))
-    (λ c κs. search needs)
-    (λ c. not-begun _ (λ f. omega arith))
-    (λ c. search needs)
-    (λ c. search needs)
-    (λ c. not-begun _ (λ f. omega arith))
+    (λ c. not-begun _ (λ b. omega arith))
+    (λ c. not-begun _ (λ b. omega arith))
     (λ c. search needs)
     (λ c. search needs)
     (λ c κs. search needs)
-    (λ c. not-begun _ (λ f. omega arith))
+    (λ c. let passed = c .before .before in not-begun-seen _ (passed .survey-of .ensures) (λ s b. omega arith))
+    (λ c. let passed = c .before .before .before .before in not-begun-seen _ (passed .survey-of .ensures) (λ s b. omega arith))
+    (λ c. search needs)
+    (λ c. search needs)
+    (λ c. let passed = c .before .before .before .before .before .before in not-begun-seen _ (passed .survey-of .ensures) (λ s b. omega arith))
+    (λ c. search needs)
+    (λ c. search needs)
+    (λ c. search needs)
+    (λ c. let passed = c .before .before .before .before .before .before .before .before in not-begun-seen _ (passed .survey-of .ensures) (λ s b. omega arith))
     (λ c.
-    let looked = c .before .before .before .before .before .before .before .before .before in
-    let known = looked .before .before .before .before in
-    begun-test _ (record { kind = kind-at known; version = omega arith; spoiled = omega arith; some = omega arith; above = omega arith; short = omega arith })))
+    let passed = c .before .before .before .before .before .before .before .before .before in
+    let known = passed .before .before .before .before .before .before in
+    begun-seen _ (passed .survey-of .ensures) (kind-at known) (omega arith) (omega arith) (omega arith) (omega arith) (omega arith) (omega arith)))
