@@ -144,6 +144,27 @@ static uint64_t feed_slicing(const uint8_t *s, size_t n) {
     return plain_gathering_feed(&g, half_store, sizeof half_store, s, n);
 }
 
+// ---- a table packed where it stands: its payloads are a byte short of full, so each is moved over a part of itself
+
+enum { SHORT_PAYLOAD = NW_MOST_PAYLOAD - 1 };
+
+typedef plain_answer packer(struct nw_gathering *g, uint8_t *store, size_t room);
+
+PACKED(gathering_pack, (struct nw_gathering *g, uint8_t *store, size_t room), g, store, room)
+
+static struct nw_gathering whole;
+
+// The store is the output. Of each payload the first byte and the last are its own.
+static uint64_t pack_all(packer *pack) {
+    struct nw_gathering g = whole;
+    for (size_t k = 0; k <= whole.last; k++)
+        output[k * NW_MOST_PAYLOAD] = output[k * NW_MOST_PAYLOAD + SHORT_PAYLOAD - 1] = (uint8_t)(k * 77);
+    return pack(&g, output, NW_STORE_BYTES(whole.last));
+}
+
+static uint64_t pack_library(const uint8_t *s, size_t n) { return (void)s, (void)n, pack_all(packed_gathering_pack); }
+static uint64_t pack_memmove(const uint8_t *s, size_t n) { return (void)s, (void)n, pack_all(plain_gathering_pack); }
+
 // ---- a certificate body read, and written from a form: as many parts as there can be
 
 enum { LISTS = 255, CERTIFICATES = 255, MOST_CERTIFICATE = 255 };
@@ -474,6 +495,14 @@ static void fill_feeding(size_t n) {
     if (refusal_of(held) || feed_slicing(input, n) != NW_FED_TAKEN) abort();
 }
 
+// A state that holds all of a table whose body has n bytes.
+static void fill_packing(size_t n) {
+    size_t sections = n / SHORT_PAYLOAD;
+    whole = (struct nw_gathering){.bytes = (uint32_t)n, .kind = 0xFD, .version = 17, .last = (uint8_t)(sections - 1)};
+    for (size_t k = 0; k < sections; k++) whole.held[k] = SHORT_PAYLOAD + 1;
+    if (pack_memmove(input, n) != (uint64_t)n << 8) abort();
+}
+
 // The section of some number of a table of so many sections, in place i.
 static void put_full_section(size_t i, size_t number, size_t sections) {
     static uint8_t payload[NW_MOST_PAYLOAD];
@@ -720,6 +749,10 @@ static const struct operation operations[] = {
      fill_twice,
      {{"neapwillow", gather_library}, {"C, slicing by 8", gather_slicing}},
      {2 * 4096, 32 * 4096, 512 * 4096}},
+    {"packing",
+     fill_packing,
+     {{"neapwillow", pack_library}, {"C, memmove", pack_memmove}},
+     {SHORT_PAYLOAD, 16 * SHORT_PAYLOAD, 256 * SHORT_PAYLOAD}},
     {"certificate read",
      fill_certificate,
      {{"neapwillow", certificate_library}, {"C", certificate_plain}},

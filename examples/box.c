@@ -37,10 +37,11 @@
 enum { TABLES = 16, MOST_FILE = 1 << 26, PURSE = 64, LINES = 4, PACKET = 188, SYNC = 0x47 };
 enum { WHOLE = 0, FAULTY = 1, UNUSABLE = 2 }; // exit statuses
 
-// A table that is being gathered, and its body once it is whole.
+// A table that is being gathered. A whole one is packed: its body then stands in its store, and its state is fresh.
 struct table {
-    nw_gathering state;
-    uint8_t *store, *body;
+    nw_gathering state, was; // was: the state before packing, by which the table is known from then on
+    uint8_t *store;
+    const uint8_t *body; // the first n bytes of the store
     size_t store_bytes, n;
     bool accepted, named; // named: a message has it as its text
 };
@@ -90,8 +91,8 @@ static const char *kind_name(unsigned kind) {
     return names[kind - NW_CONFIGURATION];
 }
 
-static void name_table(const struct table *t) {
-    printf("%s table, extension %04X, version %u: ", kind_name(t->state.kind), t->state.extension, t->state.version);
+static void name_table(const nw_gathering *g) {
+    printf("%s table, extension %04X, version %u: ", kind_name(g->kind), g->extension, g->version);
 }
 
 // The length of the section that begins at s, as it states: 12 bytes where it states none, so that its kind is looked at
@@ -143,7 +144,7 @@ static void tell_refused(struct box *b, size_t at, unsigned number, const struct
 // How far a table has come, as its state keeps it.
 static void tell_progress(const struct table *t) {
     unsigned count = t->state.last + 1u;
-    name_table(t);
+    name_table(&t->state);
     printf("%u of %u sections, %lu bytes\n", count - t->state.missing, count, (unsigned long)t->state.bytes);
 }
 
@@ -230,41 +231,42 @@ static void gather(struct box *b) {
 // ---- what is whole, and what is not
 
 static nw_answer read_table(const struct table *t) {
-    switch (t->state.kind) {
-    case NW_CONFIGURATION: return nw_configuration_read(t->state.kind, t->body, t->n);
-    case NW_CERTIFICATE: return nw_certificate_read(t->state.kind, t->body, t->n);
-    case NW_INDEX: return nw_index_read(t->state.kind, t->body, t->n);
-    default: return nw_content_read(t->state.kind, t->state.extension, t->body, t->n);
+    switch (t->was.kind) {
+    case NW_CONFIGURATION: return nw_configuration_read(t->was.kind, t->body, t->n);
+    case NW_CERTIFICATE: return nw_certificate_read(t->was.kind, t->body, t->n);
+    case NW_INDEX: return nw_index_read(t->was.kind, t->body, t->n);
+    default: return nw_content_read(t->was.kind, t->was.extension, t->body, t->n);
     }
 }
 
 static void tell_missing(struct box *b, const struct table *t, uint64_t first) {
-    unsigned missing = t->state.missing;
-    name_table(t);
-    fault(b, "not whole, %u of its %u sections %s missing, the first of them number %u", missing, t->state.last + 1u,
+    unsigned missing = t->was.missing;
+    name_table(&t->was);
+    fault(b, "not whole, %u of its %u sections %s missing, the first of them number %u", missing, t->was.last + 1u,
           missing == 1 ? "is" : "are", (unsigned)first);
 }
 
-// Hands out a table and judges it. A body is never longer than its store.
-static void hand_out(struct box *b, struct table *t) {
-    t->body = malloc(t->store_bytes);
-    nw_answer got = nw_gathering_hand_out(&t->state, t->store, t->store_bytes, t->body, t->body ? t->store_bytes : 0);
+// Packs a table where it stands and judges it.
+static void pack(struct box *b, struct table *t) {
+    t->was = t->state;
+    nw_answer got = nw_gathering_pack(&t->state, t->store, t->store_bytes);
     unsigned number = NW_REFUSAL(got);
     if (number == NW_MISSING) {
         tell_missing(b, t, NW_PLACE(got));
         return;
     }
     if (number != NW_TAKEN) {
-        name_table(t);
-        fault(b, "not whole, %s (refusal %u)", t->body ? nw_refusal_text(number) : "there is no memory for it", number);
+        name_table(&t->was);
+        fault(b, "not whole, %s (refusal %u)", nw_refusal_text(number), number);
         return;
     }
+    t->body = t->store;
     t->n = nw_value(got);
     got = read_table(t);
     number = NW_REFUSAL(got);
     t->accepted = number == NW_TAKEN;
     if (t->accepted) return;
-    name_table(t);
+    name_table(&t->was);
     fault(b, "whole but refused, %s (refusal %u at byte %u of its body)", nw_refusal_text(number), number,
           (unsigned)NW_PLACE(got));
 }
@@ -276,7 +278,7 @@ static const char *made_good(const struct box *b, const struct stretch *bad) {
     if (bad->refusal != NW_CHECK_NOT_ZERO && bad->refusal != NW_OTHER_LENGTH) return NULL;
     if (bad->at + length_of(s, b->n - bad->at) != bad->end) return NULL;
     for (const struct table *t = b->tables; t < b->tables + b->count; t++) {
-        const nw_gathering *g = &t->state;
+        const nw_gathering *g = &t->was;
         if (g->kind != s[0] || g->extension != (s[3] << 8 | s[4])) continue;
         unsigned steps = (g->version + 32u - (s[5] >> 1 & 0x1Fu)) % 32;
         if (steps >= 1 && steps <= 15) return "it was of an older version than is held";
@@ -380,7 +382,7 @@ static void show_language(const struct box *b, const struct table *t, nw_part pa
     unsigned set = (unsigned)nw_value(nw_language_character_set(t->body, t->n, at, length));
     nw_part text = nw_language_text(t->body, t->n, at, length), agency = nw_language_agency(t->body, t->n, at, length);
     printf("  text        %.3s, version %u, character set %u (%s%s), %zu bytes\n",
-           (const char *)t->body + nw_part_start(letters), t->state.version, set, nw_character_set_text(set),
+           (const char *)t->body + nw_part_start(letters), t->was.version, set, nw_character_set_text(set),
            set == NW_SET_GB_13000 ? ", read as UTF-8" : "", nw_part_length(text));
     show_text(b, set, t->body + nw_part_start(text), nw_part_length(text));
     if (nw_part_length(agency) != 0) {
@@ -404,7 +406,7 @@ static void show_languages(const struct box *b, const struct table *t) {
 static void find_text(struct box *b, const uint8_t *identifier, size_t n) {
     bool found = false;
     for (struct table *t = b->tables; t < b->tables + b->count; t++) {
-        if (!t->accepted || t->state.kind != NW_CONTENT) continue;
+        if (!t->accepted || t->was.kind != NW_CONTENT) continue;
         nw_part its = nw_content_identifier(t->body, t->n);
         if (nw_part_length(its) != n || memcmp(t->body + nw_part_start(its), identifier, n) != 0) continue;
         show_languages(b, t);
@@ -455,7 +457,7 @@ static void show_message(struct box *b, const struct table *t, const nw_record *
     printf("  level       %u, %s\n", (unsigned)r->level, nw_level_text(r->level));
     show_type(t, nw_message_type(t->body, t->n, r->at, r->length));
     printf("  network     %u\n", (unsigned)nw_value(nw_message_network(t->body, t->n, r->at, r->length)));
-    printf("  version     %u\n", t->state.version);
+    printf("  version     %u\n", t->was.version);
     show_resources(t, r->at, r->length);
     if (nw_value(nw_message_channel_flag(t->body, t->n, r->at, r->length)) != 0) puts("  channel     given, and not shown");
     find_text(b, t->body + nw_part_start(identifier), nw_part_length(identifier));
@@ -463,9 +465,9 @@ static void show_message(struct box *b, const struct table *t, const nw_record *
 
 static void show_index(struct box *b, const struct table *t) {
     nw_record list[NW_MOST_MESSAGES];
-    uint64_t count = nw_value(nw_index_records(t->state.kind, t->body, t->n, list, NW_MOST_MESSAGES));
+    uint64_t count = nw_value(nw_index_records(t->was.kind, t->body, t->n, list, NW_MOST_MESSAGES));
     if (count == 0) {
-        name_table(t);
+        name_table(&t->was);
         puts("it has no message");
     }
     for (const nw_record *r = list; r < list + count; r++) show_message(b, t, r);
@@ -473,9 +475,9 @@ static void show_index(struct box *b, const struct table *t) {
 
 // A table that no message showed.
 static void show_rest(struct box *b, const struct table *t) {
-    if (t->state.kind == NW_INDEX || t->named) return;
-    name_table(t);
-    if (t->state.kind != NW_CONTENT) {
+    if (t->was.kind == NW_INDEX || t->named) return;
+    name_table(&t->was);
+    if (t->was.kind != NW_CONTENT) {
         printf("whole and accepted, %zu bytes, not shown\n", t->n);
         return;
     }
@@ -492,12 +494,12 @@ static void tell_nothing(struct box *b) {
 }
 
 static void show(struct box *b) {
-    for (struct table *t = b->tables; t < b->tables + b->count; t++) hand_out(b, t);
+    for (struct table *t = b->tables; t < b->tables + b->count; t++) pack(b, t);
     for (size_t i = 0; i < b->stretch_count; i++) show_stretch(b, &b->stretches[i]);
     printf("sections: %u taken, %u held already, %u refused\n", b->taken, b->held, b->refused);
     if (b->count == 0) tell_nothing(b);
     for (struct table *t = b->tables; t < b->tables + b->count; t++)
-        if (t->accepted && t->state.kind == NW_INDEX) show_index(b, t);
+        if (t->accepted && t->was.kind == NW_INDEX) show_index(b, t);
     for (struct table *t = b->tables; t < b->tables + b->count; t++)
         if (t->accepted) show_rest(b, t);
     if (b->faults != 0) printf("faults: %u, each of them named above\n", b->faults);
@@ -548,10 +550,7 @@ static int run(struct box *b, const char *name) {
 }
 
 static void clear(struct box *b) {
-    for (struct table *t = b->tables; t < b->tables + b->count; t++) {
-        free(t->store);
-        free(t->body);
-    }
+    for (struct table *t = b->tables; t < b->tables + b->count; t++) free(t->store);
     free(b->stretches);
     free(b->s);
     free(b);

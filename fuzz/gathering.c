@@ -1,4 +1,4 @@
-// The gathering's target: a run of feeds and handings out over one state and one store, beside the bodies that were cut.
+// The gathering's target: feeds, handings out and packings over one state and one store, beside the bodies that were cut.
 #include "trial.h"
 
 enum { BODY = 3 * NW_MOST_PAYLOAD + 100, STORE = 4 * NW_MOST_PAYLOAD };
@@ -88,6 +88,26 @@ static void try_handing_out(struct input *in, struct lent *state, struct lent *s
     give_back(&out);
 }
 
+// Packing answers as handing out does; a packed body stands at the front, all beyond it is as it was, and the state is
+// fresh. A refused packing changes nothing. What is packed is a copy: the gathering goes on.
+static void try_packing(const struct lent *state, const struct lent *store) {
+    static const nw_gathering fresh = NW_FRESH;
+    struct lent body = lend(STORE, 0x5a), packed = lend(store->size, 0), after = lend(sizeof fresh, 0);
+    nw_gathering *g = memcpy(after.bytes, state->bytes, sizeof fresh);
+    memcpy(packed.bytes, store->bytes, store->size);
+    nw_answer handed = nw_gathering_hand_out(g, store->bytes, store->size, body.bytes, body.size);
+    nw_answer a = nw_gathering_pack(g, packed.bytes, packed.size);
+    must(a.packed == handed.packed);
+    size_t n = taken(a) ? (size_t)nw_value(a) : 0;
+    must(n == (taken(a) ? ((const nw_gathering *)(const void *)state->bytes)->bytes : 0));
+    must(memcmp(packed.bytes, body.bytes, n) == 0 && memcmp(packed.bytes + n, store->bytes + n, store->size - n) == 0);
+    must(memcmp(g, taken(a) ? (const void *)&fresh : state->bytes, sizeof fresh) == 0);
+    must(!taken(nw_gathering_pack(g, NULL, 0)));
+    give_back(&after);
+    give_back(&packed);
+    give_back(&body);
+}
+
 // Every section of the table, in an order of the input's, is the body again.
 static void try_whole(struct input *in, struct lent *store, const struct cuts *c) {
     struct lent state = lend(sizeof(nw_gathering), 0);
@@ -99,6 +119,7 @@ static void try_whole(struct input *in, struct lent *store, const struct cuts *c
     }
     must(store->size < NW_STORE_BYTES(count - 1) || ((nw_gathering *)(void *)state.bytes)->kind == NW_CONTENT);
     try_handing_out(in, &state, store, c, true);
+    try_packing(&state, store);
     give_back(&state);
 }
 
@@ -113,6 +134,7 @@ int LLVMFuzzerTestOneInput(const uint8_t *data, size_t size) {
     for (size_t feeds = upto(&in, 12); feeds > 0; feeds--) {
         try_feed(&state, &store, section, make_section(&in, &c, section));
         if (now_and_then(&in, 4)) try_handing_out(&in, &state, &store, &c, false);
+        if (now_and_then(&in, 4)) try_packing(&state, &store);
     }
     try_feed(&state, &store, in.s, in.n);
     try_whole(&in, &store, &c);

@@ -296,6 +296,27 @@ enum nw_fed { NW_FED_TAKEN = 0, NW_FED_HELD_ALREADY = 1 };
 nw_answer nw_gathering_hand_out(const nw_gathering *g, const uint8_t *store, size_t store_bytes,
                                 uint8_t *out, size_t out_bytes);
 
+/* Packs the body where it stands: the payloads of numbers 0 to last are moved together at the start of
+ * the store, as handing out would write them, and no second buffer is needed. Value: the body's length,
+ * which is g->bytes before the call. The gathering is over: the state is fresh again, so a caller keeps
+ * what it wants to know of the table. Bytes of the store after the body stay, old payloads too. Packed
+ * exactly when every number is held and no contradiction was fed. Refusals, in this order, with nothing
+ * changed: 12, not a possible state; 13, nothing is begun (place 0); 10, the store is too short; 11,
+ * spoiled; 13, with the smallest missing number as its place. There is no 21.
+ *
+ * All that a box with one store needs; the body stands in the store until the next feed:
+ *
+ *     static nw_gathering g = NW_FRESH;
+ *     static uint8_t store[NW_STORE_BYTES(255)];
+ *
+ *     void take_section(const uint8_t *s, size_t n) {
+ *         nw_gathering_feed(&g, store, sizeof store, s, n);
+ *         unsigned kind = g.kind, extension = g.extension; // what a reader asks for, and packing forgets
+ *         nw_answer packed = nw_gathering_pack(&g, store, sizeof store);
+ *         if (NW_REFUSAL(packed) == NW_TAKEN) show(kind, extension, store, nw_value(packed));
+ *     } */
+nw_answer nw_gathering_pack(nw_gathering *g, uint8_t *store, size_t store_bytes);
+
 /* ---- Forms ------------------------------------------------------------------------------------
  *
  * What a writer takes: a tape of numbers in the body's order, and a pool of bytes. A list is its

@@ -229,6 +229,16 @@ static void call_gathering_hand_out(const struct argument *a) {
     hold_guards(&store);
 }
 
+// With the answer the packed body is shown, which stands at the front of the store.
+static void call_gathering_pack(const struct argument *a) {
+    (void)a;
+    nw_answer packed = nw_gathering_pack(lent_state(), store.bytes, store.length);
+    put_answer(packed);
+    put_bytes(store.bytes, NW_REFUSAL(packed) == NW_TAKEN ? (size_t)nw_value(packed) : 0);
+    hold_guards(&state);
+    hold_guards(&store);
+}
+
 // Adler-32, a checksum that has nothing of the library's. The sums of 1 MiB are far below 2^64.
 static uint64_t adler32(const uint8_t *s, size_t n) {
     uint64_t sum = 1, sums = 0;
@@ -677,6 +687,7 @@ static const struct call calls[] = {
     {"gathering_store", "o", call_gathering_store},
     {"gathering_feed", "b", call_gathering_feed},
     {"gathering_hand_out", "o", call_gathering_hand_out},
+    {"gathering_pack", "", call_gathering_pack},
     {"gathering_show", "", call_gathering_show},
     {"gathering_counts", "", call_gathering_counts},
     {"certificate_read", "ub", call_certificate_read},

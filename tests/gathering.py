@@ -2,6 +2,7 @@
 import collections
 import itertools
 import random
+import zlib
 
 import calls
 from second_gathering import LAYOUT, MOST_BODY, MOST_PAYLOAD, Gathering, counted, packed
@@ -15,7 +16,7 @@ requests, expected = [], []
 # Where the last number and the mark of a spoiled gathering stand in a state.
 LAST, SPOILED = 10, 11
 # How often each call was given each refusal.
-told = {'gathering_feed': collections.Counter(), 'gathering_hand_out': collections.Counter()}
+told = {call: collections.Counter() for call in ('gathering_feed', 'gathering_hand_out', 'gathering_pack')}
 box = Gathering()
 
 
@@ -48,6 +49,13 @@ def counts():
 
 def hand_out(room):
     return ask('gathering_hand_out', chance.randbytes(1) * room)
+
+
+def pack():
+    """Packs the store, and asks what it and the state are after that."""
+    answer = ask('gathering_pack')
+    ask('gathering_show')
+    return answer
 
 
 def filled(length):
@@ -132,6 +140,42 @@ def takeovers():
     ask('gathering_show')
 
 
+def packings():
+    """Packing joins where the payloads stand, ends the gathering, and keeps every byte beyond the body."""
+
+    def section(number, last, payload, version=17):
+        return printed(0xFD, 2018, version, 1, number, last, payload)
+
+    lend(FRESH, b'\x5A' * room_for(1))
+    assert pack() == (13, 0, b'')
+    assert feed(section(1, 1, b'late')) == (0, 0)
+    assert pack() == (13, 0, b'')
+    assert feed(section(0, 1, b'early')) == (0, 0)
+    assert counts() == (0, 9)
+    assert ask('gathering_pack') == (0, 9, b'earlylate')
+    # Beyond the body old copies stay too; of the table nothing is remembered.
+    rest = b'\x5A' * (MOST_PAYLOAD - 9) + b'late' + b'\x5A' * (MOST_PAYLOAD - 4)
+    assert ask('gathering_show') == (zlib.adler32(b'earlylate' + rest), 0, 0, 0, 0, 0, 0, 0)
+    assert pack() == (13, 0, b'')
+    # An older version, another payload, another last number: the next table is the first again.
+    assert feed(section(0, 0, b'other', version=16)) == (0, 0)
+    assert pack() == (0, 5, b'other')
+    # A spoiled gathering is not packed, nor one whose store is too short, and all stays.
+    lend(FRESH, b'\x5A' * room_for(0))
+    assert feed(section(0, 0, b'once')) == (0, 0)
+    assert feed(section(0, 0, b'more')) == (11, 0)
+    assert pack() == (11, 0, b'')
+    ask('gathering_store', b'\x5A' * (MOST_PAYLOAD - 1))
+    assert pack() == (10, 0, b'')
+    # Payloads of 4,084 bytes stand where they go; one byte less, and what is read and what is written overlap.
+    for first in MOST_PAYLOAD, MOST_PAYLOAD - 1, MOST_PAYLOAD - 100, 1, 0:
+        parts = [chance.randbytes(first), chance.randbytes(MOST_PAYLOAD), b'', chance.randbytes(MOST_PAYLOAD)]
+        lend(FRESH, filled(room_for(3) + 1))
+        for number, part in enumerate(parts):
+            feed(section(number, 3, part))
+        assert pack() == (0, first + 2 * MOST_PAYLOAD, b''.join(parts))
+
+
 def steps_round(held, new):
     """How often one goes on from the held version, from 31 to 0, until the new one is there."""
     steps = 0
@@ -200,6 +244,7 @@ def orders_of_handing_out():
         lend(state, filled(room_for(2) - short))
         hand_out(21 - less)
         ask('gathering_show')
+        pack()
 
 
 # ---- states by hand
@@ -235,6 +280,7 @@ def by_hand():
         hand_out(chance.choice((6, 5)))
         feed(chance.choice((b'', printed(0xFB, 7, 3, 1, 0, 0, b''), printed(0xFC, 7, 3, 1, 1, 2, b'\x33'))))
         ask('gathering_show')
+        pack()
 
 
 # ---- by chance
@@ -334,12 +380,16 @@ def sequence():
         feed(section_by_chance(heading, payloads, peaceful))
         if chance.random() < 0.15:
             hand_out_by_chance()
+        if chance.random() < 0.08:
+            pack()
         if chance.random() < 0.01:
             ask('gathering_store', store_by_chance(last))
     for number in chance.choice(([], list(payloads))):
         feed(printed(*heading[:3], 1, number, last, payload_for(number, payloads[number], peaceful)))
     hand_out_by_chance()
     ask('gathering_show')
+    if chance.random() < 0.5:
+        pack()
 
 
 # ---- tables of 256 sections
@@ -360,6 +410,7 @@ def long_table(payloads):
     assert hand_out(len(body)) == (0, len(body), body)
     assert hand_out(len(body) - 1)[0] == 21
     ask('gathering_show')
+    assert pack() == (0, len(body), body)
 
 
 def long_tables():
@@ -367,24 +418,28 @@ def long_tables():
         long_table([chance.randbytes(chance.randrange(30)) for _ in range(256)])
     # 256 full sections: 1,045,504 bytes, the longest body that there is
     long_table([chance.randbytes(MOST_PAYLOAD) for _ in range(256)])
+    # one byte less each: every payload but the first is moved, over a part of the one before
+    long_table([chance.randbytes(MOST_PAYLOAD - 1) for _ in range(256)])
     for missing in (0, 1, 127, 128, 254, 255):
         lend(packed((0xFE, 1, 2, 255), 0, {number: 9 for number in range(256) if number != missing}), filled(MOST_BODY))
-        assert hand_out(10)[:2] == (13, missing)
+        assert hand_out(10)[:2] == pack()[:2] == (13, missing)
     ask('gathering_store', filled(MOST_BODY - 1))
-    assert hand_out(10)[:2] == (10, 0)
+    assert hand_out(10)[:2] == pack()[:2] == (10, 0)
 
 
 def main():
-    for part in examples, takeovers, pairs_of_versions, orders_of_feeding, orders_of_handing_out, by_hand, long_tables:
+    by_rule = examples, takeovers, packings, pairs_of_versions, orders_of_feeding, orders_of_handing_out
+    for part in *by_rule, by_hand, long_tables:
         part()
     for _ in range(SEQUENCES):
         sequence()
     # Every answer that there is.
     assert sorted(told['gathering_feed']) == list(range(13))
     assert sorted(told['gathering_hand_out']) == [0, 10, 11, 12, 13, 21]
+    assert sorted(told['gathering_pack']) == [0, 10, 11, 12, 13]
     calls.agree('a second program', requests, calls.answers(requests), expected)
     print('%d sequences by chance; answers by refusal, 0 for none:' % SEQUENCES)
-    for call in 'gathering_feed', 'gathering_hand_out':
+    for call in told:
         print(call, ', '.join('%d: %d' % pair for pair in sorted(told[call].items())))
 
 

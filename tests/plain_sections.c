@@ -123,8 +123,8 @@ plain_answer plain_gathering_feed(nw_gathering *g, uint8_t *store, size_t store_
     return value(NW_FED_TAKEN);
 }
 
-plain_answer plain_gathering_hand_out(const nw_gathering *g, const uint8_t *store, size_t store_bytes, uint8_t *out,
-                                      size_t out_bytes) {
+// The length of the body, if all of the table is there.
+static plain_answer whole_body(const nw_gathering *g, size_t store_bytes) {
     if (!is_possible(g)) return NW_IMPOSSIBLE_STATE;
     if (g->kind == 0) return NW_MISSING;
     if (store_bytes < NW_STORE_BYTES(g->last)) return NW_STORE_TOO_SHORT;
@@ -134,7 +134,24 @@ plain_answer plain_gathering_hand_out(const nw_gathering *g, const uint8_t *stor
         if (g->held[k] == 0) return refused(NW_MISSING, k);
         length += g->held[k] - (size_t)1;
     }
-    if (length > out_bytes) return NW_OUTPUT_TOO_SMALL;
-    for (size_t k = 0; k <= g->last; out += g->held[k++] - 1) memcpy(out, store + k * NW_MOST_PAYLOAD, g->held[k] - 1u);
     return value(length);
+}
+
+plain_answer plain_gathering_hand_out(const nw_gathering *g, const uint8_t *store, size_t store_bytes, uint8_t *out,
+                                      size_t out_bytes) {
+    plain_answer whole = whole_body(g, store_bytes);
+    if (refusal_of(whole)) return whole;
+    if (value_of(whole) > out_bytes) return NW_OUTPUT_TOO_SMALL;
+    for (size_t k = 0; k <= g->last; out += g->held[k++] - 1) memcpy(out, store + k * NW_MOST_PAYLOAD, g->held[k] - 1u);
+    return whole;
+}
+
+plain_answer plain_gathering_pack(nw_gathering *g, uint8_t *store, size_t store_bytes) {
+    plain_answer whole = whole_body(g, store_bytes);
+    if (refusal_of(whole)) return whole;
+    uint8_t *front = store;
+    for (size_t k = 0; k <= g->last; front += g->held[k++] - 1)
+        memmove(front, store + k * NW_MOST_PAYLOAD, g->held[k] - 1u);
+    memset(g, 0, sizeof *g);
+    return whole;
 }

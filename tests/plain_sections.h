@@ -22,5 +22,6 @@ plain_answer plain_section_cut(const uint8_t *body, size_t n, uint32_t kind, uin
 plain_answer plain_gathering_feed(nw_gathering *g, uint8_t *store, size_t store_bytes, const uint8_t *s, size_t n);
 plain_answer plain_gathering_hand_out(const nw_gathering *g, const uint8_t *store, size_t store_bytes, uint8_t *out,
                                       size_t out_bytes);
+plain_answer plain_gathering_pack(nw_gathering *g, uint8_t *store, size_t store_bytes);
 
 #endif

@@ -1,4 +1,4 @@
-"""The second program for the gathering, which shares no code with the library: a state and a store, fed, handed out and shown."""
+"""The second program for the gathering, which shares no code with the library: a state and a store, fed, handed out, packed and shown."""
 import functools
 import struct
 import zlib
@@ -116,6 +116,16 @@ class Gathering:
             return 0, len(body), body + out[len(body):]
         except Refused as refusal:
             return *refusal.args, out
+
+    def gathering_pack(self):
+        """The body is shown with the answer: it stands at the front of the store. It is never longer than the store."""
+        try:
+            body = self.body(len(self.store))
+        except Refused as refusal:
+            return *refusal.args, b''
+        self.store[:len(body)] = body
+        self.heading, self.spoiled, self.lengths, self.kept = (0, 0, 0, 0), 0, {}, (0, 0)
+        return 0, len(body), body
 
     def gathering_show(self):
         kind, extension, version, last = self.heading

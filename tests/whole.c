@@ -96,14 +96,16 @@ static void make(struct box *b) {
 // The bytes that must stay, after or before what is lent.
 static uint8_t *guard_of(const struct box *b) { return b->at == b->low ? b->at + b->n : b->at - GUARD; }
 
-void *lend(struct box *b, const void *from, size_t n) {
+void *lend_at(struct box *b, const void *from, size_t n, bool high) {
     if (n > MOST_LENT - GUARD) abort();
     b->n = n;
-    b->at = one_in(2) ? b->low : b->low + MOST_LENT - n;
+    b->at = high ? b->low + MOST_LENT - n : b->low;
     if (n > 0) memcpy(b->at, from, n);
     memset(guard_of(b), GUARD_BYTE, GUARD);
     return b->at;
 }
+
+void *lend(struct box *b, const void *from, size_t n) { return lend_at(b, from, n, one_in(2)); }
 
 void unchanged(const struct box *b, const void *from) {
     static uint8_t guard[GUARD];
@@ -293,25 +295,50 @@ static void try_cutting(void) {
 static nw_gathering state;
 static uint8_t store[256 * NW_MOST_PAYLOAD];
 
-// Feeds one byte string to two gatherings in the same state, which goes on from what they have become.
-static void feed(const uint8_t *section, size_t n, size_t store_bytes) {
-    const uint8_t *s = lend(&input, section, n);
-    void *library = lend(&state_library, &state, sizeof state), *plain = lend(&state_plain, &state, sizeof state);
-    lend(&output_library, store, store_bytes);
-    lend(&output_plain, store, store_bytes);
-    trying = F_gathering_feed;
-    plain_answer got = same(nw_gathering_feed(library, output_library.at, store_bytes, s, n).packed,
-                            plain_gathering_feed(plain, output_plain.at, store_bytes, s, n));
-    unchanged(&input, section);
+// Two gatherings in the same state and with the same store; these are lent at their low ends or at their high ones.
+static void lend_gatherings(size_t store_bytes, bool high) {
+    lend(&state_library, &state, sizeof state);
+    lend(&state_plain, &state, sizeof state);
+    lend_at(&output_library, store, store_bytes, high);
+    lend_at(&output_plain, store, store_bytes, high);
+}
+
+// Both have become the same, with nothing changed by a refused call but that a contradiction spoils.
+static void same_gatherings(plain_answer got) {
+    nw_gathering before = state;
+    before.spoiled = trying == F_gathering_feed && refusal_of(got) == NW_CONTRADICTION ? 1 : before.spoiled;
     unchanged(&output_plain, refusal_of(got) ? store : NULL);
     unchanged(&output_library, output_plain.at);
-    nw_gathering before = state;
-    memcpy(&state, plain, sizeof state);
-    unchanged(&state_library, &state);
-    unchanged(&state_plain, NULL);
+    unchanged(&state_library, state_plain.at);
+    unchanged(&state_plain, refusal_of(got) ? &before : NULL);
+}
+
+// All goes on from what they have become.
+static void go_on(size_t store_bytes) {
+    memcpy(&state, state_plain.at, sizeof state);
     memcpy(store, output_plain.at, store_bytes);
-    before.spoiled = refusal_of(got) == NW_CONTRADICTION ? 1 : before.spoiled;
-    if (refusal_of(got) && memcmp(&before, &state, sizeof state) != 0) wrong("a refused call changes the state");
+}
+
+static void feed(const uint8_t *section, size_t n, size_t store_bytes) {
+    const uint8_t *s = lend(&input, section, n);
+    lend_gatherings(store_bytes, one_in(2));
+    trying = F_gathering_feed;
+    plain_answer got = same(nw_gathering_feed((void *)state_library.at, output_library.at, store_bytes, s, n).packed,
+                            plain_gathering_feed((void *)state_plain.at, output_plain.at, store_bytes, s, n));
+    unchanged(&input, section);
+    same_gatherings(got);
+    go_on(store_bytes);
+}
+
+// Packs the store, first with memory before it that nobody may touch, then with such memory behind it.
+static void pack(size_t store_bytes) {
+    trying = F_gathering_pack;
+    for (int high = 0; high < 2; high++) {
+        lend_gatherings(store_bytes, high);
+        same_gatherings(same(nw_gathering_pack((void *)state_library.at, output_library.at, store_bytes).packed,
+                             plain_gathering_pack((void *)state_plain.at, output_plain.at, store_bytes)));
+    }
+    go_on(store_bytes);
 }
 
 static void hand_out(size_t store_bytes) {
@@ -372,28 +399,32 @@ static void try_table_fed(uint32_t last, size_t feeds) {
         size_t room = NW_STORE_BYTES(last) - (one_in(20) ? 1 + below(50) : 0);
         feed(s, fed_section(s, &table), room);
         if (one_in(4) || i + 1 == feeds) hand_out(room);
+        if (one_in(12) || i + 1 == feeds) pack(room);
         if (state.spoiled && one_in(3)) memset(&state, 0, sizeof state);
         if (one_in(100)) damage_state();
     }
 }
 
-// All the longest payloads of a table: the longest body.
-static void try_longest(void) {
+// A table of 256 payloads of n bytes each: the longest body of all, or one that is packed by moves that overlap.
+static void try_longest(size_t n) {
     static uint8_t s[NW_MOST_SECTION];
     memset(&state, 0, sizeof state);
     for (uint32_t i = 0; i < 256; i++) {
         struct plain_heading h = {NW_INDEX, 0x0C29, 17, 1, i * 77 % 256, 255};
-        plain_section_put(s, &h, noise() + i, NW_MOST_PAYLOAD);
-        feed(s, sizeof s, sizeof store);
+        plain_section_put(s, &h, noise() + i, n);
+        feed(s, n + 12, sizeof store);
         if (i % 64 == 63) hand_out(sizeof store);
     }
     for (int i = 0; i < 8; i++) hand_out(sizeof store - (size_t)(i == 3));
+    pack(sizeof store - 1);
+    pack(sizeof store);
 }
 
 static void try_gathering(void) {
     for (size_t i = 0; i < 6000; i++) try_table_fed((uint32_t)below(one_in(20) ? 12 : 4), 30);
     for (size_t i = 0; i < 2; i++) try_table_fed(255 - (uint32_t)below(2), 300);
-    try_longest();
+    try_longest(NW_MOST_PAYLOAD);
+    try_longest(NW_MOST_PAYLOAD - 1);
 }
 
 // ---- what was met

@@ -2,6 +2,8 @@
 #ifndef WHOLE_H
 #define WHOLE_H
 
+#include <stdbool.h>
+
 #include "neapwillow.h"
 #include "plain_certificate.h"
 #include "plain_configuration.h"
@@ -17,6 +19,7 @@
     X(section_read, "1 2 3 4 5 6 7") X(section_length, "1 4") X(section_count, "14 22")                              \
     X(section_cut, "2 6 14 19 21 22")                                                                                \
     X(gathering_feed, "1 2 3 4 5 6 7 8 9 10 11 12") X(gathering_hand_out, "10 11 12 13 21")                          \
+    X(gathering_pack, "10 11 12 13")                                                                                 \
     X(certificate_read, "2 14 16 22") X(certificate_authorization_count, "14") X(certificate_authorization, "14 19") \
     X(certificate_certificate_count, "14") X(certificate_certificate, "14 19") X(certificate_signature, "14")        \
     X(certificate_write, "19 21 22") X(certificate_lay, "2 14 16 21 22")                                             \
@@ -79,7 +82,8 @@ struct box {
 
 extern struct box input, tape_input, output_library, output_plain, state_library, state_plain;
 
-// A copy of n bytes; and, after the calls, that it still is one.
+// A copy of n bytes, at the low end, at the high one, or at one of the two; and, after the calls, that it still is one.
+void *lend_at(struct box *b, const void *from, size_t n, bool high);
 void *lend(struct box *b, const void *from, size_t n);
 void unchanged(const struct box *b, const void *from);
 

@@ -228,7 +228,7 @@ module _ (bytes : ℕ) (box : Box) (s : List ℕ) where
   good-tells (calm-stands {t} {S} x l z k) h n e = calm-tells bytes box s h n e t S x l z k
   good-tells (spoiled-stands {t} {S} x l z k) h n e = spoiled-tells bytes box s h n e t S x l z k
 
-  stands-answers : {a : Account} → Stands bytes box a → fedAnswer box s ≡ answerTo (hasRoom bytes) a s
+  pub stands-answers : {a : Account} → Stands bytes box a → fedAnswer box s ≡ answerTo (hasRoom bytes) a s
   unfolding answerBy
   stands-answers {a} st = go (readAs s)
     where

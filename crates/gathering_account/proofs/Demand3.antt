@@ -43,7 +43,7 @@ module _ {box : Box} {out : List ℕ} where
   what-body (too-small c l e) n b = no-body e n b
   what-body (handed-out c l e) n b = e
 
-fixes : {bytes : ℕ} {box : Box} {a : Account} → Stands bytes box a → Fixes a (box .state)
+pub fixes : {bytes : ℕ} {box : Box} {a : Account} → Stands bytes box a → Fixes a (box .state)
 unfolding Fixes
 fixes (fresh-stands z l) = z
 fixes (calm-stands x l z k) = (x .same .kind, x .same .extension, x .same .version, x .same .last)

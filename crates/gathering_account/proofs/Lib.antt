@@ -12,6 +12,7 @@ pub mod Joining
 pub mod Finding
 pub mod Handing
 pub mod Demand3
+pub mod Calls
 pub mod Growing
 pub mod Latest
 pub mod Whole

@@ -105,3 +105,15 @@ pub stands-possible : {bytes : ℕ} {box : Box} {a : Account} → Stands bytes b
 stands-possible (fresh-stands z l) = rw z fresh-possible
 stands-possible {box = box} (calm-stands x l z k) = begun-possible (box .state) (x .begun)
 stands-possible {box = box} (spoiled-stands x l z k) = begun-possible (box .state) (x .begun)
+
+pub stands-store : {bytes : ℕ} {box : Box} {a : Account} → Stands bytes box a → length (box .store) ≡ bytes
+stands-store (fresh-stands z l) = l
+stands-store (calm-stands x l z k) = l
+stands-store (spoiled-stands x l z k) = l
+
+-- a state has 256 numbers
+pub stands-few : {bytes : ℕ} {box : Box} {a : Account} → Stands bytes box a → length (box .state .held) ≤ 256
+unfolding freshState
+stands-few (fresh-stands z l) = rw z (omega arith)
+stands-few (calm-stands x l z k) = let n = x .long in omega arith
+stands-few (spoiled-stands x l z k) = let n = x .long in omega arith

@@ -4,3 +4,4 @@ pub mod Latest
 pub mod Answering
 pub mod Gathers
 pub mod Arrival
+pub mod Calls

@@ -29,6 +29,7 @@ use Rattle.gathering_hand_out.specs.Handing.{bodyHeld, handedOf, outBy, outAfte
 use Rattle.gathering_hand_out.specs.declared.Handed.{Handed}
 use Rattle.gathering_hand_out.specs.declared.Handed.the-variants.{Body, Refused as NotHanded}
 use Rattle.gathering_hand_out.proofs.Handing.{body-most}
+use Rattle.gathering_pack.specs.Packing as packing
 use Rattle.body_formats.specs.Reading.{Reading, found, refused}
 use Rattle.body_formats.specs.Format.{Format}
 use Rattle.body_formats.specs.Answers.{stepOf}
@@ -60,6 +61,11 @@ unfolding outBy
 handed-keeps body out (NotHanded r′) r e = refl
 handed-keeps body out (Body n) r e = absurd-answer (cc)
 
+packing-keeps : (g : Gathering) (h : Handed) (r : Refusal) → h ≡ NotHanded r → packing.stateBy g h ≡ g
+unfolding packing.stateBy
+packing-keeps g (NotHanded r′) r e = refl
+packing-keeps g (Body n) r e = absurd-answer (cc)
+
 written-keeps : {A : Type 0} (F : Format A) (out : List ℕ) (x : Reading A) (r : Refusal) → stepOf x ≡ NoStep r → writtenOver F out x ≡ out
 written-keeps F out (refused r′) r e = refl
 written-keeps F out (found a n) r e = absurd-answer (cc)
@@ -85,12 +91,13 @@ fed-keeps store payload (Begin h) r e = absurd-answer (cc)
 fed-keeps store payload (Take h) r e = absurd-answer (cc)
 
 writes-nothing : WritesNothing
-unfolding feeding.fedOf feeding.storeAfter handedOf outAfter bodyWritten contentWritten outputWritten bodyLaid laidTape bodyRecorded recorded
+unfolding feeding.fedOf feeding.storeAfter handedOf outAfter bodyWritten contentWritten outputWritten bodyLaid laidTape bodyRecorded recorded packing.packingOf packing.storePacked
 writes-nothing =
     record {
       cutter = λ body kind extension version number out. cut-keeps (cutter.cutting body kind extension version number (length out)) out;
       feed = λ g store s. fed-keeps store (payloadOf s) (feeding.verdictOf g store s);
       hand-out = λ g store out. handed-keeps (bodyHeld g store) out (handedOf g store out);
+      pack = λ g store. handed-keeps (bodyHeld g store) store (packing.packedOf g store);
       writers = λ F pool tape out. written-keeps F out (writing F pool tape (length out));
       content-writer = λ pool tape out. content-keeps out (writing (content 3) pool tape (length out));
       layers = λ F own kind body tape. laid-keeps F tape (laying F own kind body (length tape));
@@ -171,11 +178,12 @@ module _ (g : Gathering) (store s : List ℕ) where
       go true p (Good h n) e = rw (verdict-good g store s p h n e) (good-spoils p h (decided g store h (payloadOf s)))
 
 only-spoils : OnlySpoils
-unfolding feeding.fedOf feeding.storeAfter
+unfolding feeding.fedOf feeding.storeAfter packing.packingOf
 only-spoils =
     record {
       state-stays = λ g store s. state-keeps g (payloadOf s) (feeding.verdictOf g store s);
       spoiled = verdict-spoils;
+      packing-stays = λ g store. packing-keeps g (packing.packedOf g store);
       repeat-stays = λ g store s. repeat-keeps g store (payloadOf s) (feeding.verdictOf g store s);
     }
 

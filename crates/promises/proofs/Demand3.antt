@@ -3,6 +3,7 @@ use Prim.Native.Nat.{ℕ}
 use mathlib.Core.Path.{_≡_, sym, _∙_}
 use mathlib.Core.Bool.{true, or-true}
 use mathlib.Core.List.{List}
+use native.Mathlib.Omega.{arith}
 use lib.ListN.{length}
 use Rattle.section_reader.specs.Section.{payloadOf, readSection}
 use Rattle.section_reader.specs.declared.Heading.{Heading}
@@ -14,6 +15,7 @@ use Rattle.gathering_tables.specs.Tables.{isNewer}
 use Rattle.gathering_feed.specs.Feeding.{fixedHeading, begins, verdictOf, answerBy, stateBy, storeBy, fedOf}
 use Rattle.gathering_feed.specs.declared.Verdict.the-variants.{Begin}
 use Rattle.gathering_feed.proofs.Verdicts.{good-begins, verdict-good, feeds}
+use Rattle.gathering_pack.specs.Packing.{packingOf}
 use Rattle.gathering_account.proofs.Demand3.{demand-3, handing-answers}
 use Rattle.gathering_account.proofs.Answering.{run-possible, feed-answers, run-answers}
 use Rattle.gathering_account.proofs.Counts.{stays-possible, counts-stay-right, untaken-counts, whole-counts}
@@ -22,6 +24,10 @@ use Rattle.gathering_account.proofs.Latest.{latest, first-alone}
 use Rattle.gathering_account.proofs.Whole.{arrives-whole, first-arrives}
 use Rattle.gathering_account.proofs.Cuts.{printed-arrives, cut-arrives}
 use Rattle.gathering_account.proofs.Listed.{comes-back}
+use Rattle.gathering_account.proofs.Calls.{calls-serve, feeds-alone}
+use Rattle.gathering_pack.proofs.Packing.{packed-fresh, packs-possible, packs-as-handing, packs-counted, packs-long}
+use Rattle.gathering_account.specs.Account.{idle}
+use Rattle.gathering_account.specs.Gathers.{freshBox}
 use Rattle.promises.specs.Demand3.{fedTo, Demand3}
 
 -- a newer table's section that finds room begins
@@ -42,6 +48,8 @@ pub demand3 : Demand3
 unfolding answerBy stateBy storeBy
 demand3 =
     record {
+      calls = calls-serve;
+      feeds-alone = λ store. feeds-alone (hasRoom (length store)) (freshBox store) idle;
       only-when = λ store fed b out. demand-3 store fed b out .only-when;
       when = λ store fed b out. demand-3 store fed b out .when;
       body-is = λ store fed b out. demand-3 store fed b out .body-is;
@@ -64,4 +72,8 @@ demand3 =
       printed-arrives = printed-arrives;
       cut-arrives = cut-arrives;
       comes-back = comes-back;
+      packs-as-handing = λ g store l. packs-as-handing g store (omega arith);
+      packs-counted = λ g store n l e. (packed-fresh g store n e, packs-counted g store (omega arith) n e);
+      packs-possible = λ g store p. let q = packs-possible g store p in (q, counts-right (packingOf g store .state) q);
+      packs-long = λ g store l. packs-long g store (omega arith);
     }

@@ -1,6 +1,6 @@
 -- Each answer is given as its list says, by the theorem that crate orders has of it.
 use Rattle.promises_orders.proofs.Sections.{sections-as-listed}
-use Rattle.promises_orders.proofs.Gathering.{feeding-as-listed, complete-as-listed, handing-as-listed}
+use Rattle.promises_orders.proofs.Gathering.{feeding-as-listed, complete-as-listed, handing-as-listed, packing-as-listed as packing-store-as-listed}
 use Rattle.promises_orders.proofs.Cutter.{count-as-listed, cutter-as-listed}
 use Rattle.promises_orders.proofs.Times.{packing-as-listed, unpacking-as-listed, text-as-listed}
 use Rattle.promises.specs.Lists.{GivenExactly}
@@ -12,6 +12,7 @@ given-exactly =
       feeding = feeding-as-listed;
       complete = complete-as-listed;
       handing-out = handing-as-listed;
+      packing-store = packing-store-as-listed;
       count = count-as-listed;
       cutter = cutter-as-listed;
       packing = packing-as-listed;

@@ -20,6 +20,7 @@ offered =
       nw-section-cut = λ body kind extension version number out. two;
       nw-gathering-feed = λ g store s. three;
       nw-gathering-hand-out = λ g store out. two;
+      nw-gathering-pack = λ g store. three;
       nw-certificate-read = λ kind body. one;
       nw-certificate-authorization-count = λ body. one;
       nw-certificate-authorization = λ body i. one;

@@ -27,6 +27,7 @@ use Rattle.gathering_feed.specs.declared.Verdict.the-variants.{Refuse}
 use Rattle.gathering_feed.specs.declared.Answer.the-variants.{Refused as NotFed}
 use Rattle.gathering_feed.proofs.Verdicts.{verdict-impossible, verdict-bad, verdict-good, Decided, old, other, short, begun, spoiled, new, again, clash, decided}
 use Rattle.gathering_hand_out.specs.Handing as handing
+use Rattle.gathering_pack.specs.Packing as packing
 use Rattle.gathering_hand_out.specs.declared.Completeness.{Completeness}
 use Rattle.gathering_hand_out.specs.declared.Completeness.the-variants.{Complete, Refused as NotComplete}
 use Rattle.gathering_hand_out.specs.declared.Handed.the-variants.{Body, Refused as NotHanded}
@@ -221,6 +222,15 @@ module _ (g : Gathering) where
       go (NotComplete r′) h e = let same : r′ ≡ r = cc in h r (ap NotComplete same)
       go Complete h e = fitting-place (length (handing.bodyHeld g store)) (length out) r e
 
+  packed-place : (store : List ℕ) (r : Refusal) → packing.packingOf g store .answer ≡ NotHanded r → refusalPlace r ≤ g .last
+  unfolding packing.packingOf packing.packedOf packing.packedBy
+  packed-place store r e = go (handing.completeOf g (length store)) (complete-place (length store)) e
+    where
+      go : (c : Completeness) → ((r : Refusal) → c ≡ NotComplete r → refusalPlace r ≤ g .last)
+          → packing.packedBy c (length (handing.bodyHeld g store)) ≡ NotHanded r → refusalPlace r ≤ g .last
+      go (NotComplete r′) h e = let same : r′ ≡ r = cc in h r (ap NotComplete same)
+      go Complete h e = absurd-answer (cc)
+
 -- ---- all of them
 
 pub places : Places
@@ -238,4 +248,5 @@ places =
       fed = verdict-nowhere;
       cut = cut-place;
       handed = handed-place;
+      packed = packed-place;
     }

@@ -44,6 +44,8 @@ use Rattle.gathering_state.specs.declared.Gathering.{Gathering}
 use Rattle.gathering_hand_out.specs.Handing.{handedOf}
 use Rattle.gathering_hand_out.specs.declared.Handed.the-variants.{Body, Refused as NotHanded}
 use Rattle.gathering_hand_out.proofs.Handing.{handed-whole, body-most}
+use Rattle.gathering_pack.specs.Packing.{packingOf}
+use Rattle.gathering_pack.proofs.Packing.{packed-whole}
 use Rattle.body_formats.specs.Reading.{Reading, found, refused}
 use Rattle.body_formats.specs.Format.{Format, count}
 use Rattle.body_formats.specs.Answers.{stepOf, numberOf, numberRead}
@@ -137,6 +139,12 @@ cut-told body kind extension version number out n e = go (cutting body kind exte
 handed-told : (g : Gathering) (store out : List ℕ) (n : ℕ) → length (g .held) ≡ 256 → handedOf g store out ≡ Body n → TellsValue (answerOf 0 n) n
 handed-told g store out n l e =
     let whole = handed-whole g store out n e in
+    let most = body-most g store (omega arith) (whole .0 .possible) in
+    value-told n (omega arith)
+
+packed-told : (g : Gathering) (store : List ℕ) (n : ℕ) → length (g .held) ≡ 256 → packingOf g store .answer ≡ Body n → TellsValue (answerOf 0 n) n
+packed-told g store n l e =
+    let whole = packed-whole g store n e in
     let most = body-most g store (omega arith) (whole .0 .possible) in
     value-told n (omega arith)
 
@@ -249,6 +257,7 @@ told =
       taken = value-told 0 (omega arith);
       held-already = value-told 1 (omega arith);
       handed-out = handed-told;
+      packed-store = packed-told;
       accepted = λ end. value-told 0 (omega arith);
       measured-length = λ F pool tape n e. let x = found-of _ n e in let m = measured-value F pool tape (x .0) n (x .1) .4 in value-told n (omega arith);
       written = λ F pool tape room n e. let x = found-of _ n e in let m = written-most F pool tape room (x .0) n (x .1) in value-told n (omega arith);

@@ -15,6 +15,7 @@ use Rattle.gathering_feed.specs.Feeding.{fedOf, storeAfter}
 use Rattle.gathering_feed.specs.declared.Answer.the-variants.{HeldAlready, Refused as NotFed}
 use Rattle.gathering_hand_out.specs.Handing.{bodyHeld, handedOf, outAfter}
 use Rattle.gathering_hand_out.specs.declared.Handed.the-variants.{Refused as NotHanded}
+use Rattle.gathering_pack.specs.Packing.{packingOf, storePacked}
 use Rattle.body_formats.specs.Format.{Format}
 use Rattle.body_formats.specs.Body.{bodyWritten, outputWritten, bodyLaid, laidTape}
 use Rattle.body_formats.specs.declared.Step.the-variants.{Refused as NoStep}
@@ -47,6 +48,7 @@ pub record WritesNothing : Type 1 where
       → cutAnswer body kind extension version number out ≡ NotCut r → cutOutput body kind extension version number out ≡ out
   pub feed : (g : Gathering) (store s : List ℕ) (r : Refusal) → fedOf g store s .answer ≡ NotFed r → storeAfter g store s ≡ store
   pub hand-out : (g : Gathering) (store out : List ℕ) (r : Refusal) → handedOf g store out ≡ NotHanded r → outAfter g store out ≡ out
+  pub pack : (g : Gathering) (store : List ℕ) (r : Refusal) → packingOf g store .answer ≡ NotHanded r → storePacked g store ≡ store
   -- once for every format, so for every table
   pub writers : {A : Type 0} (F : Format A) (pool tape out : List ℕ) (r : Refusal) → bodyWritten F pool tape (length out) ≡ NoStep r → outputWritten F pool tape out ≡ out
   pub content-writer : (pool tape out : List ℕ) (r : Refusal) → contentWritten pool tape (length out) ≡ NotWritten r → outputWritten (content 3) pool tape out ≡ out
@@ -58,6 +60,8 @@ pub record WritesNothing : Type 1 where
 pub record OnlySpoils : Type 0 where
   pub state-stays : (g : Gathering) (store s : List ℕ) (r : Refusal) → fedOf g store s .answer ≡ NotFed r → (r ≡ Contradiction → ⊥) → fedOf g store s .state ≡ g
   pub spoiled : (g : Gathering) (store s : List ℕ) → fedOf g store s .answer ≡ NotFed Contradiction → fedOf g store s .state ≡ spoiledState g
+  -- a refused packing never changes it
+  pub packing-stays : (g : Gathering) (store : List ℕ) (r : Refusal) → packingOf g store .answer ≡ NotHanded r → packingOf g store .state ≡ g
   -- "A repeat with the same payload is answered "held already" and changes nothing"
   pub repeat-stays : (g : Gathering) (store s : List ℕ) → fedOf g store s .answer ≡ HeldAlready → (fedOf g store s .state ≡ g) × (storeAfter g store s ≡ store)
 

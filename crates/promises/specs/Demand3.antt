@@ -4,24 +4,26 @@
 use Prim.Native.Nat.{ℕ, _+_, _≤_, _<_}
 use mathlib.Core.Path.{_≡_}
 use mathlib.Core.Bool.{true}
-use mathlib.Core.List.{List, [], _∷_, _++_, flatten}
+use mathlib.Core.List.{List, [], _∷_, _++_, map, flatten}
 use lib.ListN.{length, getD}
 use Rattle.section_cutter.specs.Cutting.{partsJoined, sectionCount, cutHeading, sectionOf, Allowed}
 use Rattle.section_reader.specs.Section.{payloadOf, readSection, WellFormed}
 use Rattle.section_reader.specs.declared.Heading.{Heading}
 use Rattle.section_reader.specs.declared.Sectioned.the-variants.{Good}
 use Rattle.ground_placing.specs.Placed.{placed}
-use Rattle.gathering_state.specs.State.{possibleOf, CountsRight, place, hasRoom, opened, withSection}
+use Rattle.gathering_state.specs.State.{freshState, possibleOf, CountsRight, place, hasRoom, opened, withSection}
 use Rattle.gathering_state.specs.declared.Gathering.{Gathering}
 use Rattle.gathering_tables.specs.Tables.{isNewer}
 use Rattle.gathering_feed.specs.Feeding.{fixedHeading, fedOf, storeAfter}
 use Rattle.gathering_feed.specs.declared.Answer.the-variants.{Taken}
-use Rattle.gathering_hand_out.specs.Handing.{handedOf}
+use Rattle.gathering_hand_out.specs.Handing.{handedOf, outAfter}
 use Rattle.gathering_hand_out.specs.declared.Handed.the-variants.{Body}
+use Rattle.gathering_pack.specs.Packing.{packingOf, storePacked}
 use Rattle.crc.specs.Crc.{AreBytes}
 use Rattle.gathering_account.specs.Account.{goodCurrent, heard, Section, Account, idle, table, account, Complete, bodyOf}
 use Rattle.gathering_account.specs.Answering.{answerTo, answersTo}
 use Rattle.gathering_account.specs.Gathers.{Box, freshBox, ByteStrings, boxAfter, fedAnswer, answersOf, handing, HandsOut, Answers}
+use Rattle.gathering_account.specs.Calls.{Call, feeding, ByteCalls, boxAfterCalls, accountOfCalls, Serves}
 use Rattle.gathering_account.specs.Latest.{Latest, NoneNewer, beginsAfter}
 use Rattle.gathering_account.specs.Arrival.{CutInto, sectionsOf, Arrives, ArrivesFirst, sectionsListed}
 
@@ -32,7 +34,19 @@ heardBy store fed = account (hasRoom (length store)) idle fed
 abbrev pub fedTo : List ℕ → List (List ℕ) → Box
 fedTo store fed = boxAfter (freshBox store) fed
 
+-- so of any run of calls, feeds and both ways of handing out
+abbrev pub heardInCalls : List ℕ → List Call → Account
+heardInCalls store calls = accountOfCalls (hasRoom (length store)) idle calls
+
+abbrev pub calledOn : List ℕ → List Call → Box
+calledOn store calls = boxAfterCalls (freshBox store) calls
+
 pub record Demand3 : Type 0 where
+  -- "Demand 3 holds with this as a second way of handing out, which ends the gathering": after any run of feeds, handings out and packings, whichever call is
+  -- next, its answer and what it leaves are as the account says; the account of a packed table is idle, and its box fresh over the store as it stands
+  pub calls : (store : List ℕ) (calls : List Call) → ByteCalls calls → Serves (hasRoom (length store)) (heardInCalls store calls) (calledOn store calls)
+  -- a run of feeds alone is such a run, so that what follows is said of runs of feeds
+  pub feeds-alone : (store : List ℕ) (fed : List (List ℕ)) → (calledOn store (map feeding fed) ≡ fedTo store fed) × (heardInCalls store (map feeding fed) ≡ heardBy store fed)
   -- "a body is handed out exactly when the good, current sections of the fixed table cover every number and no two of one number differ": only then,
   pub only-when : (store : List ℕ) (fed : List (List ℕ)) → ByteStrings fed → (out : List ℕ) (n : ℕ) → handing (fedTo store fed) out ≡ Body n → Complete (heardBy store fed)
   -- and then, if the output has room;
@@ -102,3 +116,13 @@ pub record Demand3 : Type 0 where
   pub comes-back : (body : List ℕ) (kind extension version : ℕ) → AreBytes body → Allowed kind extension version → 0 < length body → length body ≤ 1045504
       → (store : List ℕ) → hasRoom (length store) (cutHeading (length body) kind extension version 0 .last) ≡ true → (out : List ℕ) → length body ≤ length out
       → HandsOut (fedTo store (sectionsListed (sectionOf body kind extension version) 0 (sectionCount (length body)))) out body
+  -- packing, of whatever state C has lent: it answers as handing out into the store itself would, and leaves the store as that would leave its output;
+  pub packs-as-handing : (g : Gathering) (store : List ℕ) → length (g .held) ≡ 256
+      → (packingOf g store .answer ≡ handedOf g store store) × (storePacked g store ≡ outAfter g store store)
+  -- a packed table's state is fresh, "The total of held bytes before equals the body length after";
+  pub packs-counted : (g : Gathering) (store : List ℕ) (n : ℕ) → length (g .held) ≡ 256 → packingOf g store .answer ≡ Body n
+      → (packingOf g store .state ≡ freshState) × (g .bytes ≡ n)
+  -- a possible state stays possible, with its counts right, and the store is as long as it was
+  pub packs-possible : (g : Gathering) (store : List ℕ) → possibleOf g ≡ true
+      → (possibleOf (packingOf g store .state) ≡ true) × CountsRight (packingOf g store .state)
+  pub packs-long : (g : Gathering) (store : List ℕ) → length (g .held) ≡ 256 → length (storePacked g store) ≡ length store

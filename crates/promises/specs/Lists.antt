@@ -19,6 +19,7 @@ use Rattle.gathering_state.specs.declared.Gathering.{Gathering}
 use Rattle.gathering_hand_out.specs.Handing.{bodyHeld, completeOf, handedOf}
 use Rattle.gathering_hand_out.specs.declared.Completeness.the-variants.{Complete, Refused as NotComplete}
 use Rattle.gathering_hand_out.specs.declared.Handed.the-variants.{Body, Refused as NotHanded}
+use Rattle.gathering_pack.specs.Packing.{packingOf}
 use Rattle.promises_orders.specs.Order.{AsListed}
 use Rattle.promises_orders.specs.Sections.{sectionLines}
 use Rattle.promises_orders.specs.Gathering.{FedAsListed, completeLines, handingLines}
@@ -34,6 +35,9 @@ pub record GivenExactly : Type 0 where
   pub complete : (g : Gathering) (bytes : ℕ) → AsListed NotComplete (λ a. a ≡ Complete) (completeLines g bytes) (completeOf g bytes)
   pub handing-out : (g : Gathering) (store out : List ℕ)
       → AsListed NotHanded (λ a. a ≡ Body (length (bodyHeld g store))) (handingLines g store out) (handedOf g store out)
+  -- packing: "12, 13, 10, 11, 13 in handing-out order, with no 21"
+  pub packing-store : (g : Gathering) (store : List ℕ)
+      → AsListed NotHanded (λ a. a ≡ Body (length (bodyHeld g store))) (completeLines g (length store)) (packingOf g store .answer)
   -- "Cutter: 2, 19 (version above 31), 14 (L = 0), 22, 6, 21", of which 14 and 22 are the count's
   pub count : (bytes : ℕ) → AsListed NotCounted (λ a. a ≡ Sections (sectionCount bytes)) (countLines bytes) (countedOf bytes)
   pub cutter : (body : List ℕ) (kind extension version number : ℕ) (out : List ℕ)

@@ -15,6 +15,7 @@ use Rattle.section_cutter.specs.Cutting.{countedOf, cutAnswer, cutOutput}
 use Rattle.gathering_state.specs.declared.Gathering.{Gathering}
 use Rattle.gathering_feed.specs.Feeding.{fedOf, storeAfter}
 use Rattle.gathering_hand_out.specs.Handing.{handedOf, outAfter}
+use Rattle.gathering_pack.specs.Packing.{packingOf, storePacked}
 use Rattle.program_date_lines.specs.Report.{reportOf}
 use Rattle.program_section_line.specs.Line.{lineOf}
 use Rattle.body_formats.specs.Body.{bodyRead, measured, bodyWritten, outputWritten, bodyLaid, laidTape}
@@ -68,6 +69,8 @@ pub record Offered : Type 0 where
       Determined₃ (λ r g′ store′. (r ≡ feedAnswer (fedOf g store s .answer)) × (g′ ≡ fedOf g store s .state) × (store′ ≡ storeAfter g store s))
   pub nw-gathering-hand-out : (g : Gathering) (store out : List ℕ) →
       Determined₂ (λ r out′. (r ≡ handAnswer (handedOf g store out)) × (out′ ≡ outAfter g store out))
+  pub nw-gathering-pack : (g : Gathering) (store : List ℕ) →
+      Determined₃ (λ r g′ store′. (r ≡ handAnswer (packingOf g store .answer)) × (g′ ≡ packingOf g store .state) × (store′ ≡ storePacked g store))
   -- The certificate table for C.
   pub nw-certificate-read : (kind : ℕ) (body : List ℕ) → Determined (λ r. r ≡ readAnswer (bodyRead certificate certificateKind kind body))
   pub nw-certificate-authorization-count : (body : List ℕ) → Determined (λ r. r ≡ numberAnswer (authorizationCount body))

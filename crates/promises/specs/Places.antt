@@ -17,6 +17,7 @@ use Rattle.gathering_feed.specs.Feeding.{fedOf}
 use Rattle.gathering_feed.specs.declared.Answer.the-variants.{Refused as NotFed}
 use Rattle.gathering_hand_out.specs.Handing.{handedOf}
 use Rattle.gathering_hand_out.specs.declared.Handed.the-variants.{Refused as NotHanded}
+use Rattle.gathering_pack.specs.Packing.{packingOf}
 use Rattle.body_formats.specs.Reading.{placeless}
 use Rattle.body_formats.specs.Format.{Format}
 use Rattle.body_formats.specs.Body.{bodyRead, measured, bodyWritten, bodyLaid}
@@ -59,3 +60,4 @@ pub record Places : Type 0 where
       → cutAnswer body kind extension version number out ≡ NotCut r → refusalPlace r ≡ 0
   -- "The place is 13's missing number": a number of the table
   pub handed : (g : Gathering) (store out : List ℕ) (r : Refusal) → handedOf g store out ≡ NotHanded r → refusalPlace r ≤ g .last
+  pub packed : (g : Gathering) (store : List ℕ) (r : Refusal) → packingOf g store .answer ≡ NotHanded r → refusalPlace r ≤ g .last

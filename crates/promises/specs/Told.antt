@@ -30,6 +30,7 @@ use Rattle.gathering_state.specs.declared.Gathering.{Gathering}
 use Rattle.gathering_feed.specs.declared.Answer.the-variants as fed
 use Rattle.gathering_hand_out.specs.Handing.{handedOf}
 use Rattle.gathering_hand_out.specs.declared.Handed.the-variants.{Body, Refused as NotHanded}
+use Rattle.gathering_pack.specs.Packing.{packingOf}
 use Rattle.body_formats.specs.Format.{Format}
 use Rattle.body_formats.specs.Answers.{numberRead}
 use Rattle.body_formats.specs.Body.{longest, measured, bodyWritten, bodyLaid}
@@ -94,6 +95,7 @@ pub record Told : Type 1 where
   pub held-already : TellsValue (feedAnswer fed.HeldAlready) 1
   -- a state has 256 numbers
   pub handed-out : (g : Gathering) (store out : List ℕ) (n : ℕ) → length (g .held) ≡ 256 → handedOf g store out ≡ Body n → TellsValue (handAnswer (Body n)) n
+  pub packed-store : (g : Gathering) (store : List ℕ) (n : ℕ) → length (g .held) ≡ 256 → packingOf g store .answer ≡ Body n → TellsValue (handAnswer (Body n)) n
   -- tables: 0 for an accepted body; the length of a body measured or written; so many entries or records as the tape or the list had room for
   pub accepted : (end : ℕ) → TellsValue (readAnswer (At end)) 0
   pub measured-length : {A : Type 0} (F : Format A) (pool tape : List ℕ) (n : ℕ) → measured F pool tape ≡ At n → TellsValue (writtenAnswer (At n)) n

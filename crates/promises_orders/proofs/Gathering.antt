@@ -31,6 +31,7 @@ use Rattle.gathering_hand_out.specs.declared.Handed.{Handed}
 use Rattle.gathering_hand_out.specs.declared.Handed.the-variants.{Body, Refused as NotHanded}
 use Rattle.promises_orders.specs.Order.{Line, _when_, None, AsListed}
 use Rattle.promises_orders.specs.Sections.{sectionLines}
+use Rattle.gathering_pack.specs.Packing.{packedBy, packedOf, packingOf}
 use Rattle.promises_orders.specs.Gathering.{isHeld, contradictsHeld, feedingLines, FedAsListed, completeLines, handingLines}
 use Rattle.promises_orders.proofs.Order.{Told, outcome, outcome-told, outcome-behind, first-not, rest-not, none-append, by-lines, Decided, one, none, decided}
 
@@ -194,3 +195,13 @@ module _ (g : Gathering) (store out : List ℕ) where
 
   pub handing-as-listed : AsListed NotHanded (λ a. a ≡ Body (length (bodyHeld g store))) (handingLines g store out) (handedOf g store out)
   handing-as-listed = rw hands (by-lines NotHanded _ (handing-told _) (handingLines g store out) _ refl)
+
+module _ (g : Gathering) (store : List ℕ) where
+  packs : packingOf g store .answer ≡ outcome NotHanded (completeLines g (length store)) (Body (length (bodyHeld g store)))
+  unfolding packingOf packedOf packedBy completeOf missingOf completeLines outcome
+  packs =
+      outcome-told (λ c. packedBy c (length (bodyHeld g store))) NotComplete NotHanded (λ r. refl)
+      (completeLines g (length store)) Complete
+
+  pub packing-as-listed : AsListed NotHanded (λ a. a ≡ Body (length (bodyHeld g store))) (completeLines g (length store)) (packingOf g store .answer)
+  packing-as-listed = rw packs (by-lines NotHanded _ (handing-told _) (completeLines g (length store)) _ refl)

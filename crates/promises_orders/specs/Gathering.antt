@@ -1,4 +1,4 @@
--- What a reader has to believe of a gathering's refusals: 01's orders for feeding and for handing out, each number with its condition.
+-- What a reader has to believe of a gathering's refusals: 01's orders for feeding, for handing out and for packing, each number with its condition.
 use Prim.Native.Nat.{ℕ}
 use mathlib.Core.Path.{_≡_}
 use mathlib.Core.Bool.{Bool, true, false, not, _&&_, _||_}
@@ -52,9 +52,9 @@ pub record FedAsListed (g : Gathering) (store s : List ℕ) : Type 0 where
   pub taken-exactly : (fedOf g store s .answer ≡ Taken) ↔ (None (feedingLines g store s) × (isHeld g s ≡ false))
   pub held-exactly : (fedOf g store s .answer ≡ HeldAlready) ↔ (None (feedingLines g store s) × (isHeld g s ≡ true))
 
--- ---- handing out
+-- ---- handing out, and packing, which has no 21
 
--- "12; 13 if nothing begun; 10; 11; 13", with a store of so many bytes
+-- "12; 13 if nothing begun; 10; 11; 13", with a store of so many bytes: these are also all of packing's, "in handing-out order, with no 21"
 unfoldable pub completeLines : Gathering → ℕ → List Line
 completeLines g bytes =
     -- 12: "not a possible gathering state"
