@@ -1,4 +1,5 @@
 // Fields of a body, read: s is a whole body, l the end of the innermost counted part, p the position.
+use body_formats::IDENTIFIER_PAIRS;
 use body_formats::Number;
 use body_formats::Part;
 use body_formats::Step;
@@ -388,7 +389,7 @@ pub fn read_digits(s: &[u8], l: usize, p: usize, h: usize) -> Part
 pub fn read_identifier(s: &[u8], l: usize, p: usize) -> Part
     ensures { λ r. ⌜ r ≡ fieldPart p (identifier .parse (now (s .entry)) l p) ⌝ }
 {
-    read_digits(s, l, p, 17)
+    read_digits(s, l, p, IDENTIFIER_PAIRS)
 }
 
 // A time field, as the number that it is.
@@ -443,5 +444,5 @@ pub fn digit_at(s: &[u8], l: usize, p: usize, h: usize, i: u64) -> Number
 pub fn identifier_digit_at(s: &[u8], l: usize, p: usize, i: u64) -> Number
     ensures { λ r. ⌜ r ≡ digitRead identifier i (now (s .entry)) l p ⌝ }
 {
-    digit_at(s, l, p, 17, i)
+    digit_at(s, l, p, IDENTIFIER_PAIRS, i)
 }

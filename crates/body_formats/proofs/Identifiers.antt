@@ -7,7 +7,7 @@ use native.Mathlib.Omega.{arith}
 use lib.ListN.{length, take, drop}
 use Rattle.body_formats.specs.Reading.{found}
 use Rattle.body_formats.specs.Format.{digits}
-use Rattle.body_formats.specs.Identifier.{identifier}
+use Rattle.body_formats.specs.Identifier.{identifierPairs, identifierBytes, identifier}
 use Rattle.body_formats.specs.Answers.{fieldPart}
 use Rattle.body_formats.specs.declared.Part.the-variants.{Of}
 use Rattle.body_formats.proofs.Classes.{Bytes, Lawful}
@@ -17,41 +17,41 @@ use Rattle.body_formats.proofs.Strings.{Fills, digits-fit, digits-fill,
 
 pub identifier-lawful : Lawful identifier
 unfolding identifier
-identifier-lawful = digits-lawful 17
+identifier-lawful = digits-lawful identifierPairs
 
 pub identifier-placed : Placed identifier
 unfolding identifier
-identifier-placed = digits-placed 17
+identifier-placed = digits-placed identifierPairs
 
 -- its two entries on a tape: where it starts, and its 18 bytes
-pub identifier-entries : (ds : List ℕ) (at : ℕ) → identifier .tape ds at ≡ at ∷ 18 ∷ []
+pub identifier-entries : (ds : List ℕ) (at : ℕ) → identifier .tape ds at ≡ at ∷ identifierBytes ∷ []
 unfolding identifier
-identifier-entries ds at = digits-entries 17 ds at
+identifier-entries ds at = digits-entries identifierPairs ds at
 
 -- a writable one has 18 bytes
-pub identifier-takes : (ds : List ℕ) → identifier .writable ds ≡ true → 18 ≡ length (identifier .print ds)
+pub identifier-takes : (ds : List ℕ) → identifier .writable ds ≡ true → identifierBytes ≡ length (identifier .print ds)
 unfolding identifier digits
-identifier-takes ds r = digits-take 17 ds (record { writable = r; small = refl })
+identifier-takes ds r = digits-take identifierPairs ds (record { writable = r; small = refl })
 
 -- of one that was read: where it ends, its bytes, its digits
 module _ (s : List ℕ) (l p : ℕ) (ds : List ℕ) (q : ℕ) (e : identifier .parse s l p ≡ found ds q) where
-  pub identifier-fits : (q ≡ p + 18) × (q ≤ length s)
+  pub identifier-fits : (q ≡ p + identifierBytes) × (q ≤ length s)
   unfolding identifier
-  identifier-fits = digits-fit s l p 17 ds q e
+  identifier-fits = digits-fit s l p identifierPairs ds q e
 
-  pub identifier-sized : q ≡ p + 18
+  pub identifier-sized : q ≡ p + identifierBytes
   identifier-sized = identifier-fits .0
 
-  pub identifier-bytes : Bytes s → take 18 (drop p s) ≡ identifier .print ds
+  pub identifier-bytes : Bytes s → take identifierBytes (drop p s) ≡ identifier .print ds
   unfolding identifier
-  identifier-bytes b = digits-bytes s l p 17 ds q e b
+  identifier-bytes b = digits-bytes s l p identifierPairs ds q e b
 
   pub identifier-many : Bytes s → length ds ≡ 35
   unfolding identifier
-  identifier-many b = digits-many s l p 17 ds q e b
+  identifier-many b = digits-many s l p identifierPairs ds q e b
 
 -- the part answered is the one that it fills
 pub identifier-fills : (s : List ℕ) (l p a n : ℕ) → Bytes s → Of a n ≡ fieldPart p (identifier .parse s l p)
-    → (a ≡ p) × (n ≡ 18) × Fills identifier s l p 18
+    → (a ≡ p) × (n ≡ identifierBytes) × Fills identifier s l p identifierBytes
 unfolding identifier
-identifier-fills s l p a n b e = digits-fill s l p 17 a n b e
+identifier-fills s l p a n b e = digits-fill s l p identifierPairs a n b e

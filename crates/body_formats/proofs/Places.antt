@@ -20,9 +20,10 @@ use Rattle.time_fields.specs.declared.EndTimed.the-variants.{Live}
 use Rattle.body_formats.specs.Reading.{Reading, found, refused, andThen, need, Fault, fine, faulty, unless, judged, within, placeless}
 use Rattle.body_formats.specs.Format.{Format, tapeEntry, span, count, only, outside, among, number, nibbles, bothAmong, nibbleAmong, nibblesAmong, reservedFirst, below, reserved, bytes, halves, tail, decimal, digits, followed, nothing, under, view, repeat, every, bytesAmong, times, listOf, rest, exact, parseMany, many, Length, lengthOf, leastOf, length12, counted, opaque}
 use Rattle.body_formats.specs.Time.{timeFault, endFault, time, endTime}
-use Rattle.body_formats.specs.Resource.{resource, resources}
+use Rattle.body_formats.specs.Resource.{resourcePairs, resource, resources}
 use Rattle.body_formats.specs.Answers.{stepOf}
-use Rattle.body_formats.specs.Body.{longest, reading, bodyRead, measuring, measured, fitting, writing, bodyWritten, laying, bodyLaid}
+use Rattle.ground_numbers.specs.Sizes.{bodyMost}
+use Rattle.body_formats.specs.Body.{reading, bodyRead, measuring, measured, fitting, writing, bodyWritten, laying, bodyLaid}
 use Rattle.body_formats.specs.declared.Step.the-variants.{Refused as NoStep}
 
 -- ---- readings
@@ -321,7 +322,7 @@ unfolding endTime
 end-placed = only-placed (λ f at. endFault (readEnd f at)) (number 5) end-until (number-placed 5)
 
 pub resources-placed : Placed resources
-resources-placed = list-placed resource (digits-placed 11) (count 1) (count-placed 1)
+resources-placed = list-placed resource (digits-placed resourcePairs) (count 1) (count-placed 1)
 
 -- ---- a refusal without its place
 
@@ -365,7 +366,7 @@ module _ {A : Type 0} (F : Format A) (f : Placed F) where
     unfolding reading
     reading-until =
         need-until (eqb kind own) _ zero-le (λ t.
-        need-until (leb (length s) longest) _ zero-le (λ u. f .read s (length s) 0 (le-refl (length s)) zero-le))
+        need-until (leb (length s) bodyMost) _ zero-le (λ u. f .read s (length s) 0 (le-refl (length s)) zero-le))
 
     pub read-place : (r : Refusal) → bodyRead F own kind s ≡ NoStep r → refusalPlace r ≤ length s
     unfolding bodyRead
@@ -378,13 +379,13 @@ module _ {A : Type 0} (F : Format A) (f : Placed F) where
         need-until (leb (length (F .tape a 0)) room) _ zero-le (λ t. ends (leb-true _ _ t))))
 
   module _ (pool tape : List ℕ) where
-    pub measuring-until : Until (length tape) longest (measuring F pool tape)
+    pub measuring-until : Until (length tape) bodyMost (measuring F pool tape)
     unfolding measuring
     measuring-until =
         then-until (F .form pool tape 0) _ (f .formed pool tape 0 zero-le) (λ a k m.
         need-until (leb (length tape) k) _ m (λ t.
         need-until (not (F .tooLarge a)) _ zero-le (λ u.
-        need-until (leb (length (F .print a)) longest) _ zero-le (λ v. ends (leb-true _ _ v)))))
+        need-until (leb (length (F .print a)) bodyMost) _ zero-le (λ v. ends (leb-true _ _ v)))))
 
     pub measured-place : (r : Refusal) → measured F pool tape ≡ NoStep r → refusalPlace r ≤ length tape
     unfolding measured

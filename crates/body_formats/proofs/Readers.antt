@@ -16,7 +16,8 @@ use Rattle.ground_refusal.specs.declared.Refusal.the-variants.{OtherKind, PastB
 use Rattle.body_formats.specs.Reading.{Reading, found, refused, andThen, need, unless, judged, within}
 use Rattle.body_formats.specs.Format.{Format, nothing, numberAt, count, repeat, listOf, rest, Length, lengthOf, leastOf, counted, opaque}
 use Rattle.body_formats.specs.Answers.{stepOf, numberOf, partOf, fieldPart, ended, endedAll, numberRead, partRead, after, partAfter, thingListed, partListed}
-use Rattle.body_formats.specs.Body.{longest, reading, bodyRead, opened}
+use Rattle.ground_numbers.specs.Sizes.{bodyMost}
+use Rattle.body_formats.specs.Body.{reading, bodyRead, opened}
 use Rattle.body_formats.specs.declared.Step.the-variants.{At, Refused as NoStep}
 use Rattle.body_formats.specs.declared.Number.the-variants.{Is, Refused as NoNumber}
 use Rattle.body_formats.specs.declared.Part.the-variants.{Of, Refused as NoPart}
@@ -279,18 +280,18 @@ module _ (own kind : ℕ) (s : List ℕ) where
   other-kind h = rw (ne-eqb kind own h)
 
   module _ (e : kind ≡ own) where
-    pub too-large : longest < length s → NoStep TooLarge ≡ opened own kind s
+    pub too-large : bodyMost < length s → NoStep TooLarge ≡ opened own kind s
     unfolding opened bodyRead reading
-    too-large h = rw (eq-eqb kind own e, lt-leb (length s) longest h)
+    too-large h = rw (eq-eqb kind own e, lt-leb (length s) bodyMost h)
 
-    pub is-open : length s ≤ longest → At 0 ≡ opened own kind s
+    pub is-open : length s ≤ bodyMost → At 0 ≡ opened own kind s
     unfolding opened bodyRead reading nothing
-    is-open h = rw (eq-eqb kind own e, le-leb (length s) longest h)
+    is-open h = rw (eq-eqb kind own e, le-leb (length s) bodyMost h)
 
   module _ {A : Type 0} (F : Format A) where
     pub body-no : (r : Refusal) → NoStep r ≡ opened own kind s → NoStep r ≡ bodyRead F own kind s
     unfolding opened bodyRead reading nothing
-    body-no r e = go (eqb kind own) (leb (length s) longest) e
+    body-no r e = go (eqb kind own) (leb (length s) bodyMost) e
       where
         go : (a b : Bool) → NoStep r ≡ stepOf (need a OtherKind (need b TooLarge (nothing .parse s (length s) 0))) → NoStep r ≡ stepOf (need a OtherKind (need b TooLarge (F .parse s (length s) 0)))
         go false b f = f

@@ -13,14 +13,15 @@ use Rattle.ground_placing.proofs.Placing.{placed-start}
 use Rattle.ground_refusal.specs.declared.Refusal.the-variants.{OtherKind, OutsideSet, OutputTooSmall, TooLarge}
 use Rattle.body_formats.specs.Reading.{Reading, found, refused}
 use Rattle.body_formats.specs.Format.{Format}
-use Rattle.body_formats.specs.Body.{longest, reading, measuring, fitting, writing, outputWritten, laying, laidTape}
+use Rattle.ground_numbers.specs.Sizes.{bodyMost}
+use Rattle.body_formats.specs.Body.{reading, measuring, fitting, writing, outputWritten, laying, laidTape}
 use Rattle.body_formats.proofs.Stand.{stands-all, stands-whole}
 use Rattle.body_formats.proofs.Outcomes.{found-inj, not-found, andThen-found, need-found}
 use Rattle.body_formats.proofs.Classes.{Bytes, Ok, Filling}
 
 -- what is measured is the length of the value that the form lays out, none of whose counts and lengths is too large
 pub measured-value : {A : Type 0} (F : Format A) (pool tape : List ℕ) (a : A) (m : ℕ) → measuring F pool tape ≡ found a m
-    → (k : ℕ) × (F .form pool tape 0 ≡ found a k) × (F .tooLarge a ≡ false) × (m ≡ length (F .print a)) × (m ≤ longest)
+    → (k : ℕ) × (F .form pool tape 0 ≡ found a k) × (F .tooLarge a ≡ false) × (m ≡ length (F .print a)) × (m ≤ bodyMost)
 unfolding measuring
 measured-value {A} F pool tape a m e =
     let i = andThen-found (F .form pool tape 0) _ a m e in
@@ -28,10 +29,10 @@ measured-value {A} F pool tape a m e =
     let n = length (F .print v) in
     let c1 = need-found (leb (length tape) (i .1)) (OutsideSet (i .1)) _ a m (i .3) in
     let c2 = need-found (not (F .tooLarge v)) TooLarge _ a m (c1 .1) in
-    let c3 = need-found (leb n longest) TooLarge _ a m (c2 .1) in
+    let c3 = need-found (leb n bodyMost) TooLarge _ a m (c2 .1) in
     let z = found-inj (c3 .1) in
-    let all : (y : A) → v ≡ y → (k : ℕ) × (F .form pool tape 0 ≡ found y k) × (F .tooLarge y ≡ false) × (n ≡ length (F .print y)) × (n ≤ longest) =
-    (λ y w. rw (← w) (i .1, i .2, not-true (F .tooLarge v) (c2 .0), refl, leb-true n longest (c3 .0))) in
+    let all : (y : A) → v ≡ y → (k : ℕ) × (F .form pool tape 0 ≡ found y k) × (F .tooLarge y ≡ false) × (n ≡ length (F .print y)) × (n ≤ bodyMost) =
+    (λ y w. rw (← w) (i .1, i .2, not-true (F .tooLarge v) (c2 .0), refl, leb-true n bodyMost (c3 .0))) in
     rw (← z .1) (all a (z .0))
 
 -- what is written is what was measured, and fits
@@ -48,20 +49,20 @@ written-measured {A} F pool tape room a m e = go (measuring F pool tape) e
 
 module _ {A : Type 0} (F : Format A) (f : Filling F) (own : ℕ) where
   -- each well-formed table, printed, reads back as itself
-  pub reads-back : (a : A) → Ok F a → length (F .print a) ≤ longest → reading F own own (F .print a) ≡ found a (length (F .print a))
+  pub reads-back : (a : A) → Ok F a → length (F .print a) ≤ bodyMost → reading F own own (F .print a) ≡ found a (length (F .print a))
   unfolding reading
   reads-back a o h =
       let whole = f .back (F .print a) (length (F .print a)) 0 a o (stands-whole (F .print a)) (omega arith) (le-refl (length (F .print a))) in
-      rw (eq-eqb own own refl, le-leb (length (F .print a)) longest h, whole)
+      rw (eq-eqb own own refl, le-leb (length (F .print a)) bodyMost h, whole)
 
   -- what an accepted body says of itself
   module _ (kind : ℕ) (s : List ℕ) (b : Bytes s) (a : A) (q : ℕ) (e : reading F own kind s ≡ found a q) where
-    pub accepted : (kind ≡ own) × (length s ≤ longest) × (F .parse s (length s) 0 ≡ found a q)
+    pub accepted : (kind ≡ own) × (length s ≤ bodyMost) × (F .parse s (length s) 0 ≡ found a q)
     unfolding reading
     accepted =
         let t = need-found (eqb kind own) OtherKind _ a q e in
-        let u = need-found (leb (length s) longest) TooLarge _ a q (t .1) in
-        (eqb-true kind own (t .0), leb-true (length s) longest (u .0), u .1)
+        let u = need-found (leb (length s) bodyMost) TooLarge _ a q (t .1) in
+        (eqb-true kind own (t .0), leb-true (length s) bodyMost (u .0), u .1)
 
     -- each accepted body prints back to its bytes
     pub prints-back : (F .print a ≡ s) × Ok F a
@@ -81,7 +82,7 @@ module _ {A : Type 0} (F : Format A) (f : Filling F) (own : ℕ) where
         let t = F .tape a 0 in
         let form = f .formal .laid s 0 t 0 a (w .1 .writable) (rw (w .0) (stands-whole s)) (omega (arith, n)) (stands-whole t) (omega arith) in
         let g : writing F s t (length out) ≡ found a (length s) =
-        rw (form, le-leb (length t) (0 + length t) (omega arith), w .1 .small, n, le-leb (length s) longest (accepted .1), le-leb (length s) (length out) h) in
+        rw (form, le-leb (length t) (0 + length t) (omega arith), w .1 .small, n, le-leb (length s) bodyMost (accepted .1), le-leb (length s) (length out) h) in
         (g, rw g (ap (placed out 0) (w .0)))
 
     -- read onto a tape and written from what was laid there, it is its bytes again
@@ -105,7 +106,7 @@ module _ {A : Type 0} (F : Format A) (f : Filling F) (own : ℕ) where
 
   -- exactly the printed tables are accepted
   pub accepted-exactly : (s : List ℕ) → Bytes s → (a : A) (q : ℕ)
-      → (reading F own own s ≡ found a q → (s ≡ F .print a) × Ok F a × (length s ≤ longest) × (q ≡ length s))
+      → (reading F own own s ≡ found a q → (s ≡ F .print a) × Ok F a × (length s ≤ bodyMost) × (q ≡ length s))
   accepted-exactly s b a q e =
       let w = prints-back own s b a q e in
       let t = accepted own s b a q e in
@@ -115,10 +116,10 @@ module _ {A : Type 0} (F : Format A) (f : Filling F) (own : ℕ) where
 -- all of it, for one table
 pub record RoundTrips {A : Type 0} (F : Format A) (own : ℕ) : Type 0 where
   -- each well-formed table, printed, reads back as itself
-  pub reads-back : (a : A) → Ok F a → length (F .print a) ≤ longest → reading F own own (F .print a) ≡ found a (length (F .print a))
+  pub reads-back : (a : A) → Ok F a → length (F .print a) ≤ bodyMost → reading F own own (F .print a) ≡ found a (length (F .print a))
   -- exactly the printed tables are accepted
   pub accepted-exactly : (s : List ℕ) → Bytes s → (a : A) (q : ℕ) → reading F own own s ≡ found a q
-      → (s ≡ F .print a) × Ok F a × (length s ≤ longest) × (q ≡ length s)
+      → (s ≡ F .print a) × Ok F a × (length s ≤ bodyMost) × (q ≡ length s)
   -- whatever is written reads back as the table that its form lays out
   pub written-reads-back : (pool tape : List ℕ) (room : ℕ) (a : A) (m : ℕ) → writing F pool tape room ≡ found a m
       → (m ≡ length (F .print a)) × (m ≤ room) × Ok F a × (reading F own own (F .print a) ≡ found a m)

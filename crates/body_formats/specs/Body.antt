@@ -12,15 +12,11 @@ use Rattle.body_formats.specs.Format.{Format, nothing}
 use Rattle.body_formats.specs.Answers.{stepOf}
 use Rattle.body_formats.specs.declared.Step.{Step}
 
--- "a body above 1,045,504 bytes"
-abbrev pub longest : ℕ
-longest = bodyMost
-
--- "2 for a wrong kind, then 22, come first", and then the fields
+-- "2 for a wrong kind, then 22" ("a body above 1,045,504 bytes"), "come first", and then the fields
 unfoldable pub reading : {A : Type 0} → Format A → ℕ → ℕ → List ℕ → Reading A
 reading F own kind s =
     need (eqb kind own) OtherKind
-    (need (leb (length s) longest) TooLarge (F .parse s (length s) 0))
+    (need (leb (length s) bodyMost) TooLarge (F .parse s (length s) 0))
 
 -- "Writers: fields in order, then 22": the value that a form lays out, and the length of its body. A field is refused at the entry of
 -- the tape where it begins; entries left over are 19 at the first of them.
@@ -29,7 +25,7 @@ measuring F pool tape =
     andThen (F .form pool tape 0) (λ a k.
     need (leb (length tape) k) (OutsideSet k)
     (need (not (F .tooLarge a)) TooLarge
-    (need (leb (length (F .print a)) longest) TooLarge (found a (length (F .print a))))))
+    (need (leb (length (F .print a)) bodyMost) TooLarge (found a (length (F .print a))))))
 
 -- how long the body of a form is, whatever room there is, or why and at which entry it is refused
 unfoldable pub measured : {A : Type 0} → Format A → List ℕ → List ℕ → Step

@@ -23,17 +23,18 @@ use Rattle.body_formats.specs.declared.Part.the-variants.{Of, Refused as NoPart
 use Rattle.body_formats.proofs.Outcomes.{found-inj, not-found, andThen-found, need-found}
 use Rattle.body_formats.proofs.Leaves.{length-bytes}
 use Rattle.body_formats.proofs.Readers.{number-found, number-refused}
-use Rattle.body_pen.specs.Penned.{more, penned, Penned, valuePenned, Counted}
+use Rattle.ground_numbers.specs.Sizes.{bodyMost}
+use Rattle.body_pen.specs.Penned.{aboveBody, more, penned, Penned, valuePenned, Counted}
 use Rattle.body_pen.specs.declared.Pen.{Pen}
 use Rattle.body_pen.specs.declared.Pen.the-variants.{At, Refused}
 
 -- ---- the bytes so far
 
-pub more-over : (size n : ℕ) (over : Bool) → over ≡ true → 1045505 ≡ more size n over
+pub more-over : (size n : ℕ) (over : Bool) → over ≡ true → aboveBody ≡ more size n over
 unfolding more
 more-over size n over e = rw e
 
-pub more-min : (size n z : ℕ) (over : Bool) → over ≡ false → z ≡ min (size + n) 1045505 → z ≡ more size n over
+pub more-min : (size n z : ℕ) (over : Bool) → over ≡ false → z ≡ min (size + n) aboveBody → z ≡ more size n over
 unfolding more
 more-min size n z over e f = rw e f
 
@@ -44,7 +45,7 @@ more-twice size m n true false = omega arith
 more-twice size m n false true = refl
 more-twice size m n false false = omega arith
 
-pub more-exact : (size n : ℕ) → size + n ≤ 1045504 → more size n false ≡ size + n
+pub more-exact : (size n : ℕ) → size + n ≤ bodyMost → more size n false ≡ size + n
 unfolding more
 more-exact size n h = omega arith
 
@@ -121,7 +122,7 @@ module _ {A : Type 0} (F : Format A) (pool tape : List ℕ) (x : Pen) (wet : Boo
 
     module _ (a : A) (j : ℕ) (f : F .form pool tape k ≡ found a j) (over : Bool) (o : F .tooLarge a ≡ over) where
       laid : (n z : ℕ) (out′ : List ℕ) → length (F .print a) ≡ n → z ≡ more size n over → (wet ≡ false → out′ ≡ out)
-          → (wet ≡ true → over ≡ false → size + n ≤ 1045504 → size + n ≤ length out → out′ ≡ placed out size (F .print a))
+          → (wet ≡ true → over ≡ false → size + n ≤ bodyMost → size + n ≤ length out → out′ ≡ placed out size (F .print a))
           → Penned F pool tape x wet out (At z j) out′
       unfolding penned
       laid n z out′ l g dry put =

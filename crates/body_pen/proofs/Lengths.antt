@@ -16,7 +16,7 @@ use Rattle.body_formats.specs.Reading.{Reading, found, refused}
 use Rattle.body_formats.specs.Format.{Format, bytesOf, count, reserved, Length, lengthOf, length12, counted}
 use Rattle.body_formats.proofs.Outcomes.{neither}
 use Rattle.body_formats.proofs.Leaves.{length-bytes}
-use Rattle.body_pen.specs.Penned.{more, penOnward, Penned, gapped, closed, Closed}
+use Rattle.body_pen.specs.Penned.{aboveBody, more, penOnward, Penned, gapped, closed, Closed}
 use Rattle.body_pen.specs.declared.Pen.{Pen}
 use Rattle.body_pen.specs.declared.Pen.the-variants.{At, Refused}
 use Rattle.body_pen.proofs.Leaves.{more-exact}
@@ -55,8 +55,8 @@ module _ (w limit : ℕ) where
   closed-more size m n over h end e = go (ltb (end - size - w) limit) refl (ltb m limit) refl over e
     where
       go : (s : Bool) → ltb (end - size - w) limit ≡ s → (t : Bool) → ltb m limit ≡ t → (o : Bool)
-          → end ≡ (if o then 1045505 else min (min (size + w) 1045505 + m) 1045505)
-          → (if not s then 1045505 else min (end + 0) 1045505) ≡ (if not t || o then 1045505 else min (size + (n + m)) 1045505)
+          → end ≡ (if o then aboveBody else min (min (size + w) aboveBody + m) aboveBody)
+          → (if not s then aboveBody else min (end + 0) aboveBody) ≡ (if not t || o then aboveBody else min (size + (n + m)) aboveBody)
       go true p true q true z = omega arith
       go true p true q false z = omega (arith, h (ltb-true m limit q))
       go true p false q true z = omega arith
@@ -89,7 +89,7 @@ module _ (w top limit : ℕ) (x b : Pen) (wet : Bool) (out : List ℕ) where
       closed-is : (o : Bool) → ltb n limit ≡ o → closed w limit x b ≡ At (more end 0 (not o)) j
       closed-is o e = ap₂ (closed w limit) q f ∙ closed-at w limit size k end j ∙ ap (λ t. At (more end 0 (not t)) j) (ap (λ m. ltb m limit) (sym part) ∙ e)
 
-      pub close-over : limit ≤ n → Closed w top limit x b wet out (At 1045505 j) out
+      pub close-over : limit ≤ n → Closed w top limit x b wet out (At aboveBody j) out
       unfolding more
       close-over h =
           record {

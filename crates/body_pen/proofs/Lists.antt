@@ -12,7 +12,7 @@ use Rattle.body_formats.specs.Answers.{numberOf}
 use Rattle.body_formats.specs.declared.Number.the-variants.{Is, Refused as NoNumber}
 use Rattle.body_formats.proofs.Elements.{repeat-length}
 use Rattle.body_formats.proofs.Readers.{number-found, number-refused}
-use Rattle.body_pen.specs.Penned.{more, Penned, Counted, unprinted}
+use Rattle.body_pen.specs.Penned.{aboveBody, more, Penned, Counted, unprinted}
 use Rattle.body_pen.specs.declared.Pen.{Pen}
 use Rattle.body_pen.specs.declared.Pen.the-variants.{At, Refused}
 use Rattle.body_pen.specs.declared.Count.{Count}
@@ -43,7 +43,7 @@ module _ {A : Type 0} (F : Format A) (pool tape : List ℕ) (n : ℕ) where
   times-bytes y = (refl, refl)
 
 module _ {A : Type 0} (F : Format A) {pool tape : List ℕ} {x : Pen} {wet : Bool} {out : List ℕ} where
-  pub times-none : ((size k : ℕ) → x ≡ At size k → size ≤ 1045505) → Penned (times 0 F) pool tape x wet out x out
+  pub times-none : ((size k : ℕ) → x ≡ At size k → size ≤ aboveBody) → Penned (times 0 F) pool tape x wet out x out
   unfolding nothing times repeat printAll some
   times-none small = same-pen (times 0 F) (λ u. []) (λ k. refl) (λ k a j h. (refl, refl)) (nothing-pen small)
 
@@ -56,11 +56,11 @@ module _ {A : Type 0} (F : Format A) {pool tape : List ℕ} {x : Pen} {wet : Boo
 
 pub record Underway {A : Type 0} (F : Format A) (pool tape : List ℕ) (wet : Bool) (n : ℕ) (x₀ : Pen) (out₀ : List ℕ) (left : ℕ) (x : Pen)
     (out : List ℕ) : Type 0 where
-  pub small : (size k : ℕ) → x ≡ At size k → size ≤ 1045505
+  pub small : (size k : ℕ) → x ≡ At size k → size ≤ aboveBody
   pub whole : (r : Pen) (out′ : List ℕ) → Penned (times left F) pool tape x wet out r out′ → Penned (times n F) pool tape x₀ wet out₀ r out′
 
 pub times-start : {A : Type 0} {F : Format A} {pool tape : List ℕ} {wet : Bool} {n : ℕ} {x : Pen} {out : List ℕ}
-    → ((size k : ℕ) → x ≡ At size k → size ≤ 1045505)
+    → ((size k : ℕ) → x ≡ At size k → size ≤ aboveBody)
     → Underway F pool tape wet n x out n x out
 times-start small = record { small = small; whole = λ r out′ p. p }
 

@@ -11,7 +11,8 @@ use Rattle.ground_refusal.specs.declared.Refusal.{Refusal}
 use Rattle.body_formats.specs.Reading.{Reading, found, refused, andThen, Fault, fine, faulty, judged}
 use Rattle.body_formats.specs.Format.{Format, followed, _▷_, nothing, under, view, exact, only}
 use Rattle.body_formats.proofs.Outcomes.{found-inj, not-found, andThen-found, judged-found, neither}
-use Rattle.body_pen.specs.Penned.{more, penOnward, penned, Penned, valuePenned, Counted, entryOf, refusing}
+use Rattle.ground_numbers.specs.Sizes.{bodyMost}
+use Rattle.body_pen.specs.Penned.{aboveBody, more, penOnward, penned, Penned, valuePenned, Counted, entryOf, refusing}
 use Rattle.body_pen.specs.declared.Pen.{Pen}
 use Rattle.body_pen.specs.declared.Pen.the-variants.{At, Refused}
 use Rattle.body_pen.specs.declared.Count.{Count}
@@ -19,17 +20,17 @@ use Rattle.body_pen.proofs.Leaves.{more-twice, more-exact}
 
 -- ---- the bytes so far
 
-pub more-small : (size n : ℕ) (over : Bool) → more size n over ≤ 1045505
+pub more-small : (size n : ℕ) (over : Bool) → more size n over ≤ aboveBody
 unfolding more
 more-small size n true = omega arith
 more-small size n false = omega arith
 
-pub more-none : (size : ℕ) → size ≤ 1045505 → more size 0 false ≡ size
+pub more-none : (size : ℕ) → size ≤ aboveBody → more size 0 false ≡ size
 unfolding more
 more-none size h = omega arith
 
 -- what is not too many was counted in full
-pub more-back : (size n : ℕ) (over : Bool) (z : ℕ) → more size n over ≡ z → z ≤ 1045504 → (over ≡ false) × (z ≡ size + n)
+pub more-back : (size n : ℕ) (over : Bool) (z : ℕ) → more size n over ≡ z → z ≤ bodyMost → (over ≡ false) × (z ≡ size + n)
 unfolding more
 more-back size n true z e h = absurd (omega arith)
 more-back size n false z e h = (refl, omega arith)
@@ -55,21 +56,21 @@ module _ {A : Type 0} {F : Format A} {pool tape : List ℕ} {x : Pen} {wet : Boo
 
   -- what is not over its field, and not too many for a body, is counted in full
   pub pen-exact : (size k : ℕ) → x ≡ At size k → (a : A) (j : ℕ) → F .form pool tape k ≡ found a j → F .tooLarge a ≡ false
-      → size + length (F .print a) ≤ 1045504
+      → size + length (F .print a) ≤ bodyMost
       → r ≡ At (size + length (F .print a)) j
   pen-exact size k e a j f o l =
       pen-onward size k e (found a j) f ∙ ap (λ n. At n j) (ap (more size (length (F .print a))) o ∙ more-exact size (length (F .print a)) l)
 
   -- the bytes so far are at most one more than a body may have
-  pub pen-small : (size k : ℕ) → r ≡ At size k → size ≤ 1045505
+  pub pen-small : (size k : ℕ) → r ≡ At size k → size ≤ aboveBody
   pen-small size k q = go x refl
     where
-      at : (n : ℕ) (y : Reading A) → r ≡ penOnward F n y → size ≤ 1045505
+      at : (n : ℕ) (y : Reading A) → r ≡ penOnward F n y → size ≤ aboveBody
       at n (found a i) e =
           omega (arith, (let z : size ≡ more n (length (F .print a)) (F .tooLarge a) = cc in z), more-small n (length (F .print a)) (F .tooLarge a))
       at n (refused e) f = absurd (let z : _≡_ {A = ℕ} 0 1 = cc in omega arith)
 
-      go : (y : Pen) → x ≡ y → size ≤ 1045505
+      go : (y : Pen) → x ≡ y → size ≤ aboveBody
       go (At n j) e = at n (F .form pool tape j) (pen-onward n j e (F .form pool tape j) refl)
       go (Refused e) f = absurd (let z : _≡_ {A = ℕ} 0 1 = cc (pen-refused e f) in omega arith)
 
@@ -178,7 +179,7 @@ after-number G {pool} {tape} {x} {wet} {out} {c} {mid} p {r} {out′} q =
     (pen-refused q) (q .dry)
 
 -- nothing, where the bytes so far are within their bound
-pub nothing-pen : {pool tape : List ℕ} {x : Pen} {wet : Bool} {out : List ℕ} → ((size k : ℕ) → x ≡ At size k → size ≤ 1045505)
+pub nothing-pen : {pool tape : List ℕ} {x : Pen} {wet : Bool} {out : List ℕ} → ((size k : ℕ) → x ≡ At size k → size ≤ aboveBody)
     → Penned nothing pool tape x wet out x out
 unfolding nothing
 nothing-pen {pool} {tape} {x} {wet} {out} small =

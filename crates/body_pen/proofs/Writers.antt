@@ -14,11 +14,12 @@ use Rattle.ground_refusal.specs.declared.Refusal.the-variants.{OutsideSet, Outp
 use Rattle.body_formats.specs.Reading.{Reading, found, refused, andThen, need, placeless}
 use Rattle.body_formats.specs.Format.{Format}
 use Rattle.body_formats.specs.Answers.{stepOf}
-use Rattle.body_formats.specs.Body.{longest, measuring, measured, fitting, writing, bodyWritten, outputWritten}
+use Rattle.ground_numbers.specs.Sizes.{bodyMost}
+use Rattle.body_formats.specs.Body.{measuring, measured, fitting, writing, bodyWritten, outputWritten}
 use Rattle.body_formats.specs.declared.Step.{Step}
 use Rattle.body_formats.specs.declared.Step.the-variants.{At as StepAt, Refused as NoStep}
 use Rattle.body_formats.proofs.RoundTrips.{measured-value, written-measured}
-use Rattle.body_pen.specs.Penned.{more, penOnward, Penned, formMeasured, stepFitting}
+use Rattle.body_pen.specs.Penned.{aboveBody, more, penOnward, Penned, formMeasured, stepFitting}
 use Rattle.body_pen.specs.declared.Pen.{Pen}
 use Rattle.body_pen.specs.declared.Pen.the-variants.{At, Refused}
 use Rattle.body_pen.proofs.Leaves.{more-exact}
@@ -26,27 +27,27 @@ use Rattle.body_pen.proofs.Pairs.{pen-onward}
 
 -- ---- a form measured
 
-more-past : (n : ℕ) → longest < n → more 0 n false ≡ 1045505
+more-past : (n : ℕ) → bodyMost < n → more 0 n false ≡ aboveBody
 unfolding more
 more-past n h = omega arith
 
-more-over : (n : ℕ) → more 0 n true ≡ 1045505
+more-over : (n : ℕ) → more 0 n true ≡ aboveBody
 unfolding more
 more-over n = refl
 
 -- the bytes counted, up to one more than a body may have, tell whether they are too many
 sized : {A : Type 0} (a : A) (n : ℕ) (over : Bool)
-    → (if ltb longest (more 0 n over) then NoStep TooLarge else StepAt (more 0 n over))
-    ≡ stepOf (need (not over) TooLarge (need (leb n longest) TooLarge (found a n)))
+    → (if ltb bodyMost (more 0 n over) then NoStep TooLarge else StepAt (more 0 n over))
+    ≡ stepOf (need (not over) TooLarge (need (leb n bodyMost) TooLarge (found a n)))
 sized a n true = rw (more-over n)
-sized a n false = go (leb n longest) refl
+sized a n false = go (leb n bodyMost) refl
   where
-    go : (b : Bool) → leb n longest ≡ b
-        → (if ltb longest (more 0 n false) then NoStep TooLarge else StepAt (more 0 n false)) ≡ stepOf (need b TooLarge (found a n))
+    go : (b : Bool) → leb n bodyMost ≡ b
+        → (if ltb bodyMost (more 0 n false) then NoStep TooLarge else StepAt (more 0 n false)) ≡ stepOf (need b TooLarge (found a n))
     go true e =
-        let h = leb-true n longest e in
-        rw (more-exact 0 n (omega arith) ∙ zero-add n, le-ltb longest n h)
-    go false e = rw (more-past n (leb-false n longest e))
+        let h = leb-true n bodyMost e in
+        rw (more-exact 0 n (omega arith) ∙ zero-add n, le-ltb bodyMost n h)
+    go false e = rw (more-past n (leb-false n bodyMost e))
 
 -- what the code's tests make of a pen past the form
 module _ (entries : ℕ) (x : Pen) where
@@ -59,26 +60,26 @@ module _ (entries : ℕ) (x : Pen) where
     unfolding formMeasured
     form-left h = rw (e, lt-ltb k entries h)
 
-    pub form-long : entries ≤ k → longest < size → NoStep TooLarge ≡ formMeasured entries x
+    pub form-long : entries ≤ k → bodyMost < size → NoStep TooLarge ≡ formMeasured entries x
     unfolding formMeasured
-    form-long h l = rw (e, le-ltb k entries h, lt-ltb longest size l)
+    form-long h l = rw (e, le-ltb k entries h, lt-ltb bodyMost size l)
 
-    pub form-whole : entries ≤ k → size ≤ longest → StepAt size ≡ formMeasured entries x
+    pub form-whole : entries ≤ k → size ≤ bodyMost → StepAt size ≡ formMeasured entries x
     unfolding formMeasured
-    form-whole h l = rw (e, le-ltb k entries h, le-ltb longest size l)
+    form-whole h l = rw (e, le-ltb k entries h, le-ltb bodyMost size l)
 
 module _ {A : Type 0} (F : Format A) (tape : List ℕ) where
   form-found : (a : A) (k : ℕ) → formMeasured (length tape) (penOnward F 0 (found a k))
       ≡ stepOf (need (leb (length tape) k) (OutsideSet k)
-      (need (not (F .tooLarge a)) TooLarge (need (leb (length (F .print a)) longest) TooLarge (found a (length (F .print a))))))
+      (need (not (F .tooLarge a)) TooLarge (need (leb (length (F .print a)) bodyMost) TooLarge (found a (length (F .print a))))))
   unfolding formMeasured
   form-found a k = go (leb (length tape) k) refl
     where
       go : (b : Bool) → leb (length tape) k ≡ b
           → (if ltb k (length tape) then NoStep (OutsideSet k) else
-          if ltb longest (more 0 (length (F .print a)) (F .tooLarge a)) then NoStep TooLarge else StepAt (more 0 (length (F .print a)) (F .tooLarge a)))
+          if ltb bodyMost (more 0 (length (F .print a)) (F .tooLarge a)) then NoStep TooLarge else StepAt (more 0 (length (F .print a)) (F .tooLarge a)))
           ≡ stepOf (need b (OutsideSet k)
-          (need (not (F .tooLarge a)) TooLarge (need (leb (length (F .print a)) longest) TooLarge (found a (length (F .print a))))))
+          (need (not (F .tooLarge a)) TooLarge (need (leb (length (F .print a)) bodyMost) TooLarge (found a (length (F .print a))))))
       go true e = rw (le-ltb k (length tape) (leb-true (length tape) k e)) (sized a (length (F .print a)) (F .tooLarge a))
       go false e = rw (lt-ltb k (length tape) (leb-false (length tape) k e))
 
@@ -95,7 +96,7 @@ module _ {A : Type 0} (F : Format A) (tape : List ℕ) where
     where
       go : (x : Reading A) → formMeasured (length tape) (penOnward F 0 x)
           ≡ stepOf (andThen x (λ a k. need (leb (length tape) k) (OutsideSet k)
-          (need (not (F .tooLarge a)) TooLarge (need (leb (length (F .print a)) longest) TooLarge (found a (length (F .print a)))))))
+          (need (not (F .tooLarge a)) TooLarge (need (leb (length (F .print a)) bodyMost) TooLarge (found a (length (F .print a)))))))
       go (found a k) = form-found a k
       go (refused r) = form-refused r
 

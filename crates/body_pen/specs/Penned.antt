@@ -12,17 +12,19 @@ use Rattle.ground_refusal.specs.declared.Refusal.{Refusal}
 use Rattle.ground_refusal.specs.declared.Refusal.the-variants.{OutsideSet, OutputTooSmall, TooLarge}
 use Rattle.body_formats.specs.Reading.{Reading, found, refused, valueOf, placeless}
 use Rattle.body_formats.specs.Format.{Format, tapeEntry, bytesOf}
-use Rattle.body_formats.specs.Body.{longest}
 use Rattle.body_formats.specs.declared.Step.{Step}
 use Rattle.body_formats.specs.declared.Step.the-variants.{At as StepAt, Refused as NoStep}
 use Rattle.body_pen.specs.declared.Pen.{Pen}
 use Rattle.body_pen.specs.declared.Pen.the-variants.{At, Refused}
 use Rattle.body_pen.specs.declared.Count.{Count}
 
--- The bytes so far and n more: 1,045,505, one more than a body may have, stands for all that are too many, and for a count or a
--- length that is too large for its field. Both are 22.
+-- One more than a body may have stands for all that are too many, and for a count or a length that is too large for its field. Both are 22.
+abbrev pub aboveBody : ℕ
+aboveBody = bodyMost + 1
+
+-- the bytes so far and n more
 unfoldable pub more : ℕ → ℕ → Bool → ℕ
-more size n over = if over then bodyMost + 1 else min (size + n) (bodyMost + 1)
+more size n over = if over then aboveBody else min (size + n) aboveBody
 
 abbrev pub penOnward : {A : Type 0} → Format A → ℕ → Reading A → Pen
 penOnward F size (found a k) = At (more size (length (F .print a)) (F .tooLarge a)) k
@@ -102,7 +104,7 @@ unprinted =
 unfoldable pub formMeasured : ℕ → Pen → Step
 formMeasured entries (At size k) =
     if ltb k entries then NoStep (OutsideSet k) else
-    if ltb longest size then NoStep TooLarge else StepAt size
+    if ltb bodyMost size then NoStep TooLarge else StepAt size
 formMeasured entries (Refused r) = NoStep r
 
 -- what a writer with so much room answers of a form that was measured

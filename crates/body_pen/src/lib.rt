@@ -1,7 +1,9 @@
 // A pen through a form, field by field: dry it measures the bytes of a body, wet it also writes them. A field is refused at the entry
 // of the tape where it begins.
+use body_formats::IDENTIFIER_PAIRS;
 use body_formats::Number;
 use body_formats::Part;
+use body_formats::RESOURCE_PAIRS;
 use body_formats::Step;
 use ground_numbers::BODY_MOST;
 use ground_numbers::less;
@@ -38,7 +40,7 @@ pub struct Count {
     pub n: u64,
 }
 
-// The size of a body that is too long.
+// The size of a body that is too long, as specs/Penned.antt has it.
 const ABOVE_BODY: usize = BODY_MOST + 1;
 
 // The bytes so far with n more, or those of a body that is too long.
@@ -540,7 +542,7 @@ pub fn take_count(tape: &[u64], x: Pen) -> Count
 pub fn put_identifier(pool: &[u8], tape: &[u64], x: Pen, out: &mut [u8], wet: bool) -> Pen
     ensures { λ r. ⌜ Penned identifier (now (pool .entry)) (now (tape .entry)) x wet (now (out .entry)) r (now (out .exit)) ⌝ }
 {
-    put_digits(pool, tape, x, 17, out, wet)
+    put_digits(pool, tape, x, IDENTIFIER_PAIRS, out, wet)
 }
 
 // "resource count 8, resources of 4 reserved + 23 digits".
@@ -551,7 +553,7 @@ pub fn put_resources(pool: &[u8], tape: &[u64], x: Pen, out: &mut [u8], wet: boo
     let mut pen = things.pen;
     let mut left = things.n;
     while 0 < left {
-        match put_digits(pool, tape, pen, 11, out, wet) {
+        match put_digits(pool, tape, pen, RESOURCE_PAIRS, out, wet) {
             Pen::Refused(r) => {
                 return Pen::Refused(r);
             }

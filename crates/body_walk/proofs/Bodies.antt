@@ -14,7 +14,8 @@ use Rattle.ground_refusal.specs.declared.Refusal.the-variants.{OtherKind, Outpu
 use Rattle.body_formats.specs.Reading.{need}
 use Rattle.body_formats.specs.Format.{Format, nothing}
 use Rattle.body_formats.specs.Answers.{stepOf}
-use Rattle.body_formats.specs.Body.{longest, reading, bodyRead, opened}
+use Rattle.ground_numbers.specs.Sizes.{bodyMost}
+use Rattle.body_formats.specs.Body.{reading, bodyRead, opened}
 use Rattle.body_formats.specs.declared.Step.{Step}
 use Rattle.body_formats.specs.declared.Step.the-variants.{At as Ends, Refused as NoStep}
 use Rattle.body_formats.proofs.Outcomes.{found-inj}
@@ -28,7 +29,7 @@ use Rattle.body_walk.proofs.Pairs.{went-on, stopped}
 -- an opened body is read from its start
 reading-is : {A : Type 0} (F : Format A) (own kind : ℕ) (s : List ℕ) (q : ℕ) → Ends q ≡ opened own kind s → reading F own kind s ≡ F .parse s (length s) 0
 unfolding opened bodyRead reading nothing
-reading-is {A} F own kind s q o = go (eqb kind own) (leb (length s) longest) o
+reading-is {A} F own kind s q o = go (eqb kind own) (leb (length s) bodyMost) o
   where
     go : (a b : Bool) → Ends q ≡ stepOf (need a OtherKind (need b TooLarge (nothing .parse s (length s) 0)))
         → need a OtherKind (need b TooLarge (F .parse s (length s) 0)) ≡ F .parse s (length s) 0

@@ -1,6 +1,7 @@
 // A walk through a body, field by field: dry it checks them, wet it also lays their entries on a tape.
 use body_formats::Number;
 use body_formats::Part;
+use body_formats::RESOURCE_PAIRS;
 use body_formats::Step;
 use ground_numbers::less;
 use ground_refusal::Refusal;
@@ -486,7 +487,7 @@ fn walk_all_resources(s: &[u8], l: usize, x: Walk, n: u64, tape: &mut [u64], wet
     let mut at = x;
     let mut left = n;
     while 0 < left {
-        at = walk_digits(s, l, at, 11, tape, wet);
+        at = walk_digits(s, l, at, RESOURCE_PAIRS, tape, wet);
         left = left - 1;
     }
     at

@@ -15,7 +15,7 @@ use Rattle.time_local.specs.declared.LocalTime.{LocalTime}
 use Rattle.time_local.proofs.Clocks.{ClockWithin}
 use Rattle.section_reader.specs.Section.{WellFormed}
 use Rattle.section_reader.specs.declared.Heading.{Heading}
-use Rattle.body_formats.specs.Body.{longest}
+use Rattle.ground_numbers.specs.Sizes.{bodyMost}
 use Rattle.c_answers.specs.Packing.{widths, packed}
 use Rattle.c_answers.specs.Answers.{answerOf, refusedOf, dateFields, timeFields, headingFields}
 use Rattle.c_answers.specs.Taking.{aboveTold, fieldTold, TellsRefusal, TellsValue, TellsDate, TellsTime, TellsHeading, TellsPart, TellsContent}
@@ -101,7 +101,7 @@ heading-told h w =
     }
 
 -- in a body of the greatest length both fields have room
-pub part-told : (start length : ℕ) → start + length ≤ longest → TellsPart (answerOf 0 (packed ((32, start) ∷ (24, length) ∷ []))) start length
+pub part-told : (start length : ℕ) → start + length ≤ bodyMost → TellsPart (answerOf 0 (packed ((32, start) ∷ (24, length) ∷ []))) start length
 unfolding widths
 part-told start length l =
     record {
@@ -110,7 +110,7 @@ part-told start length l =
       length-is = field-told ((32, start) ∷ (24, length) ∷ []) (omega arith) 1 (omega arith) (omega arith);
     }
 
-pub content-told : (extension length : ℕ) → extension < 2 ^ 16 → length ≤ longest
+pub content-told : (extension length : ℕ) → extension < 2 ^ 16 → length ≤ bodyMost
     → TellsContent (answerOf 0 (packed ((16, extension) ∷ (24, length) ∷ []))) extension length
 unfolding widths
 content-told extension length e l =

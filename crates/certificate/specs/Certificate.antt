@@ -3,10 +3,8 @@ use Prim.Native.Nat.{ℕ}
 use mathlib.Core.List.{List}
 use Rattle.ground_refusal.specs.declared.Refusal.the-variants.{LeftOver}
 use Rattle.body_formats.specs.Format.{Format, _▷_, count, listOf, opaque, exact, view}
-
 -- "FC certificate"
-abbrev pub certificateKind : ℕ
-certificateKind = 0xFC
+pub use Rattle.ground_numbers.specs.Sizes.{certificateKind}
 
 pub record Certificates : Type 0 where
   pub authorizations : List (List ℕ)

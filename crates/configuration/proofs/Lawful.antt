@@ -13,6 +13,7 @@ use Rattle.time_days.specs.declared.DayAnswer.{DayAnswer}
 use Rattle.time_days.specs.declared.DayAnswer.the-variants.{Day, Refused}
 use Rattle.body_formats.specs.Reading.{Fault, fine, faulty, isFine}
 use Rattle.body_formats.specs.Format.{only, outside, count, number, rest, leastOf, counted}
+use Rattle.body_formats.specs.Resource.{resourcePairs}
 use Rattle.body_formats.proofs.Classes.{Lawful, Filling}
 use Rattle.body_formats.proofs.Leaves.{count-lawful, count-small, small-count, digits-lawful}
 use Rattle.body_formats.proofs.Bits.{among-lawful}
@@ -80,7 +81,7 @@ module _ (kind : ℕ) where
 pub said-filling : (order : Order) → Filling (said order)
 unfolding said
 said-filling setClock = exact-filling PastPart _ (followed-lawful _ _ date-lawful (λ a. clock-lawful))
-said-filling setCode = exact-filling PastPart _ (followed-lawful _ _ (opaque-lawful 1) (λ a. digits-lawful 11))
+said-filling setCode = exact-filling PastPart _ (followed-lawful _ _ (opaque-lawful 1) (λ a. digits-lawful resourcePairs))
 said-filling tune =
     exact-filling PastPart _ (followed-lawful _ _ (number-lawful 4) (λ a. followed-lawful _ _ (number-lawful 4) (λ b.
     followed-lawful _ _ (among-lawful 0 5 (number 1) (number-lawful 1)) (λ c. terminals-lawful))))

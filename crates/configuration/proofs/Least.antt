@@ -10,7 +10,7 @@ use Rattle.body_formats.specs.Format.{Format, Length, _▷_, followed, only, co
 use Rattle.body_formats.proofs.Classes.{Ok}
 use Rattle.body_formats.proofs.Leaves.{length-bytes}
 use Rattle.body_formats.proofs.Strings.{digits-take}
-use Rattle.body_formats.specs.Resource.{resource}
+use Rattle.body_formats.specs.Resource.{resourcePairs, resource}
 use Rattle.configuration.specs.Configuration.{terminals, plain, date, clock, addressLength, address, Said, said, orderOf, least}
 
 -- each value takes n bytes at least
@@ -56,7 +56,7 @@ code-takes : (x : List ℕ × List ℕ) → (opaque 1 ▷ resource) .writable x 
 unfolding followed digits
 code-takes x r =
     let o : Ok resource (x .1) = record { writable = both (opaque 1 .writable (x .0)) (resource .writable (x .1)) r .1; small = refl } in
-    simp length-append (omega (arith, opaque-takes 1 (x .0), digits-take 11 (x .1) o))
+    simp length-append (omega (arith, opaque-takes 1 (x .0), digits-take resourcePairs (x .1) o))
 
 -- tag by tag: 0, the standard's 1 to 7 in order, and all others
 pub enough : (tag : ℕ) (x : Said (orderOf tag)) → Ok (said (orderOf tag)) x → least tag ≤ length (said (orderOf tag) .print x)

@@ -12,6 +12,7 @@ use Rattle.time_days.specs.declared.DayAnswer.{DayAnswer}
 use Rattle.time_days.specs.declared.DayAnswer.the-variants.{Day, Refused}
 use Rattle.body_formats.specs.Reading.{faulty}
 use Rattle.body_formats.specs.Format.{outside, count, number, rest}
+use Rattle.body_formats.specs.Resource.{resourcePairs}
 use Rattle.body_formats.proofs.Places.{FaultUntil, none, stands, unless-until, outside-until, Placed, count-placed, only-placed, number-placed, among-placed, digits-placed, followed-placed, view-placed, list-placed, rest-placed, exact-placed, counted-placed, least-placed, opaque-placed, resources-placed}
 use Rattle.configuration_addresses.specs.Address.{lengthFits, isAddress}
 use Rattle.configuration.specs.Configuration.{terminals, dayFault, plain, date, clock, addressFault, addressLength, address, Order, setClock, setCode, tune, setReturn, setPeriod, setVolume, query, other, orderOf, said, least, command, fields, configuration}
@@ -59,7 +60,7 @@ module _ (kind : ℕ) where
 said-placed : (order : Order) → Placed (said order)
 unfolding said
 said-placed setClock = exact-placed PastPart _ le-refl (followed-placed _ _ date-placed (λ a. clock-placed))
-said-placed setCode = exact-placed PastPart _ le-refl (followed-placed _ _ (opaque-placed 1) (λ a. digits-placed 11))
+said-placed setCode = exact-placed PastPart _ le-refl (followed-placed _ _ (opaque-placed 1) (λ a. digits-placed resourcePairs))
 said-placed tune =
     exact-placed PastPart _ le-refl (followed-placed _ _ (number-placed 4) (λ a. followed-placed _ _ (number-placed 4) (λ b.
     followed-placed _ _ (among-placed 0 5 (number 1) (number-placed 1)) (λ c. terminals-placed))))

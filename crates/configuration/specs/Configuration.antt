@@ -13,10 +13,8 @@ use Rattle.body_formats.specs.Reading.{Fault, fine, faulty, unless}
 use Rattle.body_formats.specs.Format.{Format, Length, _▷_, followed, only, outside, count, number, among, listOf, opaque, rest, exact, view, counted, leastOf}
 use Rattle.body_formats.specs.Resource.{resource, resources}
 use Rattle.configuration_addresses.specs.Address.{lengthFits, isAddress}
-
 -- "FB configuration"
-abbrev pub configurationKind : ℕ
-configurationKind = 0xFB
+pub use Rattle.ground_numbers.specs.Sizes.{configurationKind}
 
 -- "Terminal lists are an 8-bit count and 12-byte resources"
 unfoldable pub terminals : Format (List (List ℕ))

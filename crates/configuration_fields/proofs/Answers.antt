@@ -33,6 +33,7 @@ use Rattle.body_asking.proofs.Answers.{part-found, part-refused}
 use Rattle.body_asking.proofs.Answers as asking
 use Rattle.body_asking.proofs.Sizes.{count-sized, number-sized, only-found}
 use Rattle.body_formats.specs.Held.{PartHolds}
+use Rattle.body_formats.specs.Resource.{resourceBytes}
 use Rattle.body_asking.proofs.Parts.{counted-holds}
 use Rattle.configuration_fields.specs.declared.Place.the-variants.{In, Refused as NoPlace}
 use Rattle.configuration_fields.specs.declared.Three.the-variants.{Are, Refused as NoThree}
@@ -459,7 +460,7 @@ module _ (s : List ℕ) (l q w i : ℕ) where
     list-is h = rw (number-found (count 1 .parse s l q) n at e, lt-ltb i n h)
 
     -- and no sum is too large
-    pub list-small : Bytes s → w ≤ 12 → i < n → (w * i ≤ 12 * 255) × (at ≤ length s)
+    pub list-small : Bytes s → w ≤ resourceBytes → i < n → (w * i ≤ resourceBytes * 255) × (at ≤ length s)
     list-small b h k =
         let f = number-facts s l q 1 n at b e in
         let most : i ≤ 255 = omega (arith, f .2) in
@@ -531,6 +532,6 @@ module _ (s : List ℕ) (p : ℕ) where
   unfolding terminalAt
   terminal-no i r e = rw (place-refused (terminalsAt s p) r e)
 
-  pub terminal-is : (i q l : ℕ) → In q l ≡ placeRead (terminalsAt s p) → placeRead (listAt 12 i s l q) ≡ placeRead (terminalAt s p i)
+  pub terminal-is : (i q l : ℕ) → In q l ≡ placeRead (terminalsAt s p) → placeRead (listAt resourceBytes i s l q) ≡ placeRead (terminalAt s p i)
   unfolding terminalAt
   terminal-is i q l e = rw (place-found (terminalsAt s p) q l e)

@@ -24,7 +24,7 @@ use Rattle.body_formats.proofs.Classes.{Bytes}
 use Rattle.body_formats.proofs.Elements.{exact-found, view-found, followed-found, list-found}
 use Rattle.body_formats.proofs.Strings.{digits-bytes}
 use Rattle.body_formats.proofs.RoundTrips as trips
-use Rattle.body_formats.specs.Resource.{resource}
+use Rattle.body_formats.specs.Resource.{resourcePairs, resourceBytes, resource}
 use Rattle.configuration.specs.Configuration.{configurationKind, terminals, plain, date, clock, addressFault, addressLength, address, Order, setClock, setCode, tune, setReturn, setPeriod, setVolume, query, other, orderOf, Said, said, least, Command, command, Configuration, fields, configuration}
 use Rattle.configuration.proofs.Lawful.{said-filling, configuration-filling}
 use Rattle.body_asking.specs.Asking.{headedPart, nthOf}
@@ -113,10 +113,10 @@ opaque-stands w s l p xs q e = stand (lengthOf w) w (count-sized w) s l p xs q e
 resource-asked : (s : List ℕ) → Bytes s → (l at : ℕ) (ds : List ℕ) (q : ℕ) → resource .parse s l at ≡ found ds q
     → (part : Part) → part ≡ fieldPart at (found ds q) → (digit : ℕ → Number) → ((j : ℕ) → digit j ≡ digitRead resource j s l at) → ResourceAsked s part digit at ds
 resource-asked s b l at ds q e part same digit each =
-    let z : q - at ≡ 12 = omega (arith, digits-sized 11 s l at ds q e) in
+    let z : q - at ≡ resourceBytes = omega (arith, digits-sized resourcePairs s l at ds q e) in
     record {
       part-is = same ∙ ap (Of at) z;
-      bytes-are = digits-bytes s l at 11 ds q e b;
+      bytes-are = digits-bytes s l at resourcePairs ds q e b;
       digit-is = λ j h. each j ∙ digit-there resource s l at ds q e j h;
       digit-past = λ j h. each j ∙ digit-past resource s l at ds q e j h;
     }
@@ -131,10 +131,10 @@ module _ (s : List ℕ) (b : Bytes s) (p l q : ℕ) (at : terminalsAt s p ≡ fo
       let z = count-sized 1 s l q (length ts) (f .0) (f .1) in
       (f .1 ∙ ap (found (length ts)) z, ap (repeat (resource .parse s l) (length ts)) (sym z) ∙ f .2)
 
-  resource-found : (i : ℕ) → i < length ts → resource .parse s l (q + 1 + 12 * i) ≡ found (getD ts i []) (q + 1 + 12 * i + 12)
-  resource-found i h = nth-sized resource 12 (digits-sized 11) s l [] (length ts) i (q + 1) ts end (list .1) h
+  resource-found : (i : ℕ) → i < length ts → resource .parse s l (q + 1 + resourceBytes * i) ≡ found (getD ts i []) (q + 1 + resourceBytes * i + resourceBytes)
+  resource-found i h = nth-sized resource resourceBytes (digits-sized resourcePairs) s l [] (length ts) i (q + 1) ts end (list .1) h
 
-  place : (i : ℕ) → i < length ts → terminalAt s p i ≡ found l (q + 1 + 12 * i)
+  place : (i : ℕ) → i < length ts → terminalAt s p i ≡ found l (q + 1 + resourceBytes * i)
   unfolding terminalAt listAt
   place i h = rw (at, list .0, lt-ltb i (length ts) h)
 
@@ -149,7 +149,7 @@ module _ (s : List ℕ) (b : Bytes s) (p l q : ℕ) (at : terminalsAt s p ≡ fo
       record {
         terminals-counted = rw (at, list .0);
         terminal-is = λ i h.
-            resource-asked s b l (q + 1 + 12 * i) (getD ts i []) _ (resource-found i h)
+            resource-asked s b l (q + 1 + resourceBytes * i) (getD ts i []) _ (resource-found i h)
             (terminal s p i) (rw (place i h, resource-found i h)) (terminalDigit s p i) (λ j. rw (place i h));
         terminal-past = λ i h. (rw (no-place i h), λ j. rw (no-place i h));
       }

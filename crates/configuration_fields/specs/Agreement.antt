@@ -9,15 +9,15 @@ use Rattle.body_formats.specs.declared.Number.the-variants.{Is}
 use Rattle.body_formats.specs.declared.Part.{Part}
 use Rattle.body_formats.specs.declared.Part.the-variants.{Of}
 use Rattle.body_formats.specs.Held.{PartHolds}
-use Rattle.body_formats.specs.Resource.{resource}
+use Rattle.body_formats.specs.Resource.{resourceBytes, resource}
 use Rattle.configuration.specs.Configuration.{Order, setClock, setCode, tune, setReturn, setPeriod, setVolume, query, other, orderOf, Said, said, Command, Configuration}
 use Rattle.body_asking.specs.Agreement.{NoNumberThere, NoPartThere, FillsAt}
 use Rattle.configuration_fields.specs.Asked.{commandCount, commandPart, signaturePart, commandTag, commandContent, clockYear, clockMonth, clockDay, clockHour, clockMinute, clockSecond, codeAddress, codeResource, codeDigit, frequency, symbolRate, mapping, returnKind, returnAddress, period, volume, parameterCount, parameter, terminalCount, terminal, terminalDigit}
 
 -- "12-byte resources": the one that begins at `at`, as its part and digit by digit
 pub record ResourceAsked (s : List ℕ) (part : Part) (digit : ℕ → Number) (at : ℕ) (ds : List ℕ) : Type 0 where
-  pub part-is : part ≡ Of at 12
-  pub bytes-are : take 12 (drop at s) ≡ resource .print ds
+  pub part-is : part ≡ Of at resourceBytes
+  pub bytes-are : take resourceBytes (drop at s) ≡ resource .print ds
   pub digit-is : (j : ℕ) → j < length ds → digit j ≡ Is (getD ds j 0) (at + (j + 1) / 2)
   pub digit-past : (j : ℕ) → length ds ≤ j → NoNumberThere (digit j)
 
@@ -26,7 +26,7 @@ pub record ResourceAsked (s : List ℕ) (part : Part) (digit : ℕ → Number) (
 -- "Terminal lists are an 8-bit count and 12-byte resources": the first one begins at `at`
 pub record TerminalsAsked (s : List ℕ) (p at : ℕ) (ts : List (List ℕ)) : Type 0 where
   pub terminals-counted : terminalCount s p ≡ Is (length ts) at
-  pub terminal-is : (i : ℕ) → i < length ts → ResourceAsked s (terminal s p i) (terminalDigit s p i) (at + 12 * i) (getD ts i [])
+  pub terminal-is : (i : ℕ) → i < length ts → ResourceAsked s (terminal s p i) (terminalDigit s p i) (at + resourceBytes * i) (getD ts i [])
   pub terminal-past : (i : ℕ) → length ts ≤ i → NoPartThere (terminal s p i) × ((j : ℕ) → NoNumberThere (terminalDigit s p i j))
 
 -- "1: year 16, month, day, hour, minute, second"

@@ -13,7 +13,7 @@ use Rattle.body_formats.specs.declared.Number.{Number}
 use Rattle.body_formats.specs.declared.Number.the-variants.{Is, Refused as NoNumber}
 use Rattle.body_formats.specs.declared.Part.{Part}
 use Rattle.body_formats.specs.declared.Part.the-variants.{Refused as NoPart}
-use Rattle.body_formats.specs.Resource.{resource}
+use Rattle.body_formats.specs.Resource.{resourceBytes, resource}
 use Rattle.configuration.specs.Configuration.{date, clock, address, least}
 use Rattle.body_asking.specs.Asking.{headedPart, nthOf}
 use Rattle.configuration_fields.specs.declared.Place.{Place}
@@ -205,7 +205,7 @@ unfoldable pub terminalCount : List ℕ → ℕ → Number
 terminalCount s p = numberOf (andThen (terminalsAt s p) (λ l q. count 1 .parse s l q))
 
 unfoldable pub terminalAt : List ℕ → ℕ → ℕ → Reading ℕ
-terminalAt s p i = andThen (terminalsAt s p) (λ l q. listAt 12 i s l q)
+terminalAt s p i = andThen (terminalsAt s p) (λ l q. listAt resourceBytes i s l q)
 
 unfoldable pub terminal : List ℕ → ℕ → ℕ → Part
 terminal s p i = resourceOf s (placeRead (terminalAt s p i))

@@ -1,6 +1,8 @@
 // The fields of a configuration table, asked for one by one: of the body, and of a command told by p, where its tag stands.
 use body_formats::Number;
 use body_formats::Part;
+use body_formats::RESOURCE_BYTES;
+use body_formats::RESOURCE_PAIRS;
 use body_formats::Step;
 use configuration_addresses::is_address;
 use configuration_addresses::length_fits;
@@ -11,6 +13,7 @@ ghost use mathlib.Core.Path.{_≡_};
 ghost use Prim.Native.Nat.{_≤_};
 ghost use lib.ListN.{length};
 ghost use Rattle.body_formats.specs.Format.{count, number, among};
+ghost use Rattle.body_formats.specs.Resource.{resourceBytes};
 ghost use Rattle.body_formats.specs.Answers.{numberOf, partOf, fieldPart};
 ghost use Rattle.configuration.specs.Configuration.{plain, address};
 ghost use Rattle.body_asking.specs.Asking.{headedPart};
@@ -264,7 +267,7 @@ fn resource(s: &[u8], at: Place) -> Part
 {
     match at {
         Place::Refused(r) => Part::Refused(r),
-        Place::In(q, l) => body_fields::read_digits(s, l, q, 11),
+        Place::In(q, l) => body_fields::read_digits(s, l, q, RESOURCE_PAIRS),
     }
 }
 
@@ -274,7 +277,7 @@ fn resource_digit(s: &[u8], at: Place, j: u64) -> Number
 {
     match at {
         Place::Refused(r) => Number::Refused(r),
-        Place::In(q, l) => body_fields::digit_at(s, l, q, 11, j),
+        Place::In(q, l) => body_fields::digit_at(s, l, q, RESOURCE_PAIRS, j),
     }
 }
 
@@ -408,7 +411,7 @@ pub fn parameter_count(s: &[u8], p: usize) -> Number
 
 // Where the i-th thing of w bytes begins, of a list whose count stands at q; 19 where there is none.
 fn list_at(s: &[u8], l: usize, q: usize, w: usize, i: u64) -> Place
-    requires { ⌜ w ≤ 12 ⌝ }
+    requires { ⌜ w ≤ resourceBytes ⌝ }
     ensures { λ r. ⌜ r ≡ placeRead (listAt w i (now (s .entry)) l q) ⌝ }
 {
     match body_fields::read_number(s, l, q, 1) {
@@ -519,7 +522,7 @@ fn terminal_at(s: &[u8], p: usize, i: u64) -> Place
 {
     match terminals_at(s, p) {
         Place::Refused(r) => Place::Refused(r),
-        Place::In(q, l) => list_at(s, l, q, 12, i),
+        Place::In(q, l) => list_at(s, l, q, RESOURCE_BYTES, i),
     }
 }
 

@@ -1,5 +1,6 @@
 // Walks through the body of a configuration table, from its terminals up to the whole: each is one field of the format of its name.
 use body_formats::Part;
+use body_formats::RESOURCE_PAIRS;
 use body_walk::Walk;
 use configuration_rules::clocks;
 use ground_refusal::Refusal;
@@ -57,7 +58,7 @@ fn walk_set_code(s: &[u8], l: usize, x: Walk, tape: &mut [u64], wet: bool) -> Wa
     ensures { λ r. ⌜ Walked (said setCode) (now (s .entry)) l x wet (now (tape .entry)) r (now (tape .exit)) ⌝ }
 {
     let a = body_walk::walk_part(s, l, x, 1, tape, wet);
-    let b = body_walk::walk_digits(s, l, a, 11, tape, wet);
+    let b = body_walk::walk_digits(s, l, a, RESOURCE_PAIRS, tape, wet);
     body_walk::leave(b, l)
 }
 

@@ -1,6 +1,7 @@
 // The pen through the form of a configuration table, from its terminal lists up to the whole: each is one field of the format of its
 // name. A day and a time are judged once their numbers are put: the wet pen, which comes second, meets none that is refused.
 use body_formats::Part;
+use body_formats::RESOURCE_PAIRS;
 use body_pen::Pen;
 use configuration_rules::clocks;
 use ground_refusal::Refusal;
@@ -66,7 +67,7 @@ fn put_set_code(pool: &[u8], tape: &[u64], x: Pen, out: &mut [u8], wet: bool) ->
     ensures { λ r. ⌜ Penned (said setCode) (now (pool .entry)) (now (tape .entry)) x wet (now (out .entry)) r (now (out .exit)) ⌝ }
 {
     let a = body_pen::put_part(pool, tape, x, 1, out, wet);
-    body_pen::put_digits(pool, tape, a, 11, out, wet)
+    body_pen::put_digits(pool, tape, a, RESOURCE_PAIRS, out, wet)
 }
 
 // "3: frequency 32, symbol rate 32, mapping 0 to 5, terminals".

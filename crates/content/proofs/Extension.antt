@@ -15,7 +15,8 @@ use Rattle.body_formats.specs.Reading.{Reading, found, refused, andThen, need}
 use Rattle.body_formats.specs.Format.{followed, exact, view}
 use Rattle.body_formats.specs.Identifier.{identifier}
 use Rattle.body_formats.specs.Answers.{stepOf}
-use Rattle.body_formats.specs.Body.{longest, reading, bodyRead}
+use Rattle.ground_numbers.specs.Sizes.{bodyMost}
+use Rattle.body_formats.specs.Body.{reading, bodyRead}
 use Rattle.body_formats.specs.declared.Step.the-variants.{At, Refused as NoStep}
 use Rattle.body_formats.proofs.Outcomes.{need-found}
 use Rattle.body_formats.proofs.Classes.{Bytes, Ok}
@@ -66,7 +67,7 @@ module _ (w kind : ℕ) (s : List ℕ) where
     identified =
         let c = accepted .0 in
         let k = need-found (eqb kind contentKind) OtherKind _ c q (accepted .1) in
-        begins w s b c q (need-found (leb (length s) longest) TooLarge _ c q (k .1) .1)
+        begins w s b c q (need-found (leb (length s) bodyMost) TooLarge _ c q (k .1) .1)
 
     pub identifier-there : 18 ≡ length (take 18 s)
     identifier-there = sym (length-take-le 18 s (identified .0))

@@ -10,10 +10,8 @@ use Rattle.body_formats.specs.Identifier.{identifier}
 use Rattle.body_formats.specs.Answers.{stepOf}
 use Rattle.body_formats.specs.Body.{reading}
 use Rattle.body_formats.specs.declared.Step.{Step}
-
 -- "FE content"
-abbrev pub contentKind : ℕ
-contentKind = 0xFE
+pub use Rattle.ground_numbers.specs.Sizes.{contentKind}
 
 -- ---- auxiliary files
 

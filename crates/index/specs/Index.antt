@@ -6,10 +6,8 @@ use Rattle.body_formats.specs.Format.{Format, _▷_, followed, Under, under, co
 use Rattle.body_formats.specs.Time.{time, endTime}
 use Rattle.body_formats.specs.Resource.{resources}
 use Rattle.body_formats.specs.Identifier.{identifier}
-
 -- "FD index"
-abbrev pub indexKind : ℕ
-indexKind = 0xFD
+pub use Rattle.ground_numbers.specs.Sizes.{indexKind}
 
 -- ---- descriptors and streams
 

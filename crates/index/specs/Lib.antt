@@ -1,2 +1,3 @@
 -- The definitions that other crates cite.
 pub mod Index
+pub mod Places

@@ -1,1 +1,17 @@
-// No code: what an index table is. `index_reader` reads it, `index_writer` writes it, `index_fields` and `index_records` tell its fields.
+// What an index table is, with no functions. `index_reader` reads it, `index_writer` writes it, `index_fields` and `index_records` tell its fields.
+use body_formats::IDENTIFIER_BYTES;
+
+// ---- where the fields of a message begin, counted from its first byte, as specs/Places.antt has it
+
+pub const NETWORK_PLACE: usize = IDENTIFIER_BYTES;
+
+pub const START_PLACE: usize = NETWORK_PLACE + 2;
+
+pub const END_PLACE: usize = START_PLACE + 5;
+
+pub const TYPE_PLACE: usize = END_PLACE + 5;
+
+// Class and level share a byte.
+pub const CLASS_PLACE: usize = TYPE_PLACE + 5;
+
+pub const RESOURCE_COUNT_PLACE: usize = CLASS_PLACE + 1;

@@ -22,11 +22,12 @@ use Rattle.body_formats.proofs.Classes.{Bytes}
 use Rattle.body_formats.proofs.Leaves.{number-below}
 use Rattle.body_formats.proofs.Bits.{reserved-inside}
 use Rattle.body_formats.proofs.Readers.{number-found, number-refused, step-found, step-refused}
-use Rattle.body_formats.specs.Resource.{resource}
+use Rattle.body_formats.specs.Resource.{resourceBytes, resource}
 use Rattle.body_formats.specs.Identifier.{identifier}
 use Rattle.body_asking.specs.Asking.{fieldIn}
 use Rattle.body_asking.proofs.Answers.{number-in, found-in, part-refused, part-found}
 use Rattle.body_asking.proofs.Parts.{counted-holds}
+use Rattle.index.specs.Places.{networkPlace, classPlace, resourceCountPlace, resourcesPlace}
 use Rattle.index_fields.specs.Asked.{signaturePart, identifierDigit, network, class, level, resourceCount, resourceAt, resourcePart, resourceDigit, flagAt, flag, channelAt, inChannel, descriptorsPart, streamsPart}
 
 -- ---- tests
@@ -76,9 +77,9 @@ split-byte s l p = rw (one-byte s p) (go (leb (p + 1) (length s)) (leb (p + 1) l
     go false u = refl
 
 module _ (s : List ℕ) (at n : ℕ) where
-  pub network-is : Bytes s → numberOf (fieldIn (count 2) 18 s at n) ≡ network s at n
+  pub network-is : Bytes s → numberOf (fieldIn (count 2) networkPlace s at n) ≡ network s at n
   unfolding network
-  network-is b = number-in s at n 2 18 b
+  network-is b = number-in s at n 2 networkPlace b
 
   pub identifier-digit-no : (i : ℕ) → leb (at + n) (length s) ≡ false → NoNumber (OutsideSet 0) ≡ identifierDigit s at n i
   unfolding identifierDigit
@@ -88,34 +89,34 @@ module _ (s : List ℕ) (at n : ℕ) where
   unfolding identifierDigit
   identifier-digit-is i e = rw e
 
-  split-in : fieldIn (nibblesAmong 1 4) 35 s at n ≡ andThen (fieldIn (count 1) 35 s at n) (split (at + 35))
-  split-in = rw (split-byte s (at + n) (at + 35)) (go (leb (at + n) (length s)))
+  split-in : fieldIn (nibblesAmong 1 4) classPlace s at n ≡ andThen (fieldIn (count 1) classPlace s at n) (split (at + classPlace))
+  split-in = rw (split-byte s (at + n) (at + classPlace)) (go (leb (at + n) (length s)))
     where
-      go : (t : Bool) → need t (OutsideSet 0) (andThen (count 1 .parse s (at + n) (at + 35)) (split (at + 35)))
-          ≡ andThen (need t (OutsideSet 0) (count 1 .parse s (at + n) (at + 35))) (split (at + 35))
+      go : (t : Bool) → need t (OutsideSet 0) (andThen (count 1 .parse s (at + n) (at + classPlace)) (split (at + classPlace)))
+          ≡ andThen (need t (OutsideSet 0) (count 1 .parse s (at + n) (at + classPlace))) (split (at + classPlace))
       go true = refl
       go false = refl
 
   abbrev shared : Reading ℕ
-  shared = andThen (fieldIn (nibblesAmong 1 4) 35 s at n) (λ x q. found (x .0 * 16 + x .1) q)
+  shared = andThen (fieldIn (nibblesAmong 1 4) classPlace s at n) (λ x q. found (x .0 * 16 + x .1) q)
 
-  pub shared-no : (r : Refusal) → NoNumber r ≡ numberOf (fieldIn (count 1) 35 s at n) → NoNumber r ≡ numberOf shared
-  shared-no r e = rw (split-in, number-refused (fieldIn (count 1) 35 s at n) r e)
+  pub shared-no : (r : Refusal) → NoNumber r ≡ numberOf (fieldIn (count 1) classPlace s at n) → NoNumber r ≡ numberOf shared
+  shared-no r e = rw (split-in, number-refused (fieldIn (count 1) classPlace s at n) r e)
 
-  module _ (b q : ℕ) (e : Is b q ≡ numberOf (fieldIn (count 1) 35 s at n)) where
+  module _ (b q : ℕ) (e : Is b q ≡ numberOf (fieldIn (count 1) classPlace s at n)) where
     pub shared-in : at + n ≤ length s
-    shared-in = found-in s at n (count 1) 35 b q (number-found (fieldIn (count 1) 35 s at n) b q e) .0
+    shared-in = found-in s at n (count 1) classPlace b q (number-found (fieldIn (count 1) classPlace s at n) b q e) .0
 
     pub shared-is : halvesGood b ≡ true → Is b q ≡ numberOf shared
-    shared-is h = rw (split-in, number-found (fieldIn (count 1) 35 s at n) b q e, h, div-add-mod' b 16)
+    shared-is h = rw (split-in, number-found (fieldIn (count 1) classPlace s at n) b q e, h, div-add-mod' b 16)
 
-    pub shared-bad : halvesGood b ≡ false → NoNumber (OutsideSet (at + 35)) ≡ numberOf shared
-    shared-bad h = rw (split-in, number-found (fieldIn (count 1) 35 s at n) b q e, h)
+    pub shared-bad : halvesGood b ≡ false → NoNumber (OutsideSet (at + classPlace)) ≡ numberOf shared
+    shared-bad h = rw (split-in, number-found (fieldIn (count 1) classPlace s at n) b q e, h)
 
   -- both are answered, from the byte, or neither is
   module _ (r : Refusal) (e : NoNumber r ≡ numberOf shared) where
-    none : fieldIn (nibblesAmong 1 4) 35 s at n ≡ refused r
-    none = go (fieldIn (nibblesAmong 1 4) 35 s at n) e
+    none : fieldIn (nibblesAmong 1 4) classPlace s at n ≡ refused r
+    none = go (fieldIn (nibblesAmong 1 4) classPlace s at n) e
       where
         go : (y : Reading (ℕ × ℕ)) → NoNumber r ≡ numberOf (andThen y (λ x q. found (x .0 * 16 + x .1) q)) → y ≡ refused r
         go (refused t) f = let z : t ≡ r = cc in ap refused z
@@ -130,12 +131,12 @@ module _ (s : List ℕ) (at n : ℕ) where
     level-no = rw none
 
   module _ (b q : ℕ) (e : Is b q ≡ numberOf shared) where
-    halved : fieldIn (nibblesAmong 1 4) 35 s at n ≡ found (b / 16, b % 16) q
+    halved : fieldIn (nibblesAmong 1 4) classPlace s at n ≡ found (b / 16, b % 16) q
     halved =
-        let i = andThen-found (fieldIn (nibblesAmong 1 4) 35 s at n) _ b q (number-found shared b q e) in
-        let j = andThen-found (fieldIn (count 1) 35 s at n) (split (at + 35)) (i .0) (i .1) (sym split-in ∙ i .2) in
+        let i = andThen-found (fieldIn (nibblesAmong 1 4) classPlace s at n) _ b q (number-found shared b q e) in
+        let j = andThen-found (fieldIn (count 1) classPlace s at n) (split (at + classPlace)) (i .0) (i .1) (sym split-in ∙ i .2) in
         let y = j .0 in
-        let k = found-inj (judged-found (unless (halvesGood y) (OutsideSet (at + 35))) (found (y / 16, y % 16) (j .1)) (i .0) (i .1) (j .3) .1) in
+        let k = found-inj (judged-found (unless (halvesGood y) (OutsideSet (at + classPlace))) (found (y / 16, y % 16) (j .1)) (i .0) (i .1) (j .3) .1) in
         let same : y ≡ b = sym (div-add-mod' y 16) ∙ ap (λ (x : ℕ × ℕ). x .0 * 16 + x .1) (k .0) ∙ found-inj (i .3) .0 in
         i .2 ∙ ap₂ found (sym (k .0) ∙ ap (λ (z : ℕ). (z / 16, z % 16)) same) (found-inj (i .3) .1)
 
@@ -152,34 +153,34 @@ module _ (s : List ℕ) (at n : ℕ) where
   module _ (r : Refusal) (e : NoNumber r ≡ resourceCount s at n) where
     pub resource-no : (i : ℕ) → NoNumber r ≡ numberOf (resourceAt s at n i)
     unfolding resourceCount resourceAt
-    resource-no i = rw (number-refused (fieldIn (count 1) 36 s at n) r e)
+    resource-no i = rw (number-refused (fieldIn (count 1) resourceCountPlace s at n) r e)
 
     pub flag-no : NoNumber r ≡ flag s at n
     unfolding resourceCount flag flagAt
-    flag-no = rw (number-refused (fieldIn (count 1) 36 s at n) r e)
+    flag-no = rw (number-refused (fieldIn (count 1) resourceCountPlace s at n) r e)
 
   module _ (m q : ℕ) (e : Is m q ≡ resourceCount s at n) where
-    counted-there : fieldIn (count 1) 36 s at n ≡ found m q
+    counted-there : fieldIn (count 1) resourceCountPlace s at n ≡ found m q
     unfolding resourceCount
-    counted-there = number-found (fieldIn (count 1) 36 s at n) m q e
+    counted-there = number-found (fieldIn (count 1) resourceCountPlace s at n) m q e
 
     pub resources-in : Bytes s → (at + n ≤ length s) × (q ≤ length s) × (m < 256)
     unfolding count
     resources-in b =
-        let f = found-in s at n (count 1) 36 m q counted-there in
-        let w = within-found s (at + n) (at + 36) (at + 36 + 1) _ m q (f .1) in
+        let f = found-in s at n (count 1) resourceCountPlace m q counted-there in
+        let w = within-found s (at + n) (at + resourceCountPlace) (at + resourceCountPlace + 1) _ m q (f .1) in
         let i = found-inj (w .2) in
-        (f .0, rw (← i .1) (w .0), rw (← i .0) (number-below s (at + 36) 1 b))
+        (f .0, rw (← i .1) (w .0), rw (← i .0) (number-below s (at + resourceCountPlace) 1 b))
 
     pub resource-none : (i : ℕ) → m ≤ i → NoNumber (OutsideSet 0) ≡ numberOf (resourceAt s at n i)
     unfolding resourceAt
     resource-none i h = rw (counted-there, le-ltb i m h)
 
-    pub resource-is : (i : ℕ) → i < m → Is m (q + 12 * i) ≡ numberOf (resourceAt s at n i)
+    pub resource-is : (i : ℕ) → i < m → Is m (q + resourceBytes * i) ≡ numberOf (resourceAt s at n i)
     unfolding resourceAt
     resource-is i h = rw (counted-there, lt-ltb i m h)
 
-    pub flag-is : numberOf (reserved 7 0 .parse s (at + n) (q + 12 * m)) ≡ flag s at n
+    pub flag-is : numberOf (reserved 7 0 .parse s (at + n) (q + resourceBytes * m)) ≡ flag s at n
     unfolding flag flagAt
     flag-is = rw counted-there
 
@@ -193,12 +194,12 @@ module _ (s : List ℕ) (at n : ℕ) where
     resource-digit-no j = rw (number-refused (resourceAt s at n i) r e)
 
   module _ (i m p : ℕ) (e : Is m p ≡ numberOf (resourceAt s at n i)) where
-    resource-there : (at + n ≤ length s) × (p ≡ at + 37 + 12 * i)
+    resource-there : (at + n ≤ length s) × (p ≡ at + resourcesPlace + resourceBytes * i)
     unfolding resourceAt count
     resource-there =
-        let f = andThen-found (fieldIn (count 1) 36 s at n) _ m p (number-found (resourceAt s at n i) m p e) in
-        let g = found-in s at n (count 1) 36 (f .0) (f .1) (f .2) in
-        let w = within-found s (at + n) (at + 36) (at + 36 + 1) _ (f .0) (f .1) (g .1) in
+        let f = andThen-found (fieldIn (count 1) resourceCountPlace s at n) _ m p (number-found (resourceAt s at n i) m p e) in
+        let g = found-in s at n (count 1) resourceCountPlace (f .0) (f .1) (f .2) in
+        let w = within-found s (at + n) (at + resourceCountPlace) (at + resourceCountPlace + 1) _ (f .0) (f .1) (g .1) in
         let t = need-found (ltb i (f .0)) (OutsideSet 0) _ m p (f .3) in
         (g .0, omega (arith, found-inj (w .2) .1, found-inj (t .1) .1))
 
@@ -240,9 +241,9 @@ module _ (s : List ℕ) (at n : ℕ) where
     channel-in =
         let i = andThen-found (flagAt s at n) _ f q (number-found (channelAt s at n) f q e) in
         let j = need-found (ltb 0 (i .0)) (OutsideSet 0) _ f q (i .3) in
-        let g = andThen-found (fieldIn (count 1) 36 s at n) _ (i .0) (i .1) (i .2) in
-        let h = reserved-inside s (at + n) (g .1 + 12 * g .0) 7 0 (i .0) (i .1) (ap numberOf (sym (g .3))) in
-        (found-in s at n (count 1) 36 (g .0) (g .1) (g .2) .0, omega (arith, h, found-inj (j .1) .1))
+        let g = andThen-found (fieldIn (count 1) resourceCountPlace s at n) _ (i .0) (i .1) (i .2) in
+        let h = reserved-inside s (at + n) (g .1 + resourceBytes * g .0) 7 0 (i .0) (i .1) (ap numberOf (sym (g .3))) in
+        (found-in s at n (count 1) resourceCountPlace (g .0) (g .1) (g .2) .0, omega (arith, h, found-inj (j .1) .1))
 
 -- ---- streams
 

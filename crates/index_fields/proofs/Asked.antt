@@ -20,8 +20,8 @@ use Rattle.body_formats.specs.declared.Part.the-variants.{Of}
 use Rattle.body_formats.proofs.Classes.{Bytes, Filling}
 use Rattle.body_formats.proofs.Elements.{exact-found, view-found, followed-found, list-found}
 use Rattle.body_formats.proofs.RoundTrips as trips
-use Rattle.body_formats.specs.Resource.{resource}
-use Rattle.body_formats.specs.Identifier.{identifier}
+use Rattle.body_formats.specs.Resource.{resourcePairs, resourceBytes, resource}
+use Rattle.body_formats.specs.Identifier.{identifierBytes, identifier}
 use Rattle.body_formats.proofs.Strings.{digits-many, digits-bytes}
 use Rattle.body_formats.proofs.Identifiers.{identifier-sized, identifier-bytes, identifier-many}
 use Rattle.body_asking.specs.Asking.{inBody, fieldIn, inPart}
@@ -32,6 +32,7 @@ use Rattle.body_asking.proofs.Entries.{after-all, all-same}
 use Rattle.body_asking.proofs.Parts.{length-sized, length12-sized, part-holds, part-after, bytes-hold, digit-there, digit-past, depending-found}
 use Rattle.body_asking.proofs.Turns.{ReadAt, read-in-turn, holds-in-turn, opaque-fills-at, follows-length}
 use Rattle.index.specs.Index.{Descriptor, descriptor, descriptors, Stream, streamFields, stream, streams, Channel, ChannelFields, channelFields, channel, flagged, Message, HeadFields, MessageFields, head, messageFields, named, unnamed, message, Index, fields, index, indexKind}
+use Rattle.index.specs.Places.{networkPlace, startPlace, endPlace, typePlace, classPlace, resourceCountPlace, resourcesPlace}
 use Rattle.index_fields.specs.Asked.{messageCount, messagePart, signaturePart, identifierPart, identifierDigit, network, start, end, typePart, class, level, resourceCount, resourceAt, resourcePart, resourceDigit, flagAt, flag, channelAt, channelNetwork, channelStream, channelProgram, pcrPid, descriptorsPart, streamsPart, firstByte, descriptorTag, descriptorPart, streamType, streamPid, streamDescriptors, countOf, descriptorCount, streamCount}
 use Rattle.index_fields.specs.Agreement.{DescriptorAsked, NoDescriptor, DescriptorsAsked, StreamAsked, StreamsAsked, NoStream, ChannelAsked, NoChannel, UnderFlag, FieldsAsked, NoMessage, MessageAsked, IndexAsked}
 use Rattle.index.proofs.Lawful.{all-descriptors-filling, all-streams-filling, inner-filling, index-filling}
@@ -188,27 +189,27 @@ under-flag s at n b (suc k) c p q f e = channel-asked s at n b (suc k) p (rw (f,
 
 -- the fields before the resources
 module _ (s : List ℕ) (at n : ℕ) (x : HeadFields) (q : ℕ) (e : head .parse s (at + n) at ≡ found x q) where
-  heads : (identifier .parse s (at + n) at ≡ found (x .0) (at + 18)) × (number 2 .parse s (at + n) (at + 18) ≡ found (x .1 .0) (at + 20))
-      × (time .parse s (at + n) (at + 20) ≡ found (x .1 .1 .0) (at + 25)) × (endTime .parse s (at + n) (at + 25) ≡ found (x .1 .1 .1 .0) (at + 30))
-      × (bytesAmong 0 0x7F 5 .parse s (at + n) (at + 30) ≡ found (x .1 .1 .1 .1 .0) (at + 35)) × (nibblesAmong 1 4 .parse s (at + n) (at + 35) ≡ found (x .1 .1 .1 .1 .1) (at + 36))
-      × (q ≡ at + 36)
+  heads : (identifier .parse s (at + n) at ≡ found (x .0) (at + networkPlace)) × (number 2 .parse s (at + n) (at + networkPlace) ≡ found (x .1 .0) (at + startPlace))
+      × (time .parse s (at + n) (at + startPlace) ≡ found (x .1 .1 .0) (at + endPlace)) × (endTime .parse s (at + n) (at + endPlace) ≡ found (x .1 .1 .1 .0) (at + typePlace))
+      × (bytesAmong 0 0x7F 5 .parse s (at + n) (at + typePlace) ≡ found (x .1 .1 .1 .1 .0) (at + classPlace)) × (nibblesAmong 1 4 .parse s (at + n) (at + classPlace) ≡ found (x .1 .1 .1 .1 .1) (at + resourceCountPlace))
+      × (q ≡ at + resourceCountPlace)
   unfolding head
   heads =
       let l = at + n in
-      let f = next identifier _ 18 identifier-sized s l at (at + 18) x q refl e in
-      let g = next (number 2) _ 2 (number-sized 2) s l (at + 18) (at + 20) (x .1) q (omega arith) (f .1) in
-      let h = next time _ 5 time-sized s l (at + 20) (at + 25) (x .1 .1) q (omega arith) (g .1) in
-      let i = next endTime _ 5 end-sized s l (at + 25) (at + 30) (x .1 .1 .1) q (omega arith) (h .1) in
-      let j = next (bytesAmong 0 0x7F 5) (nibblesAmong 1 4) 5 (bytes-sized 0 0x7F 5) s l (at + 30) (at + 35) (x .1 .1 .1 .1) q (omega arith) (i .1) in
-      let k : q ≡ at + 36 = nibbles-among-sized 1 4 s l (at + 35) (x .1 .1 .1 .1 .1) q (j .1) ∙ omega arith in
+      let f = next identifier _ identifierBytes identifier-sized s l at (at + networkPlace) x q refl e in
+      let g = next (number 2) _ 2 (number-sized 2) s l (at + networkPlace) (at + startPlace) (x .1) q (omega arith) (f .1) in
+      let h = next time _ 5 time-sized s l (at + startPlace) (at + endPlace) (x .1 .1) q (omega arith) (g .1) in
+      let i = next endTime _ 5 end-sized s l (at + endPlace) (at + typePlace) (x .1 .1 .1) q (omega arith) (h .1) in
+      let j = next (bytesAmong 0 0x7F 5) (nibblesAmong 1 4) 5 (bytes-sized 0 0x7F 5) s l (at + typePlace) (at + classPlace) (x .1 .1 .1 .1) q (omega arith) (i .1) in
+      let k : q ≡ at + resourceCountPlace = nibbles-among-sized 1 4 s l (at + classPlace) (x .1 .1 .1 .1 .1) q (j .1) ∙ omega arith in
       (f .0, g .0, h .0, i .0, j .0, j .1 ∙ ap (found (x .1 .1 .1 .1 .1)) k, k)
 
 module _ (s : List ℕ) (at n : ℕ) (b : Bytes s) (there : at + n ≤ length s) (x : MessageFields)
     (e : messageFields .parse s (at + n) at ≡ found x (at + n)) where
   -- the head, and the resources with their count, and the flag
-  parts : (head .parse s (at + n) at ≡ found (x .0) (at + 36)) × (fieldIn (count 1) 36 s at n ≡ found (length (x .1 .0)) (at + 37))
-      × (r : ℕ) × (repeat (resource .parse s (at + n)) (length (x .1 .0)) (at + 37) ≡ found (x .1 .0) r)
-      × (flagged .parse s (at + n) (at + 37 + 12 * length (x .1 .0)) ≡ found (x .1 .1) (at + n))
+  parts : (head .parse s (at + n) at ≡ found (x .0) (at + resourceCountPlace)) × (fieldIn (count 1) resourceCountPlace s at n ≡ found (length (x .1 .0)) (at + resourcesPlace))
+      × (r : ℕ) × (repeat (resource .parse s (at + n)) (length (x .1 .0)) (at + resourcesPlace) ≡ found (x .1 .0) r)
+      × (flagged .parse s (at + n) (at + resourcesPlace + resourceBytes * length (x .1 .0)) ≡ found (x .1 .1) (at + n))
   unfolding messageFields
   parts =
       let l = at + n in
@@ -217,22 +218,22 @@ module _ (s : List ℕ) (at n : ℕ) (b : Bytes s) (there : at + n ≤ length s)
       let h = heads s at n (x .0) (f .0) (f .1) .6 in
       let g = followed-found (listOf (count 1) resource) flagged s l (f .0) (x .1) (at + n) (f .2) in
       let i = list-found (count 1) resource s l (f .0) rs (g .0) (g .1) in
-      let j : i .0 ≡ at + 37 = count-sized 1 s l (f .0) (length rs) (i .0) (i .1) ∙ omega (arith, h) in
-      let k = repeat-sized resource 12 (digits-sized 11) s l (length rs) (i .0) rs (g .0) (i .2) in (
+      let j : i .0 ≡ at + resourcesPlace = count-sized 1 s l (f .0) (length rs) (i .0) (i .1) ∙ omega (arith, h) in
+      let k = repeat-sized resource resourceBytes (digits-sized resourcePairs) s l (length rs) (i .0) rs (g .0) (i .2) in (
         f .1 ∙ ap (found (x .0)) h,
-        asked s at n (count 1) 36 (length rs) (at + 37) there (ap (count 1 .parse s l) (sym h) ∙ i .1 ∙ ap (found (length rs)) j),
+        asked s at n (count 1) resourceCountPlace (length rs) (at + resourcesPlace) there (ap (count 1 .parse s l) (sym h) ∙ i .1 ∙ ap (found (length rs)) j),
         g .0,
         ap (repeat (resource .parse s l) (length rs)) (sym j) ∙ i .2,
-        ap (flagged .parse s l) (let z : at + 37 + 12 * length rs ≡ g .0 = omega (arith, j, k) in z) ∙ g .2,
+        ap (flagged .parse s l) (let z : at + resourcesPlace + resourceBytes * length rs ≡ g .0 = omega (arith, j, k) in z) ∙ g .2,
       )
 
-  resource-found : (i : ℕ) → i < length (x .1 .0) → resource .parse s (at + n) (at + 37 + 12 * i) ≡ found (getD (x .1 .0) i []) (at + 37 + 12 * i + 12)
-  resource-found i h = nth-sized resource 12 (digits-sized 11) s (at + n) [] (length (x .1 .0)) i (at + 37) (x .1 .0) (parts .2) (parts .3) h
+  resource-found : (i : ℕ) → i < length (x .1 .0) → resource .parse s (at + n) (at + resourcesPlace + resourceBytes * i) ≡ found (getD (x .1 .0) i []) (at + resourcesPlace + resourceBytes * i + resourceBytes)
+  resource-found i h = nth-sized resource resourceBytes (digits-sized resourcePairs) s (at + n) [] (length (x .1 .0)) i (at + resourcesPlace) (x .1 .0) (parts .2) (parts .3) h
 
   resource-many : (i : ℕ) → i < length (x .1 .0) → length (getD (x .1 .0) i []) ≡ 23
-  resource-many i h = digits-many s (at + n) (at + 37 + 12 * i) 11 _ _ (resource-found i h) b
+  resource-many i h = digits-many s (at + n) (at + resourcesPlace + resourceBytes * i) resourcePairs _ _ (resource-found i h) b
 
-  resource-at : (i : ℕ) → i < length (x .1 .0) → resourceAt s at n i ≡ found (length (x .1 .0)) (at + 37 + 12 * i)
+  resource-at : (i : ℕ) → i < length (x .1 .0) → resourceAt s at n i ≡ found (length (x .1 .0)) (at + resourcesPlace + resourceBytes * i)
   unfolding resourceAt
   resource-at i h = rw (parts .1, lt-ltb i (length (x .1 .0)) h)
 
@@ -241,44 +242,44 @@ module _ (s : List ℕ) (at n : ℕ) (b : Bytes s) (there : at + n ≤ length s)
   resource-none i h = rw (parts .1, le-ltb i (length (x .1 .0)) h)
 
   -- the flag, where the channel begins, and what the flag says of it
-  flag-found : (flagAt s at n ≡ found (x .1 .1 .0) (at + 38 + 12 * length (x .1 .0)))
-      × (under channel (x .1 .1 .0) .parse s (at + n) (at + 38 + 12 * length (x .1 .0)) ≡ found (x .1 .1 .1) (at + n))
+  flag-found : (flagAt s at n ≡ found (x .1 .1 .0) (at + resourcesPlace + resourceBytes * length (x .1 .0) + 1))
+      × (under channel (x .1 .1 .0) .parse s (at + n) (at + resourcesPlace + resourceBytes * length (x .1 .0) + 1) ≡ found (x .1 .1 .1) (at + n))
   unfolding flagAt flagged
   flag-found =
-      let p = at + 37 + 12 * length (x .1 .0) in
+      let p = at + resourcesPlace + resourceBytes * length (x .1 .0) in
       let f = depending-found (reserved 7 0) (under channel) s (at + n) p (x .1 .1) (at + n) (parts .4) in
-      let z : f .0 ≡ at + 38 + 12 * length (x .1 .0) = reserved-sized 7 0 s (at + n) p (x .1 .1 .0) (f .0) (f .1) ∙ omega arith in
+      let z : f .0 ≡ at + resourcesPlace + resourceBytes * length (x .1 .0) + 1 = reserved-sized 7 0 s (at + n) p (x .1 .1 .0) (f .0) (f .1) ∙ omega arith in
       (rw (parts .1) (f .1 ∙ ap (found (x .1 .1 .0)) z), ap (under channel (x .1 .1 .0) .parse s (at + n)) (sym z) ∙ f .2)
 
   fields-asked : FieldsAsked s at n (named x)
   unfolding identifierPart identifierDigit network start end typePart class level resourceCount resourcePart resourceDigit flag
   fields-asked =
-      let h = heads s at n (x .0) (at + 36) (parts .0) in
+      let h = heads s at n (x .0) (at + resourceCountPlace) (parts .0) in
       let room = le-leb (at + n) (length s) there in
-      let thirty-five = identifier-many s (at + n) at (x .0 .0) (at + 18) (h .0) b in
+      let thirty-five = identifier-many s (at + n) at (x .0 .0) (at + networkPlace) (h .0) b in
       record {
-        identifier-is = rw (room, h .0, add-sub-cancel-left at 18);
-        identifier-bytes = identifier-bytes s (at + n) at (x .0 .0) (at + 18) (h .0) b;
-        identifier-digits = λ i k. rw room (digit-there identifier s (at + n) at (x .0 .0) (at + 18) (h .0) i (omega (arith, thirty-five)));
-        identifier-past = λ i k. rw room (digit-past identifier s (at + n) at (x .0 .0) (at + 18) (h .0) i (omega (arith, thirty-five)));
-        network-is = rw (asked s at n (number 2) 18 _ _ there (h .1));
-        start-is = rw (asked s at n time 20 _ _ there (h .2));
-        end-is = rw (asked s at n endTime 25 _ _ there (h .3));
-        type-is = rw (asked s at n (bytesAmong 0 0x7F 5) 30 _ _ there (h .4)) (let z : at + 35 - (at + 30) ≡ 5 = omega arith in ap (Of (at + 30)) z);
-        type-bytes = bytes-are 0 0x7F 5 s (at + n) (at + 30) (x .0 .1 .1 .1 .1 .0) (at + 35) (h .4) .0;
-        class-is = rw (asked s at n (nibblesAmong 1 4) 35 _ _ there (h .5));
-        level-is = rw (asked s at n (nibblesAmong 1 4) 35 _ _ there (h .5));
+        identifier-is = rw (room, h .0, add-sub-cancel-left at identifierBytes);
+        identifier-bytes = identifier-bytes s (at + n) at (x .0 .0) (at + networkPlace) (h .0) b;
+        identifier-digits = λ i k. rw room (digit-there identifier s (at + n) at (x .0 .0) (at + networkPlace) (h .0) i (omega (arith, thirty-five)));
+        identifier-past = λ i k. rw room (digit-past identifier s (at + n) at (x .0 .0) (at + networkPlace) (h .0) i (omega (arith, thirty-five)));
+        network-is = rw (asked s at n (number 2) networkPlace _ _ there (h .1));
+        start-is = rw (asked s at n time startPlace _ _ there (h .2));
+        end-is = rw (asked s at n endTime endPlace _ _ there (h .3));
+        type-is = rw (asked s at n (bytesAmong 0 0x7F 5) typePlace _ _ there (h .4)) (let z : at + classPlace - (at + typePlace) ≡ 5 = omega arith in ap (Of (at + typePlace)) z);
+        type-bytes = bytes-are 0 0x7F 5 s (at + n) (at + typePlace) (x .0 .1 .1 .1 .1 .0) (at + classPlace) (h .4) .0;
+        class-is = rw (asked s at n (nibblesAmong 1 4) classPlace _ _ there (h .5));
+        level-is = rw (asked s at n (nibblesAmong 1 4) classPlace _ _ there (h .5));
         resources-counted = rw (parts .1);
-        resource-is = λ i k. rw (resource-at i k, resource-found i k, add-sub-cancel-left (at + 37 + 12 * i) 12);
-        resource-bytes = λ i k. digits-bytes s (at + n) (at + 37 + 12 * i) 11 (getD (x .1 .0) i []) _ (resource-found i k) b;
+        resource-is = λ i k. rw (resource-at i k, resource-found i k, add-sub-cancel-left (at + resourcesPlace + resourceBytes * i) resourceBytes);
+        resource-bytes = λ i k. digits-bytes s (at + n) (at + resourcesPlace + resourceBytes * i) resourcePairs (getD (x .1 .0) i []) _ (resource-found i k) b;
         resource-digits = λ i j k m.
-            rw (resource-at i k) (digit-there resource s (at + n) (at + 37 + 12 * i) _ _ (resource-found i k) j (omega (arith, resource-many i k)));
+            rw (resource-at i k) (digit-there resource s (at + n) (at + resourcesPlace + resourceBytes * i) _ _ (resource-found i k) j (omega (arith, resource-many i k)));
         resource-digit-past = λ i j k m.
-            rw (resource-at i k) (digit-past resource s (at + n) (at + 37 + 12 * i) _ _ (resource-found i k) j (omega (arith, resource-many i k)));
+            rw (resource-at i k) (digit-past resource s (at + n) (at + resourcesPlace + resourceBytes * i) _ _ (resource-found i k) j (omega (arith, resource-many i k)));
         resource-past = λ i k. rw (resource-none i k);
         resource-past-digit = λ i j k. rw (resource-none i k);
         flag-is = rw (flag-found .0);
-        channel-asked = under-flag s at n b (x .1 .1 .0) (x .1 .1 .1) (at + 38 + 12 * length (x .1 .0)) (at + n) (flag-found .0) (flag-found .1);
+        channel-asked = under-flag s at n b (x .1 .1 .0) (x .1 .1 .1) (at + resourcesPlace + resourceBytes * length (x .1 .0) + 1) (at + n) (flag-found .0) (flag-found .1);
       }
 
 -- a part that does not lie in the body has none of them

@@ -4,13 +4,14 @@ use mathlib.Core.Path.{_≡_}
 use mathlib.Core.List.{List, []}
 use lib.ListN.{length, getD, take, drop}
 use Rattle.body_formats.specs.Format.{Under}
-use Rattle.body_formats.specs.Resource.{resource}
+use Rattle.body_formats.specs.Resource.{resourceBytes, resource}
 use Rattle.body_formats.specs.declared.Number.the-variants.{Is}
 use Rattle.body_formats.specs.declared.Part.{Part}
 use Rattle.body_formats.specs.declared.Part.the-variants.{Of}
 use Rattle.body_asking.specs.Agreement.{NoNumberThere, NoPartThere, FillsAt, FollowsLength, InTurn, HoldsInTurn}
-use Rattle.body_formats.specs.Identifier.{identifier}
+use Rattle.body_formats.specs.Identifier.{identifierBytes, identifier}
 use Rattle.index.specs.Index.{Descriptor, Stream, Channel, Message, message, Index}
+use Rattle.index.specs.Places.{startPlace, endPlace, typePlace, resourceCountPlace, resourcesPlace}
 use Rattle.index_fields.specs.Asked.{messageCount, messagePart, signaturePart, identifierPart, identifierDigit, network, start, end, typePart, class, level, resourceCount, resourcePart, resourceDigit, flag, channelNetwork, channelStream, channelProgram, pcrPid, descriptorsPart, streamsPart, descriptorTag, descriptorPart, streamType, streamPid, streamDescriptors, descriptorCount, streamCount}
 
 -- "Every field of an accepted table can be asked for, opaque bytes as the part of the body they fill; one that isn't there is 19, place 0":
@@ -78,28 +79,28 @@ UnderFlag s at n (suc f) c p q = ChannelAsked s at n c p q
 -- ---- a message that begins at `at` and has n bytes
 
 pub record FieldsAsked (s : List ℕ) (at n : ℕ) (m : Message) : Type 0 where
-  pub identifier-is : identifierPart s at n ≡ Of at 18
-  pub identifier-bytes : take 18 (drop at s) ≡ identifier .print (m .identifier)
+  pub identifier-is : identifierPart s at n ≡ Of at identifierBytes
+  pub identifier-bytes : take identifierBytes (drop at s) ≡ identifier .print (m .identifier)
   pub identifier-digits : (i : ℕ) → i < 35 → identifierDigit s at n i ≡ Is (getD (m .identifier) i 0) (at + (i + 1) / 2)
   pub identifier-past : (i : ℕ) → 35 ≤ i → NoNumberThere (identifierDigit s at n i)
-  pub network-is : network s at n ≡ Is (m .network) (at + 20)
-  pub start-is : start s at n ≡ Is (m .start) (at + 25)
-  pub end-is : end s at n ≡ Is (m .end) (at + 30)
-  pub type-is : typePart s at n ≡ Of (at + 30) 5
-  pub type-bytes : take 5 (drop (at + 30) s) ≡ m .type
-  pub class-is : class s at n ≡ Is (m .class) (at + 36)
-  pub level-is : level s at n ≡ Is (m .level) (at + 36)
-  pub resources-counted : resourceCount s at n ≡ Is (length (m .resources)) (at + 37)
-  pub resource-is : (i : ℕ) → i < length (m .resources) → resourcePart s at n i ≡ Of (at + 37 + 12 * i) 12
-  pub resource-bytes : (i : ℕ) → i < length (m .resources) → take 12 (drop (at + 37 + 12 * i) s) ≡ resource .print (getD (m .resources) i [])
+  pub network-is : network s at n ≡ Is (m .network) (at + startPlace)
+  pub start-is : start s at n ≡ Is (m .start) (at + endPlace)
+  pub end-is : end s at n ≡ Is (m .end) (at + typePlace)
+  pub type-is : typePart s at n ≡ Of (at + typePlace) 5
+  pub type-bytes : take 5 (drop (at + typePlace) s) ≡ m .type
+  pub class-is : class s at n ≡ Is (m .class) (at + resourceCountPlace)
+  pub level-is : level s at n ≡ Is (m .level) (at + resourceCountPlace)
+  pub resources-counted : resourceCount s at n ≡ Is (length (m .resources)) (at + resourcesPlace)
+  pub resource-is : (i : ℕ) → i < length (m .resources) → resourcePart s at n i ≡ Of (at + resourcesPlace + resourceBytes * i) resourceBytes
+  pub resource-bytes : (i : ℕ) → i < length (m .resources) → take resourceBytes (drop (at + resourcesPlace + resourceBytes * i) s) ≡ resource .print (getD (m .resources) i [])
   pub resource-digits : (i j : ℕ) → i < length (m .resources) → j < 23
-      → resourceDigit s at n i j ≡ Is (getD (getD (m .resources) i []) j 0) (at + 37 + 12 * i + (j + 1) / 2)
+      → resourceDigit s at n i j ≡ Is (getD (getD (m .resources) i []) j 0) (at + resourcesPlace + resourceBytes * i + (j + 1) / 2)
   pub resource-digit-past : (i j : ℕ) → i < length (m .resources) → 23 ≤ j → NoNumberThere (resourceDigit s at n i j)
   pub resource-past : (i : ℕ) → length (m .resources) ≤ i → NoPartThere (resourcePart s at n i)
   pub resource-past-digit : (i j : ℕ) → length (m .resources) ≤ i → NoNumberThere (resourceDigit s at n i j)
   -- the flag stands after the last resource, and the channel after the flag
-  pub flag-is : flag s at n ≡ Is (m .channel .0) (at + 38 + 12 * length (m .resources))
-  pub channel-asked : UnderFlag s at n (m .channel .0) (m .channel .1) (at + 38 + 12 * length (m .resources)) (at + n)
+  pub flag-is : flag s at n ≡ Is (m .channel .0) (at + resourcesPlace + resourceBytes * length (m .resources) + 1)
+  pub channel-asked : UnderFlag s at n (m .channel .0) (m .channel .1) (at + resourcesPlace + resourceBytes * length (m .resources) + 1) (at + n)
 
 pub record NoMessage (s : List ℕ) (at n : ℕ) : Type 0 where
   pub no-identifier : NoPartThere (identifierPart s at n)

@@ -10,10 +10,11 @@ use Rattle.body_formats.specs.Time.{time, endTime}
 use Rattle.body_formats.specs.Answers.{numberOf, partOf, fieldPart, numberRead, partListed, digitRead}
 use Rattle.body_formats.specs.declared.Number.{Number}
 use Rattle.body_formats.specs.declared.Part.{Part}
-use Rattle.body_formats.specs.Resource.{resource}
+use Rattle.body_formats.specs.Resource.{resourceBytes, resource}
 use Rattle.body_formats.specs.Identifier.{identifier}
 use Rattle.body_asking.specs.Asking.{inBody, fieldIn, askedAt, inPart}
 use Rattle.index.specs.Index.{descriptor, stream}
+use Rattle.index.specs.Places.{networkPlace, startPlace, endPlace, typePlace, classPlace, resourceCountPlace, resourcesPlace}
 
 -- ---- the table
 
@@ -36,32 +37,32 @@ unfoldable pub identifierDigit : List ℕ → ℕ → ℕ → ℕ → Number
 identifierDigit s at n i = askedAt (inBody s at n (λ l. found l at)) (λ p. digitRead identifier i s (at + n) p)
 
 unfoldable pub network : List ℕ → ℕ → ℕ → Number
-network s at n = numberOf (fieldIn (number 2) 18 s at n)
+network s at n = numberOf (fieldIn (number 2) networkPlace s at n)
 
 unfoldable pub start : List ℕ → ℕ → ℕ → Number
-start s at n = numberOf (fieldIn time 20 s at n)
+start s at n = numberOf (fieldIn time startPlace s at n)
 
 unfoldable pub end : List ℕ → ℕ → ℕ → Number
-end s at n = numberOf (fieldIn endTime 25 s at n)
+end s at n = numberOf (fieldIn endTime endPlace s at n)
 
 unfoldable pub typePart : List ℕ → ℕ → ℕ → Part
-typePart s at n = fieldPart (at + 30) (fieldIn (bytesAmong 0 0x7F 5) 30 s at n)
+typePart s at n = fieldPart (at + typePlace) (fieldIn (bytesAmong 0 0x7F 5) typePlace s at n)
 
 unfoldable pub class : List ℕ → ℕ → ℕ → Number
-class s at n = numberOf (andThen (fieldIn (nibblesAmong 1 4) 35 s at n) (λ x q. found (x .0) q))
+class s at n = numberOf (andThen (fieldIn (nibblesAmong 1 4) classPlace s at n) (λ x q. found (x .0) q))
 
 unfoldable pub level : List ℕ → ℕ → ℕ → Number
-level s at n = numberOf (andThen (fieldIn (nibblesAmong 1 4) 35 s at n) (λ x q. found (x .1) q))
+level s at n = numberOf (andThen (fieldIn (nibblesAmong 1 4) classPlace s at n) (λ x q. found (x .1) q))
 
 unfoldable pub resourceCount : List ℕ → ℕ → ℕ → Number
-resourceCount s at n = numberOf (fieldIn (count 1) 36 s at n)
+resourceCount s at n = numberOf (fieldIn (count 1) resourceCountPlace s at n)
 
--- where the i-th resource begins: "resources of 4 reserved + 23 digits" have 12 bytes each
+-- where the i-th resource begins: all are of one length
 unfoldable pub resourceAt : List ℕ → ℕ → ℕ → ℕ → Reading ℕ
-resourceAt s at n i = andThen (fieldIn (count 1) 36 s at n) (λ m q. need (ltb i m) (OutsideSet 0) (found m (q + 12 * i)))
+resourceAt s at n i = andThen (fieldIn (count 1) resourceCountPlace s at n) (λ m q. need (ltb i m) (OutsideSet 0) (found m (q + resourceBytes * i)))
 
 unfoldable pub resourcePart : List ℕ → ℕ → ℕ → ℕ → Part
-resourcePart s at n i = fieldPart (at + 37 + 12 * i) (andThen (resourceAt s at n i) (λ m p. resource .parse s (at + n) p))
+resourcePart s at n i = fieldPart (at + resourcesPlace + resourceBytes * i) (andThen (resourceAt s at n i) (λ m p. resource .parse s (at + n) p))
 
 unfoldable pub resourceDigit : List ℕ → ℕ → ℕ → ℕ → ℕ → Number
 resourceDigit s at n i j = askedAt (resourceAt s at n i) (λ p. digitRead resource j s (at + n) p)
@@ -69,7 +70,7 @@ resourceDigit s at n i j = askedAt (resourceAt s at n i) (λ p. digitRead resour
 -- ---- the channel, which follows its flag
 
 unfoldable pub flagAt : List ℕ → ℕ → ℕ → Reading ℕ
-flagAt s at n = andThen (fieldIn (count 1) 36 s at n) (λ m q. reserved 7 0 .parse s (at + n) (q + 12 * m))
+flagAt s at n = andThen (fieldIn (count 1) resourceCountPlace s at n) (λ m q. reserved 7 0 .parse s (at + n) (q + resourceBytes * m))
 
 unfoldable pub flag : List ℕ → ℕ → ℕ → Number
 flag s at n = numberOf (flagAt s at n)

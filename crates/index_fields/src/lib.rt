@@ -2,8 +2,16 @@
 // A message is told by where it begins and its length; a descriptor or a stream by where it begins and how many bytes its part has from there on.
 use body_formats::Number;
 use body_formats::Part;
+use body_formats::RESOURCE_BYTES;
+use body_formats::RESOURCE_PAIRS;
 use body_formats::Step;
 use ground_refusal::Refusal;
+use index::CLASS_PLACE;
+use index::END_PLACE;
+use index::NETWORK_PLACE;
+use index::RESOURCE_COUNT_PLACE;
+use index::START_PLACE;
+use index::TYPE_PLACE;
 ghost use mathlib.Core.Path.{_≡_};
 ghost use mathlib.Core.Bool.{_&&_};
 ghost use Prim.Native.Nat.{_+_, _*_, _/_, _%_, _≤_, _<_};
@@ -14,6 +22,7 @@ ghost use Rattle.body_formats.specs.Format.{number, nibblesAmong, many};
 ghost use Rattle.body_formats.specs.Answers.{numberOf, ended};
 ghost use Rattle.body_asking.specs.Asking.{fieldIn};
 ghost use Rattle.index.specs.Index.{descriptor, descriptors, stream};
+ghost use Rattle.index.specs.Places.{classPlace};
 ghost use Rattle.index_fields.specs.Asked.{messageCount, messagePart, signaturePart, identifierPart, identifierDigit, network, start, end, typePart, class, level, resourceCount, resourceAt, resourcePart, resourceDigit, flag, channelAt, inChannel, channelNetwork, channelStream, channelProgram, pcrPid, descriptorsPart, streamsPart, firstByte, descriptorTag, descriptorPart, streamType, streamPid, streamDescriptors, countOf, descriptorCount, streamCount};
 
 // How many messages there are.
@@ -64,14 +73,14 @@ pub fn identifier_digit(s: &[u8], at: usize, n: usize, i: u64) -> Number
 pub fn network(s: &[u8], at: usize, n: usize) -> Number
     ensures { λ r. ⌜ r ≡ network (now (s .entry)) at n ⌝ }
 {
-    body_asking::number_in(s, at, n, 18, 2)
+    body_asking::number_in(s, at, n, NETWORK_PLACE, 2)
 }
 
 pub fn start(s: &[u8], at: usize, n: usize) -> Number
     ensures { λ r. ⌜ r ≡ start (now (s .entry)) at n ⌝ }
 {
     if body_asking::in_body(s, at, n) {
-        return body_fields::read_time(s, at + n, at + 20);
+        return body_fields::read_time(s, at + n, at + START_PLACE);
     }
     Number::Refused(Refusal::OutsideSet(0))
 }
@@ -80,7 +89,7 @@ pub fn end(s: &[u8], at: usize, n: usize) -> Number
     ensures { λ r. ⌜ r ≡ end (now (s .entry)) at n ⌝ }
 {
     if body_asking::in_body(s, at, n) {
-        return body_fields::read_end(s, at + n, at + 25);
+        return body_fields::read_end(s, at + n, at + END_PLACE);
     }
     Number::Refused(Refusal::OutsideSet(0))
 }
@@ -90,7 +99,7 @@ pub fn type_part(s: &[u8], at: usize, n: usize) -> Part
     ensures { λ r. ⌜ r ≡ typePart (now (s .entry)) at n ⌝ }
 {
     if body_asking::in_body(s, at, n) {
-        return body_fields::read_bytes(s, at + n, at + 30, 5, 0, 0x7F);
+        return body_fields::read_bytes(s, at + n, at + TYPE_PLACE, 5, 0, 0x7F);
     }
     Part::Refused(Refusal::OutsideSet(0))
 }
@@ -116,15 +125,15 @@ fn halves_good(b: u64) -> bool
 
 // The byte that class and level share: where either is bad, neither is answered.
 fn class_and_level(s: &[u8], at: usize, n: usize) -> Number
-    ensures { λ r. ⌜ r ≡ numberOf (andThen (fieldIn (nibblesAmong 1 4) 35 (now (s .entry)) at n) (λ x q. found (x .0 * 16 + x .1) q)) ⌝ }
+    ensures { λ r. ⌜ r ≡ numberOf (andThen (fieldIn (nibblesAmong 1 4) classPlace (now (s .entry)) at n) (λ x q. found (x .0 * 16 + x .1) q)) ⌝ }
 {
-    match body_asking::number_in(s, at, n, 35, 1) {
+    match body_asking::number_in(s, at, n, CLASS_PLACE, 1) {
         Number::Refused(r) => Number::Refused(r),
         Number::Is(b, q) => {
             if halves_good(b) {
                 return Number::Is(b, q);
             }
-            Number::Refused(Refusal::OutsideSet(at + 35))
+            Number::Refused(Refusal::OutsideSet(at + CLASS_PLACE))
         }
     }
 }
@@ -151,10 +160,10 @@ pub fn level(s: &[u8], at: usize, n: usize) -> Number
 pub fn resource_count(s: &[u8], at: usize, n: usize) -> Number
     ensures { λ r. ⌜ r ≡ resourceCount (now (s .entry)) at n ⌝ }
 {
-    body_asking::number_in(s, at, n, 36, 1)
+    body_asking::number_in(s, at, n, RESOURCE_COUNT_PLACE, 1)
 }
 
-// How many resources there are, and where the i-th begins: each has 12 bytes. 19 where there is none.
+// How many resources there are, and where the i-th begins. 19 where there is none.
 fn resource_at(s: &[u8], at: usize, n: usize, i: u64) -> Number
     ensures { λ r. ⌜ r ≡ numberOf (resourceAt (now (s .entry)) at n i) ⌝ }
 {
@@ -162,7 +171,7 @@ fn resource_at(s: &[u8], at: usize, n: usize, i: u64) -> Number
         Number::Refused(r) => Number::Refused(r),
         Number::Is(m, q) => {
             if i < m {
-                return Number::Is(m, q + 12 * (i as usize));
+                return Number::Is(m, q + RESOURCE_BYTES * (i as usize));
             }
             Number::Refused(Refusal::OutsideSet(0))
         }
@@ -175,7 +184,7 @@ pub fn resource(s: &[u8], at: usize, n: usize, i: u64) -> Part
 {
     match resource_at(s, at, n, i) {
         Number::Refused(r) => Part::Refused(r),
-        Number::Is(m, p) => body_fields::read_digits(s, at + n, p, 11),
+        Number::Is(m, p) => body_fields::read_digits(s, at + n, p, RESOURCE_PAIRS),
     }
 }
 
@@ -185,7 +194,7 @@ pub fn resource_digit(s: &[u8], at: usize, n: usize, i: u64, j: u64) -> Number
 {
     match resource_at(s, at, n, i) {
         Number::Refused(r) => Number::Refused(r),
-        Number::Is(m, p) => body_fields::digit_at(s, at + n, p, 11, j),
+        Number::Is(m, p) => body_fields::digit_at(s, at + n, p, RESOURCE_PAIRS, j),
     }
 }
 
@@ -195,7 +204,13 @@ pub fn flag(s: &[u8], at: usize, n: usize) -> Number
 {
     match resource_count(s, at, n) {
         Number::Refused(r) => Number::Refused(r),
-        Number::Is(m, q) => body_fields::read_reserved(s, at + n, q + 12 * (m as usize), 7, 0),
+        Number::Is(m, q) => body_fields::read_reserved(
+            s,
+            at + n,
+            q + RESOURCE_BYTES * (m as usize),
+            7,
+            0,
+        ),
     }
 }
 

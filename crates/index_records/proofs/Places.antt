@@ -12,7 +12,7 @@ use Rattle.body_formats.specs.Reading.{found}
 use Rattle.body_formats.specs.Format.{numberAt, count, number, nibbles, nibblesAmong, repeat, counted, lengthOf}
 use Rattle.body_formats.specs.Time.{time, endTime}
 use Rattle.body_formats.specs.Answers.{numberOf, numberRead}
-use Rattle.body_formats.specs.Body.{longest}
+use Rattle.ground_numbers.specs.Sizes.{bodyMost}
 use Rattle.body_formats.specs.declared.Number.the-variants.{Is, Refused as NoNumber}
 use Rattle.body_formats.proofs.Classes.{Bytes}
 use Rattle.body_formats.proofs.Outcomes.{found-inj, andThen-found, within-found}
@@ -22,6 +22,7 @@ use Rattle.body_formats.proofs.Identifiers.{identifier-sized}
 use Rattle.body_asking.proofs.Sizes.{only-found, bytes-sized}
 use Rattle.body_walk.specs.Entries.{numberWorth}
 use Rattle.index.specs.Index.{HeadFields, head, messageFields, named, unnamed, Message, message}
+use Rattle.index.specs.Places.{startPlace, endPlace, classPlace}
 use Rattle.index.proofs.Lawful.{inner-filling, message-lawful}
 use Rattle.index_records.specs.Records.{recordOf, recordsOf}
 use Rattle.index_records.specs.Steps.{standing, placedFrom, placedAt, recordsFrom}
@@ -67,10 +68,10 @@ nibbles-stand lo hi s l p x q e =
 
 -- those of the message whose EBM_length stands at p
 record Head (s : List ℕ) (p : ℕ) (h : HeadFields) : Type 0 where
-  starts : standing s (p + 22) 5 ≡ h .1 .1 .0
-  ends : standing s (p + 27) 5 ≡ h .1 .1 .1 .0
-  classed : standing s (p + 37) 1 / 16 ≡ h .1 .1 .1 .1 .1 .0
-  levelled : standing s (p + 37) 1 % 16 ≡ h .1 .1 .1 .1 .1 .1
+  starts : standing s (p + 2 + startPlace) 5 ≡ h .1 .1 .0
+  ends : standing s (p + 2 + endPlace) 5 ≡ h .1 .1 .1 .0
+  classed : standing s (p + 2 + classPlace) 1 / 16 ≡ h .1 .1 .1 .1 .1 .0
+  levelled : standing s (p + 2 + classPlace) 1 % 16 ≡ h .1 .1 .1 .1 .1 .1
 
 head-stands : (s : List ℕ) (p l at : ℕ) (h : HeadFields) (q : ℕ) → at ≡ p + 2 → head .parse s l at ≡ found h q → Head s p h
 unfolding head time endTime
@@ -86,9 +87,9 @@ head-stands s p l at h q from e =
     let e₃ = number-stands 5 s l (f₂ .0) (h .1 .1 .1 .0) (f₃ .0) (only-found _ (number 5) s l (f₂ .0) (h .1 .1 .1 .0) (f₃ .0) (f₃ .1)) in
     let e₄ = bytes-sized 0 0x7F 5 s l (f₃ .0) (h .1 .1 .1 .1 .0) (f₄ .0) (f₄ .1) in
     let e₅ = nibbles-stand 1 4 s l (f₄ .0) (h .1 .1 .1 .1 .1) q (f₄ .2) in
-    let at₁ : p + 22 ≡ f₁ .0 = omega (arith, from, e₀, e₁ .1) in
-    let at₂ : p + 27 ≡ f₂ .0 = omega (arith, at₁, e₂ .1) in
-    let at₄ : p + 37 ≡ f₄ .0 = omega (arith, at₂, e₃ .1, e₄) in
+    let at₁ : p + 2 + startPlace ≡ f₁ .0 = omega (arith, from, e₀, e₁ .1) in
+    let at₂ : p + 2 + endPlace ≡ f₂ .0 = omega (arith, at₁, e₂ .1) in
+    let at₄ : p + 2 + classPlace ≡ f₄ .0 = omega (arith, at₂, e₃ .1, e₄) in
     record {
       starts = ap (λ (k : ℕ). standing s k 5) at₁ ∙ e₂ .0;
       ends = ap (λ (k : ℕ). standing s k 5) at₂ ∙ e₃ .0;
@@ -104,8 +105,8 @@ placed at n start end class level next =
     record { message = record { at = at; length = n; start = start; end = end; class = class; level = level }; next = next }
 
 -- what the code puts together
-pub by-places : (s : List ℕ) (p a n start end both : ℕ) → a ≡ min p longest → n ≡ standing s a 2 → start ≡ standing s (a + 22) 5
-    → end ≡ standing s (a + 27) 5 → both ≡ standing s (a + 37) 1
+pub by-places : (s : List ℕ) (p a n start end both : ℕ) → a ≡ min p bodyMost → n ≡ standing s a 2 → start ≡ standing s (a + 2 + startPlace) 5
+    → end ≡ standing s (a + 2 + endPlace) 5 → both ≡ standing s (a + 2 + classPlace) 1
     → placed (a + 2) n start end (both / 16) (both % 16) (a + 2 + n) ≡ placedAt s p
 unfolding placedAt
 by-places s p a n start end both e₀ e₁ e₂ e₃ e₄ = rw (e₁, e₂, e₃, e₄) (ap (placedFrom s) e₀)
@@ -116,7 +117,7 @@ same-placed : (at : ℕ) {n n′ start start′ end end′ class class′ level 
 same-placed at e₀ e₁ e₂ e₃ e₄ e₅ = rw (e₀, e₁, e₂, e₃, e₄, e₅)
 
 -- the message whose EBM_length stands at p, by places and by its format
-pub message-placed : (s : List ℕ) (p : ℕ) (m : Message) (q : ℕ) → Bytes s → length s ≤ longest → message .parse s (length s) p ≡ found m q
+pub message-placed : (s : List ℕ) (p : ℕ) (m : Message) (q : ℕ) → Bytes s → length s ≤ bodyMost → message .parse s (length s) p ≡ found m q
     → (placedAt s p ≡ record { message = recordOf m p; next = q }) × (q ≡ p + length (message .print m))
 unfolding message messageFields counted lengthOf placedAt numberRead
 message-placed s p m q b small e =
@@ -132,7 +133,7 @@ message-placed s p m q b small e =
     let h = head-stands s p l (i .1) (v .0 .0) (g .0) (c .1) (g .1) in
     let next = message-lawful .forth s (length s) p m q b (le-refl (length s)) (omega (arith, c .1, f .0)) e .next in
     let past : p + 2 + standing s p 2 ≡ q = omega (arith, c .0, end, low, c .1) in
-    let here : min p longest ≡ p = min-eq-left (omega (arith, c .1, f .0)) in
+    let here : min p bodyMost ≡ p = min-eq-left (omega (arith, c .1, f .0)) in
     let long : standing s p 2 ≡ length (message .print m) - 2 = omega (arith, past, next) in
     let same =
     same-placed (p + 2) long (h .starts ∙ ap (λ m. m .start) (v .2)) (h .ends ∙ ap (λ m. m .end) (v .2)) (h .classed ∙ ap (λ m. m .class) (v .2))
@@ -141,7 +142,7 @@ message-placed s p m q b small e =
 
 -- ---- the messages, one after the other
 
-pub messages-placed : (s : List ℕ) → Bytes s → length s ≤ longest → (n p : ℕ) (ms : List Message) (q : ℕ)
+pub messages-placed : (s : List ℕ) → Bytes s → length s ≤ bodyMost → (n p : ℕ) (ms : List Message) (q : ℕ)
     → repeat (message .parse s (length s)) n p ≡ found ms q
     → recordsFrom s p n ≡ recordsOf ms p
 unfolding repeat recordsOf

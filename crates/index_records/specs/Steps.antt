@@ -4,10 +4,11 @@ use mathlib.Core.Path.{_≡_}
 use mathlib.Core.List.{List, [], _∷_}
 use lib.ListN.{length}
 use Rattle.body_formats.specs.Reading.{Reading, found, refused}
-use Rattle.body_formats.specs.Body.{longest}
+use Rattle.ground_numbers.specs.Sizes.{bodyMost}
 use Rattle.body_formats.specs.Answers.{stepOf, numberRead}
 use Rattle.body_walk.specs.Entries.{numberWorth}
 use Rattle.index.specs.Index.{Index}
+use Rattle.index.specs.Places.{startPlace, endPlace, classPlace}
 use Rattle.index_records.specs.Records.{recordsOf, recording}
 use Rattle.index_records.specs.declared.Record.{Record}
 use Rattle.index_records.specs.declared.Placed.{Placed}
@@ -17,7 +18,7 @@ use Rattle.index_records.specs.declared.Plan.{Plan}
 unfoldable pub standing : List ℕ → ℕ → ℕ → ℕ
 standing s p w = numberWorth (numberRead w s (length s) p)
 
--- the message whose EBM_length stands at p: before its start stand 20 bytes of it, before its class 35
+-- the message whose EBM_length of two bytes stands at p
 abbrev pub placedFrom : List ℕ → ℕ → Placed
 placedFrom s p =
     record {
@@ -25,16 +26,16 @@ placedFrom s p =
           record {
             at = p + 2;
             length = standing s p 2;
-            start = standing s (p + 22) 5;
-            end = standing s (p + 27) 5;
-            class = standing s (p + 37) 1 / 16;
-            level = standing s (p + 37) 1 % 16;
+            start = standing s (p + 2 + startPlace) 5;
+            end = standing s (p + 2 + endPlace) 5;
+            class = standing s (p + 2 + classPlace) 1 / 16;
+            level = standing s (p + 2 + classPlace) 1 % 16;
           };
       next = p + 2 + standing s p 2;
     }
 
 unfoldable pub placedAt : List ℕ → ℕ → Placed
-placedAt s p = placedFrom s (min p longest)
+placedAt s p = placedFrom s (min p bodyMost)
 
 -- the records of n messages, the first one's EBM_length standing at p
 abbrev pub recordsFrom : List ℕ → ℕ → ℕ → List Record

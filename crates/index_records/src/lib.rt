@@ -1,11 +1,16 @@
 // The index reader in the form that document 01 names: "messages are laid in a lent list of message records".
 use body_formats::Number;
 use body_formats::Step;
+use ground_numbers::BODY_MOST;
+use ground_numbers::least;
 use ground_refusal::Refusal;
+use index::CLASS_PLACE;
+use index::END_PLACE;
+use index::START_PLACE;
 ghost use mathlib.Core.Path.{_≡_};
 ghost use Prim.Native.Nat.{_<_, _≤_, _^_, min};
 ghost use lib.ListN.{length, set};
-ghost use Rattle.body_formats.specs.Body.{longest};
+ghost use Rattle.ground_numbers.specs.Sizes.{bodyMost};
 ghost use Rattle.index_records.specs.Records.{bodyRecorded, recorded};
 ghost use Rattle.index_records.specs.Steps.{standing, placedAt, Planned};
 
@@ -45,22 +50,23 @@ fn number_there(s: &[u8], p: usize, w: usize) -> u64
 
 // No position of a body is past the longest body's end, so that none overflows.
 fn clamped(p: usize) -> usize
-    ensures { λ r. ⌜ (r ≡ min p longest) × (r ≤ longest) ⌝ }
+    ensures { λ r. ⌜ (r ≡ min p bodyMost) × (r ≤ bodyMost) ⌝ }
 {
-    if p < 1045504 { p } else { 1045504 }
+    least(p, BODY_MOST)
 }
 
-// The message whose EBM_length stands at p: identifier 18, network 2, start 5, end 5, type 5 bytes, and then class and level.
+// The message whose EBM_length stands at p.
 fn record_at(s: &[u8], p: usize) -> Placed
     ensures { λ r. ⌜ r ≡ placedAt (now (s .entry)) p ⌝ }
 {
     let a = clamped(p);
     let l = number_there(s, a, 2) as usize;
-    let start = number_there(s, a + 22, 5);
-    let end = number_there(s, a + 27, 5);
-    let both = number_there(s, a + 37, 1);
+    let at = a + 2;
+    let start = number_there(s, at + START_PLACE, 5);
+    let end = number_there(s, at + END_PLACE, 5);
+    let both = number_there(s, at + CLASS_PLACE, 1);
     let m = Record {
-        at: a + 2,
+        at: at,
         length: l,
         start: start,
         end: end,
@@ -69,7 +75,7 @@ fn record_at(s: &[u8], p: usize) -> Placed
     };
     Placed {
         message: m,
-        next: a + 2 + l,
+        next: at + l,
     }
 }
 

@@ -6,6 +6,8 @@ ghost use lib.ListN.{length, drop};
 ghost use Rattle.program_printing.specs.Put.{Put};
 ghost use Rattle.program_value_lines.specs.Report.{valueText, saidText, lineOf, ofDay, ofTime, ofIndex, ofVolume, timeLines, indexLines, volumeLines, reportOf};
 use body_formats::Step;
+use ground_numbers::CONFIGURATION_KIND;
+use ground_numbers::INDEX_KIND;
 use ground_refusal::Refusal;
 use time_days::DateAnswer;
 use time_fields::Fielded;
@@ -84,7 +86,7 @@ fn time_answer(text: &[u8]) -> Answer
 fn index_answer(body: &[u8]) -> Answer
     ensures { λ r. ⌜ r ≡ ofIndex (now (body .entry)) ⌝ }
 {
-    match index_reader::read(0xFD, body) {
+    match index_reader::read(INDEX_KIND, body) {
         Step::At(end) => Answer::Accepted,
         Step::Refused(r) => Answer::RefusedAt(r),
     }
@@ -95,7 +97,7 @@ fn volume_answer(volume: u8) -> Answer
     ensures { λ r. ⌜ r ≡ ofVolume volume ⌝ }
 {
     let body: [u8; 8] = [1, 6, 0, 2, volume, 0, 0, 0];
-    match configuration_reader::read(0xFB, &body) {
+    match configuration_reader::read(CONFIGURATION_KIND, &body) {
         Step::At(end) => Answer::Accepted,
         Step::Refused(r) => Answer::Refused(r),
     }

@@ -25,7 +25,8 @@ use Rattle.section_cutter.proofs.Sections.{cut-writes, cut-reads, cut-joined}
 use Rattle.body_formats.specs.Reading.{Reading, found, refused}
 use Rattle.body_formats.specs.Format.{Format, every}
 use Rattle.body_formats.specs.Answers.{stepOf}
-use Rattle.body_formats.specs.Body.{longest, reading, bodyRead, writing, bodyWritten, outputWritten, laying, bodyLaid, laidTape}
+use Rattle.ground_numbers.specs.Sizes.{bodyMost}
+use Rattle.body_formats.specs.Body.{reading, bodyRead, writing, bodyWritten, outputWritten, laying, bodyLaid, laidTape}
 use Rattle.body_formats.specs.declared.Step.the-variants.{At}
 use Rattle.body_formats.proofs.Classes.{Ok}
 use Rattle.body_formats.proofs.Outcomes.{found-inj, andThen-found, need-found}
@@ -72,7 +73,7 @@ module _ {A : Type 0} (F : Format A) (own : ℕ) (f : trips.RoundTrips F own) wh
         record {
           kind-is = k;
           body-is = a .0;
-          formed = record { writable = a .1 .writable; small = a .1 .small; bytes = subst AreBytes (a .0) b; short = subst (λ (s : List ℕ). length s ≤ longest) (a .0) (a .2) };
+          formed = record { writable = a .1 .writable; small = a .1 .small; bytes = subst AreBytes (a .0) b; short = subst (λ (s : List ℕ). length s ≤ bodyMost) (a .0) (a .2) };
         },
         a .3,
       )

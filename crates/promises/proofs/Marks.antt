@@ -8,6 +8,7 @@ use native.Mathlib.Omega.{arith}
 use lib.ListN.{length, getD, replicate, take, drop}
 use lib.Seq.{getD-take, getD-drop}
 use borrow.Author.Tests.{ne-eqb}
+use Rattle.ground_numbers.specs.Sizes.{indexKind, payloadMost}
 use Rattle.ground_placing.specs.Placed.{placed}
 use Rattle.ground_placing.proofs.Placing.{placed-none}
 use Rattle.crc.specs.Crc.{AreBytes}
@@ -34,7 +35,7 @@ use Rattle.gathering_account.proofs.Demand3.{demand-3}
 -- ---- a table of two sections, the first empty, the second one byte
 
 heading : Heading
-heading = record { kind = 0xFD; extension = 0; version = 0; current = true; number = 0; last = 1 }
+heading = record { kind = indexKind; extension = 0; version = 0; current = true; number = 0; last = 1 }
 
 abbrev payloads : List (List ℕ)
 payloads = [] ∷ (1 ∷ []) ∷ []
@@ -44,7 +45,7 @@ unfolding heading headingAt
 formed k l =
     record { kind-low = omega arith; kind-high = omega arith; extension-high = omega arith; version-high = omega arith; number-high = l; last-high = omega arith }
 
-short : (k : ℕ) → length (getD payloads k []) ≤ 4084
+short : (k : ℕ) → length (getD payloads k []) ≤ payloadMost
 short zero = omega arith
 short (suc zero) = omega arith
 short (suc (suc k)) = omega arith
@@ -156,7 +157,7 @@ first-heard =
 abbrev after-first : Gathering
 after-first = boxAfter (freshBox store) (sections 0 ∷ []) .state
 
-first-kind : after-first .kind ≡ 0xFD
+first-kind : after-first .kind ≡ indexKind
 unfolding Fixes headingAt heading
 first-kind = subst (λ (a : Account). Fixes a after-first) first-heard (demand-3 store (sections 0 ∷ []) first-bytes (0 ∷ []) .fixed) .0
 

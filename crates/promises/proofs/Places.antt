@@ -8,6 +8,7 @@ use lib.ListN.{length, getD, length-take}
 use lib.Dec.{eqb, leb, ltb}
 use borrow.Author.Tests.{leb-true, ltb-true}
 use Rattle.ground_choices.specs.Choice.{if_then_else_}
+use Rattle.ground_numbers.specs.Sizes.{sectionLengthMost, bodyMost}
 use Rattle.ground_refusal.specs.Numbers.{refusalPlace}
 use Rattle.ground_refusal.specs.declared.Refusal.{Refusal}
 use Rattle.ground_refusal.specs.declared.Refusal.the-variants.{SectionTooShort, OtherKind, FixedBitZero, SectionLengthOutside, OtherLength, NumberAboveLast, CheckNotZero, NotCurrent, OtherHeading, StoreTooShort, Contradiction, ImpossibleState, Missing, PastBody, OutsideSet, OutputTooSmall, TooLarge}
@@ -125,7 +126,7 @@ section-refusals Q q1 q2 q3 q4 q5 q6 q7 s =
     next (ltb (length s) 12) SectionTooShort _ (λ t. q1)
     (next (not (isKind (getD s 0 0))) OtherKind _ (λ t. q2)
     (next (not (fixedBits s)) FixedBitZero _ (λ t. q3)
-    (next (not (leb 9 (sectionLength s) && leb (sectionLength s) 4093)) SectionLengthOutside _ (λ t. q4)
+    (next (not (leb 9 (sectionLength s) && leb (sectionLength s) sectionLengthMost)) SectionLengthOutside _ (λ t. q4)
     (next (not (eqb (length s) (sectionLength s + 3))) OtherLength _ (λ t. q5)
     (next (ltb (getD s 7 0) (getD s 6 0)) NumberAboveLast _ (λ t. q6)
     (next (not (eqb (crc32Of s) 0)) CheckNotZero _ (λ t. q7) (λ r (e : Good (headingOf s) (length s - 12) ≡ NotGood r). absurd-answer (cc))))))))
@@ -173,7 +174,7 @@ module _ (body : List ℕ) (kind extension version number : ℕ) where
       next (not (isKind kind)) OtherKind _ (λ t. refl)
       (next (not (leb version 31 && leb extension 0xFFFF)) (OutsideSet 0) _ (λ t. refl)
       (next (eqb (length body) 0) (PastBody 0) _ (λ t. refl)
-      (next (ltb 1045504 (length body)) TooLarge _ (λ t. refl)
+      (next (ltb bodyMost (length body)) TooLarge _ (λ t. refl)
       (next (leb (cutter.sectionCount (length body)) number) NumberAboveLast _ (λ t. refl)
       (next (ltb room (length (cutter.sectionOf body kind extension version number))) OutputTooSmall _ (λ t. refl)
       (λ r (e : cutter.writes (cutter.sectionOf body kind extension version number) ≡ cutter.refuses r). absurd-answer (cc)))))))

@@ -49,7 +49,8 @@ use Rattle.gathering_pack.proofs.Packing.{packed-whole}
 use Rattle.body_formats.specs.Reading.{Reading, found, refused}
 use Rattle.body_formats.specs.Format.{Format, count}
 use Rattle.body_formats.specs.Answers.{stepOf, numberOf, numberRead}
-use Rattle.body_formats.specs.Body.{longest, reading, measured, writing, bodyWritten, laying, bodyLaid}
+use Rattle.ground_numbers.specs.Sizes.{bodyMost}
+use Rattle.body_formats.specs.Body.{reading, measured, writing, bodyWritten, laying, bodyLaid}
 use Rattle.body_formats.specs.declared.Step.the-variants.{At}
 use Rattle.body_formats.specs.declared.Number.the-variants.{Is}
 use Rattle.body_formats.proofs.Outcomes.{found-inj, andThen-found, need-found, within-found}
@@ -167,7 +168,7 @@ number-back w h s b l p x q e =
     value-told x (rw (← found-inj (f .2) .0) m)
 
 -- a body that is written is no longer than the longest
-written-most : {A : Type 0} (F : Format A) (pool tape : List ℕ) (room : ℕ) (a : A) (n : ℕ) → writing F pool tape room ≡ found a n → n ≤ longest
+written-most : {A : Type 0} (F : Format A) (pool tape : List ℕ) (room : ℕ) (a : A) (n : ℕ) → writing F pool tape room ≡ found a n → n ≤ bodyMost
 written-most F pool tape room a n e = measured-value F pool tape a n (written-measured F pool tape room a n e .0) .4
 
 -- no more entries are laid than the tape has, and no more records than the list

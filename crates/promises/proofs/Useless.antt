@@ -5,6 +5,7 @@ use mathlib.Core.Bool.{true}
 use mathlib.Core.List.{List, [], _∷_}
 use native.Mathlib.Omega.{arith}
 use lib.ListN.{length, getD, replicate}
+use Rattle.ground_numbers.specs.Sizes.{payloadMost}
 use Rattle.ground_refusal.specs.declared.Refusal.the-variants.{Missing}
 use Rattle.ground_placing.specs.Placed.{placed}
 use Rattle.crc.specs.Crc.{AreBytes}
@@ -39,7 +40,7 @@ smallest = refl
 -- ---- bodies of one byte
 
 store : List ℕ
-store = replicate 4084 0
+store = replicate payloadMost 0
 
 module _ (x : ℕ) (h : x < 256) where
   bytes : AreBytes (x ∷ [])

@@ -4,6 +4,7 @@ use mathlib.Core.Path.{_≡_}
 use mathlib.Core.Bool.{true}
 use mathlib.Core.List.{List}
 use lib.ListN.{length}
+use Rattle.ground_numbers.specs.Sizes.{payloadMost}
 use Rattle.ground_refusal.specs.Numbers.{refusalNumber, isNumber, refusalPlace}
 use Rattle.ground_refusal.specs.declared.Refusal.{Refusal}
 use Rattle.ground_refusal.specs.declared.Refusal.the-variants.{Contradiction}
@@ -74,5 +75,5 @@ pub record Demand1 : Type 1 where
   pub told : Told
   pub writes-nothing : WritesNothing
   -- no possible state, which has 256 numbers, joins to more than 256 × 4,084 bytes, whatever the store holds: no refusal is needed for a longer body
-  pub joined-most : (g : Gathering) (store : List ℕ) → length (g .held) ≡ 256 → possibleOf g ≡ true → length (bodyHeld g store) ≤ 256 * 4084
+  pub joined-most : (g : Gathering) (store : List ℕ) → length (g .held) ≡ 256 → possibleOf g ≡ true → length (bodyHeld g store) ≤ 256 * payloadMost
   pub only-spoils : OnlySpoils

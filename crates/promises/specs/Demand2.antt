@@ -23,7 +23,8 @@ use Rattle.section_cutter.specs.declared.Counted.the-variants.{Sections}
 use Rattle.section_cutter.specs.declared.Cut.the-variants.{Written}
 use Rattle.body_formats.specs.Reading.{found}
 use Rattle.body_formats.specs.Format.{Format}
-use Rattle.body_formats.specs.Body.{longest, reading, bodyRead, writing, bodyWritten, outputWritten, bodyLaid, laidTape}
+use Rattle.ground_numbers.specs.Sizes.{bodyMost}
+use Rattle.body_formats.specs.Body.{reading, bodyRead, writing, bodyWritten, outputWritten, bodyLaid, laidTape}
 use Rattle.body_formats.specs.declared.Step.the-variants.{At}
 use Rattle.certificate.specs.Certificate.{Certificates, certificateKind, certificate}
 use Rattle.certificate_fields.specs.Agreement.{CertificateAsked}
@@ -49,7 +50,7 @@ pub record WellFormed {A : Type 0} (F : Format A) (t : A) : Type 0 where
   pub writable : F .writable t ≡ true
   pub small : F .tooLarge t ≡ false
   pub bytes : AreBytes (F .print t)
-  pub short : length (F .print t) ≤ longest
+  pub short : length (F .print t) ≤ bodyMost
 
 -- a body of this kind is the bytes of the table t
 pub record Holds {A : Type 0} (F : Format A) (own kind : ℕ) (body : List ℕ) (t : A) : Type 0 where
@@ -102,7 +103,7 @@ pub record SectionsRead : Type 0 where
   -- a byte string is good exactly if it is the section printed of its heading and its payload
   pub good-exactly : (s : List ℕ) (h : Heading) (payload : List ℕ) → AreBytes s → IsGood s h payload ↔ IsPrinted s h payload
   -- "A body of L bytes (1 to 1,045,504) makes the ceiling of L ÷ 4,084 sections"
-  pub counted : (n : ℕ) → 0 < n → n ≤ longest → countedOf n ≡ Sections (sectionCount n)
+  pub counted : (n : ℕ) → 0 < n → n ≤ bodyMost → countedOf n ≡ Sections (sectionCount n)
   -- what the cutter writes is good, with the heading asked for and its part of the body
   pub cut-reads : (body : List ℕ) (kind extension version number : ℕ) (out : List ℕ) (n : ℕ) → cutAnswer body kind extension version number out ≡ Written n
       → IsGood (take n (cutOutput body kind extension version number out)) (cutHeading (length body) kind extension version number) (partCarried body number)
@@ -110,7 +111,7 @@ pub record SectionsRead : Type 0 where
   pub is-cut : (body : List ℕ) (kind extension version number : ℕ) → Askable (length body) kind extension version number
       → (out : List ℕ) → length (partCarried body number) + 12 ≤ length out → cutAnswer body kind extension version number out ≡ Written (length (partCarried body number) + 12)
   -- and all of them joined are the body
-  pub cut-joined : (body : List ℕ) (kind extension version : ℕ) → Allowed kind extension version → 0 < length body → length body ≤ longest
+  pub cut-joined : (body : List ℕ) (kind extension version : ℕ) → Allowed kind extension version → 0 < length body → length body ≤ bodyMost
       → partsJoined (sectionOf body kind extension version) (sectionCount (length body)) ≡ body
 
 -- ---- times and days

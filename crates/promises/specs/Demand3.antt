@@ -19,6 +19,7 @@ use Rattle.gathering_feed.specs.declared.Answer.the-variants.{Taken}
 use Rattle.gathering_hand_out.specs.Handing.{handedOf, outAfter}
 use Rattle.gathering_hand_out.specs.declared.Handed.the-variants.{Body}
 use Rattle.gathering_pack.specs.Packing.{packingOf, storePacked}
+use Rattle.ground_numbers.specs.Sizes.{payloadMost, bodyMost}
 use Rattle.crc.specs.Crc.{AreBytes}
 use Rattle.gathering_account.specs.Account.{goodCurrent, heard, Section, Account, idle, table, account, Complete, bodyOf}
 use Rattle.gathering_account.specs.Answering.{answerTo, answersTo}
@@ -104,16 +105,16 @@ pub record Demand3 : Type 0 where
       → ArrivesFirst (hasRoom (length store)) h sections fed → (out : List ℕ) → length (partsJoined sections (h .last + 1)) ≤ length out
       → HandsOut (fedTo store fed) out (partsJoined sections (h .last + 1))
   -- "each section carries a consecutive part, possibly empty": so it is with any parts of at most 4,084 bytes, printed with one heading;
-  pub printed-arrives : (h : Heading) (parts : List (List ℕ)) → WellFormed h → ((k : ℕ) → length (getD parts k []) ≤ 4084) → length parts ≡ h .last + 1
+  pub printed-arrives : (h : Heading) (parts : List (List ℕ)) → WellFormed h → ((k : ℕ) → length (getD parts k []) ≤ payloadMost) → length parts ≡ h .last + 1
       → (store : List ℕ) (fed : List (List ℕ)) → ByteStrings fed → Arrives (hasRoom (length store)) h (sectionsOf h parts) fed
       → (out : List ℕ) → length (flatten parts) ≤ length out → HandsOut (fedTo store fed) out (flatten parts)
   -- with any "body of L bytes (1 to 1,045,504)" that our cutter cuts;
-  pub cut-arrives : (body : List ℕ) (kind extension version : ℕ) → Allowed kind extension version → 0 < length body → length body ≤ 1045504
+  pub cut-arrives : (body : List ℕ) (kind extension version : ℕ) → Allowed kind extension version → 0 < length body → length body ≤ bodyMost
       → (store : List ℕ) (fed : List (List ℕ)) → ByteStrings fed
       → Arrives (hasRoom (length store)) (cutHeading (length body) kind extension version 0) (sectionOf body kind extension version) fed
       → (out : List ℕ) → length body ≤ length out → HandsOut (fedTo store fed) out body
   -- and there are such feeds: its sections, one after the other
-  pub comes-back : (body : List ℕ) (kind extension version : ℕ) → AreBytes body → Allowed kind extension version → 0 < length body → length body ≤ 1045504
+  pub comes-back : (body : List ℕ) (kind extension version : ℕ) → AreBytes body → Allowed kind extension version → 0 < length body → length body ≤ bodyMost
       → (store : List ℕ) → hasRoom (length store) (cutHeading (length body) kind extension version 0 .last) ≡ true → (out : List ℕ) → length body ≤ length out
       → HandsOut (fedTo store (sectionsListed (sectionOf body kind extension version) 0 (sectionCount (length body)))) out body
   -- packing, of whatever state C has lent: it answers as handing out into the store itself would, and leaves the store as that would leave its output;

@@ -33,7 +33,8 @@ use Rattle.gathering_hand_out.specs.declared.Handed.the-variants.{Body, Refused
 use Rattle.gathering_pack.specs.Packing.{packingOf}
 use Rattle.body_formats.specs.Format.{Format}
 use Rattle.body_formats.specs.Answers.{numberRead}
-use Rattle.body_formats.specs.Body.{longest, measured, bodyWritten, bodyLaid}
+use Rattle.ground_numbers.specs.Sizes.{bodyMost}
+use Rattle.body_formats.specs.Body.{measured, bodyWritten, bodyLaid}
 use Rattle.body_formats.specs.declared.Step.the-variants.{At, Refused as NoStep}
 use Rattle.body_formats.specs.declared.Number.{Number}
 use Rattle.body_formats.specs.declared.Number.the-variants.{Is, Refused as NoNumber}
@@ -109,4 +110,4 @@ pub record Told : Type 1 where
   pub number : (x after : ℕ) → x < 2 ^ 56 → TellsValue (numberAnswer (Is x after)) x
   pub number-read : (w : ℕ) → w ≤ 7 → (s : List ℕ) → AreBytes s → (l p x q : ℕ) → numberRead w s l p ≡ Is x q → TellsValue (numberAnswer (Is x q)) x
   -- "opaque bytes as the part of the body they fill": any part of a body that can be accepted
-  pub part : (body : List ℕ) (start n : ℕ) → length body ≤ longest → start + n ≤ length body → TellsPart (partAnswer (Of start n)) start n
+  pub part : (body : List ℕ) (start n : ℕ) → length body ≤ bodyMost → start + n ≤ length body → TellsPart (partAnswer (Of start n)) start n

@@ -4,6 +4,7 @@ use mathlib.Core.Bool.{not, _&&_}
 use mathlib.Core.List.{List, [], _∷_, _++_}
 use lib.Dec.{eqb, leb, ltb}
 use lib.ListN.{length}
+use Rattle.ground_numbers.specs.Sizes.{bodyMost}
 use Rattle.ground_refusal.specs.declared.Refusal.the-variants.{OtherKind, NumberAboveLast, PastBody, OutsideSet, OutputTooSmall, TooLarge}
 use Rattle.section_reader.specs.Section.{isKind}
 use Rattle.section_cutter.specs.Cutting.{sectionCount, sectionOf}
@@ -15,7 +16,7 @@ countLines bytes =
     -- 14: "the cutter's body is empty"
     PastBody 0 when eqb bytes 0
     -- 22: "a body above 1,045,504 bytes"
-    ∷ TooLarge when ltb 1045504 bytes
+    ∷ TooLarge when ltb bodyMost bytes
     ∷ []
 
 -- "Cutter: 2, 19 (version above 31), 14 (L = 0), 22, 6, 21"

@@ -4,6 +4,7 @@ use mathlib.Core.Bool.{not, _&&_}
 use mathlib.Core.List.{List, [], _∷_}
 use lib.Dec.{eqb, leb, ltb}
 use lib.ListN.{length}
+use Rattle.ground_numbers.specs.Sizes.{sectionLengthMost}
 use Rattle.ground_refusal.specs.declared.Refusal.the-variants.{SectionTooShort, OtherKind, FixedBitZero, SectionLengthOutside, OtherLength, NumberAboveLast, CheckNotZero}
 use Rattle.crc.specs.Crc.{crc32Of}
 use Rattle.section_reader.specs.Section.{isKind, fixedBits, sectionLength, headingOf}
@@ -19,7 +20,7 @@ sectionLines s =
     -- 3: "one of the six fixed bits of the heading is 0"
     ∷ FixedBitZero when not (fixedBits s)
     -- 4: "section_length below 9 or above 4,093"
-    ∷ SectionLengthOutside when not (leb 9 (sectionLength s) && leb (sectionLength s) 4093)
+    ∷ SectionLengthOutside when not (leb 9 (sectionLength s) && leb (sectionLength s) sectionLengthMost)
     -- 5: "byte string not section_length + 3 long"
     ∷ OtherLength when not (eqb (length s) (sectionLength s + 3))
     -- 6: "section_number above last"

@@ -9,6 +9,7 @@ use borrow.Author.Tests.{lt-ltb, le-ltb, eq-eqb, ne-eqb, eqb-false, ltb-false, l
 use lib.Dec.{eqb, leb, ltb}
 use lib.ListN.{length, take, drop, length-take, length-drop}
 use lib.Seq.{take-all}
+use Rattle.ground_numbers.specs.Sizes.{payloadMost, bodyMost}
 use Rattle.ground_refusal.specs.declared.Refusal.the-variants.{PastBody, TooLarge}
 use Rattle.section_cutter.specs.Cutting.{partStart, sectionCount, partCarried, countedOf}
 use Rattle.ground_choices.specs.Choice.{if_then_else_}
@@ -20,16 +21,16 @@ pub place-zero : partStart 0 ≡ 0
 unfolding partStart
 place-zero = refl
 
-pub place-suc : (k : ℕ) → partStart (suc k) ≡ partStart k + 4084
+pub place-suc : (k : ℕ) → partStart (suc k) ≡ partStart k + payloadMost
 unfolding partStart
 place-suc k = omega arith
 
 -- numbers apart are places apart
-pub place-apart : (j k : ℕ) → j < k → partStart j + 4084 ≤ partStart k
+pub place-apart : (j k : ℕ) → j < k → partStart j + payloadMost ≤ partStart k
 unfolding partStart
 place-apart j k h = omega arith
 
-pub place-within : (k n : ℕ) → partStart k ≤ n → k * 4084 ≤ n
+pub place-within : (k n : ℕ) → partStart k ≤ n → k * payloadMost ≤ n
 unfolding partStart
 place-within k n h = h
 
@@ -39,29 +40,29 @@ pub count-none : (n : ℕ) → n ≡ 0 → countedOf n ≡ NotCounted (PastBody 
 unfolding countedOf
 count-none n h = rw (eq-eqb n 0 h)
 
-pub count-large : (n : ℕ) → 1045504 < n → countedOf n ≡ NotCounted TooLarge
+pub count-large : (n : ℕ) → bodyMost < n → countedOf n ≡ NotCounted TooLarge
 unfolding countedOf
-count-large n h = rw (ne-eqb n 0 (omega arith), lt-ltb 1045504 n h)
+count-large n h = rw (ne-eqb n 0 (omega arith), lt-ltb bodyMost n h)
 
-pub counted-is : (n : ℕ) → 0 < n → n ≤ 1045504 → countedOf n ≡ Sections (sectionCount n)
+pub counted-is : (n : ℕ) → 0 < n → n ≤ bodyMost → countedOf n ≡ Sections (sectionCount n)
 unfolding countedOf
-counted-is n h h′ = rw (ne-eqb n 0 (omega arith), le-ltb 1045504 n h′)
+counted-is n h h′ = rw (ne-eqb n 0 (omega arith), le-ltb bodyMost n h′)
 
-pub ceiling : (n : ℕ) → (n + 4083) / 4084 ≡ sectionCount n
+pub ceiling : (n : ℕ) → (n + (payloadMost - 1)) / payloadMost ≡ sectionCount n
 unfolding sectionCount
 ceiling n = refl
 
 -- what an answer of the count shows
-pub counted-some : (n k : ℕ) → countedOf n ≡ Sections k → (k ≡ sectionCount n) × (0 < n) × (n ≤ 1045504)
+pub counted-some : (n k : ℕ) → countedOf n ≡ Sections k → (k ≡ sectionCount n) × (0 < n) × (n ≤ bodyMost)
 unfolding countedOf
-counted-some n k e = go (eqb n 0) (ltb 1045504 n) refl refl e
+counted-some n k e = go (eqb n 0) (ltb bodyMost n) refl refl e
   where
-    go : (a b : Bool) → eqb n 0 ≡ a → ltb 1045504 n ≡ b
+    go : (a b : Bool) → eqb n 0 ≡ a → ltb bodyMost n ≡ b
         → (if a then NotCounted (PastBody 0) else if b then NotCounted TooLarge else Sections (sectionCount n)) ≡ Sections k
-        → (k ≡ sectionCount n) × (0 < n) × (n ≤ 1045504)
+        → (k ≡ sectionCount n) × (0 < n) × (n ≤ bodyMost)
     go true b p q e = let z : _≡_ {A = ℕ} 0 1 = cc in absurd (omega arith)
     go false true p q e = let z : _≡_ {A = ℕ} 0 1 = cc in absurd (omega arith)
-    go false false p q e = let d = eqb-false n 0 p in let l = ltb-false 1045504 n q in (cc, omega arith, l)
+    go false false p q e = let d = eqb-false n 0 p in let l = ltb-false bodyMost n q in (cc, omega arith, l)
 
 -- a section begins in the body, and the last one ends it
 pub begins-within : (n k : ℕ) → k < sectionCount n → partStart k < n
@@ -76,7 +77,7 @@ pub count-some : (n : ℕ) → 0 < n → 0 < sectionCount n
 unfolding sectionCount
 count-some n h = omega arith
 
-pub count-most : (n : ℕ) → n ≤ 1045504 → sectionCount n ≤ 256
+pub count-most : (n : ℕ) → n ≤ bodyMost → sectionCount n ≤ 256
 unfolding sectionCount
 count-most n h = omega arith
 
@@ -94,22 +95,22 @@ take-least n m s e = go (leb m (length s)) refl
     go true h = ap (λ (k : ℕ). take k s) (e ∙ min-eq-left (leb-true m (length s) h))
     go false h = let l = leb-false m (length s) h in take-all n s (omega arith) ∙ sym (take-all m s (omega arith))
 
-pub part-is : (body : List ℕ) (k n : ℕ) → n ≡ min 4084 (length body - k * 4084) → take (k * 4084 + n - k * 4084) (drop (k * 4084) body) ≡ partCarried body k
+pub part-is : (body : List ℕ) (k n : ℕ) → n ≡ min payloadMost (length body - k * payloadMost) → take (k * payloadMost + n - k * payloadMost) (drop (k * payloadMost) body) ≡ partCarried body k
 unfolding partCarried partStart
 part-is body k n e =
-    let f : k * 4084 + n - k * 4084 ≡ n = omega arith in
-    rw f (take-least n 4084 (drop (k * 4084) body) (rw (length-drop (k * 4084) body) e))
+    let f : k * payloadMost + n - k * payloadMost ≡ n = omega arith in
+    rw f (take-least n payloadMost (drop (k * payloadMost) body) (rw (length-drop (k * payloadMost) body) e))
 
-pub part-count : (body : List ℕ) (k n : ℕ) → n ≡ min 4084 (length body - k * 4084) → n ≡ length (partCarried body k)
+pub part-count : (body : List ℕ) (k n : ℕ) → n ≡ min payloadMost (length body - k * payloadMost) → n ≡ length (partCarried body k)
 unfolding partCarried partStart
-part-count body k n e = e ∙ sym (length-take 4084 (drop (k * 4084) body) ∙ rw length-drop)
+part-count body k n e = e ∙ sym (length-take payloadMost (drop (k * payloadMost) body) ∙ rw length-drop)
 
-pub part-length : (body : List ℕ) (k : ℕ) → length (partCarried body k) ≤ 4084
+pub part-length : (body : List ℕ) (k : ℕ) → length (partCarried body k) ≤ payloadMost
 unfolding partCarried
 part-length body k = simp (length-take, length-drop) (omega arith)
 
 -- every section but the last is full
-pub part-full : (body : List ℕ) (k : ℕ) → suc k < sectionCount (length body) → length (partCarried body k) ≡ 4084
+pub part-full : (body : List ℕ) (k : ℕ) → suc k < sectionCount (length body) → length (partCarried body k) ≡ payloadMost
 unfolding partCarried
 part-full body k h =
     let b = begins-within (length body) (suc k) h in

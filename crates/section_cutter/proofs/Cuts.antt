@@ -7,6 +7,7 @@ use native.Mathlib.Omega.{arith}
 use borrow.Author.Tests.{lt-ltb, le-ltb, le-leb, lt-leb, ne-eqb}
 use lib.Dec.{eqb, ltb}
 use lib.ListN.{length, take}
+use Rattle.ground_numbers.specs.Sizes.{bodyMost}
 use Rattle.ground_refusal.specs.declared.Refusal.{Refusal}
 use Rattle.ground_refusal.specs.declared.Refusal.the-variants.{OtherKind, NumberAboveLast, PastBody, OutsideSet, OutputTooSmall, TooLarge}
 use Rattle.section_cutter.specs.Cutting.{sectionCount, countedOf, partCarried, cutHeading, sectionOf, Verdict, refuses, writes, cutIfRoom, cutting, cutBy, outputBy, Allowed}
@@ -80,7 +81,7 @@ module _ (body : List ℕ) (kind extension version number room : ℕ) where
     unfolding cutting countedOf
     cut-not-counted r e =
         simp (a .kind-of, le-leb version 31 (a .version-high), le-leb extension 0xFFFF (a .extension-high))
-        (go (eqb (length body) 0) (ltb 1045504 (length body)) _ _ e)
+        (go (eqb (length body) 0) (ltb bodyMost (length body)) _ _ e)
       where
         go : (a b : Bool) (w : Verdict) (n : ℕ) → (if a then NotCounted (PastBody 0) else if b then NotCounted TooLarge else Sections n) ≡ NotCounted r
             → (if a then refuses (PastBody 0) else if b then refuses TooLarge else w) ≡ refuses r
@@ -98,7 +99,7 @@ module _ (body : List ℕ) (kind extension version number room : ℕ) where
             le-leb version 31 (a .version-high),
             le-leb extension 0xFFFF (a .extension-high),
             ne-eqb (length body) 0 (omega arith),
-            le-ltb 1045504 (length body) (c .2),
+            le-ltb bodyMost (length body) (c .2),
             le-leb (sectionCount (length body)) number (omega arith),
           )
 
@@ -112,7 +113,7 @@ module _ (body : List ℕ) (kind extension version number room : ℕ) where
               le-leb version 31 (a .version-high),
               le-leb extension 0xFFFF (a .extension-high),
               ne-eqb (length body) 0 (omega arith),
-              le-ltb 1045504 (length body) (c .2),
+              le-ltb bodyMost (length body) (c .2),
               lt-leb (sectionCount (length body)) number (omega arith),
             )
 

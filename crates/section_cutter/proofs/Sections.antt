@@ -8,6 +8,7 @@ use borrow.Author.Tests.{le-ltb, not-false, ltb-false, eqb-false, leb-false, leb
 use lib.Dec.{eqb, leb, ltb}
 use lib.ListN.{length, take}
 use lib.Seq.{take-add, take-all}
+use Rattle.ground_numbers.specs.Sizes.{payloadMost, bodyMost}
 use Rattle.ground_refusal.specs.declared.Refusal.{Refusal}
 use Rattle.section_cutter.specs.Cutting.{partStart, sectionCount, partCarried, partsJoined, cutHeading, sectionOf, Verdict, refuses, writes, cutIfRoom, cutting, cutAnswer, cutOutput, Allowed, Askable}
 use Rattle.ground_choices.specs.Choice.{if_then_else_}
@@ -52,7 +53,7 @@ module _ (body : List ℕ) (kind extension version number : ℕ) where
       let a = past (not (isKind kind)) _ _ s e in
       let b = past (not (leb version 31 && leb extension 0xFFFF)) _ _ s (a .1) in
       let c = past (eqb (length body) 0) _ _ s (b .1) in
-      let d = past (ltb 1045504 (length body)) _ _ s (c .1) in
+      let d = past (ltb bodyMost (length body)) _ _ s (c .1) in
       let f = past (leb (sectionCount (length body)) number) _ _ s (d .1) in
       let g = past (ltb room (length (sectionOf body kind extension version number))) _ _ s (f .1) in
       let t = both (leb version 31) (leb extension 0xFFFF) (not-false _ (b .0)) in
@@ -61,7 +62,7 @@ module _ (body : List ℕ) (kind extension version number : ℕ) where
         record {
           allowed = v;
           some = omega arith;
-          most = ltb-false 1045504 (length body) (d .0);
+          most = ltb-false bodyMost (length body) (d .0);
           within = leb-false (sectionCount (length body)) number (f .0);
         },
         sym (written (g .1)),
@@ -98,10 +99,10 @@ unfolding partsJoined partCarried
 joined-take body sections zero h = rw place-zero
 joined-take body sections (suc n) h =
     ap₂ _++_ (joined-take body sections n (λ k l. h k (omega arith))) (h n (omega arith))
-    ∙ sym (ap (λ (m : ℕ). take m body) (place-suc n) ∙ take-add (partStart n) 4084 body)
+    ∙ sym (ap (λ (m : ℕ). take m body) (place-suc n) ∙ take-add (partStart n) payloadMost body)
 
 -- the payloads of the cutter's sections, joined, are the body
-pub cut-joined : (body : List ℕ) (kind extension version : ℕ) → Allowed kind extension version → 0 < length body → length body ≤ 1045504
+pub cut-joined : (body : List ℕ) (kind extension version : ℕ) → Allowed kind extension version → 0 < length body → length body ≤ bodyMost
     → partsJoined (sectionOf body kind extension version) (sectionCount (length body)) ≡ body
 cut-joined body kind extension version a some most =
     joined-take body (sectionOf body kind extension version) (sectionCount (length body))

@@ -4,7 +4,7 @@ use borrow.Author.Needs.{needs}
 use Rattle.body_formats.specs.Format.{times}
 use Rattle.body_formats.proofs.Leaves.{digits-lawful}
 use Rattle.body_walk.proofs.Counts.{Ahead, ahead-start, times-turn, times-done}
-use Rattle.body_formats.specs.Resource.{resource}
+use Rattle.body_formats.specs.Resource.{resourcePairs, resource}
 use Rattle.body_walk.proofs.walk_all_resources.Statement.{statement}
 use Rattle.body_walk.proofs.walk_all_resources.Tie as tie
 
@@ -28,7 +28,7 @@ walk-all-resources-spec =
     let at-walk-digits = c .before .before in
     let at-loop-test = at-walk-digits .before .before in
     let at-loop = at-loop-test .before in
-    times-turn resource (at-loop .loop .left) (digits-lawful 11) (at-loop-test .loop-test .taken) (at-loop .loop .inv)
+    times-turn resource (at-loop .loop .left) (digits-lawful resourcePairs) (at-loop-test .loop-test .taken) (at-loop .loop .inv)
     (at-walk-digits .walk-digits .ensures) (search needs))
     (λ c. c .before .loop .inv .same)
     (λ c. times-done resource (c .before .loop .left) (omega arith) (c .before .loop .inv)))

@@ -1,5 +1,6 @@
 -- `body_walk::walk_resources` meets its contract: the count, and so many resources.
 use borrow.Author.Needs.{needs}
+use Rattle.body_formats.specs.Resource.{resourcePairs}
 use Rattle.body_formats.proofs.Leaves.{count-lawful, digits-lawful}
 use Rattle.body_walk.proofs.Counts.{list-walk}
 use Rattle.body_walk.proofs.walk_resources.Statement.{statement}
@@ -15,4 +16,4 @@ walk-resources-spec =
     (λ c.
     let at-walk-all-resources = c .before .before in
     let at-walk-count = at-walk-all-resources .before .before .before .before in
-    list-walk (count-lawful 1) (digits-lawful 11) (at-walk-count .walk-count .ensures) (at-walk-all-resources .walk-all-resources .ensures)))
+    list-walk (count-lawful 1) (digits-lawful resourcePairs) (at-walk-count .walk-count .ensures) (at-walk-all-resources .walk-all-resources .ensures)))

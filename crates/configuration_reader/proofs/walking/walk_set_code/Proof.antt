@@ -1,6 +1,7 @@
 -- `configuration_reader::walking::walk_set_code` meets its contract: a part, a resource, and no byte left.
 use borrow.Author.Needs.{needs}
 use Rattle.ground_refusal.specs.declared.Refusal.the-variants.{PastPart}
+use Rattle.body_formats.specs.Resource.{resourcePairs}
 use Rattle.body_formats.proofs.Leaves.{digits-lawful}
 use Rattle.body_formats.proofs.Parts.{opaque-lawful}
 use Rattle.body_walk.proofs.Pairs.{pair, exact-walk}
@@ -17,4 +18,4 @@ walk-set-code-spec =
     (λ c κs. search needs)
     (λ c κs. search needs)
     (λ c. search needs)
-    (λ c. exact-walk PastPart (pair (opaque-lawful 1) (digits-lawful 11 .formal) (c .before .before .before .before .before .before .before .walk-part .ensures) (c .before .before .before .walk-digits .ensures)) (c .leave .ensures)))
+    (λ c. exact-walk PastPart (pair (opaque-lawful 1) (digits-lawful resourcePairs .formal) (c .before .before .before .before .before .before .before .walk-part .ensures) (c .before .before .before .walk-digits .ensures)) (c .leave .ensures)))
