@@ -27,7 +27,7 @@ use Rattle.body_formats.specs.Identifier.{identifier}
 use Rattle.body_asking.specs.Asking.{fieldIn}
 use Rattle.body_asking.proofs.Answers.{number-in, found-in, part-refused, part-found}
 use Rattle.body_asking.proofs.Parts.{counted-holds}
-use Rattle.index.specs.Places.{networkPlace, classPlace, resourceCountPlace, resourcesPlace}
+use Rattle.index.specs.Places.{networkPlace, classPlace, resourceCountPlace, resourcesPlace, channelDescriptorsPlace}
 use Rattle.index_fields.specs.Asked.{signaturePart, identifierDigit, network, class, level, resourceCount, resourceAt, resourcePart, resourceDigit, flagAt, flag, channelAt, inChannel, descriptorsPart, streamsPart}
 
 -- ---- tests
@@ -250,9 +250,9 @@ module _ (s : List ℕ) (at n : ℕ) where
 module _ (s : List ℕ) (at n : ℕ) where
   pub streams-no : (r : Refusal) → NoPart r ≡ descriptorsPart s at n → NoPart r ≡ streamsPart s at n
   unfolding descriptorsPart streamsPart
-  streams-no r e = rw (part-refused (inChannel (counted length12 rest) 8 s at n) r e)
+  streams-no r e = rw (part-refused (inChannel (counted length12 rest) channelDescriptorsPlace s at n) r e)
 
-  descriptors-found : (xs : List ℕ) (q : ℕ) → inChannel (counted length12 rest) 8 s at n ≡ found xs q → (length xs ≤ q) × (q ≤ length s) × (at + n ≤ length s)
+  descriptors-found : (xs : List ℕ) (q : ℕ) → inChannel (counted length12 rest) channelDescriptorsPlace s at n ≡ found xs q → (length xs ≤ q) × (q ≤ length s) × (at + n ≤ length s)
   unfolding rest
   descriptors-found xs q e =
       let i = andThen-found (channelAt s at n) _ xs q e in
@@ -262,9 +262,9 @@ module _ (s : List ℕ) (at n : ℕ) where
       (omega (arith, ap length (f .0), f .1, m), omega (arith, f .1, h .in-body), channel-in s at n (i .0) (i .1) (ap numberOf (sym (i .2))) .0)
 
   module _ (a m : ℕ) (e : Of a m ≡ descriptorsPart s at n) where
-    there : (xs : List ℕ) × (inChannel (counted length12 rest) 8 s at n ≡ found xs (a + m))
+    there : (xs : List ℕ) × (inChannel (counted length12 rest) channelDescriptorsPlace s at n ≡ found xs (a + m))
     unfolding descriptorsPart
-    there = part-found (inChannel (counted length12 rest) 8 s at n) a m e (λ xs q f. descriptors-found xs q f .0)
+    there = part-found (inChannel (counted length12 rest) channelDescriptorsPlace s at n) a m e (λ xs q f. descriptors-found xs q f .0)
 
     pub streams-in : (at + n ≤ length s) × (a + m ≤ length s)
     streams-in =

@@ -32,7 +32,7 @@ use Rattle.body_asking.proofs.Entries.{after-all, all-same}
 use Rattle.body_asking.proofs.Parts.{length-sized, length12-sized, part-holds, part-after, bytes-hold, digit-there, digit-past, depending-found}
 use Rattle.body_asking.proofs.Turns.{ReadAt, read-in-turn, holds-in-turn, opaque-fills-at, follows-length}
 use Rattle.index.specs.Index.{Descriptor, descriptor, descriptors, Stream, streamFields, stream, streams, Channel, ChannelFields, channelFields, channel, flagged, Message, HeadFields, MessageFields, head, messageFields, named, unnamed, message, Index, fields, index, indexKind}
-use Rattle.index.specs.Places.{networkPlace, startPlace, endPlace, typePlace, classPlace, resourceCountPlace, resourcesPlace}
+use Rattle.index.specs.Places.{networkPlace, startPlace, endPlace, typePlace, classPlace, resourceCountPlace, resourcesPlace, channelStreamPlace, channelProgramPlace, pcrPidPlace, channelDescriptorsPlace, streamPidPlace, streamDescriptorsPlace}
 use Rattle.index_fields.specs.Asked.{messageCount, messagePart, signaturePart, identifierPart, identifierDigit, network, start, end, typePart, class, level, resourceCount, resourceAt, resourcePart, resourceDigit, flagAt, flag, channelAt, channelNetwork, channelStream, channelProgram, pcrPid, descriptorsPart, streamsPart, firstByte, descriptorTag, descriptorPart, streamType, streamPid, streamDescriptors, countOf, descriptorCount, streamCount}
 use Rattle.index_fields.specs.Agreement.{DescriptorAsked, NoDescriptor, DescriptorsAsked, StreamAsked, StreamsAsked, NoStream, ChannelAsked, NoChannel, UnderFlag, FieldsAsked, NoMessage, MessageAsked, IndexAsked}
 use Rattle.index.proofs.Lawful.{all-descriptors-filling, all-streams-filling, inner-filling, index-filling}
@@ -117,13 +117,14 @@ module _ (s : List ℕ) (b : Bytes s) (l : ℕ) (inside : l ≤ length s) (p q :
       → StreamAsked s l (record { type = x .0; pid = x .1 .0; descriptors = x .1 .1 }) p q
   unfolding streamFields firstByte streamType streamPid streamDescriptors
   stream-fields x e =
-      let f = next (number 1) (reserved 3 1 ▷ descriptors) 1 (number-sized 1) s l p (p + 1) x q refl e in
-      let g = next (reserved 3 1) descriptors 2 (reserved-sized 3 1) s l (p + 1) (p + 3) (x .1) q (omega arith) (f .1) in
+      let f = next (number 1) (reserved 3 1 ▷ descriptors) 1 (number-sized 1) s l p (p + streamPidPlace) x q refl e in
+      let past = p + streamDescriptorsPlace in
+      let g = next (reserved 3 1) descriptors 2 (reserved-sized 3 1) s l (p + streamPidPlace) past (x .1) q (omega arith) (f .1) in
       record {
         type-is = ap numberOf (in-its-part s l p (x .0) inside (f .0) (λ m. number 1 .parse s m p) ∙ f .0);
-        pid-is = ap numberOf (in-its-part s l p (x .0) inside (f .0) (λ m. reserved 3 1 .parse s m (p + 1)) ∙ g .0);
-        descriptors-asked = rw (in-its-part s l p (x .0) inside (f .0) (λ m. counted length12 rest .parse s m (p + 3)))
-            (descriptors-asked s b l (p + 3) (p + 5) (omega arith) (x .1 .1) q (g .1));
+        pid-is = ap numberOf (in-its-part s l p (x .0) inside (f .0) (λ m. reserved 3 1 .parse s m (p + streamPidPlace)) ∙ g .0);
+        descriptors-asked = rw (in-its-part s l p (x .0) inside (f .0) (λ m. counted length12 rest .parse s m past))
+            (descriptors-asked s b l past (past + 2) refl (x .1 .1) q (g .1));
       }
 
   stream-asked : (t : Stream) → stream .parse s l p ≡ found t q → StreamAsked s l t p q
@@ -155,11 +156,12 @@ module _ (s : List ℕ) (at n : ℕ) (b : Bytes s) (f p : ℕ) (begins : channel
   unfolding channelFields channelNetwork channelStream channelProgram pcrPid descriptorsPart streamsPart
   channel-fields x e =
       let l = at + n in
-      let g = next (number 2) _ 2 (number-sized 2) s l p (p + 2) x q refl e in
-      let h = next (number 2) _ 2 (number-sized 2) s l (p + 2) (p + 4) (x .1) q (omega arith) (g .1) in
-      let i = next (number 2) _ 2 (number-sized 2) s l (p + 4) (p + 6) (x .1 .1) q (omega arith) (h .1) in
-      let j = next (reserved 3 1) _ 2 (reserved-sized 3 1) s l (p + 6) (p + 8) (x .1 .1 .1) q (omega arith) (i .1) in
-      let k = followed-found descriptors streams s l (p + 8) (x .1 .1 .1 .1) q (j .1) in
+      let g = next (number 2) _ 2 (number-sized 2) s l p (p + channelStreamPlace) x q refl e in
+      let h = next (number 2) _ 2 (number-sized 2) s l (p + channelStreamPlace) (p + channelProgramPlace) (x .1) q (omega arith) (g .1) in
+      let i = next (number 2) _ 2 (number-sized 2) s l (p + channelProgramPlace) (p + pcrPidPlace) (x .1 .1) q (omega arith) (h .1) in
+      let past = p + channelDescriptorsPlace in
+      let j = next (reserved 3 1) _ 2 (reserved-sized 3 1) s l (p + pcrPidPlace) past (x .1 .1 .1) q (omega arith) (i .1) in
+      let k = followed-found descriptors streams s l past (x .1 .1 .1 .1) q (j .1) in
       let ds = x .1 .1 .1 .1 .0 in
       record {
         network-is = rw begins (ap (λ (t : ℕ). numberOf (number 2 .parse s l t)) (add-zero p) ∙ ap numberOf (g .0));
@@ -167,8 +169,8 @@ module _ (s : List ℕ) (at n : ℕ) (b : Bytes s) (f p : ℕ) (begins : channel
         program-is = rw (begins, i .0);
         pcr-pid-is = rw (begins, j .0);
         middle = k .0;
-        descriptors-asked = rw begins (descriptors-asked s b l (p + 8) (p + 10) (omega arith) ds (k .0) (k .1));
-        streams-asked = rw (begins, descriptors-end s b l (p + 8) ds (k .0) (k .1) .1)
+        descriptors-asked = rw begins (descriptors-asked s b l past (past + 2) refl ds (k .0) (k .1));
+        streams-asked = rw (begins, descriptors-end s b l past ds (k .0) (k .1) .1)
             (streams-asked s b l (k .0) (k .0 + 2) refl (x .1 .1 .1 .1 .1) q (k .2));
       }
 

@@ -11,7 +11,7 @@ use Rattle.body_formats.specs.declared.Part.the-variants.{Of}
 use Rattle.body_asking.specs.Agreement.{NoNumberThere, NoPartThere, FillsAt, FollowsLength, InTurn, HoldsInTurn}
 use Rattle.body_formats.specs.Identifier.{identifierBytes, identifier}
 use Rattle.index.specs.Index.{Descriptor, Stream, Channel, Message, message, Index}
-use Rattle.index.specs.Places.{startPlace, endPlace, typePlace, resourceCountPlace, resourcesPlace}
+use Rattle.index.specs.Places.{startPlace, endPlace, typePlace, resourceCountPlace, resourcesPlace, channelStreamPlace, channelProgramPlace, pcrPidPlace, channelDescriptorsPlace, streamPidPlace, streamDescriptorsPlace}
 use Rattle.index_fields.specs.Asked.{messageCount, messagePart, signaturePart, identifierPart, identifierDigit, network, start, end, typePart, class, level, resourceCount, resourcePart, resourceDigit, flag, channelNetwork, channelStream, channelProgram, pcrPid, descriptorsPart, streamsPart, descriptorTag, descriptorPart, streamType, streamPid, streamDescriptors, descriptorCount, streamCount}
 
 -- "Every field of an accepted table can be asked for, opaque bytes as the part of the body they fill; one that isn't there is 19, place 0":
@@ -36,9 +36,9 @@ pub record DescriptorsAsked (s : List ℕ) (part : Part) (p : ℕ) (ds : List De
 
 -- a stream that stands from p to q: its descriptors follow their length, and end where it ends
 pub record StreamAsked (s : List ℕ) (l : ℕ) (t : Stream) (p q : ℕ) : Type 0 where
-  pub type-is : streamType s p (l - p) ≡ Is (t .type) (p + 1)
-  pub pid-is : streamPid s p (l - p) ≡ Is (t .pid) (p + 3)
-  pub descriptors-asked : DescriptorsAsked s (streamDescriptors s p (l - p)) (p + 5) (t .descriptors) q
+  pub type-is : streamType s p (l - p) ≡ Is (t .type) (p + streamPidPlace)
+  pub pid-is : streamPid s p (l - p) ≡ Is (t .pid) (p + streamDescriptorsPlace)
+  pub descriptors-asked : DescriptorsAsked s (streamDescriptors s p (l - p)) (p + streamDescriptorsPlace + 2) (t .descriptors) q
 
 -- the part answered goes from p to q, all of its streams are ts, in order, and so many are counted in it
 pub record StreamsAsked (s : List ℕ) (part : Part) (p : ℕ) (ts : List Stream) (q : ℕ) : Type 0 where
@@ -54,13 +54,13 @@ pub record NoStream (s : List ℕ) (at n : ℕ) : Type 0 where
 
 -- it stands from p to q
 pub record ChannelAsked (s : List ℕ) (at n : ℕ) (c : Channel) (p q : ℕ) : Type 0 where
-  pub network-is : channelNetwork s at n ≡ Is (c .network) (p + 2)
-  pub stream-is : channelStream s at n ≡ Is (c .stream) (p + 4)
-  pub program-is : channelProgram s at n ≡ Is (c .program) (p + 6)
-  pub pcr-pid-is : pcrPid s at n ≡ Is (c .pcrPid) (p + 8)
+  pub network-is : channelNetwork s at n ≡ Is (c .network) (p + channelStreamPlace)
+  pub stream-is : channelStream s at n ≡ Is (c .stream) (p + channelProgramPlace)
+  pub program-is : channelProgram s at n ≡ Is (c .program) (p + pcrPidPlace)
+  pub pcr-pid-is : pcrPid s at n ≡ Is (c .pcrPid) (p + channelDescriptorsPlace)
   -- where the descriptors end: there stands the length of the streams
   pub middle : ℕ
-  pub descriptors-asked : DescriptorsAsked s (descriptorsPart s at n) (p + 10) (c .descriptors) middle
+  pub descriptors-asked : DescriptorsAsked s (descriptorsPart s at n) (p + channelDescriptorsPlace + 2) (c .descriptors) middle
   pub streams-asked : StreamsAsked s (streamsPart s at n) (middle + 2) (c .streams) q
 
 pub record NoChannel (s : List ℕ) (at n : ℕ) : Type 0 where

@@ -14,7 +14,7 @@ use Rattle.body_formats.specs.Resource.{resourceBytes, resource}
 use Rattle.body_formats.specs.Identifier.{identifier}
 use Rattle.body_asking.specs.Asking.{inBody, fieldIn, askedAt, inPart}
 use Rattle.index.specs.Index.{descriptor, stream}
-use Rattle.index.specs.Places.{networkPlace, startPlace, endPlace, typePlace, classPlace, resourceCountPlace, resourcesPlace}
+use Rattle.index.specs.Places.{networkPlace, startPlace, endPlace, typePlace, classPlace, resourceCountPlace, resourcesPlace, channelStreamPlace, channelProgramPlace, pcrPidPlace, channelDescriptorsPlace, streamPidPlace, streamDescriptorsPlace}
 
 -- ---- the table
 
@@ -87,20 +87,20 @@ unfoldable pub channelNetwork : List ℕ → ℕ → ℕ → Number
 channelNetwork s at n = numberOf (inChannel (number 2) 0 s at n)
 
 unfoldable pub channelStream : List ℕ → ℕ → ℕ → Number
-channelStream s at n = numberOf (inChannel (number 2) 2 s at n)
+channelStream s at n = numberOf (inChannel (number 2) channelStreamPlace s at n)
 
 unfoldable pub channelProgram : List ℕ → ℕ → ℕ → Number
-channelProgram s at n = numberOf (inChannel (number 2) 4 s at n)
+channelProgram s at n = numberOf (inChannel (number 2) channelProgramPlace s at n)
 
 unfoldable pub pcrPid : List ℕ → ℕ → ℕ → Number
-pcrPid s at n = numberOf (inChannel (reserved 3 1) 6 s at n)
+pcrPid s at n = numberOf (inChannel (reserved 3 1) pcrPidPlace s at n)
 
 -- the part that the channel's descriptors fill, and the one that its streams fill
 unfoldable pub descriptorsPart : List ℕ → ℕ → ℕ → Part
-descriptorsPart s at n = partOf (inChannel (counted length12 rest) 8 s at n)
+descriptorsPart s at n = partOf (inChannel (counted length12 rest) channelDescriptorsPlace s at n)
 
 unfoldable pub streamsPart : List ℕ → ℕ → ℕ → Part
-streamsPart s at n = partOf (andThen (inChannel (counted length12 rest) 8 s at n) (λ xs q. counted (lengthOf 2) rest .parse s (at + n) q))
+streamsPart s at n = partOf (andThen (inChannel (counted length12 rest) channelDescriptorsPlace s at n) (λ xs q. counted (lengthOf 2) rest .parse s (at + n) q))
 
 -- ---- a descriptor or a stream, told by where it begins and how many bytes its part has from there on: the next one begins where it ends
 
@@ -118,10 +118,10 @@ unfoldable pub streamType : List ℕ → ℕ → ℕ → Number
 streamType s at n = firstByte s at n
 
 unfoldable pub streamPid : List ℕ → ℕ → ℕ → Number
-streamPid s at n = numberOf (inPart s at n (λ l. reserved 3 1 .parse s l (at + 1)))
+streamPid s at n = numberOf (inPart s at n (λ l. reserved 3 1 .parse s l (at + streamPidPlace)))
 
 unfoldable pub streamDescriptors : List ℕ → ℕ → ℕ → Part
-streamDescriptors s at n = partOf (inPart s at n (λ l. counted length12 rest .parse s l (at + 3)))
+streamDescriptors s at n = partOf (inPart s at n (λ l. counted length12 rest .parse s l (at + streamDescriptorsPlace)))
 
 -- ---- how many descriptors or streams fill a part: "descriptors and streams repeat to the end of their part", and the first bad one is refused
 

@@ -6,11 +6,17 @@ use body_formats::RESOURCE_BYTES;
 use body_formats::RESOURCE_PAIRS;
 use body_formats::Step;
 use ground_refusal::Refusal;
+use index::CHANNEL_DESCRIPTORS_PLACE;
+use index::CHANNEL_PROGRAM_PLACE;
+use index::CHANNEL_STREAM_PLACE;
 use index::CLASS_PLACE;
 use index::END_PLACE;
 use index::NETWORK_PLACE;
+use index::PCR_PID_PLACE;
 use index::RESOURCE_COUNT_PLACE;
 use index::START_PLACE;
+use index::STREAM_DESCRIPTORS_PLACE;
+use index::STREAM_PID_PLACE;
 use index::TYPE_PLACE;
 ghost use mathlib.Core.Path.{_≡_};
 ghost use mathlib.Core.Bool.{_&&_};
@@ -22,7 +28,7 @@ ghost use Rattle.body_formats.specs.Format.{number, nibblesAmong, many};
 ghost use Rattle.body_formats.specs.Answers.{numberOf, ended};
 ghost use Rattle.body_asking.specs.Asking.{fieldIn};
 ghost use Rattle.index.specs.Index.{descriptor, descriptors, stream};
-ghost use Rattle.index.specs.Places.{classPlace};
+ghost use Rattle.index.specs.Places.{classPlace, channelProgramPlace};
 ghost use Rattle.index_fields.specs.Asked.{messageCount, messagePart, signaturePart, identifierPart, identifierDigit, network, start, end, typePart, class, level, resourceCount, resourceAt, resourcePart, resourceDigit, flag, channelAt, inChannel, channelNetwork, channelStream, channelProgram, pcrPid, descriptorsPart, streamsPart, firstByte, descriptorTag, descriptorPart, streamType, streamPid, streamDescriptors, countOf, descriptorCount, streamCount};
 
 // How many messages there are.
@@ -231,7 +237,7 @@ fn channel_at(s: &[u8], at: usize, n: usize) -> Number
 
 // The number of two bytes that stands k bytes into the channel.
 fn channel_number(s: &[u8], at: usize, n: usize, k: usize) -> Number
-    requires { ⌜ k ≤ 4 ⌝ }
+    requires { ⌜ k ≤ channelProgramPlace ⌝ }
     ensures { λ r. ⌜ r ≡ numberOf (inChannel (number 2) k (now (s .entry)) at n) ⌝ }
 {
     match channel_at(s, at, n) {
@@ -249,13 +255,13 @@ pub fn channel_network(s: &[u8], at: usize, n: usize) -> Number
 pub fn channel_stream(s: &[u8], at: usize, n: usize) -> Number
     ensures { λ r. ⌜ r ≡ channelStream (now (s .entry)) at n ⌝ }
 {
-    channel_number(s, at, n, 2)
+    channel_number(s, at, n, CHANNEL_STREAM_PLACE)
 }
 
 pub fn channel_program(s: &[u8], at: usize, n: usize) -> Number
     ensures { λ r. ⌜ r ≡ channelProgram (now (s .entry)) at n ⌝ }
 {
-    channel_number(s, at, n, 4)
+    channel_number(s, at, n, CHANNEL_PROGRAM_PLACE)
 }
 
 pub fn pcr_pid(s: &[u8], at: usize, n: usize) -> Number
@@ -263,7 +269,7 @@ pub fn pcr_pid(s: &[u8], at: usize, n: usize) -> Number
 {
     match channel_at(s, at, n) {
         Number::Refused(r) => Number::Refused(r),
-        Number::Is(f, q) => body_fields::read_reserved(s, at + n, q + 6, 3, 1),
+        Number::Is(f, q) => body_fields::read_reserved(s, at + n, q + PCR_PID_PLACE, 3, 1),
     }
 }
 
@@ -273,7 +279,7 @@ pub fn descriptors(s: &[u8], at: usize, n: usize) -> Part
 {
     match channel_at(s, at, n) {
         Number::Refused(r) => Part::Refused(r),
-        Number::Is(f, q) => body_fields::read_part12(s, at + n, q + 8),
+        Number::Is(f, q) => body_fields::read_part12(s, at + n, q + CHANNEL_DESCRIPTORS_PLACE),
     }
 }
 
@@ -323,7 +329,7 @@ pub fn stream_pid(s: &[u8], at: usize, n: usize) -> Number
     ensures { λ r. ⌜ r ≡ streamPid (now (s .entry)) at n ⌝ }
 {
     if body_asking::in_part(s, at, n) {
-        return body_fields::read_reserved(s, at + n, at + 1, 3, 1);
+        return body_fields::read_reserved(s, at + n, at + STREAM_PID_PLACE, 3, 1);
     }
     Number::Refused(Refusal::OutsideSet(0))
 }
@@ -333,7 +339,7 @@ pub fn stream_descriptors(s: &[u8], at: usize, n: usize) -> Part
     ensures { λ r. ⌜ r ≡ streamDescriptors (now (s .entry)) at n ⌝ }
 {
     if body_asking::in_part(s, at, n) {
-        return body_fields::read_part12(s, at + n, at + 3);
+        return body_fields::read_part12(s, at + n, at + STREAM_DESCRIPTORS_PLACE);
     }
     Part::Refused(Refusal::OutsideSet(0))
 }
@@ -398,7 +404,7 @@ fn skip_stream(s: &[u8], l: usize, p: usize) -> Step
     requires { ⌜ (p < l) × (l ≤ length (now s)) ⌝ }
     ensures { λ r. ⌜ r ≡ ended stream (now (s .entry)) l p ⌝ }
 {
-    match body_fields::read_reserved(s, l, p + 1, 3, 1) {
+    match body_fields::read_reserved(s, l, p + STREAM_PID_PLACE, 3, 1) {
         Number::Refused(r) => Step::Refused(r),
         Number::Is(v, q) => skip_descriptors(s, l, q),
     }
