@@ -39,7 +39,7 @@ pub fn number_in(s: &[u8], at: usize, n: usize, k: usize, w: usize) -> Number
     ensures { λ r. ⌜ r ≡ numberOf (fieldIn (count w) k (now (s .entry)) at n) ⌝ }
 {
     if in_body(s, at, n) {
-        return body_fields::read_number(s, at + n, at + k, w);
+        return body_numbers::read_number(s, at + n, at + k, w);
     }
     Number::Refused(Refusal::OutsideSet(0))
 }
@@ -49,9 +49,9 @@ fn skip_entry(s: &[u8], l: usize, p: usize, h: usize, w: usize) -> Step
     requires { ⌜ (h ≤ 7) × (w ≤ 7) ⌝ }
     ensures { λ r. ⌜ r ≡ ended (headedPart h w) (now (s .entry)) l p ⌝ }
 {
-    match body_fields::read_number(s, l, p, h) {
+    match body_numbers::read_number(s, l, p, h) {
         Number::Refused(r) => Step::Refused(r),
-        Number::Is(v, q) => match body_fields::read_part(s, l, q, w) {
+        Number::Is(v, q) => match body_parts::read_part(s, l, q, w) {
             Part::Refused(r) => Step::Refused(r),
             Part::Of(a, m) => Step::At(a + m),
         },

@@ -10,14 +10,15 @@ use lib.ListN.{length, getD, take, drop}
 use lib.Dec.{ltb, leb, eqb}
 use borrow.Author.Tests.{leb-true}
 use Rattle.ground_choices.specs.Choice.{if_then_else_}
-use Rattle.ground_refusal.specs.Numbers.{refusalNumber, refusalPlace}
+use Rattle.ground_refusal.specs.Numbers.{refusalPlace}
 use Rattle.ground_refusal.specs.declared.Refusal.{Refusal}
-use Rattle.ground_refusal.specs.declared.Refusal.the-variants.{SectionTooShort, OtherKind, FixedBitZero, SectionLengthOutside, OtherLength, NumberAboveLast, CheckNotZero, NotCurrent, OtherHeading, StoreTooShort, Contradiction, ImpossibleState, Missing, PastBody, PastPart, LeftOver, ReservedBitZero, DigitAboveNine, OutsideSet, ImpossibleDay, OutputTooSmall, TooLarge, OtherChecksum, NotOfTheForm}
+use Rattle.ground_refusal.specs.declared.Refusal.the-variants.{PastPart, ReservedBitZero, DigitAboveNine, OutsideSet, ImpossibleDay}
+use Rattle.ground_refusal.proofs.Numbers.{placeless-is}
 use Rattle.time_fields.specs.Field.{readTime, readEnd, isDecimal as decimalField, possible, momentOf, liveMark, asEnd}
 use Rattle.time_fields.specs.declared.Timed.{Timed}
 use Rattle.time_fields.specs.declared.Timed.the-variants.{At, Refused}
 use Rattle.time_fields.specs.declared.EndTimed.the-variants.{Live}
-use Rattle.body_formats.specs.Reading.{Reading, found, refused, andThen, need, Fault, fine, faulty, unless, judged, within, placeless}
+use Rattle.body_formats.specs.Reading.{Reading, found, refused, andThen, need, Fault, fine, faulty, unless, judged, within}
 use Rattle.body_formats.specs.Format.{Format, tapeEntry, span, count, only, outside, among, number, nibbles, bothAmong, nibbleAmong, nibblesAmong, reservedFirst, below, reserved, bytes, halves, tail, decimal, digits, followed, nothing, under, view, repeat, every, bytesAmong, times, listOf, rest, exact, parseMany, many, Length, lengthOf, leastOf, length12, counted, opaque}
 use Rattle.body_formats.specs.Time.{timeFault, endFault, time, endTime}
 use Rattle.body_formats.specs.Resource.{resourcePairs, resource, resources}
@@ -323,35 +324,6 @@ end-placed = only-placed (λ f at. endFault (readEnd f at)) (number 5) end-until
 
 pub resources-placed : Placed resources
 resources-placed = list-placed resource (digits-placed resourcePairs) (count 1) (count-placed 1)
-
--- ---- a refusal without its place
-
--- it has the same number, and place 0
-pub placeless-is : (r : Refusal) → (refusalNumber (placeless r) ≡ refusalNumber r) × (refusalPlace (placeless r) ≡ 0)
-placeless-is SectionTooShort = (refl, refl)
-placeless-is OtherKind = (refl, refl)
-placeless-is FixedBitZero = (refl, refl)
-placeless-is SectionLengthOutside = (refl, refl)
-placeless-is OtherLength = (refl, refl)
-placeless-is NumberAboveLast = (refl, refl)
-placeless-is CheckNotZero = (refl, refl)
-placeless-is NotCurrent = (refl, refl)
-placeless-is OtherHeading = (refl, refl)
-placeless-is StoreTooShort = (refl, refl)
-placeless-is Contradiction = (refl, refl)
-placeless-is ImpossibleState = (refl, refl)
-placeless-is (Missing at) = (refl, refl)
-placeless-is (PastBody at) = (refl, refl)
-placeless-is (PastPart at) = (refl, refl)
-placeless-is (LeftOver at) = (refl, refl)
-placeless-is (ReservedBitZero at) = (refl, refl)
-placeless-is (DigitAboveNine at) = (refl, refl)
-placeless-is (OutsideSet at) = (refl, refl)
-placeless-is (ImpossibleDay at) = (refl, refl)
-placeless-is OutputTooSmall = (refl, refl)
-placeless-is TooLarge = (refl, refl)
-placeless-is OtherChecksum = (refl, refl)
-placeless-is NotOfTheForm = (refl, refl)
 
 -- ---- whole bodies
 

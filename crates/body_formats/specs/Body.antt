@@ -6,8 +6,9 @@ use lib.ListN.{length}
 use lib.Dec.{leb, eqb}
 use Rattle.ground_placing.specs.Placed.{placed}
 use Rattle.ground_numbers.specs.Sizes.{bodyMost}
+use Rattle.ground_refusal.specs.Numbers.{placeless}
 use Rattle.ground_refusal.specs.declared.Refusal.the-variants.{OtherKind, OutsideSet, OutputTooSmall, TooLarge}
-use Rattle.body_formats.specs.Reading.{Reading, found, refused, andThen, need, placeless}
+use Rattle.body_formats.specs.Reading.{Reading, found, refused, andThen, need}
 use Rattle.body_formats.specs.Format.{Format, nothing}
 use Rattle.body_formats.specs.Answers.{stepOf}
 use Rattle.body_formats.specs.declared.Step.{Step}

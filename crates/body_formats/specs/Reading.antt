@@ -5,7 +5,7 @@ use mathlib.Core.List.{List}
 use lib.ListN.{length}
 use lib.Dec.{leb}
 use Rattle.ground_refusal.specs.declared.Refusal.{Refusal}
-use Rattle.ground_refusal.specs.declared.Refusal.the-variants.{SectionTooShort, OtherKind, FixedBitZero, SectionLengthOutside, OtherLength, NumberAboveLast, CheckNotZero, NotCurrent, OtherHeading, StoreTooShort, Contradiction, ImpossibleState, Missing, PastBody, PastPart, LeftOver, ReservedBitZero, DigitAboveNine, OutsideSet, ImpossibleDay, OutputTooSmall, TooLarge, OtherChecksum, NotOfTheForm}
+use Rattle.ground_refusal.specs.declared.Refusal.the-variants.{PastBody, PastPart}
 
 pub data Reading (A : Type 0) : Type 0 where
   found : A → ℕ → Reading A
@@ -46,30 +46,3 @@ judged (faulty r) x = refused r
 -- counted part": what begins at `at` ends at `end`, in the body s, whose innermost counted part ends at l. Both true: 14.
 abbrev pub within : {A : Type 0} → List ℕ → ℕ → ℕ → ℕ → Reading A → Reading A
 within s l at end x = need (leb end (length s)) (PastBody at) (need (leb end l) (PastPart at) x)
-
--- a refusal without its place, as writers answer it: "and always 0 from writers"
-abbrev pub placeless : Refusal → Refusal
-placeless SectionTooShort = SectionTooShort
-placeless OtherKind = OtherKind
-placeless FixedBitZero = FixedBitZero
-placeless SectionLengthOutside = SectionLengthOutside
-placeless OtherLength = OtherLength
-placeless NumberAboveLast = NumberAboveLast
-placeless CheckNotZero = CheckNotZero
-placeless NotCurrent = NotCurrent
-placeless OtherHeading = OtherHeading
-placeless StoreTooShort = StoreTooShort
-placeless Contradiction = Contradiction
-placeless ImpossibleState = ImpossibleState
-placeless (Missing at) = Missing 0
-placeless (PastBody at) = PastBody 0
-placeless (PastPart at) = PastPart 0
-placeless (LeftOver at) = LeftOver 0
-placeless (ReservedBitZero at) = ReservedBitZero 0
-placeless (DigitAboveNine at) = DigitAboveNine 0
-placeless (OutsideSet at) = OutsideSet 0
-placeless (ImpossibleDay at) = ImpossibleDay 0
-placeless OutputTooSmall = OutputTooSmall
-placeless TooLarge = TooLarge
-placeless OtherChecksum = OtherChecksum
-placeless NotOfTheForm = NotOfTheForm

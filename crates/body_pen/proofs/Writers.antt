@@ -9,9 +9,10 @@ use lib.ListN.{length}
 use lib.Dec.{leb, ltb}
 use borrow.Author.Tests.{leb-true, leb-false, le-leb, lt-leb, lt-ltb, le-ltb}
 use Rattle.ground_choices.specs.Choice.{if_then_else_}
+use Rattle.ground_refusal.specs.Numbers.{placeless}
 use Rattle.ground_refusal.specs.declared.Refusal.{Refusal}
 use Rattle.ground_refusal.specs.declared.Refusal.the-variants.{OutsideSet, OutputTooSmall, TooLarge}
-use Rattle.body_formats.specs.Reading.{Reading, found, refused, andThen, need, placeless}
+use Rattle.body_formats.specs.Reading.{Reading, found, refused, andThen, need}
 use Rattle.body_formats.specs.Format.{Format}
 use Rattle.body_formats.specs.Answers.{stepOf}
 use Rattle.ground_numbers.specs.Sizes.{bodyMost}

@@ -8,9 +8,10 @@ use lib.Dec.{ltb, leb}
 use Rattle.ground_numbers.specs.Sizes.{bodyMost}
 use Rattle.ground_choices.specs.Choice.{if_then_else_}
 use Rattle.ground_placing.specs.Placed.{placed}
+use Rattle.ground_refusal.specs.Numbers.{placeless}
 use Rattle.ground_refusal.specs.declared.Refusal.{Refusal}
 use Rattle.ground_refusal.specs.declared.Refusal.the-variants.{OutsideSet, OutputTooSmall, TooLarge}
-use Rattle.body_formats.specs.Reading.{Reading, found, refused, valueOf, placeless}
+use Rattle.body_formats.specs.Reading.{Reading, found, refused, valueOf}
 use Rattle.body_formats.specs.Format.{Format, tapeEntry, bytesOf}
 use Rattle.body_formats.specs.declared.Step.{Step}
 use Rattle.body_formats.specs.declared.Step.the-variants.{At as StepAt, Refused as NoStep}

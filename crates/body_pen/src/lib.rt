@@ -19,7 +19,7 @@ ghost use lib.ListN.{length, take, drop};
 ghost use lib.Dec.{leb, ltb};
 ghost use Rattle.ground_placing.specs.Placed.{placed};
 ghost use Rattle.ground_refusal.specs.declared.Refusal.the-variants.{OutsideSet};
-ghost use Rattle.body_formats.specs.Reading.{found, refused, andThen, need, placeless as withoutPlace};
+ghost use Rattle.body_formats.specs.Reading.{found, refused, andThen, need};
 ghost use Rattle.body_formats.specs.Format.{tapeEntry, span, bytesOf, count, among, number, nibblesAmong, reserved, bytesAmong, digits, rest, opaque};
 ghost use Rattle.body_formats.specs.Time.{time, endTime};
 ghost use Rattle.body_formats.specs.Identifier.{identifier};
@@ -184,7 +184,7 @@ pub fn put_count(tape: &[u64], x: Pen, w: usize, out: &mut [u8], wet: bool) -> C
             Number::Is(v, j) => {
                 put_at(out, size, w, v, wet);
                 Count {
-                    pen: Pen::At(grown(size, w as u64, body_fields::power(8 * w) <= v), j),
+                    pen: Pen::At(grown(size, w as u64, body_numbers::power(8 * w) <= v), j),
                     n: v,
                 }
             }
@@ -212,8 +212,8 @@ pub fn put_reserved_among(
             n: 0,
         },
         Pen::At(size, i) => {
-            let bound = body_fields::power(8 * w + 8 - k);
-            let ones = body_fields::power(8 * w + 8) - bound;
+            let bound = body_numbers::power(8 * w + 8 - k);
+            let ones = body_numbers::power(8 * w + 8) - bound;
             match number_among(tape, i, bound, lo, hi) {
                 Number::Refused(r) => Count {
                     pen: Pen::Refused(r),
@@ -292,7 +292,7 @@ pub fn put_part(pool: &[u8], tape: &[u64], x: Pen, w: usize, out: &mut [u8], wet
             Part::Refused(r) => Pen::Refused(r),
             Part::Of(a, n) => {
                 let m = n as u64;
-                let start = grown(size, w as u64, body_fields::power(8 * w) <= m);
+                let start = grown(size, w as u64, body_numbers::power(8 * w) <= m);
                 put_at(out, size, w, m, wet);
                 copy_span(pool, a, n, out, start, wet);
                 Pen::At(grown(start, m, false), k + 2)
@@ -359,7 +359,7 @@ pub fn put_bytes(
                 if m != n {
                     return Pen::Refused(Refusal::OutsideSet(k));
                 }
-                if !body_fields::all_among(pool, a, m, lo, hi) {
+                if !body_digits::all_among(pool, a, m, lo, hi) {
                     return Pen::Refused(Refusal::OutsideSet(k));
                 }
                 copy_span(pool, a, m, out, size, wet);
@@ -388,7 +388,7 @@ pub fn put_digits(pool: &[u8], tape: &[u64], x: Pen, h: usize, out: &mut [u8], w
                 if 9 < low {
                     return Pen::Refused(Refusal::DigitAboveNine(k));
                 }
-                if !body_fields::all_decimal(pool, a + 1, h) {
+                if !body_digits::all_decimal(pool, a + 1, h) {
                     return Pen::Refused(Refusal::DigitAboveNine(k));
                 }
                 let start = grown(size, 1, false);
@@ -586,44 +586,12 @@ pub fn measured(x: Pen, entries: usize) -> Step
     }
 }
 
-// A refusal with place 0.
-fn placeless(r: Refusal) -> Refusal
-    ensures { λ u. ⌜ u ≡ withoutPlace r ⌝ }
-{
-    match r {
-        Refusal::SectionTooShort => Refusal::SectionTooShort,
-        Refusal::OtherKind => Refusal::OtherKind,
-        Refusal::FixedBitZero => Refusal::FixedBitZero,
-        Refusal::SectionLengthOutside => Refusal::SectionLengthOutside,
-        Refusal::OtherLength => Refusal::OtherLength,
-        Refusal::NumberAboveLast => Refusal::NumberAboveLast,
-        Refusal::CheckNotZero => Refusal::CheckNotZero,
-        Refusal::NotCurrent => Refusal::NotCurrent,
-        Refusal::OtherHeading => Refusal::OtherHeading,
-        Refusal::StoreTooShort => Refusal::StoreTooShort,
-        Refusal::Contradiction => Refusal::Contradiction,
-        Refusal::ImpossibleState => Refusal::ImpossibleState,
-        Refusal::Missing(_at) => Refusal::Missing(0),
-        Refusal::PastBody(_at) => Refusal::PastBody(0),
-        Refusal::PastPart(_at) => Refusal::PastPart(0),
-        Refusal::LeftOver(_at) => Refusal::LeftOver(0),
-        Refusal::ReservedBitZero(_at) => Refusal::ReservedBitZero(0),
-        Refusal::DigitAboveNine(_at) => Refusal::DigitAboveNine(0),
-        Refusal::OutsideSet(_at) => Refusal::OutsideSet(0),
-        Refusal::ImpossibleDay(_at) => Refusal::ImpossibleDay(0),
-        Refusal::OutputTooSmall => Refusal::OutputTooSmall,
-        Refusal::TooLarge => Refusal::TooLarge,
-        Refusal::OtherChecksum => Refusal::OtherChecksum,
-        Refusal::NotOfTheForm => Refusal::NotOfTheForm,
-    }
-}
-
 // What a writer with so much room answers of a form that was measured: "always 0 from writers", "then 21".
 pub fn fitted(x: Step, room: usize) -> Step
     ensures { λ r. ⌜ r ≡ stepFitting room x ⌝ }
 {
     match x {
-        Step::Refused(r) => Step::Refused(placeless(r)),
+        Step::Refused(r) => Step::Refused(ground_refusal::placeless(r)),
         Step::At(n) => {
             if room < n {
                 return Step::Refused(Refusal::OutputTooSmall);

@@ -104,7 +104,7 @@ pub fn walk_number(s: &[u8], l: usize, x: Walk, w: usize, tape: &mut [u64], wet:
 {
     match x {
         Walk::Refused(r) => Walk::Refused(r),
-        Walk::At(p, room) => past_number(body_fields::read_number(s, l, p, w), tape, room, wet),
+        Walk::At(p, room) => past_number(body_numbers::read_number(s, l, p, w), tape, room, wet),
     }
 }
 
@@ -125,8 +125,8 @@ pub fn walk_among(
     match x {
         Walk::Refused(r) => Walk::Refused(r),
         Walk::At(p, room) => {
-            let n = body_fields::read_number(s, l, p, w);
-            past_number(body_fields::among(n, p, lo, hi), tape, room, wet)
+            let n = body_numbers::read_number(s, l, p, w);
+            past_number(body_numbers::among(n, p, lo, hi), tape, room, wet)
         }
     }
 }
@@ -151,8 +151,8 @@ pub fn walk_told_among(
             n: 0,
         },
         Walk::At(p, room) => {
-            let n = body_fields::read_number(s, l, p, w);
-            told(body_fields::among(n, p, lo, hi), tape, room, wet)
+            let n = body_numbers::read_number(s, l, p, w);
+            told(body_numbers::among(n, p, lo, hi), tape, room, wet)
         }
     }
 }
@@ -167,7 +167,7 @@ pub fn walk_count(s: &[u8], l: usize, x: Walk, w: usize, tape: &mut [u64], wet: 
             walk: Walk::Refused(r),
             n: 0,
         },
-        Walk::At(p, room) => told(body_fields::read_number(s, l, p, w), tape, room, wet),
+        Walk::At(p, room) => told(body_numbers::read_number(s, l, p, w), tape, room, wet),
     }
 }
 
@@ -189,7 +189,7 @@ pub fn walk_reserved(
             walk: Walk::Refused(r),
             n: 0,
         },
-        Walk::At(p, room) => told(body_fields::read_reserved(s, l, p, k, w), tape, room, wet),
+        Walk::At(p, room) => told(body_numbers::read_reserved(s, l, p, k, w), tape, room, wet),
     }
 }
 
@@ -214,8 +214,8 @@ pub fn walk_reserved_among(
             n: 0,
         },
         Walk::At(p, room) => {
-            let n = body_fields::read_reserved(s, l, p, k, w);
-            told(body_fields::among(n, p, lo, hi), tape, room, wet)
+            let n = body_numbers::read_reserved(s, l, p, k, w);
+            told(body_numbers::among(n, p, lo, hi), tape, room, wet)
         }
     }
 }
@@ -226,7 +226,7 @@ pub fn walk_time(s: &[u8], l: usize, x: Walk, tape: &mut [u64], wet: bool) -> Wa
 {
     match x {
         Walk::Refused(r) => Walk::Refused(r),
-        Walk::At(p, room) => past_number(body_fields::read_time(s, l, p), tape, room, wet),
+        Walk::At(p, room) => past_number(body_numbers::read_time(s, l, p), tape, room, wet),
     }
 }
 
@@ -236,7 +236,7 @@ pub fn walk_end(s: &[u8], l: usize, x: Walk, tape: &mut [u64], wet: bool) -> Wal
 {
     match x {
         Walk::Refused(r) => Walk::Refused(r),
-        Walk::At(p, room) => past_number(body_fields::read_end(s, l, p), tape, room, wet),
+        Walk::At(p, room) => past_number(body_numbers::read_end(s, l, p), tape, room, wet),
     }
 }
 
@@ -247,7 +247,7 @@ pub fn walk_part(s: &[u8], l: usize, x: Walk, w: usize, tape: &mut [u64], wet: b
 {
     match x {
         Walk::Refused(r) => Walk::Refused(r),
-        Walk::At(p, room) => past_part(body_fields::read_part(s, l, p, w), tape, room, wet),
+        Walk::At(p, room) => past_part(body_parts::read_part(s, l, p, w), tape, room, wet),
     }
 }
 
@@ -280,7 +280,7 @@ pub fn walk_bytes(
     match x {
         Walk::Refused(r) => Walk::Refused(r),
         Walk::At(p, room) => past_part(
-            body_fields::read_bytes(s, l, p, n, lo, hi),
+            body_digits::read_bytes(s, l, p, n, lo, hi),
             tape,
             room,
             wet,
@@ -294,7 +294,7 @@ pub fn walk_digits(s: &[u8], l: usize, x: Walk, h: usize, tape: &mut [u64], wet:
 {
     match x {
         Walk::Refused(r) => Walk::Refused(r),
-        Walk::At(p, room) => past_part(body_fields::read_digits(s, l, p, h), tape, room, wet),
+        Walk::At(p, room) => past_part(body_digits::read_digits(s, l, p, h), tape, room, wet),
     }
 }
 
@@ -304,7 +304,7 @@ pub fn walk_identifier(s: &[u8], l: usize, x: Walk, tape: &mut [u64], wet: bool)
 {
     match x {
         Walk::Refused(r) => Walk::Refused(r),
-        Walk::At(p, room) => past_part(body_fields::read_identifier(s, l, p), tape, room, wet),
+        Walk::At(p, room) => past_part(body_digits::read_identifier(s, l, p), tape, room, wet),
     }
 }
 
@@ -332,7 +332,7 @@ pub fn walk_nibbles(
 {
     match x {
         Walk::Refused(r) => Walk::Refused(r),
-        Walk::At(p, room) => match body_fields::read_number(s, l, p, 1) {
+        Walk::At(p, room) => match body_numbers::read_number(s, l, p, 1) {
             Number::Refused(r) => Walk::Refused(r),
             Number::Is(v, q) => {
                 let high = v / 16;
@@ -376,7 +376,7 @@ pub fn enter(s: &[u8], l: usize, x: Walk, w: usize) -> Opened
             walk: Walk::Refused(r),
             end: 0,
         },
-        Walk::At(p, room) => into(body_fields::read_part(s, l, p, w), room),
+        Walk::At(p, room) => into(body_parts::read_part(s, l, p, w), room),
     }
 }
 
@@ -389,7 +389,7 @@ pub fn enter12(s: &[u8], l: usize, x: Walk) -> Opened
             walk: Walk::Refused(r),
             end: 0,
         },
-        Walk::At(p, room) => into(body_fields::read_part12(s, l, p), room),
+        Walk::At(p, room) => into(body_parts::read_part12(s, l, p), room),
     }
 }
 
@@ -403,7 +403,7 @@ pub fn enter_least(s: &[u8], l: usize, x: Walk, w: usize, least: u64) -> Opened
             walk: Walk::Refused(r),
             end: 0,
         },
-        Walk::At(p, room) => into(body_fields::read_part_least(s, l, p, w, least), room),
+        Walk::At(p, room) => into(body_parts::read_part_least(s, l, p, w, least), room),
     }
 }
 

@@ -9,23 +9,23 @@ ghost use Rattle.certificate_fields.specs.Asked.{authorizationCount, aut
 pub fn authorization_count(s: &[u8]) -> Number
     ensures { λ r. ⌜ r ≡ authorizationCount (now (s .entry)) ⌝ }
 {
-    body_fields::read_number(s, s.len(), 0, 1)
+    body_numbers::read_number(s, s.len(), 0, 1)
 }
 
 // The part of the body that the i-th certificate authorization list fills.
 pub fn authorization(s: &[u8], i: u64) -> Part
     ensures { λ r. ⌜ r ≡ authorizationPart (now (s .entry)) i ⌝ }
 {
-    body_fields::listed_part(s, s.len(), 0, 1, 2, i)
+    body_parts::listed_part(s, s.len(), 0, 1, 2, i)
 }
 
 // How many certificates there are.
 pub fn certificate_count(s: &[u8]) -> Number
     ensures { λ r. ⌜ r ≡ certificateCount (now (s .entry)) ⌝ }
 {
-    match body_fields::skip_list(s, s.len(), 0, 1, 2) {
+    match body_parts::skip_list(s, s.len(), 0, 1, 2) {
         Step::Refused(r) => Number::Refused(r),
-        Step::At(a) => body_fields::read_number(s, s.len(), a, 1),
+        Step::At(a) => body_numbers::read_number(s, s.len(), a, 1),
     }
 }
 
@@ -33,9 +33,9 @@ pub fn certificate_count(s: &[u8]) -> Number
 pub fn certificate(s: &[u8], i: u64) -> Part
     ensures { λ r. ⌜ r ≡ certificatePart (now (s .entry)) i ⌝ }
 {
-    match body_fields::skip_list(s, s.len(), 0, 1, 2) {
+    match body_parts::skip_list(s, s.len(), 0, 1, 2) {
         Step::Refused(r) => Part::Refused(r),
-        Step::At(a) => body_fields::listed_part(s, s.len(), a, 1, 1, i),
+        Step::At(a) => body_parts::listed_part(s, s.len(), a, 1, 1, i),
     }
 }
 
@@ -44,11 +44,11 @@ pub fn signature(s: &[u8]) -> Part
     ensures { λ r. ⌜ r ≡ signaturePart (now (s .entry)) ⌝ }
 {
     let l = s.len();
-    match body_fields::skip_list(s, l, 0, 1, 2) {
+    match body_parts::skip_list(s, l, 0, 1, 2) {
         Step::Refused(r) => Part::Refused(r),
-        Step::At(a) => match body_fields::skip_list(s, l, a, 1, 1) {
+        Step::At(a) => match body_parts::skip_list(s, l, a, 1, 1) {
             Step::Refused(r) => Part::Refused(r),
-            Step::At(b) => body_fields::read_part(s, l, b, 2),
+            Step::At(b) => body_parts::read_part(s, l, b, 2),
         },
     }
 }

@@ -48,7 +48,7 @@ fn walk_certificate(s: &[u8], l: usize, x: Walk, tape: &mut [u64], wet: bool) ->
 pub fn read(kind: u32, s: &[u8]) -> Step
     ensures { λ r. ⌜ r ≡ bodyRead certificate certificateKind kind (now (s .entry)) ⌝ }
 {
-    match body_fields::open_body(CERTIFICATE_KIND, kind, s) {
+    match body_parts::open_body(CERTIFICATE_KIND, kind, s) {
         Step::Refused(r) => Step::Refused(r),
         Step::At(start) => {
             let mut none: [u64; 1] = [0; 1];
@@ -62,7 +62,7 @@ pub fn lay(kind: u32, s: &[u8], tape: &mut [u64]) -> Step
     ensures said { λ r. ⌜ r ≡ bodyLaid certificate certificateKind kind (now (s .entry)) (length (now (tape .entry))) ⌝ }
     ensures left { λ r. ⌜ now (tape .exit) ≡ laidTape certificate certificateKind kind (now (s .entry)) (now (tape .entry)) ⌝ }
 {
-    match body_fields::open_body(CERTIFICATE_KIND, kind, s) {
+    match body_parts::open_body(CERTIFICATE_KIND, kind, s) {
         Step::Refused(r) => Step::Refused(r),
         Step::At(start) => {
             let room = tape.len() + 1;

@@ -88,7 +88,7 @@ pub fn is_address(s: &[u8], p: usize, n: usize, kind: u64) -> bool
     ensures { λ r. ⌜ r ≡ isAddress kind (take n (drop p (now (s .entry)))) ⌝ }
 {
     if kind == 1 {
-        return body_fields::all_among(s, p, n, b'0', b'9');
+        return body_digits::all_among(s, p, n, b'0', b'9');
     }
     if kind == 2 {
         return true;

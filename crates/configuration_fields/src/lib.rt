@@ -35,7 +35,7 @@ enum Three {
 pub fn command_count(s: &[u8]) -> Number
     ensures { λ r. ⌜ r ≡ commandCount (now (s .entry)) ⌝ }
 {
-    body_fields::read_number(s, s.len(), 0, 1)
+    body_numbers::read_number(s, s.len(), 0, 1)
 }
 
 // The part of the body that the command at p fills, passed by its tag and its length.
@@ -70,7 +70,7 @@ pub fn signature(s: &[u8]) -> Part
         Number::Refused(r) => Part::Refused(r),
         Number::Is(n, q) => match body_asking::skip_entries(s, l, q, 1, 2, n) {
             Step::Refused(r) => Part::Refused(r),
-            Step::At(end) => body_fields::read_part(s, l, end, 2),
+            Step::At(end) => body_parts::read_part(s, l, end, 2),
         },
     }
 }
@@ -81,7 +81,7 @@ pub fn command_tag(s: &[u8], p: usize) -> Number
 {
     let l = s.len();
     if p < l {
-        return body_fields::read_number(s, l, p, 1);
+        return body_numbers::read_number(s, l, p, 1);
     }
     Number::Refused(Refusal::OutsideSet(0))
 }
@@ -92,7 +92,7 @@ pub fn command_content(s: &[u8], p: usize) -> Part
 {
     match command_tag(s, p) {
         Number::Refused(r) => Part::Refused(r),
-        Number::Is(tag, q) => body_fields::read_part_least(s, s.len(), q, 2, least_content(tag)),
+        Number::Is(tag, q) => body_parts::read_part_least(s, s.len(), q, 2, least_content(tag)),
     }
 }
 
@@ -121,7 +121,7 @@ fn number_in(s: &[u8], p: usize, tag: u64, k: usize, w: usize) -> Number
 {
     match content(s, p, tag) {
         Place::Refused(r) => Number::Refused(r),
-        Place::In(q, l) => body_fields::read_number(s, l, q + k, w),
+        Place::In(q, l) => body_numbers::read_number(s, l, q + k, w),
     }
 }
 
@@ -132,8 +132,8 @@ fn among_in(s: &[u8], p: usize, tag: u64, k: usize, lo: u64, hi: u64) -> Number
 {
     match content(s, p, tag) {
         Place::Refused(r) => Number::Refused(r),
-        Place::In(q, l) => body_fields::among(
-            body_fields::read_number(s, l, q + k, 1),
+        Place::In(q, l) => body_numbers::among(
+            body_numbers::read_number(s, l, q + k, 1),
             q + k,
             lo,
             hi,
@@ -148,11 +148,11 @@ fn read_three(s: &[u8], l: usize, p: usize, w: usize) -> Three
     requires { ⌜ w ≤ 7 ⌝ }
     ensures { λ r. ⌜ r ≡ threeOf (plain w .parse (now (s .entry)) l p) ⌝ }
 {
-    match body_fields::read_number(s, l, p, w) {
+    match body_numbers::read_number(s, l, p, w) {
         Number::Refused(r) => Three::Refused(r),
-        Number::Is(a, q) => match body_fields::read_number(s, l, q, 1) {
+        Number::Is(a, q) => match body_numbers::read_number(s, l, q, 1) {
             Number::Refused(r) => Three::Refused(r),
-            Number::Is(b, t) => match body_fields::read_number(s, l, t, 1) {
+            Number::Is(b, t) => match body_numbers::read_number(s, l, t, 1) {
                 Number::Refused(r) => Three::Refused(r),
                 Number::Is(c, end) => Three::Are(a, b, c, end),
             },
@@ -267,7 +267,7 @@ fn resource(s: &[u8], at: Place) -> Part
 {
     match at {
         Place::Refused(r) => Part::Refused(r),
-        Place::In(q, l) => body_fields::read_digits(s, l, q, RESOURCE_PAIRS),
+        Place::In(q, l) => body_digits::read_digits(s, l, q, RESOURCE_PAIRS),
     }
 }
 
@@ -277,7 +277,7 @@ fn resource_digit(s: &[u8], at: Place, j: u64) -> Number
 {
     match at {
         Place::Refused(r) => Number::Refused(r),
-        Place::In(q, l) => body_fields::digit_at(s, l, q, RESOURCE_PAIRS, j),
+        Place::In(q, l) => body_digits::digit_at(s, l, q, RESOURCE_PAIRS, j),
     }
 }
 
@@ -289,7 +289,7 @@ pub fn code_address(s: &[u8], p: usize) -> Part
 {
     match content(s, p, 2) {
         Place::Refused(r) => Part::Refused(r),
-        Place::In(q, l) => body_fields::read_part(s, l, q, 1),
+        Place::In(q, l) => body_parts::read_part(s, l, q, 1),
     }
 }
 
@@ -299,7 +299,7 @@ fn code_at(s: &[u8], p: usize) -> Place
 {
     match content(s, p, 2) {
         Place::Refused(r) => Place::Refused(r),
-        Place::In(q, l) => match body_fields::read_part(s, l, q, 1) {
+        Place::In(q, l) => match body_parts::read_part(s, l, q, 1) {
             Part::Refused(r) => Place::Refused(r),
             Part::Of(a, n) => Place::In(a + n, l),
         },
@@ -352,7 +352,7 @@ pub fn return_kind(s: &[u8], p: usize) -> Number
 fn judged_address(s: &[u8], l: usize, p: usize, kind: u64) -> Part
     ensures { λ r. ⌜ r ≡ partOf (address kind .parse (now (s .entry)) l p) ⌝ }
 {
-    match body_fields::read_part(s, l, p, 1) {
+    match body_parts::read_part(s, l, p, 1) {
         Part::Refused(r) => Part::Refused(r),
         Part::Of(a, n) => {
             if !length_fits(kind, n as u64) {
@@ -370,7 +370,7 @@ fn judged_address(s: &[u8], l: usize, p: usize, kind: u64) -> Part
 fn address_in(s: &[u8], l: usize, q: usize) -> Part
     ensures { λ r. ⌜ r ≡ partOf (addressIn (now (s .entry)) l q) ⌝ }
 {
-    match body_fields::among(body_fields::read_number(s, l, q, 1), q, 1, 3) {
+    match body_numbers::among(body_numbers::read_number(s, l, q, 1), q, 1, 3) {
         Number::Refused(r) => Part::Refused(r),
         Number::Is(kind, p) => judged_address(s, l, p, kind),
     }
@@ -414,7 +414,7 @@ fn list_at(s: &[u8], l: usize, q: usize, w: usize, i: u64) -> Place
     requires { ⌜ w ≤ resourceBytes ⌝ }
     ensures { λ r. ⌜ r ≡ placeRead (listAt w i (now (s .entry)) l q) ⌝ }
 {
-    match body_fields::read_number(s, l, q, 1) {
+    match body_numbers::read_number(s, l, q, 1) {
         Number::Refused(r) => Place::Refused(r),
         Number::Is(n, at) => {
             if i < n {
@@ -440,7 +440,7 @@ pub fn parameter(s: &[u8], p: usize, i: u64) -> Number
 {
     match parameter_at(s, p, i) {
         Place::Refused(r) => Number::Refused(r),
-        Place::In(q, l) => body_fields::read_number(s, l, q, 1),
+        Place::In(q, l) => body_numbers::read_number(s, l, q, 1),
     }
 }
 
@@ -460,7 +460,7 @@ fn after_address(s: &[u8], l: usize, q: usize) -> Place
 fn after_parameters(s: &[u8], l: usize, q: usize) -> Place
     ensures { λ r. ⌜ r ≡ placeRead (terminalsIn 7 (now (s .entry)) l q) ⌝ }
 {
-    match body_fields::read_number(s, l, q, 1) {
+    match body_numbers::read_number(s, l, q, 1) {
         Number::Refused(r) => Place::Refused(r),
         Number::Is(n, at) => Place::In(at + (n as usize), l),
     }
@@ -513,7 +513,7 @@ pub fn terminal_count(s: &[u8], p: usize) -> Number
 {
     match terminals_at(s, p) {
         Place::Refused(r) => Number::Refused(r),
-        Place::In(q, l) => body_fields::read_number(s, l, q, 1),
+        Place::In(q, l) => body_numbers::read_number(s, l, q, 1),
     }
 }
 

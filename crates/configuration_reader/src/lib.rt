@@ -13,7 +13,7 @@ ghost use Rattle.configuration.specs.Configuration.{configurationKind, configur
 pub fn read(kind: u32, s: &[u8]) -> Step
     ensures { λ r. ⌜ r ≡ bodyRead configuration configurationKind kind (now (s .entry)) ⌝ }
 {
-    match body_fields::open_body(CONFIGURATION_KIND, kind, s) {
+    match body_parts::open_body(CONFIGURATION_KIND, kind, s) {
         Step::Refused(r) => Step::Refused(r),
         Step::At(start) => {
             let mut none: [u64; 1] = [0; 1];
@@ -27,7 +27,7 @@ pub fn lay(kind: u32, s: &[u8], tape: &mut [u64]) -> Step
     ensures said { λ r. ⌜ r ≡ bodyLaid configuration configurationKind kind (now (s .entry)) (length (now (tape .entry))) ⌝ }
     ensures left { λ r. ⌜ now (tape .exit) ≡ laidTape configuration configurationKind kind (now (s .entry)) (now (tape .entry)) ⌝ }
 {
-    match body_fields::open_body(CONFIGURATION_KIND, kind, s) {
+    match body_parts::open_body(CONFIGURATION_KIND, kind, s) {
         Step::Refused(r) => Step::Refused(r),
         Step::At(start) => {
             let room = tape.len() + 1;

@@ -78,7 +78,7 @@ fn walk_address(s: &[u8], l: usize, x: Walk, kind: u64, tape: &mut [u64], wet: b
 {
     match x {
         Walk::Refused(r) => Walk::Refused(r),
-        Walk::At(p, room) => match body_fields::read_part(s, l, p, 1) {
+        Walk::At(p, room) => match body_parts::read_part(s, l, p, 1) {
             Part::Refused(r) => Walk::Refused(r),
             Part::Of(a, n) => {
                 if !configuration_addresses::length_fits(kind, n as u64) {

@@ -13,14 +13,14 @@ ghost use Rattle.content_fields.specs.Asked.{identifierPart, identifierD
 pub fn identifier(s: &[u8]) -> Part
     ensures { λ r. ⌜ r ≡ identifierPart (now (s .entry)) ⌝ }
 {
-    body_fields::read_identifier(s, s.len(), 0)
+    body_digits::read_identifier(s, s.len(), 0)
 }
 
 // The i-th digit of the identifier.
 pub fn identifier_digit(s: &[u8], i: u64) -> Number
     ensures { λ r. ⌜ r ≡ identifierDigit (now (s .entry)) i ⌝ }
 {
-    body_fields::identifier_digit_at(s, s.len(), 0, i)
+    body_digits::identifier_digit_at(s, s.len(), 0, i)
 }
 
 // The extension that goes with the body: the CRC-16 of the 18 bytes that hold the identifier.
@@ -38,7 +38,7 @@ fn number_among(s: &[u8], l: usize, p: usize, k: usize, lo: u64, hi: u64) -> Num
     requires { ⌜ k ≤ 8 ⌝ }
     ensures { λ r. ⌜ r ≡ numberOf (among lo hi (reserved k 0) .parse (now (s .entry)) l p) ⌝ }
 {
-    body_fields::among(body_fields::read_reserved(s, l, p, k, 0), p, lo, hi)
+    body_numbers::among(body_numbers::read_reserved(s, l, p, k, 0), p, lo, hi)
 }
 
 // How many languages there are.
@@ -57,7 +57,7 @@ pub fn language(s: &[u8], i: u64) -> Part
         Number::Refused(r) => Part::Refused(r),
         Number::Is(n, q) => match body_asking::nth_entry(s, l, q, 0, 4, n, i) {
             Step::Refused(r) => Part::Refused(r),
-            Step::At(p) => body_fields::read_part(s, l, p, 4),
+            Step::At(p) => body_parts::read_part(s, l, p, 4),
         },
     }
 }
@@ -71,7 +71,7 @@ pub fn signature(s: &[u8]) -> Part
         Number::Refused(r) => Part::Refused(r),
         Number::Is(n, q) => match body_asking::skip_entries(s, l, q, 0, 4, n) {
             Step::Refused(r) => Part::Refused(r),
-            Step::At(p) => body_fields::read_part(s, l, p, 2),
+            Step::At(p) => body_parts::read_part(s, l, p, 2),
         },
     }
 }
@@ -81,7 +81,7 @@ pub fn letters(s: &[u8], at: usize, n: usize) -> Part
     ensures { λ r. ⌜ r ≡ lettersPart (now (s .entry)) at n ⌝ }
 {
     if body_asking::in_body(s, at, n) {
-        return body_fields::read_bytes(s, at + n, at, 3, 0x61, 0x7A);
+        return body_digits::read_bytes(s, at + n, at, 3, 0x61, 0x7A);
     }
     Part::Refused(Refusal::OutsideSet(0))
 }
@@ -100,7 +100,7 @@ pub fn text(s: &[u8], at: usize, n: usize) -> Part
     ensures { λ r. ⌜ r ≡ textPart (now (s .entry)) at n ⌝ }
 {
     if body_asking::in_body(s, at, n) {
-        return body_fields::read_part(s, at + n, at + 4, 2);
+        return body_parts::read_part(s, at + n, at + 4, 2);
     }
     Part::Refused(Refusal::OutsideSet(0))
 }
@@ -111,7 +111,7 @@ pub fn agency(s: &[u8], at: usize, n: usize) -> Part
 {
     match text(s, at, n) {
         Part::Refused(r) => Part::Refused(r),
-        Part::Of(a, m) => body_fields::read_part(s, at + n, a + m, 1),
+        Part::Of(a, m) => body_parts::read_part(s, at + n, a + m, 1),
     }
 }
 
@@ -133,7 +133,7 @@ pub fn auxiliary_type(s: &[u8], at: usize, n: usize, i: u64) -> Number
         Number::Refused(r) => Number::Refused(r),
         Number::Is(m, q) => match body_asking::nth_entry(s, at + n, q, 1, 3, m, i) {
             Step::Refused(r) => Number::Refused(r),
-            Step::At(p) => body_fields::read_number(s, at + n, p, 1),
+            Step::At(p) => body_numbers::read_number(s, at + n, p, 1),
         },
     }
 }
@@ -144,6 +144,6 @@ pub fn auxiliary(s: &[u8], at: usize, n: usize, i: u64) -> Part
 {
     match auxiliary_type(s, at, n, i) {
         Number::Refused(r) => Part::Refused(r),
-        Number::Is(t, q) => body_fields::read_part(s, at + n, q, 3),
+        Number::Is(t, q) => body_parts::read_part(s, at + n, q, 3),
     }
 }

@@ -14,7 +14,7 @@ ghost use Rattle.content.specs.Content.{contentKind, content, contentRead};
 pub fn read(kind: u32, extension: u32, s: &[u8]) -> Step
     ensures { λ r. ⌜ r ≡ contentRead 3 kind extension (now (s .entry)) ⌝ }
 {
-    match body_fields::open_body(CONTENT_KIND, kind, s) {
+    match body_parts::open_body(CONTENT_KIND, kind, s) {
         Step::Refused(r) => Step::Refused(r),
         Step::At(start) => {
             let mut none: [u64; 1] = [0; 1];
@@ -38,7 +38,7 @@ pub fn lay(kind: u32, s: &[u8], tape: &mut [u64]) -> Step
     ensures said { λ r. ⌜ r ≡ bodyLaid (content 3) contentKind kind (now (s .entry)) (length (now (tape .entry))) ⌝ }
     ensures left { λ r. ⌜ now (tape .exit) ≡ laidTape (content 3) contentKind kind (now (s .entry)) (now (tape .entry)) ⌝ }
 {
-    match body_fields::open_body(CONTENT_KIND, kind, s) {
+    match body_parts::open_body(CONTENT_KIND, kind, s) {
         Step::Refused(r) => Step::Refused(r),
         Step::At(start) => {
             let room = tape.len() + 1;

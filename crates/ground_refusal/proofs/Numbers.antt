@@ -5,7 +5,7 @@ use mathlib.Core.Bool.{true, cond}
 use mathlib.Core.List.{List, [], _∷_}
 use native.Mathlib.Omega.{arith}
 use lib.Dec.{eqb}
-use Rattle.ground_refusal.specs.Numbers.{refusalNumber, isNumber, refusalPlace}
+use Rattle.ground_refusal.specs.Numbers.{refusalNumber, isNumber, refusalPlace, placeless}
 use Rattle.ground_refusal.specs.declared.Refusal.{Refusal}
 use Rattle.ground_refusal.specs.declared.Refusal.the-variants.{SectionTooShort, OtherKind, FixedBitZero, SectionLengthOutside, OtherLength, NumberAboveLast, CheckNotZero, NotCurrent, OtherHeading, StoreTooShort, Contradiction, ImpossibleState, Missing, PastBody, PastPart, LeftOver, ReservedBitZero, DigitAboveNine, OutsideSet, ImpossibleDay, OutputTooSmall, TooLarge, OtherChecksum, NotOfTheForm}
 
@@ -69,3 +69,30 @@ number-most r = known r .most
 -- a number and a place say which refusal it is
 pub one-refusal : (r r′ : Refusal) → refusalNumber r ≡ refusalNumber r′ → refusalPlace r ≡ refusalPlace r′ → r ≡ r′
 one-refusal r r′ n p = sym (known r .back) ∙ ap₂ refusalOf n p ∙ known r′ .back
+
+-- without its place a refusal has the same number, and place 0
+pub placeless-is : (r : Refusal) → (refusalNumber (placeless r) ≡ refusalNumber r) × (refusalPlace (placeless r) ≡ 0)
+placeless-is SectionTooShort = (refl, refl)
+placeless-is OtherKind = (refl, refl)
+placeless-is FixedBitZero = (refl, refl)
+placeless-is SectionLengthOutside = (refl, refl)
+placeless-is OtherLength = (refl, refl)
+placeless-is NumberAboveLast = (refl, refl)
+placeless-is CheckNotZero = (refl, refl)
+placeless-is NotCurrent = (refl, refl)
+placeless-is OtherHeading = (refl, refl)
+placeless-is StoreTooShort = (refl, refl)
+placeless-is Contradiction = (refl, refl)
+placeless-is ImpossibleState = (refl, refl)
+placeless-is (Missing at) = (refl, refl)
+placeless-is (PastBody at) = (refl, refl)
+placeless-is (PastPart at) = (refl, refl)
+placeless-is (LeftOver at) = (refl, refl)
+placeless-is (ReservedBitZero at) = (refl, refl)
+placeless-is (DigitAboveNine at) = (refl, refl)
+placeless-is (OutsideSet at) = (refl, refl)
+placeless-is (ImpossibleDay at) = (refl, refl)
+placeless-is OutputTooSmall = (refl, refl)
+placeless-is TooLarge = (refl, refl)
+placeless-is OtherChecksum = (refl, refl)
+placeless-is NotOfTheForm = (refl, refl)

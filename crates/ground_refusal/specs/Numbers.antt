@@ -1,4 +1,4 @@
--- What a reader has to believe of refusals: document 01's number for each case, and its place.
+-- What a reader has to believe of refusals: document 01's number for each case, its place, and the case without its place.
 use Prim.Native.Nat.{ℕ}
 use mathlib.Core.Bool.{Bool, _&&_}
 use lib.Dec.{leb}
@@ -62,3 +62,30 @@ refusalPlace OutputTooSmall = 0
 refusalPlace TooLarge = 0
 refusalPlace OtherChecksum = 0
 refusalPlace NotOfTheForm = 0
+
+-- a refusal without its place, as writers answer it: "and always 0 from writers"
+abbrev pub placeless : Refusal → Refusal
+placeless SectionTooShort = SectionTooShort
+placeless OtherKind = OtherKind
+placeless FixedBitZero = FixedBitZero
+placeless SectionLengthOutside = SectionLengthOutside
+placeless OtherLength = OtherLength
+placeless NumberAboveLast = NumberAboveLast
+placeless CheckNotZero = CheckNotZero
+placeless NotCurrent = NotCurrent
+placeless OtherHeading = OtherHeading
+placeless StoreTooShort = StoreTooShort
+placeless Contradiction = Contradiction
+placeless ImpossibleState = ImpossibleState
+placeless (Missing at) = Missing 0
+placeless (PastBody at) = PastBody 0
+placeless (PastPart at) = PastPart 0
+placeless (LeftOver at) = LeftOver 0
+placeless (ReservedBitZero at) = ReservedBitZero 0
+placeless (DigitAboveNine at) = DigitAboveNine 0
+placeless (OutsideSet at) = OutsideSet 0
+placeless (ImpossibleDay at) = ImpossibleDay 0
+placeless OutputTooSmall = OutputTooSmall
+placeless TooLarge = TooLarge
+placeless OtherChecksum = OtherChecksum
+placeless NotOfTheForm = NotOfTheForm

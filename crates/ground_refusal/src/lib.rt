@@ -1,6 +1,6 @@
-// The refusals of document 01: a named case for each of its numbers, and the number and place that each is told by.
+// The refusals of document 01: a named case for each of its numbers, the number and place that each is told by, and each without its place.
 ghost use mathlib.Core.Path.{_≡_};
-ghost use Rattle.ground_refusal.specs.Numbers.{refusalNumber, refusalPlace};
+ghost use Rattle.ground_refusal.specs.Numbers.{refusalNumber, refusalPlace, placeless};
 
 // One case for each number of the list. A case holds a place where the list gives one.
 pub enum Refusal {
@@ -116,5 +116,37 @@ pub fn place(r: Refusal) -> usize
         Refusal::TooLarge => 0,
         Refusal::OtherChecksum => 0,
         Refusal::NotOfTheForm => 0,
+    }
+}
+
+// A refusal with place 0, as writers answer it.
+pub fn placeless(r: Refusal) -> Refusal
+    ensures { λ u. ⌜ u ≡ placeless r ⌝ }
+{
+    match r {
+        Refusal::SectionTooShort => Refusal::SectionTooShort,
+        Refusal::OtherKind => Refusal::OtherKind,
+        Refusal::FixedBitZero => Refusal::FixedBitZero,
+        Refusal::SectionLengthOutside => Refusal::SectionLengthOutside,
+        Refusal::OtherLength => Refusal::OtherLength,
+        Refusal::NumberAboveLast => Refusal::NumberAboveLast,
+        Refusal::CheckNotZero => Refusal::CheckNotZero,
+        Refusal::NotCurrent => Refusal::NotCurrent,
+        Refusal::OtherHeading => Refusal::OtherHeading,
+        Refusal::StoreTooShort => Refusal::StoreTooShort,
+        Refusal::Contradiction => Refusal::Contradiction,
+        Refusal::ImpossibleState => Refusal::ImpossibleState,
+        Refusal::Missing(_at) => Refusal::Missing(0),
+        Refusal::PastBody(_at) => Refusal::PastBody(0),
+        Refusal::PastPart(_at) => Refusal::PastPart(0),
+        Refusal::LeftOver(_at) => Refusal::LeftOver(0),
+        Refusal::ReservedBitZero(_at) => Refusal::ReservedBitZero(0),
+        Refusal::DigitAboveNine(_at) => Refusal::DigitAboveNine(0),
+        Refusal::OutsideSet(_at) => Refusal::OutsideSet(0),
+        Refusal::ImpossibleDay(_at) => Refusal::ImpossibleDay(0),
+        Refusal::OutputTooSmall => Refusal::OutputTooSmall,
+        Refusal::TooLarge => Refusal::TooLarge,
+        Refusal::OtherChecksum => Refusal::OtherChecksum,
+        Refusal::NotOfTheForm => Refusal::NotOfTheForm,
     }
 }

@@ -1,4 +1,5 @@
--- The laws that other crates cite.
+-- The laws that other crates cite, and values.
+pub mod Values
 pub mod Lawful
 pub mod RoundTrips
 pub mod Places

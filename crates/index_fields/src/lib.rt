@@ -35,14 +35,14 @@ ghost use Rattle.index_fields.specs.Asked.{messageCount, messagePart, si
 pub fn message_count(s: &[u8]) -> Number
     ensures { λ r. ⌜ r ≡ messageCount (now (s .entry)) ⌝ }
 {
-    body_fields::read_number(s, s.len(), 0, 1)
+    body_numbers::read_number(s, s.len(), 0, 1)
 }
 
 // The part of the body that the i-th message fills.
 pub fn message(s: &[u8], i: u64) -> Part
     ensures { λ r. ⌜ r ≡ messagePart (now (s .entry)) i ⌝ }
 {
-    body_fields::listed_part(s, s.len(), 0, 1, 2, i)
+    body_parts::listed_part(s, s.len(), 0, 1, 2, i)
 }
 
 // The part of the body that the signature fills.
@@ -50,9 +50,9 @@ pub fn signature(s: &[u8]) -> Part
     ensures { λ r. ⌜ r ≡ signaturePart (now (s .entry)) ⌝ }
 {
     let l = s.len();
-    match body_fields::skip_list(s, l, 0, 1, 2) {
+    match body_parts::skip_list(s, l, 0, 1, 2) {
         Step::Refused(r) => Part::Refused(r),
-        Step::At(q) => body_fields::read_part(s, l, q, 2),
+        Step::At(q) => body_parts::read_part(s, l, q, 2),
     }
 }
 
@@ -61,7 +61,7 @@ pub fn identifier(s: &[u8], at: usize, n: usize) -> Part
     ensures { λ r. ⌜ r ≡ identifierPart (now (s .entry)) at n ⌝ }
 {
     if body_asking::in_body(s, at, n) {
-        return body_fields::read_identifier(s, at + n, at);
+        return body_digits::read_identifier(s, at + n, at);
     }
     Part::Refused(Refusal::OutsideSet(0))
 }
@@ -71,7 +71,7 @@ pub fn identifier_digit(s: &[u8], at: usize, n: usize, i: u64) -> Number
     ensures { λ r. ⌜ r ≡ identifierDigit (now (s .entry)) at n i ⌝ }
 {
     if body_asking::in_body(s, at, n) {
-        return body_fields::identifier_digit_at(s, at + n, at, i);
+        return body_digits::identifier_digit_at(s, at + n, at, i);
     }
     Number::Refused(Refusal::OutsideSet(0))
 }
@@ -86,7 +86,7 @@ pub fn start(s: &[u8], at: usize, n: usize) -> Number
     ensures { λ r. ⌜ r ≡ start (now (s .entry)) at n ⌝ }
 {
     if body_asking::in_body(s, at, n) {
-        return body_fields::read_time(s, at + n, at + START_PLACE);
+        return body_numbers::read_time(s, at + n, at + START_PLACE);
     }
     Number::Refused(Refusal::OutsideSet(0))
 }
@@ -95,7 +95,7 @@ pub fn end(s: &[u8], at: usize, n: usize) -> Number
     ensures { λ r. ⌜ r ≡ end (now (s .entry)) at n ⌝ }
 {
     if body_asking::in_body(s, at, n) {
-        return body_fields::read_end(s, at + n, at + END_PLACE);
+        return body_numbers::read_end(s, at + n, at + END_PLACE);
     }
     Number::Refused(Refusal::OutsideSet(0))
 }
@@ -105,7 +105,7 @@ pub fn type_part(s: &[u8], at: usize, n: usize) -> Part
     ensures { λ r. ⌜ r ≡ typePart (now (s .entry)) at n ⌝ }
 {
     if body_asking::in_body(s, at, n) {
-        return body_fields::read_bytes(s, at + n, at + TYPE_PLACE, 5, 0, 0x7F);
+        return body_digits::read_bytes(s, at + n, at + TYPE_PLACE, 5, 0, 0x7F);
     }
     Part::Refused(Refusal::OutsideSet(0))
 }
@@ -190,7 +190,7 @@ pub fn resource(s: &[u8], at: usize, n: usize, i: u64) -> Part
 {
     match resource_at(s, at, n, i) {
         Number::Refused(r) => Part::Refused(r),
-        Number::Is(m, p) => body_fields::read_digits(s, at + n, p, RESOURCE_PAIRS),
+        Number::Is(m, p) => body_digits::read_digits(s, at + n, p, RESOURCE_PAIRS),
     }
 }
 
@@ -200,7 +200,7 @@ pub fn resource_digit(s: &[u8], at: usize, n: usize, i: u64, j: u64) -> Number
 {
     match resource_at(s, at, n, i) {
         Number::Refused(r) => Number::Refused(r),
-        Number::Is(m, p) => body_fields::digit_at(s, at + n, p, RESOURCE_PAIRS, j),
+        Number::Is(m, p) => body_digits::digit_at(s, at + n, p, RESOURCE_PAIRS, j),
     }
 }
 
@@ -210,7 +210,7 @@ pub fn flag(s: &[u8], at: usize, n: usize) -> Number
 {
     match resource_count(s, at, n) {
         Number::Refused(r) => Number::Refused(r),
-        Number::Is(m, q) => body_fields::read_reserved(
+        Number::Is(m, q) => body_numbers::read_reserved(
             s,
             at + n,
             q + RESOURCE_BYTES * (m as usize),
@@ -242,7 +242,7 @@ fn channel_number(s: &[u8], at: usize, n: usize, k: usize) -> Number
 {
     match channel_at(s, at, n) {
         Number::Refused(r) => Number::Refused(r),
-        Number::Is(f, q) => body_fields::read_number(s, at + n, q + k, 2),
+        Number::Is(f, q) => body_numbers::read_number(s, at + n, q + k, 2),
     }
 }
 
@@ -269,7 +269,7 @@ pub fn pcr_pid(s: &[u8], at: usize, n: usize) -> Number
 {
     match channel_at(s, at, n) {
         Number::Refused(r) => Number::Refused(r),
-        Number::Is(f, q) => body_fields::read_reserved(s, at + n, q + PCR_PID_PLACE, 3, 1),
+        Number::Is(f, q) => body_numbers::read_reserved(s, at + n, q + PCR_PID_PLACE, 3, 1),
     }
 }
 
@@ -279,7 +279,7 @@ pub fn descriptors(s: &[u8], at: usize, n: usize) -> Part
 {
     match channel_at(s, at, n) {
         Number::Refused(r) => Part::Refused(r),
-        Number::Is(f, q) => body_fields::read_part12(s, at + n, q + CHANNEL_DESCRIPTORS_PLACE),
+        Number::Is(f, q) => body_parts::read_part12(s, at + n, q + CHANNEL_DESCRIPTORS_PLACE),
     }
 }
 
@@ -289,7 +289,7 @@ pub fn streams(s: &[u8], at: usize, n: usize) -> Part
 {
     match descriptors(s, at, n) {
         Part::Refused(r) => Part::Refused(r),
-        Part::Of(a, m) => body_fields::read_part(s, at + n, a + m, 2),
+        Part::Of(a, m) => body_parts::read_part(s, at + n, a + m, 2),
     }
 }
 
@@ -298,7 +298,7 @@ fn first_byte(s: &[u8], at: usize, n: usize) -> Number
     ensures { λ r. ⌜ r ≡ firstByte (now (s .entry)) at n ⌝ }
 {
     if body_asking::in_part(s, at, n) {
-        return body_fields::read_number(s, at + n, at, 1);
+        return body_numbers::read_number(s, at + n, at, 1);
     }
     Number::Refused(Refusal::OutsideSet(0))
 }
@@ -314,7 +314,7 @@ pub fn descriptor_part(s: &[u8], at: usize, n: usize) -> Part
     ensures { λ r. ⌜ r ≡ descriptorPart (now (s .entry)) at n ⌝ }
 {
     if body_asking::in_part(s, at, n) {
-        return body_fields::read_part(s, at + n, at + 1, 1);
+        return body_parts::read_part(s, at + n, at + 1, 1);
     }
     Part::Refused(Refusal::OutsideSet(0))
 }
@@ -329,7 +329,7 @@ pub fn stream_pid(s: &[u8], at: usize, n: usize) -> Number
     ensures { λ r. ⌜ r ≡ streamPid (now (s .entry)) at n ⌝ }
 {
     if body_asking::in_part(s, at, n) {
-        return body_fields::read_reserved(s, at + n, at + STREAM_PID_PLACE, 3, 1);
+        return body_numbers::read_reserved(s, at + n, at + STREAM_PID_PLACE, 3, 1);
     }
     Number::Refused(Refusal::OutsideSet(0))
 }
@@ -339,7 +339,7 @@ pub fn stream_descriptors(s: &[u8], at: usize, n: usize) -> Part
     ensures { λ r. ⌜ r ≡ streamDescriptors (now (s .entry)) at n ⌝ }
 {
     if body_asking::in_part(s, at, n) {
-        return body_fields::read_part12(s, at + n, at + STREAM_DESCRIPTORS_PLACE);
+        return body_parts::read_part12(s, at + n, at + STREAM_DESCRIPTORS_PLACE);
     }
     Part::Refused(Refusal::OutsideSet(0))
 }
@@ -349,7 +349,7 @@ fn skip_descriptor(s: &[u8], l: usize, p: usize) -> Step
     requires { ⌜ (p < l) × (l ≤ length (now s)) ⌝ }
     ensures { λ r. ⌜ r ≡ ended descriptor (now (s .entry)) l p ⌝ }
 {
-    match body_fields::read_part(s, l, p + 1, 1) {
+    match body_parts::read_part(s, l, p + 1, 1) {
         Part::Refused(r) => Step::Refused(r),
         Part::Of(a, m) => Step::At(a + m),
     }
@@ -390,7 +390,7 @@ pub fn descriptor_count(s: &[u8], at: usize, n: usize) -> Number
 fn skip_descriptors(s: &[u8], l: usize, p: usize) -> Step
     ensures { λ r. ⌜ r ≡ ended descriptors (now (s .entry)) l p ⌝ }
 {
-    match body_fields::read_part12(s, l, p) {
+    match body_parts::read_part12(s, l, p) {
         Part::Refused(r) => Step::Refused(r),
         Part::Of(a, m) => match descriptors_in(s, a + m, a) {
             Number::Refused(r) => Step::Refused(r),
@@ -404,7 +404,7 @@ fn skip_stream(s: &[u8], l: usize, p: usize) -> Step
     requires { ⌜ (p < l) × (l ≤ length (now s)) ⌝ }
     ensures { λ r. ⌜ r ≡ ended stream (now (s .entry)) l p ⌝ }
 {
-    match body_fields::read_reserved(s, l, p + STREAM_PID_PLACE, 3, 1) {
+    match body_numbers::read_reserved(s, l, p + STREAM_PID_PLACE, 3, 1) {
         Number::Refused(r) => Step::Refused(r),
         Number::Is(v, q) => skip_descriptors(s, l, q),
     }

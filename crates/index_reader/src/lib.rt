@@ -14,7 +14,7 @@ ghost use Rattle.index.specs.Index.{indexKind, index};
 pub fn read(kind: u32, s: &[u8]) -> Step
     ensures { λ r. ⌜ r ≡ bodyRead index indexKind kind (now (s .entry)) ⌝ }
 {
-    match body_fields::open_body(INDEX_KIND, kind, s) {
+    match body_parts::open_body(INDEX_KIND, kind, s) {
         Step::Refused(r) => Step::Refused(r),
         Step::At(start) => {
             let mut none: [u64; 1] = [0; 1];
@@ -28,7 +28,7 @@ pub fn lay(kind: u32, s: &[u8], tape: &mut [u64]) -> Step
     ensures said { λ r. ⌜ r ≡ bodyLaid index indexKind kind (now (s .entry)) (length (now (tape .entry))) ⌝ }
     ensures left { λ r. ⌜ now (tape .exit) ≡ laidTape index indexKind kind (now (s .entry)) (now (tape .entry)) ⌝ }
 {
-    match body_fields::open_body(INDEX_KIND, kind, s) {
+    match body_parts::open_body(INDEX_KIND, kind, s) {
         Step::Refused(r) => Step::Refused(r),
         Step::At(start) => {
             let room = tape.len() + 1;

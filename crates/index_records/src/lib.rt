@@ -42,7 +42,7 @@ fn number_there(s: &[u8], p: usize, w: usize) -> u64
     requires { ⌜ w ≤ 7 ⌝ }
     ensures { λ r. ⌜ (r ≡ standing (now (s .entry)) p w) × (r < 256 ^ w) ⌝ }
 {
-    match body_fields::read_number(s, s.len(), p, w) {
+    match body_numbers::read_number(s, s.len(), p, w) {
         Number::Refused(r) => 0,
         Number::Is(v, q) => v,
     }

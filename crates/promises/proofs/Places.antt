@@ -9,7 +9,7 @@ use lib.Dec.{eqb, leb, ltb}
 use borrow.Author.Tests.{leb-true, ltb-true}
 use Rattle.ground_choices.specs.Choice.{if_then_else_}
 use Rattle.ground_numbers.specs.Sizes.{sectionLengthMost, bodyMost}
-use Rattle.ground_refusal.specs.Numbers.{refusalPlace}
+use Rattle.ground_refusal.specs.Numbers.{refusalPlace, placeless}
 use Rattle.ground_refusal.specs.declared.Refusal.{Refusal}
 use Rattle.ground_refusal.specs.declared.Refusal.the-variants.{SectionTooShort, OtherKind, FixedBitZero, SectionLengthOutside, OtherLength, NumberAboveLast, CheckNotZero, NotCurrent, OtherHeading, StoreTooShort, Contradiction, ImpossibleState, Missing, PastBody, OutsideSet, OutputTooSmall, TooLarge}
 use Rattle.crc.specs.Crc.{crc32Of}
@@ -32,7 +32,7 @@ use Rattle.gathering_pack.specs.Packing as packing
 use Rattle.gathering_hand_out.specs.declared.Completeness.{Completeness}
 use Rattle.gathering_hand_out.specs.declared.Completeness.the-variants.{Complete, Refused as NotComplete}
 use Rattle.gathering_hand_out.specs.declared.Handed.the-variants.{Body, Refused as NotHanded}
-use Rattle.body_formats.specs.Reading.{Reading, found, refused, need, placeless}
+use Rattle.body_formats.specs.Reading.{Reading, found, refused, need}
 use Rattle.body_formats.specs.Format.{Format}
 use Rattle.body_formats.specs.Answers.{stepOf}
 use Rattle.body_formats.specs.Body.{reading, measuring, measured, fitting, writing, bodyWritten}

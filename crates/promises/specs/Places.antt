@@ -5,7 +5,7 @@ use mathlib.Core.List.{List}
 use lib.ListN.{length}
 use lib.Dec.{leb}
 use Rattle.ground_choices.specs.Choice.{if_then_else_}
-use Rattle.ground_refusal.specs.Numbers.{refusalPlace}
+use Rattle.ground_refusal.specs.Numbers.{refusalPlace, placeless}
 use Rattle.ground_refusal.specs.declared.Refusal.{Refusal}
 use Rattle.ground_refusal.specs.declared.Refusal.the-variants.{OutputTooSmall}
 use Rattle.section_reader.specs.Section.{readSection}
@@ -18,7 +18,6 @@ use Rattle.gathering_feed.specs.declared.Answer.the-variants.{Refused as NotFed
 use Rattle.gathering_hand_out.specs.Handing.{handedOf}
 use Rattle.gathering_hand_out.specs.declared.Handed.the-variants.{Refused as NotHanded}
 use Rattle.gathering_pack.specs.Packing.{packingOf}
-use Rattle.body_formats.specs.Reading.{placeless}
 use Rattle.body_formats.specs.Format.{Format}
 use Rattle.body_formats.specs.Body.{bodyRead, measured, bodyWritten, bodyLaid}
 use Rattle.body_formats.specs.declared.Step.the-variants.{At, Refused as NoStep}

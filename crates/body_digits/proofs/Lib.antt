@@ -1,0 +1,2 @@
+-- The laws of digits tested side by side.
+pub mod Digits

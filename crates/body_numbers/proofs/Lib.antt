@@ -1,0 +1,2 @@
+-- The laws of short numbers.
+pub mod Numbers
