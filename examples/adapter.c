@@ -440,7 +440,7 @@ static bool write_index(const struct drill *d, struct desk *k) {
     return !refused("the index table", NW_REFUSAL(made)) && cut(k, nw_value(made), NW_INDEX, 0, d->version);
 }
 
-// The content table's extension is how a box finds it: the CRC-16 of the message's identifier.
+// The content table's extension, which its writer answers, is how a box finds it: nw_message_extension tells it from the index table.
 static bool write_content(const struct drill *d, struct desk *k) {
     nw_form f = nw_form_start(k->pool, POOL, k->tape, ENTRIES);
     content_form(d, &f);

@@ -402,17 +402,17 @@ static void show_languages(const struct box *b, const struct table *t) {
     for (uint64_t i = 0; i < count; i++) show_language(b, t, nw_content_language(t->body, t->n, i));
 }
 
-// The text of a message is the content table with its identifier; the extension is only that one's checksum.
-static void find_text(struct box *b, const uint8_t *identifier, size_t n) {
+// The text of a message is the content table that has its extension, which several may share, and its identifier.
+static void find_text(struct box *b, unsigned extension, const uint8_t *identifier, size_t n) {
     bool found = false;
     for (struct table *t = b->tables; t < b->tables + b->count; t++) {
-        if (!t->accepted || t->was.kind != NW_CONTENT) continue;
+        if (!t->accepted || t->was.kind != NW_CONTENT || t->was.extension != extension) continue;
         nw_part its = nw_content_identifier(t->body, t->n);
         if (nw_part_length(its) != n || memcmp(t->body + nw_part_start(its), identifier, n) != 0) continue;
         show_languages(b, t);
         t->named = found = true;
     }
-    if (!found) fault(b, "  text        none has come whole");
+    if (!found) fault(b, "  text        none has come whole; its sections have extension %04X", extension);
 }
 
 // A time field at the offset; in UTC where the local day would be out of the range of days.
@@ -460,7 +460,8 @@ static void show_message(struct box *b, const struct table *t, const nw_record *
     printf("  version     %u\n", t->was.version);
     show_resources(t, r->at, r->length);
     if (nw_value(nw_message_channel_flag(t->body, t->n, r->at, r->length)) != 0) puts("  channel     given, and not shown");
-    find_text(b, t->body + nw_part_start(identifier), nw_part_length(identifier));
+    unsigned extension = (unsigned)nw_value(nw_message_extension(t->body, t->n, r->at, r->length));
+    find_text(b, extension, t->body + nw_part_start(identifier), nw_part_length(identifier));
 }
 
 static void show_index(struct box *b, const struct table *t) {

@@ -38,7 +38,7 @@ static nw_answer read_content(uint32_t kind, const uint8_t *body, size_t n) {
 static nw_answer write_content(const uint8_t *pool, size_t pool_bytes, const uint64_t *tape, size_t entries, uint8_t *out,
                                size_t room) {
     nw_written a = nw_content_write(pool, pool_bytes, tape, entries, out, room);
-    must(!taken(a) || nw_written_extension(a) == nw_crc16(out, 18));
+    must(!taken(a) || nw_written_extension(a) == extension_of(out));
     return (nw_answer){taken(a) ? (uint64_t)nw_written_length(a) << 8 : a.packed};
 }
 
@@ -67,7 +67,7 @@ static void ask(struct input *in, const uint8_t *body, size_t n, bool accepted) 
     hold_number(count, 5);
     hold_part(signature, n);
     must(taken(identifier) == taken(extension));
-    must(!taken(extension) || nw_value(extension) == nw_crc16(body, 18));
+    must(!taken(extension) || nw_value(extension) == extension_of(body));
     for (uint64_t i = 0; i < 35; i++) hold_digit(nw_content_identifier_digit(body, n, i), body, identifier, i);
     must(!taken(nw_content_identifier_digit(body, n, 35 + take(in, 7))));
     for (uint64_t i = 0; taken(count) && i <= nw_value(count); i++) {

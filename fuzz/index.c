@@ -107,7 +107,10 @@ static void ask_digits(struct input *in, const uint8_t *body, size_t n, size_t a
 }
 
 static void ask_message(struct input *in, const uint8_t *body, size_t n, size_t at, size_t length, bool accepted) {
-    hold_part(nw_message_identifier(body, n, at, length), n);
+    nw_part identifier = nw_message_identifier(body, n, at, length);
+    nw_answer extension = nw_message_extension(body, n, at, length);
+    hold_part(identifier, n);
+    must(extension.packed == (taken(identifier) ? (uint64_t)extension_of(body + at) << 8 : identifier.packed));
     hold_number(nw_message_network(body, n, at, length), 0xFFFF);
     nw_answer start = nw_message_start(body, n, at, length), end = nw_message_end(body, n, at, length);
     hold_number(start, NW_LIVE - 1);

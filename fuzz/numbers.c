@@ -1,20 +1,10 @@
 // The target of checksums, days, times, and the header's own texts: digits, and the words of refusals.
 #include "trial.h"
 
-// A checksum of so many bits by its definition, bit after bit.
-static uint32_t by_bits(const uint8_t *s, size_t n, unsigned bits, uint32_t polynomial) {
-    uint32_t top = UINT32_C(1) << (bits - 1), all = top | (top - 1), x = all;
-    for (size_t i = 0; i < 8 * n; i++) {
-        bool one = (x & top) != 0, next = s[i / 8] >> (7 - i % 8) & 1;
-        x = (x << 1 & all) ^ (one != next ? polynomial : 0);
-    }
-    return x;
-}
-
 static void try_checksums(const uint8_t *data, size_t n) {
     uint8_t *s = copy_of(data, n);
-    must(nw_crc32(s, n) == by_bits(s, n, 32, 0x04C11DB7));
-    must(nw_crc16(s, n) == by_bits(s, n, 16, 0x1021));
+    must(nw_crc32(s, n) == by_bits(s, 0, 8 * n, 32, 0x04C11DB7));
+    must(nw_crc16(s, n) == by_bits(s, 0, 8 * n, 16, 0x1021));
     free(s);
 }
 

@@ -59,6 +59,21 @@ static inline uint8_t *copy_of(const uint8_t *s, size_t n) {
     return memcpy(block_of(n), s, n);
 }
 
+// ---- checksums
+
+// A checksum of so many bits by its definition, over the bits of s from `first` on, up to `end`.
+static inline uint32_t by_bits(const uint8_t *s, size_t first, size_t end, unsigned bits, uint32_t polynomial) {
+    uint32_t top = UINT32_C(1) << (bits - 1), all = top | (top - 1), x = all;
+    for (size_t i = first; i < end; i++) {
+        bool one = (x & top) != 0, next = s[i / 8] >> (7 - i % 8) & 1;
+        x = (x << 1 & all) ^ (one != next ? polynomial : 0);
+    }
+    return x;
+}
+
+// Of the 18 bytes of an identifier: all its bits but the four reserved ones, which come first.
+static inline uint32_t extension_of(const uint8_t *identifier) { return by_bits(identifier, 4, 144, 16, 0x1021); }
+
 // ---- what is lent
 
 enum { GUARD = 64 };

@@ -34,6 +34,11 @@ extern "C" {
 /* The version of the library that is linked, as NW_VERSION_NUMBER has that of the header. */
 uint32_t nw_version(void);
 
+/* What changed for C programs after version 0.1.0:
+ * - The extension of a content table is the CRC-16 of its identifier's 140 bits, without the four
+ *   reserved bits before them: no longer nw_crc16 of the 18 bytes. nw_message_extension, which is new,
+ *   and nw_content_extension tell it; a table that is sent with the old one is refused (23). */
+
 /* ---- Answers ----------------------------------------------------------------------------------
  *
  * A function that can refuse answers with 64 bits: the low byte is the refusal's number, 0 for none;
@@ -153,7 +158,9 @@ static inline const char *nw_refusal_text(unsigned number)
  * section, its last four bytes included, it is 0 exactly if the section's check is right. */
 uint32_t nw_crc32(const uint8_t *s, size_t n);
 
-/* CRC-16 of the n bytes at s: polynomial 0x1021, register of all ones at the start. */
+/* CRC-16 of the n bytes at s: polynomial 0x1021, register of all ones at the start. Of an identifier's
+ * 18 bytes it is NOT the extension of the content table, which leaves out the four reserved bits:
+ * nw_message_extension, nw_content_extension and nw_content_write tell that one. */
 uint16_t nw_crc16(const uint8_t *s, size_t n);
 
 /* ---- Days -------------------------------------------------------------------------------------
@@ -205,8 +212,9 @@ enum nw_showing { NW_BEFORE = 0, NW_ON = 1, NW_ENDED = 2 };
  *
  * A section is 12 to 4,096 bytes: eight of heading, the payload, four of check. The extension in the
  * heading is by GD/J 086-2018 for a content table the CRC-16 of its message's identifier (6.3), which
- * nw_content_write answers; for an index table it is not used (6.2), and for the other two it has no
- * stated value (7, 8.1): cut these with 0. Only a content table's reader judges it. */
+ * nw_content_write answers, and nw_message_extension to a box that looks for the table; for an index
+ * table it is not used (6.2), and for the other two it has no stated value (7, 8.1): cut these with 0.
+ * Only a content table's reader judges it. */
 #define NW_MOST_SECTION 4096u   /* bytes of the longest section */
 #define NW_MOST_PAYLOAD 4084u   /* bytes of its payload */
 #define NW_MOST_BODY 1045504u   /* bytes of the longest body: 256 such payloads */
@@ -595,10 +603,13 @@ nw_part nw_index_signature(const uint8_t *body, size_t n);
  * for the streams, those of the descriptors' length; then 14 to 20 of the field itself, at its place,
  * which may lie after the body's end; last, for a digit, 19, there is no such digit (place 0). Class
  * and level share a byte and are judged together; descriptors and streams are not judged with the part
- * that they fill. */
+ * that they fill. The extension is that of the sections of the message's content table, the CRC-16 of
+ * the identifier's 140 bits, and is refused as the identifier is. Two identifiers may have the same
+ * one, so the table that is found by it must have the identifier too (nw_content_identifier). */
 nw_part nw_message_identifier(const uint8_t *body, size_t n, size_t at, size_t length);
 nw_answer nw_message_identifier_digit(const uint8_t *body, size_t n, size_t at, size_t length,
                                       uint64_t i);
+nw_answer nw_message_extension(const uint8_t *body, size_t n, size_t at, size_t length);
 nw_answer nw_message_network(const uint8_t *body, size_t n, size_t at, size_t length);
 nw_answer nw_message_start(const uint8_t *body, size_t n, size_t at, size_t length);
 nw_answer nw_message_end(const uint8_t *body, size_t n, size_t at, size_t length);
@@ -685,7 +696,8 @@ nw_answer nw_index_lay(uint32_t kind, const uint8_t *body, size_t n, uint64_t *t
  *               (up to 255 bytes), and up to two auxiliary files
  *   file        type (8 bits, free) and up to 16,777,215 bytes
  *
- * The table's extension, in the headings of its sections, is the CRC-16 of the identifier's 18 bytes.
+ * The table's extension, in the headings of its sections, is the CRC-16 of the identifier's 140 bits:
+ * the four reserved bits before the first digit are not part of it, so it is not nw_crc16 of the bytes.
  * A language is told by where it begins in the body, the byte after its length, and that length. Text,
  * agency, files and signature are opaque. The smallest body has 33 bytes. */
 
@@ -727,7 +739,9 @@ nw_answer nw_content_read(uint32_t kind, uint32_t extension, const uint8_t *body
  * language, 19, there is no i-th, counted from 0 (place 0); for both, 14, a length before the part, or
  * its own, is cut off or passes the body's end, at its place; for the identifier, its digits and the
  * extension, 14, 17 or 18 of the identifier (place 0), and for the language count 14, 17 or 19 of it
- * (place 18); last, for a digit, 19, there is no such digit (place 0). */
+ * (place 18); last, for a digit, 19, there is no such digit (place 0). For the identifier, its digits
+ * and the extension only the first 18 bytes are looked at, so these alone are enough: after
+ * nw_identifier_bytes(text, bytes), nw_content_extension(bytes, 18) is the extension of those digits. */
 nw_part nw_content_identifier(const uint8_t *body, size_t n);
 nw_answer nw_content_identifier_digit(const uint8_t *body, size_t n, uint64_t i);
 nw_answer nw_content_extension(const uint8_t *body, size_t n);

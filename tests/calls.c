@@ -319,6 +319,7 @@ static void call_certificate_lay(const struct argument *a) {
 // What is asked of a message without a further number.
 static void put_message(const struct argument *body, size_t at, size_t length) {
     ASK(message_identifier, at, length);
+    ASK(message_extension, at, length);
     ASK(message_network, at, length);
     ASK(message_start, at, length);
     ASK(message_end, at, length);

@@ -24,7 +24,7 @@ def by_hand():
         yield ('content_read', KIND, right, data), told
         yield ('content_read', KIND, right ^ 0x8000, data), told or '23 0'
     assert min(len(body) // 2 for body, expected in content_cases.BODIES if expected is None) == 33
-    assert second_content.extension(b'123456789') == 0x29B1
+    assert second_content.checksum(b'123456789') == 0x29B1
     yield from content_cases.CALLS
 
 

@@ -4,9 +4,10 @@ from table_checks import on_tape, pairs
 
 KIND = 0xFE
 
-# An identifier, whose day is 3 November 2024, and its CRC-16 by Python's own binascii.crc_hqx.
+# An identifier, whose day is 3 November 2024, and the CRC-16 of its 140 bits, by the division of extensions.py. That of its 18
+# bytes, by Python's own binascii.crc_hqx, was the extension before M-103.
 DIGITS = checked('0' * 23 + '20241103' + '0' * 4)
-IDENTIFIER, EXTENSION = 'f' + DIGITS, 0xDEF2
+IDENTIFIER, EXTENSION, OLD_EXTENSION = 'f' + DIGITS, 0x3FB5, 0xDEF2
 # The standard writes `zho` as 0111 1010 0110 1000 0110 1111.
 ZHO = '%06x' % 0b011110100110100001101111
 
@@ -72,6 +73,7 @@ CALLS = [
     # Kind, then size, then fields; the extension last.
     (('content_read', 0xFD, EXTENSION, LONG), '2 0'), (('content_read', KIND, EXTENSION, LONG), '22 0'),
     (('content_read', 0xFD, 0, b''), '2 0'), (('content_read', KIND, EXTENSION ^ 1, LEAST), '23 0'),
+    (('content_read', KIND, OLD_EXTENSION, LEAST), '23 0'), (('content_read', KIND, OLD_EXTENSION, FULL), '23 0'),
     (('content_read', KIND, EXTENSION + 65536, LEAST), '23 0'), (('content_read', KIND, 0, LEAST + b'\0'), '16 33'),
     (('content_read', KIND, 0, LEAST[:-1]), '14 31'), (('content_read', 0xFD, 0, LEAST), '2 0'),
     (('content_read', KIND, EXTENSION, FULL),

@@ -1,4 +1,5 @@
 """Slips in a file of sections and in the box's call, with the sentences and the status that have to come: by hand, from the rules."""
+import binascii
 import random
 import re
 
@@ -40,14 +41,20 @@ def content(*languages, digits=DIGITS, version=0):
     return table(CONTENT, body, extension(identifier), version)
 
 
-EXTENSION = '%04X' % extension(bytes.fromhex('F' + DIGITS))
+def shown_extension(digits):
+    """An identifier's extension, as the box shows it."""
+    return '%04X' % extension(bytes.fromhex('F' + digits))
+
+
+EXTENSION = shown_extension(DIGITS)
 (ONE,) = index(message())
 (TWO,) = content(language())
 LONG = content(language(b'Go on foot.\n' * 1000))
 DRILL = ONE + TWO
 HEAD = ['message ' + DIGITS, '  start       02/11/2024 23:45:00 Saturday, UTC', '  end         03/11/2024 00:15:00 Sunday, UTC']
 SHOWN = [*HEAD, '    | This is a drill.']
-NO_TEXT = '  text        none has come whole'
+NONE_CAME = '  text        none has come whole; its sections have extension '
+NO_TEXT = NONE_CAME + EXTENSION
 UNKNOWN = '; what was lost there is not known'
 ELSEWHERE = '; it came whole elsewhere'
 CHECK = ' are no good section: the section\'s CRC_32 is wrong (refusal 7)'
@@ -179,7 +186,8 @@ def faulty():
     alone = 'content table, extension %s, version 0: no message %s has come that it would be the text of' % (EXTENSION, DIGITS)
     yield ONE, [*HEAD, NO_TEXT, faults(1)]
     yield TWO, [alone, '    | This is a drill.', faults(1)]
-    yield index(message(OTHER_DIGITS))[0] + TWO, ['message ' + OTHER_DIGITS, NO_TEXT, alone, '    | This is a drill.', faults(2)]
+    yield index(message(OTHER_DIGITS))[0] + TWO, [
+        'message ' + OTHER_DIGITS, NONE_CAME + shown_extension(OTHER_DIGITS), alone, '    | This is a drill.', faults(2)]
     yield ONE + changed(TWO, 30), ['bytes %d to %d' % (len(ONE), len(DRILL) - 1) + CHECK + UNKNOWN, NO_TEXT, faults(2)]
     yield changed(TWO, 3) + DRILL, ['bytes 0 to %d' % (len(TWO) - 1) + CHECK + UNKNOWN, *SHOWN, faults(1)]
     lost = 'content table, extension %s, version 0: not whole, ' % EXTENSION
@@ -212,11 +220,13 @@ def refused_bodies():
     early = 'the body ends too early (refusal 14 at byte 1 of its body)'
     impossible = 'the day or the time is impossible or out of range (refusal 20 at byte 23 of its body)'
     other = 'the extension is not the CRC-16 of the identifier (refusal 23 at byte 0 of its body)'
+    old = binascii.crc_hqx(TWO[8:26], 0xFFFF)  # over the identifier's 18 bytes, as it was before M-103
     for (section,), name, why in (
             (index(message(class_level=0x54)), 'index table, extension 0000', outside % 38),
             (index(message(start='ECC8240000')), 'index table, extension 0000', impossible),
             (table(INDEX, b'\0\0'), 'index table, extension 0000', early),
             (table(CONTENT, TWO[8:-4], 0x1234), 'content table, extension 1234', other),
+            (table(CONTENT, TWO[8:-4], old), 'content table, extension %04X' % old, other),
             (content(language(letters=b'Eng')), 'content table, extension ' + EXTENSION, outside % 23),
             (table(CERTIFICATE, b'\x01'), 'certificate table, extension 0000', early),
             (table(CONFIGURATION, b'\x01\x06\0\x02\x65\0\0\0'), 'configuration table, extension 0000', outside % 4)):

@@ -3,8 +3,8 @@ from make_fields import checked
 from table_checks import on_tape, pairs
 
 KIND = 0xFD
-# Its day is 3 November 2024.
-IDENTIFIER = 'f' + checked('1' + '23' * 11 + '20241103' + '23' * 2)
+# Its day is 3 November 2024; its extension is by the division of extensions.py.
+IDENTIFIER, EXTENSION = 'f' + checked('1' + '23' * 11 + '20241103' + '23' * 2), 0x1971
 
 
 def message(start='ecc9074500', end='ffffffffff', rest='11' '00' 'fe'):
@@ -89,6 +89,10 @@ CALLS = [
     (('message_resource', ONE, 3, 38, 0), '19 0'), (('message_resource', ONE, 3, 36, 0), '15 39'),
     (('message_resource', ONE, 6, 38, 0), '19 0'), (('message_identifier_digit', ONE, 3, 38, 34), '0 3'),
     (('message_identifier_digit', ONE, 3, 38, 35), '19 0'), (('message_identifier_digit', ONE, 3, 17, 0), '15 3'),
+    # Of a message that ends with its identifier, only this and its extension; without the last byte neither.
+    (('message_fields', ONE, 3, 18),
+     '0 %d 0 %d 15 21 15 23 15 28 15 33 15 38 15 38' % (3 * 2**24 + 18, EXTENSION) + ' 15 39' * 8),
+    (('message_fields', ONE, 3, 17), '15 3 15 3 15 21 15 23 15 28 15 33 15 38 15 38' + ' 15 39' * 8),
     (('descriptor_fields', FULL, 51, 3), '0 9 0 %d' % (53 * 2**24 + 1)),
     (('descriptor_fields', FULL, 51, 2), '0 9 15 52'), (('descriptor_fields', FULL, 51, 0), '19 0 19 0'),
     (('stream_fields', FULL, 56, 8), '0 27 0 8174 0 %d' % (61 * 2**24 + 3)),

@@ -10,8 +10,11 @@ LETTERS = (b'zho', b'eng', b'bod', b'uig', b'aaa', b'zzz')
 
 
 def extension(body):
-    """The extension of a table: its identifier's CRC-16, by the standard library."""
-    return binascii.crc_hqx(body[:18], 0xFFFF)
+    """The extension of a table: the CRC-16 of its identifier's 140 bits, by the standard library.
+
+    It takes whole bytes: from 0x00E1 on, the four reserved ones lead to 0xFFFF, where the 140 bits start.
+    """
+    return binascii.crc_hqx(bytes(byte | 0xF0 for byte in body[:1]) + body[1:18], 0x00E1)
 
 
 # ---- tables as values
@@ -116,7 +119,7 @@ def right_and_wrong(chance, body):
     """The body with its extension, or now and then another one."""
     right = extension(body)
     wrong = chance.choice((right ^ 1 << chance.randrange(16), right ^ 0xFFFF, right + 65536, 0, 0xFFFF,
-                           chance.randrange(65536), binascii.crc_hqx(body[:18], 0),
+                           chance.randrange(65536), binascii.crc_hqx(body[:18], 0), binascii.crc_hqx(body[:18], 0xFFFF),
                            (right >> 8 | right << 8) & 0xFFFF))
     return KIND, body, right if chance.random() < 0.85 else wrong
 

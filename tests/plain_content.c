@@ -9,8 +9,6 @@ enum { LETTERS = 3, MOST_SET = 4, MOST_LANGUAGES = 5, MOST_FILES = 2, MOST_DATA 
 // Where the language count stands in a body, and the character set and the text length in a language.
 enum { COUNT_AT = IDENTIFIER_BYTES, LANGUAGES_AT, SET_AT = LETTERS, TEXT_AT };
 
-static unsigned extension_of(const uint8_t *s) { return plain_crc16(s, IDENTIFIER_BYTES); }
-
 static inline int is_letter(uint8_t c) { return c >= 'a' && c <= 'z'; }
 static inline int are_letters(const uint8_t *s) { return is_letter(s[0]) && is_letter(s[1]) && is_letter(s[2]); }
 
@@ -134,7 +132,7 @@ static const struct table table = {NW_CONTENT, take_body, lay_body, form_body, p
 
 plain_answer plain_content_read(uint32_t kind, uint32_t extension, const uint8_t *body, size_t n) {
     plain_answer got = read_table(&table, kind, body, n);
-    return got ? got : extension == extension_of(body) ? 0 : NW_OTHER_CHECKSUM;
+    return got ? got : extension == plain_extension(body) ? 0 : NW_OTHER_CHECKSUM;
 }
 
 plain_answer plain_content_lay(uint32_t kind, const uint8_t *body, size_t n, uint64_t *tape, size_t entries) {
@@ -144,7 +142,7 @@ plain_answer plain_content_lay(uint32_t kind, const uint8_t *body, size_t n, uin
 plain_answer plain_content_write(const uint8_t *pool, size_t pool_bytes, const uint64_t *tape, size_t entries,
                                  uint8_t *out, size_t room) {
     plain_answer got = write_table(&table, pool, pool_bytes, tape, entries, out, room);
-    return refusal_of(got) ? got : part(extension_of(out), value_of(got));
+    return refusal_of(got) ? got : part(plain_extension(out), value_of(got));
 }
 
 // ---- fields of a body asked for: what stands before them is passed by its length, and not judged
@@ -160,7 +158,7 @@ plain_answer plain_content_identifier_digit(const uint8_t *body, size_t n, uint6
 
 plain_answer plain_content_extension(const uint8_t *body, size_t n) {
     plain_answer identifier = plain_content_identifier(body, n);
-    return refusal_of(identifier) ? identifier : value(extension_of(body));
+    return refusal_of(identifier) ? identifier : value(plain_extension(body));
 }
 
 plain_answer plain_content_language_count(const uint8_t *body, size_t n) {

@@ -363,6 +363,11 @@ plain_answer plain_message_identifier_digit(const uint8_t *body, size_t n, size_
     return asked_digit(body, plain_message_identifier(body, n, at, length), i);
 }
 
+plain_answer plain_message_extension(const uint8_t *body, size_t n, size_t at, size_t length) {
+    plain_answer identifier = plain_message_identifier(body, n, at, length);
+    return refusal_of(identifier) ? identifier : value(plain_extension(body + at));
+}
+
 plain_answer plain_message_network(const uint8_t *body, size_t n, size_t at, size_t length) {
     struct reader r;
     return stands(&r, body, n, at, length, NETWORK_AT) ? asked_number(&r, 2) : OUTSIDE;

@@ -17,6 +17,7 @@ plain_answer plain_index_signature(const uint8_t *body, size_t n);
 
 plain_answer plain_message_identifier(const uint8_t *body, size_t n, size_t at, size_t length);
 plain_answer plain_message_identifier_digit(const uint8_t *body, size_t n, size_t at, size_t length, uint64_t i);
+plain_answer plain_message_extension(const uint8_t *body, size_t n, size_t at, size_t length);
 plain_answer plain_message_network(const uint8_t *body, size_t n, size_t at, size_t length);
 plain_answer plain_message_start(const uint8_t *body, size_t n, size_t at, size_t length);
 plain_answer plain_message_end(const uint8_t *body, size_t n, size_t at, size_t length);

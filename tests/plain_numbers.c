@@ -40,17 +40,21 @@ uint32_t plain_crc32(const uint8_t *s, size_t n) {
     return by_bytes(held, s, n);
 }
 
-// Four bits at a time.
-uint16_t plain_crc16(const uint8_t *s, size_t n) {
+// CRC-16 of the half bytes of s from `first` on, up to `end`, the high half of a byte first.
+static uint16_t by_halves(const uint8_t *s, size_t first, size_t end) {
     static const uint16_t steps[16] = {0x0000, 0x1021, 0x2042, 0x3063, 0x4084, 0x50A5, 0x60C6, 0x70E7,
                                        0x8108, 0x9129, 0xA14A, 0xB16B, 0xC18C, 0xD1AD, 0xE1CE, 0xF1EF};
     unsigned held = 0xFFFF;
-    for (size_t i = 0; i < 2 * n; i++) {
+    for (size_t i = first; i < end; i++) {
         unsigned next = i % 2 ? s[i / 2] & 15u : s[i / 2] >> 4;
         held = (held << 4 & 0xFFFF) ^ steps[held >> 12 ^ next];
     }
     return (uint16_t)held;
 }
+
+uint16_t plain_crc16(const uint8_t *s, size_t n) { return by_halves(s, 0, 2 * n); }
+
+uint16_t plain_extension(const uint8_t *identifier) { return by_halves(identifier, 1, 36); }
 
 // ---- days
 

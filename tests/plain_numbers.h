@@ -17,6 +17,9 @@ uint32_t plain_crc32_byte_table(const uint8_t *s, size_t n);
 
 uint16_t plain_crc16(const uint8_t *s, size_t n);
 
+// The CRC-16 of the 35 digits that the 18 bytes of an identifier hold, without the four bits before them.
+uint16_t plain_extension(const uint8_t *identifier);
+
 // Whether there is such a day from 1 March 1900 to 22 April 2038.
 int plain_is_day(uint32_t year, uint32_t month, uint32_t day);
 

@@ -4,16 +4,20 @@ from second_fields import Reader, Tape, counted, digits, entries, opaque, part, 
 KIND = 0xFE
 
 
-def extension(identifier):
-    """The CRC-16 of the identifier's 18 bytes, bit by bit."""
+def checksum(data, first=0):
+    """The CRC-16 of a byte string's bits, from the bit `first` on, one after the other."""
     register = 0xFFFF
-    for byte in identifier:
-        for bit in range(7, -1, -1):
-            out = register >> 15 ^ byte >> bit & 1
-            register = register << 1 & 0xFFFF
-            if out:
-                register ^= 0x1021
+    for place in range(first, 8 * len(data)):
+        out = register >> 15 ^ data[place // 8] >> 7 - place % 8 & 1
+        register = register << 1 & 0xFFFF
+        if out:
+            register ^= 0x1021
     return register
+
+
+def extension(identifier):
+    """The CRC-16 of the identifier's 140 bits: in its 18 bytes the four reserved ones stand before them."""
+    return checksum(identifier, 4)
 
 
 # ---- reading

@@ -1,6 +1,7 @@
 """The second program's answers to the index table's calls, no code shared with the library, in calls.c's order."""
 import functools
 
+import second_content
 import second_index
 import second_times
 from second_calls import Part, answered, digit, inside, joined, lent, measured, part, span, unrefused, up_to, written
@@ -29,14 +30,20 @@ def message_items(record, message, offset):
     at, length, *_ = record
     channel = message['channel']
     found = unrefused(
-        part(at, length), span(message['identifier']), message['network'], message['start'], message['end'],
-        span(message['type']), message['class'], message['level'], len(message['resources']), int(channel is not None))
+        part(at, length), span(message['identifier']), extension_of(message['identifier']), message['network'],
+        message['start'], message['end'], span(message['type']), message['class'], message['level'],
+        len(message['resources']), int(channel is not None))
     resources_end = at + 37 + 12 * len(message['resources'])
     found += channel_items(resources_end + 1, channel) if channel else [19, 0] * 6
     found += [message['identifier'][2], *local(message['start'], offset), *local(message['end'], offset)]
     for resource in message['resources']:
         found += [*unrefused(span(resource)), resource[2]]
     return found + (things_in(resources_end + 1, channel) if channel else [])
+
+
+def extension_of(digits):
+    """The extension of a message's content table, from the digits of its identifier."""
+    return second_content.extension(bytes.fromhex('F' + digits[2]))
 
 
 def local(field, offset):
@@ -160,6 +167,7 @@ def streams(*message):
 # What is asked of a message without a further number, in the order of calls.c.
 OF_MESSAGE = (
     lambda *message: span(identifier(*message)),
+    lambda *message: extension_of(identifier(*message)),
     lambda *message: inside(*message, 18).number('network', 2),
     lambda *message: inside(*message, 20).time('start', live=False),
     lambda *message: inside(*message, 25).time('end', live=True),

@@ -26,6 +26,7 @@
     X(index_read, "2 14 15 16 17 18 19 20 22") X(index_records, "2 14 15 16 17 18 19 20 21 22")                      \
     X(index_message_count, "14") X(index_message, "14 19") X(index_signature, "14")                                  \
     X(message_identifier, "14 15 17 18 19") X(message_identifier_digit, "14 15 17 18 19")                            \
+    X(message_extension, "14 15 17 18 19")                                                                           \
     X(message_network, "14 15 19") X(message_start, "14 15 18 19 20") X(message_end, "14 15 18 19 20")               \
     X(message_type, "14 15 19") X(message_class, "14 15 19") X(message_level, "14 15 19")                            \
     X(message_resource_count, "14 15 19") X(message_resource, "14 15 17 18 19")                                      \

@@ -376,6 +376,7 @@ static void ask_message(const uint8_t *body, size_t n, size_t at, size_t length)
     int32_t offset = (int32_t)below(1700) - 760;
     TRY(message_identifier, body, n, at, length);
     TRY(message_identifier_digit, body, n, at, length, digit);
+    TRY(message_extension, body, n, at, length);
     TRY(message_network, body, n, at, length);
     TRY(message_start, body, n, at, length);
     TRY(message_end, body, n, at, length);

@@ -13,7 +13,8 @@ use Rattle.body_formats.specs.Body.{reading}
 use Rattle.body_formats.specs.declared.Step.the-variants.{Refused as NoStep}
 use Rattle.body_formats.proofs.Places.{ends, then-until, need-until, Placed, number-placed, reserved-placed, among-placed, bytes-among-placed, followed-placed, view-placed, list-placed, exact-placed, length-placed, opaque-placed, step-place, reading-until}
 use Rattle.body_formats.proofs.Identifiers.{identifier-placed}
-use Rattle.content.specs.Content.{contentKind, auxiliary, auxiliaries, languageFields, language, fields, content, extensionOf, readingOf, contentRead}
+use Rattle.body_extension.specs.Extension.{extensionOf}
+use Rattle.content.specs.Content.{contentKind, auxiliary, auxiliaries, languageFields, language, fields, content, readingOf, contentRead}
 
 module _ (w : ℕ) where
   auxiliaries-placed : Placed (auxiliaries w)

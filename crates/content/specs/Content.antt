@@ -3,13 +3,13 @@ use Prim.Native.Nat.{ℕ}
 use mathlib.Core.List.{List}
 use lib.Dec.{eqb}
 use Rattle.ground_refusal.specs.declared.Refusal.the-variants.{LeftOver, PastPart, OtherChecksum}
-use Rattle.crc.specs.Crc.{crc16Of}
 use Rattle.body_formats.specs.Reading.{Reading, found, andThen, need}
 use Rattle.body_formats.specs.Format.{Format, _▷_, number, among, bytesAmong, reserved, listOf, opaque, exact, view, lengthOf, counted}
 use Rattle.body_formats.specs.Identifier.{identifier}
 use Rattle.body_formats.specs.Answers.{stepOf}
 use Rattle.body_formats.specs.Body.{reading}
 use Rattle.body_formats.specs.declared.Step.{Step}
+use Rattle.body_extension.specs.Extension.{extensionOf}
 -- "FE content"
 pub use Rattle.ground_numbers.specs.Sizes.{contentKind}
 
@@ -72,10 +72,6 @@ unfoldable pub content : ℕ → Format Content
 content w = exact LeftOver (view (λ x. record { identifier = x .0; languages = x .1 .0; signature = x .1 .1 }) (λ c. (c .identifier, (c .languages, c .signature))) (fields w))
 
 -- ---- the extension
-
--- "CRC-16 of the message identifier is taken over the 18 bytes that hold it, the four reserved ones first"
-unfoldable pub extensionOf : List ℕ → ℕ
-extensionOf ds = crc16Of (identifier .print ds)
 
 -- "23 last": "content extension is not the CRC-16 of the identifier"
 unfoldable pub readingOf : ℕ → ℕ → ℕ → List ℕ → Reading Content

@@ -1,46 +1,22 @@
 -- What the fields asked for answer, a law for each way through.
 use Prim.Native.Nat.{ℕ, _+_, _≤_}
-use mathlib.Core.Path.{_≡_, sym, ap, _∙_}
+use mathlib.Core.Path.{_≡_, _∙_}
 use mathlib.Core.List.{List}
-use lib.ListN.{length, take}
-use lib.Seq.{length-take-le}
+use lib.ListN.{length}
 use Rattle.ground_refusal.specs.declared.Refusal.{Refusal}
-use Rattle.crc.specs.Crc.{crc16Of}
 use Rattle.body_formats.specs.Reading.{found}
 use Rattle.body_formats.specs.Format.{among, reserved, repeat, listOf, opaque}
-use Rattle.body_formats.specs.Identifier.{identifier}
 use Rattle.body_formats.specs.Answers.{stepOf, numberOf, endedAll, numberRead, partRead}
 use Rattle.body_formats.specs.declared.Step.the-variants.{At, Refused as NoStep}
 use Rattle.body_formats.specs.declared.Number.the-variants.{Is, Refused as NoNumber}
 use Rattle.body_formats.specs.declared.Part.the-variants.{Of, Refused as NoPart}
 use Rattle.body_formats.proofs.Outcomes.{andThen-found}
 use Rattle.body_formats.proofs.Classes.{Bytes}
-use Rattle.body_formats.proofs.Readers.{number-found, number-refused, field-refused, opaque-found}
-use Rattle.body_formats.proofs.Identifiers.{identifier-fills}
+use Rattle.body_formats.proofs.Readers.{number-found, number-refused, opaque-found}
 use Rattle.body_asking.specs.Asking.{headedPart, nthOf}
 use Rattle.body_asking.proofs.Answers.{count-number, found-in, part-refused, part-found, step-refused, step-found}
 use Rattle.body_asking.proofs.Entries.{all-headless, nth-headless}
-use Rattle.content.specs.Content.{extensionOf}
-use Rattle.content_fields.specs.Asked.{identifierPart, extension, languagesCounted, languageCount, languagePart, signaturePart, textIn, agencyIn, auxiliariesIn, textPart, agencyPart, auxiliaryCount, typeIn, auxiliaryType, auxiliaryPart}
-
--- ---- the extension
-
-module _ (s : List ℕ) where
-  pub extension-no : (r : Refusal) → NoPart r ≡ identifierPart s → NoNumber r ≡ extension s
-  unfolding identifierPart extension
-  extension-no r e = rw (field-refused 0 (identifier .parse s (length s) 0) r e)
-
-  module _ (b : Bytes s) (a n : ℕ) (e : Of a n ≡ identifierPart s) where
-    pub identifier-there : 18 ≡ length (take 18 s)
-    unfolding identifierPart
-    identifier-there = sym (length-take-le 18 s (identifier-fills s (length s) 0 a n b e .2 .in-body))
-
-    pub extension-is : (x : ℕ) → x ≡ crc16Of (take 18 s) → Is x 18 ≡ extension s
-    unfolding identifierPart extension extensionOf
-    extension-is x h =
-        let f = identifier-fills s (length s) 0 a n b e .2 in
-        let z : x ≡ crc16Of (identifier .print (f .value)) = h ∙ ap crc16Of (f .printed) in
-        rw (f .parsed, z)
+use Rattle.content_fields.specs.Asked.{languagesCounted, languageCount, languagePart, signaturePart, textIn, agencyIn, auxiliariesIn, textPart, agencyPart, auxiliaryCount, typeIn, auxiliaryType, auxiliaryPart}
 
 -- ---- the languages and the signature
 

@@ -28,6 +28,7 @@ use Rattle.body_asking.proofs.Turns.{ReadAt, read-in-turn, opaque-fills-at, fol
 use Rattle.content.specs.Content.{contentKind, Auxiliary, auxiliary, auxiliaries, Language, LanguageFields, languageFields, language, Content, Fields, fields, content}
 use Rattle.content.proofs.Lawful.{language-fields-lawful, content-filling}
 use Rattle.content_fields.specs.Agreement.{AuxiliaryAsked, FieldsAsked, NoLanguage, LanguageAsked, ContentAsked}
+use Rattle.body_extension.specs.Extension.{extensionAt}
 use Rattle.content_fields.specs.Asked.{identifierPart, identifierDigit, extension, languagesCounted, languageCount, languagePart, signaturePart, lettersPart, characterSet, textIn, agencyIn, auxiliariesIn, textPart, agencyPart, auxiliaryCount, typeIn, auxiliaryType, auxiliaryPart}
 
 -- ---- a language that begins at `at` and has n bytes
@@ -184,7 +185,7 @@ module _ (w : ℕ) (s : List ℕ) (b : Bytes s) where
         }
 
     table-fields : ContentAsked w s (record { identifier = x .0; languages = x .1 .0; signature = x .1 .1 })
-    unfolding identifierPart identifierDigit extension languageCount languagePart signaturePart listOf
+    unfolding identifierPart identifierDigit extension extensionAt languageCount languagePart signaturePart listOf
     table-fields =
         let l = length s in
         let vs = x .1 .0 in

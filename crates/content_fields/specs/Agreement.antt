@@ -7,7 +7,8 @@ use Rattle.body_formats.specs.declared.Number.the-variants.{Is}
 use Rattle.body_formats.specs.declared.Part.the-variants.{Of}
 use Rattle.body_asking.specs.Agreement.{NoNumberThere, NoPartThere, FillsAt, FollowsLength, InTurn}
 use Rattle.body_formats.specs.Identifier.{identifier}
-use Rattle.content.specs.Content.{Auxiliary, Language, language, Content, extensionOf}
+use Rattle.body_extension.specs.Extension.{extensionOf}
+use Rattle.content.specs.Content.{Auxiliary, Language, language, Content}
 use Rattle.content_fields.specs.Asked.{identifierPart, identifierDigit, extension, languageCount, languagePart, signaturePart, lettersPart, characterSet, textPart, agencyPart, auxiliaryCount, auxiliaryType, auxiliaryPart}
 
 -- "Every field of an accepted table can be asked for, opaque bytes as the part of the body they fill; one that isn't there is 19, place 0":

@@ -2,14 +2,14 @@
 use Prim.Native.Nat.{ℕ, _+_}
 use mathlib.Core.List.{List}
 use lib.ListN.{length}
-use Rattle.body_formats.specs.Reading.{Reading, found, andThen}
+use Rattle.body_formats.specs.Reading.{Reading, andThen}
 use Rattle.body_formats.specs.Format.{Format, number, among, bytesAmong, reserved, listOf, opaque}
 use Rattle.body_formats.specs.Identifier.{identifier}
 use Rattle.body_formats.specs.Answers.{numberOf, partOf, fieldPart, digitRead}
 use Rattle.body_formats.specs.declared.Number.{Number}
 use Rattle.body_formats.specs.declared.Part.{Part}
 use Rattle.body_asking.specs.Asking.{inBody, fieldIn, headedPart, nthOf}
-use Rattle.content.specs.Content.{extensionOf}
+use Rattle.body_extension.specs.Extension.{extensionAt}
 
 -- ---- the table
 
@@ -21,7 +21,7 @@ identifierDigit s i = digitRead identifier i s (length s) 0
 
 -- the extension that goes with the identifier
 unfoldable pub extension : List ℕ → Number
-extension s = numberOf (andThen (identifier .parse s (length s) 0) (λ ds q. found (extensionOf ds) q))
+extension s = extensionAt s (length s) 0
 
 -- "4 reserved, language count 4 bits (1 to 5)", after the 18 bytes of the identifier
 abbrev pub languagesCounted : Format ℕ

@@ -23,14 +23,11 @@ pub fn identifier_digit(s: &[u8], i: u64) -> Number
     body_digits::identifier_digit_at(s, s.len(), 0, i)
 }
 
-// The extension that goes with the body: the CRC-16 of the 18 bytes that hold the identifier.
+// The extension that goes with the body: that of its identifier.
 pub fn extension(s: &[u8]) -> Number
     ensures { λ r. ⌜ r ≡ extension (now (s .entry)) ⌝ }
 {
-    match identifier(s) {
-        Part::Refused(r) => Number::Refused(r),
-        Part::Of(a, n) => Number::Is(crc::crc16(&s[..18]) as u64, 18),
-    }
+    body_extension::extension_at(s, s.len(), 0)
 }
 
 // k reserved one bits and a number from lo to hi, in one byte.

@@ -22,7 +22,7 @@ pub fn read(kind: u32, extension: u32, s: &[u8]) -> Step
             match body_walk::body_end(walk) {
                 Step::Refused(r) => Step::Refused(r),
                 Step::At(end) => {
-                    if (crc::crc16(&s[..18]) as u32) != extension {
+                    if (crc::crc16_after_four(&s[..18]) as u32) != extension {
                         return Step::Refused(Refusal::OtherChecksum);
                     }
                     Step::At(end)

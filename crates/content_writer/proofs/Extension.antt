@@ -7,15 +7,15 @@ use lib.ListN.{length, take, drop, length-append}
 use lib.Seq.{length-take-le, take-append-le}
 use Rattle.ground_placing.proofs.Placing.{placed-whole}
 use Rattle.ground_refusal.specs.declared.Refusal.{Refusal}
-use Rattle.crc.specs.Crc.{crc16Of}
+use Rattle.crc.specs.Crc.{crc16AfterFour}
 use Rattle.body_formats.specs.Reading.{Reading, found, refused}
 use Rattle.body_formats.specs.Answers.{stepOf}
 use Rattle.body_formats.specs.Body.{measured, writing, bodyWritten, outputWritten}
 use Rattle.body_formats.specs.declared.Step.the-variants.{At, Refused as NoStep}
-use Rattle.body_formats.specs.Identifier.{identifier}
 use Rattle.body_pen.specs.Penned.{stepFitting}
 use Rattle.body_pen.proofs.Writers.{write-refused}
-use Rattle.content.specs.Content.{Content, content, extensionOf}
+use Rattle.body_extension.specs.Extension.{extensionOf}
+use Rattle.content.specs.Content.{Content, content}
 use Rattle.content.proofs.RoundTrips.{content-trips}
 use Rattle.content.proofs.Extension.{printed-identifier}
 use Rattle.content_writer.specs.Written.{writtenOf, contentWritten}
@@ -42,7 +42,7 @@ module _ (pool tape out : List ℕ) (size : ℕ) (said : At size ≡ bodyWritten
       go (found c n) g = (c, ap (found c) (let z : n ≡ size = cc in z))
       go (refused u) g = absurd (let z : _≡_ {A = ℕ} 0 1 = cc in omega arith)
 
-  identified : (18 ≤ length (content 3 .print (value .0))) × (take 18 (content 3 .print (value .0)) ≡ identifier .print (value .0 .identifier))
+  identified : (18 ≤ length (content 3 .print (value .0))) × (crc16AfterFour (take 18 (content 3 .print (value .0))) ≡ extensionOf (value .0 .identifier))
   identified = printed-identifier 3 (value .0) (content-trips 3 .written-reads-back pool tape (length out) (value .0) size (value .1) .2)
 
   module _ (now : List ℕ) (left : now ≡ outputWritten (content 3) pool tape out) where
@@ -50,10 +50,8 @@ module _ (pool tape out : List ℕ) (size : ℕ) (said : At size ≡ bodyWritten
     unfolding outputWritten
     begins = left ∙ rw (value .1) (placed-whole out (content 3 .print (value .0)))
 
-    first : take 18 now ≡ identifier .print (value .0 .identifier)
-    first =
-        ap (take 18) begins ∙ take-append-le 18 (content 3 .print (value .0)) (drop (length (content 3 .print (value .0))) out) (identified .0)
-        ∙ identified .1
+    first : take 18 now ≡ take 18 (content 3 .print (value .0))
+    first = ap (take 18) begins ∙ take-append-le 18 (content 3 .print (value .0)) (drop (length (content 3 .print (value .0))) out) (identified .0)
 
     pub identifier-fits : 18 ≤ length now
     identifier-fits =
@@ -64,6 +62,6 @@ module _ (pool tape out : List ℕ) (size : ℕ) (said : At size ≡ bodyWritten
     first-there k h = sym (length-take-le k now (omega (arith, identifier-fits)))
 
     -- n is what the code works out of the first 18 bytes
-    pub with-extension : (n : ℕ) → n ≡ crc16Of (take 18 now) → Of size n ≡ contentWritten pool tape (length out)
-    unfolding contentWritten extensionOf
-    with-extension n h = rw (value .1) (ap (Of size) (h ∙ ap crc16Of first))
+    pub with-extension : (n : ℕ) → n ≡ crc16AfterFour (take 18 now) → Of size n ≡ contentWritten pool tape (length out)
+    unfolding contentWritten
+    with-extension n h = rw (value .1) (ap (Of size) (h ∙ ap crc16AfterFour first ∙ identified .1))

@@ -3,7 +3,8 @@ use Prim.Native.Nat.{ℕ}
 use mathlib.Core.List.{List}
 use Rattle.body_formats.specs.Reading.{Reading, found, refused}
 use Rattle.body_formats.specs.Body.{writing}
-use Rattle.content.specs.Content.{Content, content, extensionOf}
+use Rattle.body_extension.specs.Extension.{extensionOf}
+use Rattle.content.specs.Content.{Content, content}
 use Rattle.content_writer.specs.declared.Written.{Written}
 use Rattle.content_writer.specs.declared.Written.the-variants.{Of, Refused}
 

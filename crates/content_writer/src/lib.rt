@@ -35,7 +35,7 @@ pub fn write(pool: &[u8], tape: &[u64], out: &mut [u8]) -> Written
         Step::Refused(r) => Written::Refused(r),
         Step::At(size) => {
             writing::put_content(pool, tape, Pen::At(0, 0), 3, out, true);
-            Written::Of(size, crc::crc16(&out[..18]) as u32)
+            Written::Of(size, crc::crc16_after_four(&out[..18]) as u32)
         }
     }
 }

@@ -12,8 +12,8 @@ use lib.ListN.{length, replicate, length-append, length-replicate, replicate-app
 use lib.Pow.{pow-pos, pow-lt}
 use lib.Dec.{lit<}
 use lib.Seq.{set-split, split-at, take-at, drop-at}
-use Rattle.crc_register.specs.Register.{odd, bitsOf, bytesBits, value, plus, fed, step, run, crc}
-use Rattle.crc.specs.Crc.{bigEndian, bitChanged, crc32Of, AreBytes}
+use Rattle.crc_register.specs.Register.{odd, bitsOf, bytesBits, digit, value, plus, fed, step, run, crc}
+use Rattle.crc.specs.Crc.{bigEndian, bitChanged, crc32Of, crc16Bits, AreBytes}
 use Rattle.crc_register.proofs.Linear.{xor-comm, xor-false, plus-comm, plus-assoc, plus-self, plus-zeros, plus-append, length-plus, length-step, length-run, run-append, run-plus, enter, zeros-snoc, fed-false, length-fed}
 use Rattle.crc_register.proofs.Bits.{length-bits, bits-append, bits-xor, bits-zero, value-bits}
 use Rattle.crc_register.proofs.Laws.{crc-bits, bytes-append}
@@ -130,6 +130,24 @@ low-bit k p o = ap (λ (n : ℕ). bitsOf n p) (sym (add-one k)) ∙ bits-append 
     one : (p : ℕ) → odd p ≡ true → bitsOf 1 p ≡ true ∷ []
     one p o = ap (λ (b : Bool). b ∷ []) (ap odd (div-one p) ∙ o)
 
+bits-inj : (n x y : ℕ) → x < 2 ^ n → y < 2 ^ n → bitsOf n x ≡ bitsOf n y → x ≡ y
+bits-inj n x y hx hy e = sym (value-bits n x ∙ mod-eq-of-lt hx) ∙ ap value e ∙ value-bits n y ∙ mod-eq-of-lt hy
+
+-- registers that are not the same come to different checks, whatever bits follow
+pub crc-start : (w p a b : ℕ) (c : List Bool) → 0 < w → odd p ≡ true → a < 2 ^ w → b < 2 ^ w → crc w p a c ≡ crc w p b c → a ≡ b
+crc-start zero p a b c pos o ha hb e = absurd (omega arith)
+crc-start (suc k) p a b c pos o ha hb e =
+    bits-inj (suc k) a b ha hb (run-inj q (bitsOf (suc k) a) (bitsOf (suc k) b) c (wide a) (wide b) (as-run a ∙ ap (bitsOf (suc k)) e ∙ sym (as-run b)))
+  where
+    q : List Bool
+    q = bitsOf k (p / 2 ^ 1)
+
+    wide : (x : ℕ) → length (bitsOf (suc k) x) ≡ suc (length q)
+    wide x = length-bits (suc k) x ∙ sym (ap suc (length-bits k (p / 2 ^ 1)))
+
+    as-run : (x : ℕ) → run (q ++ true ∷ []) (bitsOf (suc k) x) c ≡ bitsOf (suc k) (crc (suc k) p x c)
+    as-run x = ap (λ (l : List Bool). run l (bitsOf (suc k) x) c) (sym (low-bit k p o)) ∙ sym (crc-bits (suc k) p x c)
+
 -- strings that differ within w bits have different checks
 pub crc-burst : (w p s : ℕ) (a xs ys c : List Bool) → 0 < w → odd p ≡ true → length xs ≡ length ys → length xs ≤ w
     → crc w p s (a ++ (xs ++ c)) ≡ crc w p s (a ++ (ys ++ c)) → xs ≡ ys
@@ -166,9 +184,6 @@ crc-burst (suc k) p s a xs ys c pos o h le e =
     both = as-run (a ++ (xs ++ c)) ∙ ap (bitsOf (suc k)) e ∙ sym (as-run (a ++ (ys ++ c)))
 
 -- ---- over bytes
-
-bits-inj : (n x y : ℕ) → x < 2 ^ n → y < 2 ^ n → bitsOf n x ≡ bitsOf n y → x ≡ y
-bits-inj n x y hx hy e = sym (value-bits n x ∙ mod-eq-of-lt hx) ∙ ap value e ∙ value-bits n y ∙ mod-eq-of-lt hy
 
 -- a byte's bits, and those of the rest
 split-byte : (x y : ℕ) (l l′ : List Bool) → bitsOf 8 x ++ l ≡ bitsOf 8 y ++ l′ → (bitsOf 8 x ≡ bitsOf 8 y) × (l ≡ l′)
@@ -256,7 +271,12 @@ crc-one-bit w p s xs i k le o h small e = omega (arith, pow-pos k, none)
         (plus-same (bitsOf 8 x) (bitsOf 8 (2 ^ k)) (length-bits 8 x ∙ sym (length-bits 8 (2 ^ k))) (sym (bits-xor 8 x (2 ^ k)) ∙ same)
         ∙ ap (λ (n : ℕ). replicate n false) (length-bits 8 x) ∙ sym (bits-zero 8))
 
--- ---- as they stand for CRC_32
+-- ---- as they stand for CRC-16 and CRC_32
+
+-- four ones in front change the CRC-16 of any bits
+pub crc16-four-ones : (bits : List Bool) → crc16Bits (true ∷ true ∷ true ∷ true ∷ bits) ≡ crc16Bits bits → ⊥
+unfolding crc16Bits odd bitsOf digit value plus fed step run crc xor
+crc16-four-ones bits e = omega (arith, crc-start 16 0x1021 0xFFF0 0xFFFF bits (lit< tt) refl (lit< tt) (lit< tt) e)
 
 pub crc32-burst : (a xs ys c : List ℕ) → length xs ≡ length ys → length xs ≤ 4 → AreBytes xs → AreBytes ys
     → crc32Of (a ++ (xs ++ c)) ≡ crc32Of (a ++ (ys ++ c)) → xs ≡ ys

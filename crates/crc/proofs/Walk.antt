@@ -1,14 +1,14 @@
 -- The check of a string, walked some bytes a turn: what a loop knows of its register, where it starts, its turns, and where it ends.
 use mathlib.Core.Bool.{Bool}
-use mathlib.Core.List.{List, [], _∷_, _++_, append-nil}
+use mathlib.Core.List.{List, [], _∷_, _++_, append-nil, append-assoc}
 use mathlib.Core.Path.{_≡_, sym, ap, ap₂, _∙_}
 use Prim.Native.Nat.{ℕ, suc, _+_, _-_, _*_, _/_, _^_, _<_, _≤_}
 use native.Mathlib.Numerals.{add-one}
 use native.Mathlib.Omega.{arith}
 use lib.ListN.{length, getD, take, drop, take-append-drop, length-drop}
-use lib.Seq.{drop-cons, take-add, take-all}
+use lib.Seq.{drop-cons, take-add, take-all, drop-at}
 use Rattle.crc_register.specs.Register.{bitsOf, bytesBits, crc}
-use Rattle.crc_register.proofs.Bits.{bits-above, bits-append}
+use Rattle.crc_register.proofs.Bits.{length-bits, bits-above, bits-append}
 use Rattle.crc_register.proofs.Laws.{crc-none, crc-append, crc-bytes-append}
 
 -- r is the check of the first i bytes of xs
@@ -56,6 +56,26 @@ walk-nibbles {w} {p} {s} {xs} {i} {r} r′ v h e e′ =
     let b : ℕ = getD xs i 0 in
     walk-byte r′ v h
     (e′ ∙ ap (λ (x : ℕ). crc w p x (bitsOf 4 b)) e ∙ sym (ap (crc w p r) (bits-append 4 4 b) ∙ crc-append w p r (bitsOf 4 (b / 16)) (bitsOf 4 b)))
+
+-- ---- without the first four bits
+
+pub after-none : (w p s : ℕ) (xs : List ℕ) → s < 2 ^ w → length xs ≡ 0 → s ≡ crc w p s (drop 4 (bytesBits xs))
+unfolding bytesBits
+after-none w p s [] h e = sym (crc-none w p s h)
+after-none w p s (x ∷ xs) h e = absurd (omega arith)
+
+-- the low nibble of the first byte, and then the other bytes
+pub after-four : (w p s : ℕ) (xs : List ℕ) (q r : ℕ) → 1 ≤ length xs → q ≡ crc w p s (bitsOf 4 (getD xs 0 0))
+    → r ≡ crc w p q (bytesBits (take (length xs - 1) (drop 1 xs))) → r ≡ crc w p s (drop 4 (bytesBits xs))
+unfolding bytesBits
+after-four w p s [] q r h e e′ = absurd (omega arith)
+after-four w p s (x ∷ xs) q r h e e′ =
+    let low : List Bool = bitsOf 4 x in
+    let rest : List Bool = bytesBits xs in
+    let all : take (length (x ∷ xs) - 1) xs ≡ xs = take-all (length (x ∷ xs) - 1) xs (omega arith) in
+    e′ ∙ ap₂ (λ (y : ℕ) (l : List ℕ). crc w p y (bytesBits l)) e all ∙ sym (crc-append w p s low rest)
+    ∙ ap (crc w p s) (sym (ap (λ (l : List Bool). drop 4 (l ++ rest)) (bits-append 4 4 x)
+    ∙ ap (drop 4) (append-assoc (bitsOf 4 (x / 16)) low rest) ∙ drop-at (bitsOf 4 (x / 16)) (low ++ rest) 4 (length-bits 4 (x / 16))))
 
 -- ---- four bytes as one number
 

@@ -1,8 +1,9 @@
--- What a reader has to believe of CRC_32 and CRC-16: the register of each, over the bits of a string of bytes.
+-- What a reader has to believe of CRC_32 and CRC-16: the register of each, over the bits of a string of bytes, and CRC-16's over any bits.
+use mathlib.Core.Bool.{Bool}
 use mathlib.Core.List.{List, [], _∷_}
 use Prim.Native.Nat.{ℕ, zero, suc, _*_, _/_, _%_, _^_, _<_}
 use lib.Bits.{bitXor}
-use lib.ListN.{getD, set}
+use lib.ListN.{getD, set, drop}
 use Rattle.crc_register.specs.Register.{bytesBits, crc}
 -- callers write a bit as a number too
 unfoldable pub use Rattle.crc_register.specs.Register.{digit}
@@ -31,3 +32,11 @@ crc32Of s = crc 32 0x04C11DB7 0xFFFFFFFF (bytesBits s)
 -- 01, 'Content': "CRC-16: polynomial 0x1021, start 0xFFFF, high bit first, no final change"
 unfoldable pub crc16Of : List ℕ → ℕ
 crc16Of s = crc 16 0x1021 0xFFFF (bytesBits s)
+
+-- M-103: "Write the definition over a string of bits", "from the same start value"
+unfoldable pub crc16Bits : List Bool → ℕ
+crc16Bits bits = crc 16 0x1021 0xFFFF bits
+
+-- of the bits of a string of bytes without the first four
+unfoldable pub crc16AfterFour : List ℕ → ℕ
+crc16AfterFour s = crc16Bits (drop 4 (bytesBits s))

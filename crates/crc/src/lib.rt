@@ -1,4 +1,5 @@
-// CRC_32 and CRC-16 of a string of bytes, by tables: a lookup takes in several bits, and a turn makes several lookups.
+// CRC_32 and CRC-16 of a string of bytes, and CRC-16 without its first four bits, by tables: a lookup takes in several bits, and a turn makes
+// several lookups.
 //
 // A table is the arms of a `match`, which the compiler keeps as one constant array; a `const` array is laid out anew by every call
 // that names it. A large table is looked up at one place only, or the compiler makes each of its lookups a call.
@@ -10,7 +11,7 @@ ghost use mathlib.Core.Path.{_≡_};
 ghost use lib.ListN.{length, replicate};
 ghost use Prim.Native.Nat.{_≤_};
 ghost use Rattle.crc_register.specs.Register.{bitsOf, bytesBits, crc};
-ghost use Rattle.crc.specs.Crc.{crc16Of, crc32Of};
+ghost use Rattle.crc.specs.Crc.{crc16AfterFour, crc16Of, crc32Of};
 ghost use Rattle.crc.specs.Lanes.{Read};
 
 // Four bytes as one number, the first the highest.
@@ -128,11 +129,11 @@ fn nibble16(reg: u16, x: u8) -> u16
     nibbles16::table0((reg >> 12) ^ (x as u16)) ^ (reg << 4)
 }
 
-// CRC-16 of s, two lookups to a byte.
-pub fn crc16(s: &[u8]) -> u16
-    ensures { λ r. ⌜ r ≡ crc16Of (now (s .entry)) ⌝ }
+// The register after the bytes of s, two lookups to a byte.
+fn by_nibbles(reg: u16, s: &[u8]) -> u16
+    ensures { λ r. ⌜ r ≡ crc 16 0x1021 reg (bytesBits (now (s .entry))) ⌝ }
 {
-    let mut r: u16 = 0xFFFF;
+    let mut r = reg;
     let mut i: usize = 0;
     while i < s.len() {
         let b = s[i];
@@ -140,4 +141,21 @@ pub fn crc16(s: &[u8]) -> u16
         i += 1;
     }
     r
+}
+
+// CRC-16 of s.
+pub fn crc16(s: &[u8]) -> u16
+    ensures { λ r. ⌜ r ≡ crc16Of (now (s .entry)) ⌝ }
+{
+    by_nibbles(0xFFFF, &s[0..])
+}
+
+// CRC-16 of the bits of s without the first four: the low half of its first byte, and the bytes after that. Of no byte no bit is left.
+pub fn crc16_after_four(s: &[u8]) -> u16
+    ensures { λ r. ⌜ r ≡ crc16AfterFour (now (s .entry)) ⌝ }
+{
+    if s.len() == 0 {
+        return 0xFFFF;
+    }
+    by_nibbles(nibble16(0xFFFF, s[0]), &s[1..])
 }

@@ -24,11 +24,12 @@ use Rattle.body_formats.proofs.Bits.{reserved-inside}
 use Rattle.body_formats.proofs.Readers.{number-found, number-refused, step-found, step-refused}
 use Rattle.body_formats.specs.Resource.{resourceBytes, resource}
 use Rattle.body_formats.specs.Identifier.{identifier}
+use Rattle.body_extension.specs.Extension.{extensionAt}
 use Rattle.body_asking.specs.Asking.{fieldIn}
 use Rattle.body_asking.proofs.Answers.{number-in, found-in, part-refused, part-found}
 use Rattle.body_asking.proofs.Parts.{counted-holds}
 use Rattle.index.specs.Places.{networkPlace, classPlace, resourceCountPlace, resourcesPlace, channelDescriptorsPlace}
-use Rattle.index_fields.specs.Asked.{signaturePart, identifierDigit, network, class, level, resourceCount, resourceAt, resourcePart, resourceDigit, flagAt, flag, channelAt, inChannel, descriptorsPart, streamsPart}
+use Rattle.index_fields.specs.Asked.{signaturePart, identifierDigit, extension, network, class, level, resourceCount, resourceAt, resourcePart, resourceDigit, flagAt, flag, channelAt, inChannel, descriptorsPart, streamsPart}
 
 -- ---- tests
 
@@ -80,6 +81,14 @@ module _ (s : List ℕ) (at n : ℕ) where
   pub network-is : Bytes s → numberOf (fieldIn (count 2) networkPlace s at n) ≡ network s at n
   unfolding network
   network-is b = number-in s at n 2 networkPlace b
+
+  pub extension-no : leb (at + n) (length s) ≡ false → NoNumber (OutsideSet 0) ≡ extension s at n
+  unfolding extension
+  extension-no e = rw e
+
+  pub extension-is : leb (at + n) (length s) ≡ true → extensionAt s (at + n) at ≡ extension s at n
+  unfolding extension
+  extension-is e = rw e
 
   pub identifier-digit-no : (i : ℕ) → leb (at + n) (length s) ≡ false → NoNumber (OutsideSet 0) ≡ identifierDigit s at n i
   unfolding identifierDigit

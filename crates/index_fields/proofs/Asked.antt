@@ -31,9 +31,10 @@ use Rattle.body_asking.proofs.Answers.{asked}
 use Rattle.body_asking.proofs.Entries.{after-all, all-same}
 use Rattle.body_asking.proofs.Parts.{length-sized, length12-sized, part-holds, part-after, bytes-hold, digit-there, digit-past, depending-found}
 use Rattle.body_asking.proofs.Turns.{ReadAt, read-in-turn, holds-in-turn, opaque-fills-at, follows-length}
+use Rattle.body_extension.specs.Extension.{extensionAt}
 use Rattle.index.specs.Index.{Descriptor, descriptor, descriptors, Stream, streamFields, stream, streams, Channel, ChannelFields, channelFields, channel, flagged, Message, HeadFields, MessageFields, head, messageFields, named, unnamed, message, Index, fields, index, indexKind}
 use Rattle.index.specs.Places.{networkPlace, startPlace, endPlace, typePlace, classPlace, resourceCountPlace, resourcesPlace, channelStreamPlace, channelProgramPlace, pcrPidPlace, channelDescriptorsPlace, streamPidPlace, streamDescriptorsPlace}
-use Rattle.index_fields.specs.Asked.{messageCount, messagePart, signaturePart, identifierPart, identifierDigit, network, start, end, typePart, class, level, resourceCount, resourceAt, resourcePart, resourceDigit, flagAt, flag, channelAt, channelNetwork, channelStream, channelProgram, pcrPid, descriptorsPart, streamsPart, firstByte, descriptorTag, descriptorPart, streamType, streamPid, streamDescriptors, countOf, descriptorCount, streamCount}
+use Rattle.index_fields.specs.Asked.{messageCount, messagePart, signaturePart, identifierPart, identifierDigit, extension, network, start, end, typePart, class, level, resourceCount, resourceAt, resourcePart, resourceDigit, flagAt, flag, channelAt, channelNetwork, channelStream, channelProgram, pcrPid, descriptorsPart, streamsPart, firstByte, descriptorTag, descriptorPart, streamType, streamPid, streamDescriptors, countOf, descriptorCount, streamCount}
 use Rattle.index_fields.specs.Agreement.{DescriptorAsked, NoDescriptor, DescriptorsAsked, StreamAsked, StreamsAsked, NoStream, ChannelAsked, NoChannel, UnderFlag, FieldsAsked, NoMessage, MessageAsked, IndexAsked}
 use Rattle.index.proofs.Lawful.{all-descriptors-filling, all-streams-filling, inner-filling, index-filling}
 
@@ -254,7 +255,7 @@ module _ (s : List ℕ) (at n : ℕ) (b : Bytes s) (there : at + n ≤ length s)
       (rw (parts .1) (f .1 ∙ ap (found (x .1 .1 .0)) z), ap (under channel (x .1 .1 .0) .parse s (at + n)) (sym z) ∙ f .2)
 
   fields-asked : FieldsAsked s at n (named x)
-  unfolding identifierPart identifierDigit network start end typePart class level resourceCount resourcePart resourceDigit flag
+  unfolding identifierPart identifierDigit extension extensionAt network start end typePart class level resourceCount resourcePart resourceDigit flag
   fields-asked =
       let h = heads s at n (x .0) (at + resourceCountPlace) (parts .0) in
       let room = le-leb (at + n) (length s) there in
@@ -264,6 +265,7 @@ module _ (s : List ℕ) (at n : ℕ) (b : Bytes s) (there : at + n ≤ length s)
         identifier-bytes = identifier-bytes s (at + n) at (x .0 .0) (at + networkPlace) (h .0) b;
         identifier-digits = λ i k. rw room (digit-there identifier s (at + n) at (x .0 .0) (at + networkPlace) (h .0) i (omega (arith, thirty-five)));
         identifier-past = λ i k. rw room (digit-past identifier s (at + n) at (x .0 .0) (at + networkPlace) (h .0) i (omega (arith, thirty-five)));
+        extension-is = rw (room, h .0);
         network-is = rw (asked s at n (number 2) networkPlace _ _ there (h .1));
         start-is = rw (asked s at n time startPlace _ _ there (h .2));
         end-is = rw (asked s at n endTime endPlace _ _ there (h .3));
@@ -286,12 +288,13 @@ module _ (s : List ℕ) (at n : ℕ) (b : Bytes s) (there : at + n ≤ length s)
 
 -- a part that does not lie in the body has none of them
 no-message : (s : List ℕ) (at n : ℕ) → length s < at + n → NoMessage s at n
-unfolding identifierPart identifierDigit network start end typePart class level resourceCount resourceAt resourcePart resourceDigit flagAt flag channelAt
+unfolding identifierPart identifierDigit extension extensionAt network start end typePart class level resourceCount resourceAt resourcePart resourceDigit flagAt flag channelAt
 no-message s at n h =
     let t = lt-leb (at + n) (length s) h in
     record {
       no-identifier = rw t;
       no-identifier-digit = λ i. rw t;
+      no-extension = rw t;
       no-network = rw t;
       no-start = rw t;
       no-end = rw t;

@@ -10,9 +10,10 @@ use Rattle.body_formats.specs.declared.Part.{Part}
 use Rattle.body_formats.specs.declared.Part.the-variants.{Of}
 use Rattle.body_asking.specs.Agreement.{NoNumberThere, NoPartThere, FillsAt, FollowsLength, InTurn, HoldsInTurn}
 use Rattle.body_formats.specs.Identifier.{identifierBytes, identifier}
+use Rattle.body_extension.specs.Extension.{extensionOf}
 use Rattle.index.specs.Index.{Descriptor, Stream, Channel, Message, message, Index}
 use Rattle.index.specs.Places.{startPlace, endPlace, typePlace, resourceCountPlace, resourcesPlace, channelStreamPlace, channelProgramPlace, pcrPidPlace, channelDescriptorsPlace, streamPidPlace, streamDescriptorsPlace}
-use Rattle.index_fields.specs.Asked.{messageCount, messagePart, signaturePart, identifierPart, identifierDigit, network, start, end, typePart, class, level, resourceCount, resourcePart, resourceDigit, flag, channelNetwork, channelStream, channelProgram, pcrPid, descriptorsPart, streamsPart, descriptorTag, descriptorPart, streamType, streamPid, streamDescriptors, descriptorCount, streamCount}
+use Rattle.index_fields.specs.Asked.{messageCount, messagePart, signaturePart, identifierPart, identifierDigit, extension, network, start, end, typePart, class, level, resourceCount, resourcePart, resourceDigit, flag, channelNetwork, channelStream, channelProgram, pcrPid, descriptorsPart, streamsPart, descriptorTag, descriptorPart, streamType, streamPid, streamDescriptors, descriptorCount, streamCount}
 
 -- "Every field of an accepted table can be asked for, opaque bytes as the part of the body they fill; one that isn't there is 19, place 0":
 -- a number is answered with the position after it, a digit with that of its byte, a part with where it begins and how many bytes it has.
@@ -83,6 +84,7 @@ pub record FieldsAsked (s : List ℕ) (at n : ℕ) (m : Message) : Type 0 where
   pub identifier-bytes : take identifierBytes (drop at s) ≡ identifier .print (m .identifier)
   pub identifier-digits : (i : ℕ) → i < 35 → identifierDigit s at n i ≡ Is (getD (m .identifier) i 0) (at + (i + 1) / 2)
   pub identifier-past : (i : ℕ) → 35 ≤ i → NoNumberThere (identifierDigit s at n i)
+  pub extension-is : extension s at n ≡ Is (extensionOf (m .identifier)) (at + identifierBytes)
   pub network-is : network s at n ≡ Is (m .network) (at + startPlace)
   pub start-is : start s at n ≡ Is (m .start) (at + endPlace)
   pub end-is : end s at n ≡ Is (m .end) (at + typePlace)
@@ -105,6 +107,7 @@ pub record FieldsAsked (s : List ℕ) (at n : ℕ) (m : Message) : Type 0 where
 pub record NoMessage (s : List ℕ) (at n : ℕ) : Type 0 where
   pub no-identifier : NoPartThere (identifierPart s at n)
   pub no-identifier-digit : (i : ℕ) → NoNumberThere (identifierDigit s at n i)
+  pub no-extension : NoNumberThere (extension s at n)
   pub no-network : NoNumberThere (network s at n)
   pub no-start : NoNumberThere (start s at n)
   pub no-end : NoNumberThere (end s at n)

@@ -12,6 +12,7 @@ use Rattle.body_formats.specs.declared.Number.{Number}
 use Rattle.body_formats.specs.declared.Part.{Part}
 use Rattle.body_formats.specs.Resource.{resourceBytes, resource}
 use Rattle.body_formats.specs.Identifier.{identifier}
+use Rattle.body_extension.specs.Extension.{extensionAt}
 use Rattle.body_asking.specs.Asking.{inBody, fieldIn, askedAt, inPart}
 use Rattle.index.specs.Index.{descriptor, stream}
 use Rattle.index.specs.Places.{networkPlace, startPlace, endPlace, typePlace, classPlace, resourceCountPlace, resourcesPlace, channelStreamPlace, channelProgramPlace, pcrPidPlace, channelDescriptorsPlace, streamPidPlace, streamDescriptorsPlace}
@@ -35,6 +36,10 @@ identifierPart s at n = fieldPart at (inBody s at n (λ l. identifier .parse s l
 
 unfoldable pub identifierDigit : List ℕ → ℕ → ℕ → ℕ → Number
 identifierDigit s at n i = askedAt (inBody s at n (λ l. found l at)) (λ p. digitRead identifier i s (at + n) p)
+
+-- the extension of its content table: that of the identifier
+unfoldable pub extension : List ℕ → ℕ → ℕ → Number
+extension s at n = askedAt (inBody s at n (λ l. found l at)) (λ p. extensionAt s (at + n) p)
 
 unfoldable pub network : List ℕ → ℕ → ℕ → Number
 network s at n = numberOf (fieldIn (number 2) networkPlace s at n)

@@ -29,7 +29,7 @@ ghost use Rattle.body_formats.specs.Answers.{numberOf, ended};
 ghost use Rattle.body_asking.specs.Asking.{fieldIn};
 ghost use Rattle.index.specs.Index.{descriptor, descriptors, stream};
 ghost use Rattle.index.specs.Places.{classPlace, channelProgramPlace};
-ghost use Rattle.index_fields.specs.Asked.{messageCount, messagePart, signaturePart, identifierPart, identifierDigit, network, start, end, typePart, class, level, resourceCount, resourceAt, resourcePart, resourceDigit, flag, channelAt, inChannel, channelNetwork, channelStream, channelProgram, pcrPid, descriptorsPart, streamsPart, firstByte, descriptorTag, descriptorPart, streamType, streamPid, streamDescriptors, countOf, descriptorCount, streamCount};
+ghost use Rattle.index_fields.specs.Asked.{messageCount, messagePart, signaturePart, identifierPart, identifierDigit, extension, network, start, end, typePart, class, level, resourceCount, resourceAt, resourcePart, resourceDigit, flag, channelAt, inChannel, channelNetwork, channelStream, channelProgram, pcrPid, descriptorsPart, streamsPart, firstByte, descriptorTag, descriptorPart, streamType, streamPid, streamDescriptors, countOf, descriptorCount, streamCount};
 
 // How many messages there are.
 pub fn message_count(s: &[u8]) -> Number
@@ -72,6 +72,16 @@ pub fn identifier_digit(s: &[u8], at: usize, n: usize, i: u64) -> Number
 {
     if body_asking::in_body(s, at, n) {
         return body_digits::identifier_digit_at(s, at + n, at, i);
+    }
+    Number::Refused(Refusal::OutsideSet(0))
+}
+
+// The extension of the message's content table: that of the identifier.
+pub fn extension(s: &[u8], at: usize, n: usize) -> Number
+    ensures { λ r. ⌜ r ≡ extension (now (s .entry)) at n ⌝ }
+{
+    if body_asking::in_body(s, at, n) {
+        return body_extension::extension_at(s, at + n, at);
     }
     Number::Refused(Refusal::OutsideSet(0))
 }

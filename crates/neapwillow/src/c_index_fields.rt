@@ -1,6 +1,6 @@
 // The fields of an index table for C, asked for one by one.
 ghost use mathlib.Core.Path.{_≡_};
-ghost use Rattle.index_fields.specs.Asked.{messageCount, messagePart, signaturePart, identifierPart, identifierDigit, network, start, end, typePart, class, level, resourceCount, resourcePart, resourceDigit, flag, channelNetwork, channelStream, channelProgram, pcrPid, descriptorsPart, streamsPart, descriptorTag, descriptorPart, streamType, streamPid, streamDescriptors, descriptorCount, streamCount};
+ghost use Rattle.index_fields.specs.Asked.{messageCount, messagePart, signaturePart, identifierPart, identifierDigit, extension, network, start, end, typePart, class, level, resourceCount, resourcePart, resourceDigit, flag, channelNetwork, channelStream, channelProgram, pcrPid, descriptorsPart, streamsPart, descriptorTag, descriptorPart, streamType, streamPid, streamDescriptors, descriptorCount, streamCount};
 ghost use Rattle.c_answers.specs.Answers.{numberAnswer, partAnswer, localFieldAnswer};
 
 #[no_mangle]
@@ -36,6 +36,13 @@ pub extern "C" fn nw_message_identifier_digit(body: &[u8], at: usize, length: us
     ensures { λ r. ⌜ r ≡ numberAnswer (identifierDigit (now (body .entry)) at length i) ⌝ }
 {
     c_answers::number_answer(index_fields::identifier_digit(body, at, length, i))
+}
+
+#[no_mangle]
+pub extern "C" fn nw_message_extension(body: &[u8], at: usize, length: usize) -> u64
+    ensures { λ r. ⌜ r ≡ numberAnswer (extension (now (body .entry)) at length) ⌝ }
+{
+    c_answers::number_answer(index_fields::extension(body, at, length))
 }
 
 #[no_mangle]

@@ -6,12 +6,13 @@ use mathlib.Core.List.{List, [], _∷_}
 use native.Mathlib.Omega.{arith}
 use lib.ListN.{length, getD, take}
 use lib.Dec.{ltb, leb, eqb}
-use borrow.Author.Tests.{ltb-true, eqb-true, le-leb, eq-eqb}
+use borrow.Author.Tests.{ltb-true, eqb-true, le-leb, eq-eqb, ne-eqb}
 use Rattle.ground_choices.proofs.Tests.{both}
 use Rattle.ground_refusal.specs.declared.Refusal.the-variants.{OtherKind, OutputTooSmall, OtherChecksum}
 use Rattle.ground_placing.specs.Placed.{placed}
 use Rattle.ground_placing.proofs.Placing.{placed-start}
-use Rattle.crc.specs.Crc.{AreBytes}
+use Rattle.crc.specs.Crc.{AreBytes, crc16Of}
+use Rattle.crc.proofs.Laws.{crc16-whole}
 use Rattle.time_days.specs.Calendar.{dateOf}
 use Rattle.time_days.proofs.Theorems.{date-of-day, day-of-date, next-day}
 use Rattle.time_days.proofs.Values as days
@@ -27,7 +28,7 @@ use Rattle.body_formats.specs.Format.{Format, every}
 use Rattle.body_formats.specs.Answers.{stepOf}
 use Rattle.ground_numbers.specs.Sizes.{bodyMost}
 use Rattle.body_formats.specs.Body.{reading, bodyRead, writing, bodyWritten, outputWritten, laying, bodyLaid, laidTape}
-use Rattle.body_formats.specs.declared.Step.the-variants.{At}
+use Rattle.body_formats.specs.declared.Step.the-variants.{At, Refused as NoStep}
 use Rattle.body_formats.proofs.Classes.{Ok}
 use Rattle.body_formats.proofs.Outcomes.{found-inj, andThen-found, need-found}
 use Rattle.body_formats.proofs.RoundTrips as trips
@@ -38,7 +39,10 @@ use Rattle.index.specs.Index.{indexKind, index}
 use Rattle.index.proofs.RoundTrips.{index-trips}
 use Rattle.index_fields.proofs.Asked.{index-asked}
 use Rattle.index_records.proofs.Laid.{records-are}
-use Rattle.content.specs.Content.{Content, contentKind, content, extensionOf, readingOf, contentRead}
+use Rattle.body_extension.specs.Extension.{extensionOf}
+use Rattle.body_extension.proofs.Bits.{four-ones, checked-bits}
+use Rattle.content.specs.Content.{Content, contentKind, content, readingOf, contentRead}
+use Rattle.content.proofs.Extension.{other-before}
 use Rattle.content.proofs.RoundTrips.{content-trips}
 use Rattle.content.proofs.Smallest.{content-takes, smallestBody, smallest-accepted}
 use Rattle.content_fields.proofs.Asked.{content-asked}
@@ -47,7 +51,7 @@ use Rattle.content_writer.specs.declared.Written.the-variants.{Of}
 use Rattle.configuration.specs.Configuration.{configurationKind, configuration}
 use Rattle.configuration.proofs.RoundTrips.{configuration-trips}
 use Rattle.configuration_fields.proofs.Asked.{configuration-asked}
-use Rattle.promises.specs.Demand2.{WellFormed, Holds, WrittenAndRead, HoldsContent, Extended, Smallest, SectionsRead, Times, Days, Demand2}
+use Rattle.promises.specs.Demand2.{WellFormed, Holds, WrittenAndRead, Checked, HoldsContent, Extended, Smallest, SectionsRead, Times, Days, Demand2}
 use Rattle.promises.proofs.LocalTimes.{local-times}
 
 -- ---- tables
@@ -189,12 +193,24 @@ written-with pool tape out n extension e =
     let r = round-trips (content 3) contentKind (content-trips 3) .reads-back pool tape out (g .0) n (g .1) in
     (g .0, r .0, rw (r .2, eq-eqb extension (extensionOf (g .0 .identifier)) (g .2)))
 
+old-refused : (kind : ℕ) (body : List ℕ) (t : Content) → Holds (content 3) contentKind kind body t
+    → contentRead 3 kind (crc16Of (take 18 body)) body ≡ NoStep OtherChecksum
+unfolding contentRead readingOf
+old-refused kind body t h =
+    let never : crc16Of (take 18 body) ≡ extensionOf (t .identifier) → ⊥ = λ e.
+    other-before 3 t (ok (content 3) contentKind (content-trips 3) t (h .formed)) (ap (λ (s : List ℕ). crc16Of (take 18 s)) (sym (h .body-is)) ∙ e) in
+    rw (held-reads (content 3) contentKind (content-trips 3) kind body t h, ne-eqb (crc16Of (take 18 body)) (extensionOf (t .identifier)) never)
+
+checked : Checked
+checked = record { whole-bytes = crc16-whole; four-ones = four-ones; no-more = checked-bits }
+
 extended : Extended
 extended =
     record {
       reads-exactly = λ kind extension body t b. (content-holds kind extension body t b, content-reads kind extension body t);
       accepts-exactly = λ kind extension body b. (content-accepts kind extension body b, λ x. content-accepted kind extension body (x .0) (x .1));
       written-with = written-with;
+      old-refused = old-refused;
     }
 
 -- ---- the smallest content body
@@ -272,6 +288,7 @@ demand2 =
       indexes = round-trips index indexKind index-trips;
       contents = round-trips (content 3) contentKind (content-trips 3);
       configurations = round-trips configuration configurationKind configuration-trips;
+      checked = checked;
       extended = extended;
       smallest-content = smallest;
       certificates-asked = λ kind body t b h.

@@ -39,6 +39,7 @@ offered =
       nw-index-signature = λ body. one;
       nw-message-identifier = λ body at length. one;
       nw-message-identifier-digit = λ body at length i. one;
+      nw-message-extension = λ body at length. one;
       nw-message-network = λ body at length. one;
       nw-message-start = λ body at length. one;
       nw-message-end = λ body at length. one;

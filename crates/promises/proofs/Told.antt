@@ -12,7 +12,7 @@ use borrow.Author.Tests.{leb-true}
 use Rattle.ground_refusal.specs.declared.Refusal.{Refusal}
 use Rattle.ground_refusal.specs.declared.Refusal.the-variants.{OutsideSet, OutputTooSmall, TooLarge}
 use Rattle.crc_register.proofs.Laws.{crc-lt}
-use Rattle.crc.specs.Crc.{AreBytes, crc16Of}
+use Rattle.crc.specs.Crc.{AreBytes, crc16Bits}
 use Rattle.time_days.specs.Calendar.{dayOf}
 use Rattle.time_days.specs.declared.DayAnswer.{DayAnswer}
 use Rattle.time_days.specs.declared.DayAnswer.the-variants.{Day, Refused as NoDay}
@@ -58,7 +58,8 @@ use Rattle.body_formats.proofs.Leaves.{number-below}
 use Rattle.body_formats.proofs.RoundTrips.{measured-value, written-measured}
 use Rattle.index.specs.Index.{Index, indexKind, index}
 use Rattle.index_records.specs.Records.{recording, bodyRecorded}
-use Rattle.content.specs.Content.{Content, content, extensionOf}
+use Rattle.body_extension.specs.Extension.{extensionOf}
+use Rattle.content.specs.Content.{Content, content}
 use Rattle.content_writer.specs.Written.{writtenOf, contentWritten}
 use Rattle.content_writer.specs.declared.Written.the-variants.{Of as WrittenOf}
 use Rattle.c_answers.specs.Answers.{answerOf, localAnswer, sectionAnswer, contentAnswer, localFieldAnswer}
@@ -191,7 +192,7 @@ recorded-most kind body room t n e =
     omega arith
 
 extension-fits : (ds : List ℕ) → extensionOf ds < 2 ^ 16
-unfolding extensionOf crc16Of
+unfolding extensionOf crc16Bits
 extension-fits ds = crc-lt 16 _ _ _
 
 content-back : (pool tape : List ℕ) (room n extension : ℕ) → contentWritten pool tape room ≡ WrittenOf n extension

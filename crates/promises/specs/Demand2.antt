@@ -2,12 +2,13 @@
 use Prim.Native.Nat.{ℕ, suc, _+_, _≤_, _<_}
 use mathlib.Core.Path.{_≡_}
 use mathlib.Core.Bool.{true, false}
-use mathlib.Core.List.{List}
+use mathlib.Core.List.{List, _∷_}
 use mathlib.Core.Logic.{_↔_}
 use lib.ListN.{length, take}
-use Rattle.ground_refusal.specs.declared.Refusal.the-variants.{ImpossibleDay}
+use Rattle.ground_refusal.specs.declared.Refusal.the-variants.{ImpossibleDay, OtherChecksum}
 use Rattle.ground_placing.specs.Placed.{placed}
-use Rattle.crc.specs.Crc.{AreBytes}
+use Rattle.crc_register.specs.Register.{bytesBits}
+use Rattle.crc.specs.Crc.{AreBytes, crc16Of, crc16Bits}
 use Rattle.time_days.specs.Calendar.{inRange, dayOf, dateOf, dayAfter}
 use Rattle.time_days.specs.declared.Date.{Date}
 use Rattle.time_days.specs.declared.DayAnswer.the-variants.{Day}
@@ -25,13 +26,15 @@ use Rattle.body_formats.specs.Reading.{found}
 use Rattle.body_formats.specs.Format.{Format}
 use Rattle.ground_numbers.specs.Sizes.{bodyMost}
 use Rattle.body_formats.specs.Body.{reading, bodyRead, writing, bodyWritten, outputWritten, bodyLaid, laidTape}
-use Rattle.body_formats.specs.declared.Step.the-variants.{At}
+use Rattle.body_formats.specs.declared.Step.the-variants.{At, Refused as NoStep}
+use Rattle.body_formats.specs.Identifier.{identifier}
+use Rattle.body_extension.specs.Extension.{identifierBits, extensionOf}
 use Rattle.certificate.specs.Certificate.{Certificates, certificateKind, certificate}
 use Rattle.certificate_fields.specs.Agreement.{CertificateAsked}
 use Rattle.index.specs.Index.{Index, indexKind, index}
 use Rattle.index_fields.specs.Agreement.{IndexAsked}
 use Rattle.index_records.specs.Agreement.{RecordsAre}
-use Rattle.content.specs.Content.{Content, contentKind, content, extensionOf, readingOf, contentRead}
+use Rattle.content.specs.Content.{Content, contentKind, content, readingOf, contentRead}
 use Rattle.content_fields.specs.Agreement.{ContentAsked}
 use Rattle.content_writer.specs.Written.{contentWritten}
 use Rattle.content_writer.specs.declared.Written.the-variants.{Of}
@@ -78,6 +81,14 @@ pub record WrittenAndRead {A : Type 0} (F : Format A) (own : ℕ) : Type 0 where
       → (bodyWritten F body (take m (laidTape F own kind body tape)) (length out) ≡ At (length body))
       × (outputWritten F body (take m (laidTape F own kind body tape)) out ≡ placed out 0 body)
 
+-- M-103: "The checksum is over the 140 bits alone, high bit first, from the same start value"
+pub record Checked : Type 0 where
+  -- "Write the definition over a string of bits, show that for whole bytes it is the old one"
+  pub whole-bytes : (s : List ℕ) → crc16Bits (bytesBits s) ≡ crc16Of s
+  -- an identifier is sent as four reserved ones and then the bits that are checked, which are 140
+  pub four-ones : (ds : List ℕ) → identifier .writable ds ≡ true → bytesBits (identifier .print ds) ≡ true ∷ true ∷ true ∷ true ∷ identifierBits ds
+  pub no-more : (ds : List ℕ) → identifier .writable ds ≡ true → length (identifierBits ds) ≡ 140
+
 -- a content table also has the extension of its identifier
 pub record HoldsContent (kind extension : ℕ) (body : List ℕ) (t : Content) : Type 0 where
   pub holds : Holds (content 3) contentKind kind body t
@@ -91,6 +102,9 @@ pub record Extended : Type 0 where
   -- "the content writer also gives the extension": what it wrote reads back with the one that it gave
   pub written-with : (pool tape out : List ℕ) (n extension : ℕ) → contentWritten pool tape (length out) ≡ Of n extension
       → (t : Content) × (outputWritten (content 3) pool tape out ≡ placed out 0 (content 3 .print t)) × (readingOf 3 contentKind extension (content 3 .print t) ≡ found t n)
+  -- with the checksum of before M-103, over the 18 bytes, none is accepted: 23
+  pub old-refused : (kind : ℕ) (body : List ℕ) (t : Content) → Holds (content 3) contentKind kind body t
+      → contentRead 3 kind (crc16Of (take 18 body)) body ≡ NoStep OtherChecksum
 
 -- "The smallest body is 33 bytes": no accepted one is shorter, and one has as many
 pub record Smallest : Type 0 where
@@ -139,6 +153,7 @@ pub record Demand2 : Type 0 where
   pub indexes : WrittenAndRead index indexKind
   pub contents : WrittenAndRead (content 3) contentKind
   pub configurations : WrittenAndRead configuration configurationKind
+  pub checked : Checked
   pub extended : Extended
   pub smallest-content : Smallest
   -- "Every field of an accepted table can be asked for, opaque bytes as the part of the body they fill; one that isn't there is 19, place 0"

@@ -32,7 +32,7 @@ use Rattle.index_records.specs.declared.Record.{Record}
 use Rattle.content.specs.Content.{contentRead, content, contentKind}
 use Rattle.content_writer.specs.Written.{contentWritten}
 use Rattle.content_fields.specs.Asked as content-fields
-use Rattle.content_fields.specs.Asked.{extension, languageCount, languagePart, lettersPart, characterSet, textPart, agencyPart, auxiliaryCount, auxiliaryType}
+use Rattle.content_fields.specs.Asked.{languageCount, languagePart, lettersPart, characterSet, textPart, agencyPart, auxiliaryCount, auxiliaryType}
 use Rattle.content_fields.specs.Asked.{auxiliaryPart}
 use Rattle.configuration.specs.Configuration.{configuration, configurationKind}
 use Rattle.configuration_fields.specs.Asked as configuration-fields
@@ -97,6 +97,7 @@ pub record Offered : Type 0 where
   pub nw-index-signature : (body : List ℕ) → Determined (λ r. r ≡ partAnswer (index-fields.signaturePart body))
   pub nw-message-identifier : (body : List ℕ) (at length : ℕ) → Determined (λ r. r ≡ partAnswer (index-fields.identifierPart body at length))
   pub nw-message-identifier-digit : (body : List ℕ) (at length i : ℕ) → Determined (λ r. r ≡ numberAnswer (index-fields.identifierDigit body at length i))
+  pub nw-message-extension : (body : List ℕ) (at length : ℕ) → Determined (λ r. r ≡ numberAnswer (index-fields.extension body at length))
   pub nw-message-network : (body : List ℕ) (at length : ℕ) → Determined (λ r. r ≡ numberAnswer (network body at length))
   pub nw-message-start : (body : List ℕ) (at length : ℕ) → Determined (λ r. r ≡ numberAnswer (start body at length))
   pub nw-message-end : (body : List ℕ) (at length : ℕ) → Determined (λ r. r ≡ numberAnswer (end body at length))
@@ -136,7 +137,7 @@ pub record Offered : Type 0 where
   -- The fields of a content table for C, asked for one by one.
   pub nw-content-identifier : (body : List ℕ) → Determined (λ r. r ≡ partAnswer (content-fields.identifierPart body))
   pub nw-content-identifier-digit : (body : List ℕ) (i : ℕ) → Determined (λ r. r ≡ numberAnswer (content-fields.identifierDigit body i))
-  pub nw-content-extension : (body : List ℕ) → Determined (λ r. r ≡ numberAnswer (extension body))
+  pub nw-content-extension : (body : List ℕ) → Determined (λ r. r ≡ numberAnswer (content-fields.extension body))
   pub nw-content-language-count : (body : List ℕ) → Determined (λ r. r ≡ numberAnswer (languageCount body))
   pub nw-content-language : (body : List ℕ) (i : ℕ) → Determined (λ r. r ≡ partAnswer (languagePart body i))
   pub nw-content-signature : (body : List ℕ) → Determined (λ r. r ≡ partAnswer (content-fields.signaturePart body))

@@ -47,7 +47,7 @@ read-spec =
     let opened : tie.After-open-body = start .before .before in
     let accepted = read-walked _ _ (sym (start .start .given .1) ∙ opened .open-body .ensures) (walk .walk-content .ensures)
     (sym (end .end .given .1) ∙ told .body-end .ensures) in
-    other-extension _ _ _ (λ i. opened .before .shared-slice-known .given i .fits) _ accepted _ _ (c .before .crc16 .ensures) (c .if1 .taken))
+    other-extension _ _ _ (λ i. opened .before .shared-slice-known .given i .fits) _ accepted _ _ (c .before .crc16-after-four .ensures) (c .if1 .taken))
     (λ c.
     let opened : tie.After-open-body = c .before .before .before in
     refused-before _ _ _ _ _ (body-no _ _ _ _ _ (sym (c .before .r .given .1) ∙ opened .open-body .ensures)))
@@ -67,4 +67,4 @@ read-spec =
     let opened : tie.After-open-body = start .before .before in
     let accepted = read-walked _ _ (sym (start .start .given .1) ∙ opened .open-body .ensures) (walk .walk-content .ensures)
     (sym (end .end .given .1) ∙ told .body-end .ensures) in
-    same-extension _ _ _ (λ i. opened .before .shared-slice-known .given i .fits) _ accepted _ _ (c .before .crc16 .ensures) (omega arith)))
+    same-extension _ _ _ (λ i. opened .before .shared-slice-known .given i .fits) _ accepted _ _ (c .before .crc16-after-four .ensures) (omega arith)))

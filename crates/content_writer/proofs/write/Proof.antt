@@ -31,4 +31,4 @@ write-spec =
     (λ c.
     let put = c .before .before .before .before in
     let w = write-done _ _ _ _ (put .before .before .before .size .given .0 .0) (cc) (put .put-content .ensures) in
-    (with-extension _ _ _ _ (w .0) _ (w .1) _ (c .crc16 .ensures), w .1)))
+    (with-extension _ _ _ _ (w .0) _ (w .1) _ (c .crc16-after-four .ensures), w .1)))

@@ -1,54 +1,16 @@
--- `crc16` meets its contract: the register is always that of the bytes passed.
-use Prim.Native.Nat.{_-_}
-use lib.ListN.{length}
+-- `crc16` meets its contract: the part that it lends is all of the string.
 use borrow.Author.Needs.{needs}
 use Rattle.crc.specs.Crc.{crc16Of}
-use Rattle.crc.proofs.Walk.{Walk, walk-start, walk-nibbles, walk-end}
+use Rattle.crc.proofs.Walk.{walk-start, walk-rest}
 use Rattle.crc.proofs.crc16.Statement.{statement}
 use Rattle.crc.proofs.crc16.Tie as tie
-
-abbrev Inv-loop : tie.InvT-loop
-Inv-loop s r₀ i₀ r i = Walk 16 0x1021 0xFFFF s i r
-
-abbrev μ-loop : tie.MeasureT-loop
-μ-loop s r₀ i₀ r i = length s - i
-
-loop-holds : tie.Need-loop-holds Inv-loop μ-loop
-loop-holds c = walk-start (search needs)
-
-shared-slice-read-b : tie.Need-shared-slice-read-b Inv-loop μ-loop
-shared-slice-read-b c = search needs
-
-nibble16-requires : tie.Need-nibble16-requires Inv-loop μ-loop
-nibble16-requires c κs = search needs
-
-nibble16-requires-2 : tie.Need-nibble16-requires-2 Inv-loop μ-loop
-nibble16-requires-2 c κs = search needs
-
-add-i : tie.Need-add-i Inv-loop μ-loop
-add-i c = search needs
-
-loop-less : tie.Need-loop-less Inv-loop μ-loop
-loop-less c = search needs
-
-loop-again : tie.Need-loop-again Inv-loop μ-loop
-loop-again c = walk-nibbles _ (c .before .before .before .before .loop .inv) (search needs) (c .before .nibble16 .ensures) (c .nibble162 .ensures)
-
-returns : tie.Need-returns Inv-loop μ-loop
-unfolding crc16Of
-returns c = walk-end (c .before .loop .inv) (search needs)
 
 pub crc16-spec : {M : Type 1} → statement M
 crc16-spec =
     tie.close
     (tie.spec
-    Inv-loop
-    μ-loop
-    loop-holds
-    shared-slice-read-b
-    nibble16-requires
-    nibble16-requires-2
-    add-i
-    loop-less
-    loop-again
-    returns)
+    (λ c. search needs)
+    (λ c. search needs)
+    (λ c. search needs)
+    (λ c κs. search needs)
+    (λ c. unfold crc16Of in walk-rest (walk-start (search needs)) (c .by-nibbles .ensures)))

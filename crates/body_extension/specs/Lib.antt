@@ -1,0 +1,2 @@
+-- The definitions that the contracts and other crates cite.
+pub mod Extension
