@@ -551,7 +551,7 @@ static int run(struct box *b, const char *name) {
 }
 
 static void clear(struct box *b) {
-    for (struct table *t = b->tables; t < b->tables + b->count; t++) free(t->store);
+    for (struct table *t = b->tables; t < b->tables + TABLES; t++) free(t->store);
     free(b->stretches);
     free(b->s);
     free(b);

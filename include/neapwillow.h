@@ -34,10 +34,14 @@ extern "C" {
 /* The version of the library that is linked, as NW_VERSION_NUMBER has that of the header. */
 uint32_t nw_version(void);
 
-/* What changed for C programs after version 0.1.0:
+/* What changed for C programs in version 0.2.0:
+ * - nw_gathering has two fields more, bytes and missing, and is 524 bytes long: compile anew.
+ * - A section of a newer version starts a gathering over and is taken; it was refused with 9.
+ * - nw_gathering_pack is new: a whole table becomes its body at the front of its store.
  * - The extension of a content table is the CRC-16 of its identifier's 140 bits, without the four
  *   reserved bits before them: no longer nw_crc16 of the 18 bytes. nw_message_extension, which is new,
- *   and nw_content_extension tell it; a table that is sent with the old one is refused (23). */
+ *   and nw_content_extension tell it; a table that is sent with the old one is refused (23).
+ * - Refusal 25 is gone, and its number is not given again. */
 
 /* ---- Answers ----------------------------------------------------------------------------------
  *
