@@ -7,11 +7,13 @@ use lib.Dec.{eqb}
 use lib.IntN.{ℤ}
 use lib.ListN.{length, getD}
 use Rattle.ground_numbers.specs.Characters.{isDigit, colon}
-use Rattle.ground_refusal.specs.declared.Refusal.the-variants.{OutsideSet, NotOfTheForm}
+use Rattle.ground_refusal.specs.declared.Refusal.the-variants.{OutsideSet, ImpossibleDay, NotOfTheForm}
 use Rattle.time_fields.specs.declared.Fielded.{Fielded}
 use Rattle.time_fields.specs.declared.Fielded.the-variants.{Field, Refused}
 use Rattle.time_offset.specs.Offset.{isOffset}
 use Rattle.time_local.specs.declared.LocalTime.{LocalTime}
+use Rattle.time_local.specs.declared.TextField.{TextField}
+use Rattle.time_local.specs.declared.TextField.the-variants.{Field as Read, OtherOffset, OtherForm, Impossible}
 use Rattle.time_local.specs.declared.Unpacked.the-variants.{At}
 use Rattle.time_local.specs.Clock.{packOf, unpackOf}
 
@@ -68,6 +70,13 @@ typed s =
 unfoldable pub readText : List ℕ → ℤ → Fielded
 readText s offset =
     cond (isOffset offset) (cond (formed form s) (packOf (typed s) offset) (Refused NotOfTheForm)) (Refused (OutsideSet 0))
+
+-- the answer of reading a text: a field, or one of these three
+unfoldable pub readAs : TextField → Fielded
+readAs (Read field) = Field field
+readAs OtherOffset = Refused (OutsideSet 0)
+readAs OtherForm = Refused NotOfTheForm
+readAs Impossible = Refused (ImpossibleDay 0)
 
 -- ---- the characters of a local time
 

@@ -4,7 +4,7 @@ ghost use mathlib.Core.Bool.{true};
 ghost use Prim.Native.Nat.{_<_};
 ghost use Rattle.time_offset.specs.Offset.{isOffset, toUtc, toLocal};
 ghost use Rattle.time_local.specs.Clock.{isClock, localMoment, written, packOf, packedAs, dated, unpackOf};
-ghost use Rattle.time_local.specs.Text.{form, fits, formed, TwoDigits, two, typed, readText};
+ghost use Rattle.time_local.specs.Text.{form, fits, formed, TwoDigits, two, typed, readText, readAs};
 use ground_refusal::Refusal;
 use time_days::DateAnswer;
 use time_days::DayAnswer;
@@ -26,6 +26,14 @@ pub struct LocalTime {
 // stands in it, for a field that shares its bytes with one is written in pieces, and whoever reads it whole has to wait.
 enum UtcField {
     Field(u64),
+    Impossible,
+}
+
+// The UTC field of a text at an offset, or which refusal it has; for the same reason none stands in it.
+enum TextField {
+    Field(u64),
+    OtherOffset,
+    OtherForm,
     Impossible,
 }
 
@@ -193,15 +201,31 @@ fn time_of(text: &[u8]) -> LocalTime
     }
 }
 
+// The UTC field of a local time in text: the offset is tested, then the form, then the day and the time.
+fn text_field(text: &[u8], offset: i32) -> TextField
+    ensures { λ r. ⌜ readAs r ≡ readText (now (text .entry)) offset ⌝ }
+{
+    if !time_offset::permitted(offset) {
+        return TextField::OtherOffset;
+    }
+    if !of_form(b"00/00/0000 00:00:00", text) {
+        return TextField::OtherForm;
+    }
+    let t = time_of(text);
+    match packed(t, offset) {
+        UtcField::Field(field) => TextField::Field(field),
+        UtcField::Impossible => TextField::Impossible,
+    }
+}
+
 // The UTC field of a local time in text, `dd/mm/yyyy hh:mm:ss`.
 pub fn read_text(text: &[u8], offset: i32) -> Fielded
     ensures { λ r. ⌜ r ≡ readText (now (text .entry)) offset ⌝ }
 {
-    if !time_offset::permitted(offset) {
-        return Fielded::Refused(Refusal::OutsideSet(0));
+    match text_field(text, offset) {
+        TextField::Field(field) => Fielded::Field(field),
+        TextField::OtherOffset => Fielded::Refused(Refusal::OutsideSet(0)),
+        TextField::OtherForm => Fielded::Refused(Refusal::NotOfTheForm),
+        TextField::Impossible => Fielded::Refused(Refusal::ImpossibleDay(0)),
     }
-    if !of_form(b"00/00/0000 00:00:00", text) {
-        return Fielded::Refused(Refusal::NotOfTheForm);
-    }
-    pack(time_of(text), offset)
 }
