@@ -1,5 +1,5 @@
 -- What a reader has to believe of feeding: the order of its refusals, and what each verdict makes of answer, state and store.
-use Prim.Native.Nat.{ℕ, _+_, _*_, _≤_}
+use Prim.Native.Nat.{ℕ, _+_, _≤_}
 use mathlib.Core.Bool.{Bool, true, not, _||_}
 use mathlib.Core.List.{List}
 use lib.Dec.{eqb}
@@ -11,6 +11,7 @@ use Rattle.ground_placing.specs.Placed.{placed}
 use Rattle.section_reader.specs.declared.Heading.{Heading}
 use Rattle.section_reader.specs.declared.Sectioned.{Sectioned}
 use Rattle.section_reader.specs.declared.Sectioned.the-variants.{Good, Refused as NotGood}
+use Rattle.ground_numbers.specs.Sizes.{payloadMost, bodyMost}
 use Rattle.gathering_state.specs.Lists.{sameBytes}
 use Rattle.gathering_state.specs.State.{possibleOf, nothingBegun, place, hasRoom, heldPayload, opened, withSection, spoiledState}
 use Rattle.gathering_state.specs.declared.Gathering.{Gathering}
@@ -101,7 +102,7 @@ storeAfter g store s = storeBy store (payloadOf s) (verdictOf g store s)
 
 pub record Takes (g : Gathering) (k : ℕ) (store s : List ℕ) : Type 0 where
   pub long : 12 ≤ length s
-  pub short : length s ≤ 4096
-  pub within : place k + 4084 ≤ length store
+  pub short : length s ≤ payloadMost + 12
+  pub within : place k + payloadMost ≤ length store
   pub missing : 1 ≤ g .missing
-  pub bytes : g .bytes ≤ 256 * 4084
+  pub bytes : g .bytes ≤ bodyMost

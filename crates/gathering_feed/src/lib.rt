@@ -7,6 +7,7 @@ ghost use mathlib.Core.Path.{_≡_};
 ghost use Prim.Native.Nat.{_+_, _≤_, _<_};
 ghost use lib.ListN.{length};
 ghost use mathlib.Core.Bool.{true};
+ghost use Rattle.ground_numbers.specs.Sizes.{payloadMost, versionMost};
 ghost use Rattle.gathering_state.specs.Lists.{greatest};
 ghost use Rattle.gathering_state.specs.State.{place, hasRoom, withSection};
 ghost use Rattle.ground_placing.specs.Placed.{placed};
@@ -63,7 +64,7 @@ fn heading_agrees(g: Gathering, h: Heading) -> bool
 
 // Does the section begin a gathering: is nothing begun, or is its table newer?
 fn begins_gathering(g: Gathering, h: Heading) -> bool
-    requires { ⌜ h .version ≤ 31 ⌝ }
+    requires { ⌜ h .version ≤ versionMost ⌝ }
     ensures { λ r. ⌜ r ≡ begins g h ⌝ }
 {
     if g.kind == 0 {
@@ -74,7 +75,7 @@ fn begins_gathering(g: Gathering, h: Heading) -> bool
 
 // A section of the gathering's table: is its number held, and with the same payload?
 fn decide_number(g: Gathering, store: &[u8], h: Heading, payload: &[u8]) -> Verdict
-    requires { ⌜ (hasRoom (length (now store)) (h .last) ≡ true) × (h .number ≤ h .last) × (greatest (g .held) ≤ 4085) ⌝ }
+    requires { ⌜ (hasRoom (length (now store)) (h .last) ≡ true) × (h .number ≤ h .last) × (greatest (g .held) ≤ payloadMost + 1) ⌝ }
     ensures { λ r. ⌜ r ≡ numberVerdict g (now (store .entry)) h (now (payload .entry)) ⌝ }
 {
     let n = g.held[h.number as usize];
@@ -92,7 +93,7 @@ fn decide_number(g: Gathering, store: &[u8], h: Heading, payload: &[u8]) -> Verd
 
 // A good section: refusals 8, 9, 10, 11, in this order.
 fn decide_good(g: Gathering, store: &[u8], h: Heading, payload: &[u8]) -> Verdict
-    requires { ⌜ (h .number ≤ h .last) × (h .version ≤ 31) × (greatest (g .held) ≤ 4085) ⌝ }
+    requires { ⌜ (h .number ≤ h .last) × (h .version ≤ versionMost) × (greatest (g .held) ≤ payloadMost + 1) ⌝ }
     ensures { λ r. ⌜ r ≡ goodVerdict g (now (store .entry)) h (now (payload .entry)) ⌝ }
 {
     if !h.current {

@@ -7,6 +7,7 @@ use lib.ListN.{length}
 use Rattle.ground_refusal.specs.declared.Refusal.the-variants.{StoreTooShort, Contradiction, ImpossibleState, Missing, OutputTooSmall}
 use Rattle.ground_choices.specs.Choice.{if_then_else_}
 use Rattle.ground_placing.specs.Placed.{placed}
+use Rattle.ground_numbers.specs.Sizes.{payloadMost}
 use Rattle.gathering_state.specs.Lists.{greatest, smallestMissing, part}
 use Rattle.gathering_state.specs.State.{possibleOf, nothingBegun, place, hasRoom, lengths}
 use Rattle.gathering_state.specs.declared.Gathering.{Gathering}
@@ -67,5 +68,5 @@ outAfter g store out = outBy (bodyHeld g store) out (handedOf g store out)
 
 pub record InStore (held store : List ℕ) : Type 0 where
   pub few : length held ≤ 256
-  pub short : greatest held ≤ 4085
-  pub within : (k : ℕ) → k < length held → place k + 4084 ≤ length store
+  pub short : greatest held ≤ payloadMost + 1
+  pub within : (k : ℕ) → k < length held → place k + payloadMost ≤ length store
