@@ -72,6 +72,7 @@ struct desk {
     uint8_t body[NW_MOST_BODY];
     uint8_t sections[2 * NW_MOST_BODY];
     size_t bytes;
+    unsigned extension; // of the message's content table
 };
 
 // ---- what is said
@@ -433,20 +434,31 @@ static bool cut(struct desk *k, size_t n, unsigned kind, unsigned extension, int
     return true;
 }
 
+// Asks the index body of n bytes, as a box will, by which extension its message's content table is found.
+static bool find_extension(struct desk *k, size_t n) {
+    nw_part message = nw_index_message(k->body, n, 0);
+    if (refused("the index table's message", NW_REFUSAL(message))) return false;
+    nw_answer asked = nw_message_extension(k->body, n, nw_part_start(message), nw_part_length(message));
+    if (refused("the message's extension", NW_REFUSAL(asked))) return false;
+    k->extension = (unsigned)nw_value(asked);
+    return true;
+}
+
 static bool write_index(const struct drill *d, struct desk *k) {
     nw_form f = nw_form_start(k->pool, POOL, k->tape, ENTRIES);
     index_form(d, &f);
     nw_answer made = nw_index_write(f.pool, f.pool_bytes, f.tape, f.entries, k->body, sizeof k->body);
-    return !refused("the index table", NW_REFUSAL(made)) && cut(k, nw_value(made), NW_INDEX, 0, d->version);
+    return !refused("the index table", NW_REFUSAL(made)) && find_extension(k, nw_value(made))
+        && cut(k, nw_value(made), NW_INDEX, 0, d->version);
 }
 
-// The content table's extension, which its writer answers, is how a box finds it: nw_message_extension tells it from the index table.
+// The sections get the extension that a box looks for; nw_content_write answers the same of the same identifier.
 static bool write_content(const struct drill *d, struct desk *k) {
     nw_form f = nw_form_start(k->pool, POOL, k->tape, ENTRIES);
     content_form(d, &f);
     nw_written made = nw_content_write(f.pool, f.pool_bytes, f.tape, f.entries, k->body, sizeof k->body);
     return !refused("the content table", NW_REFUSAL(made))
-        && cut(k, nw_written_length(made), NW_CONTENT, nw_written_extension(made), d->version);
+        && cut(k, nw_written_length(made), NW_CONTENT, k->extension, d->version);
 }
 
 static int write_file(const struct desk *k, const char *name) {
