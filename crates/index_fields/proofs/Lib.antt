@@ -1,4 +1,3 @@
 -- The laws that other crates cite.
 pub mod Answers
-pub mod Counting
 pub mod Asked

@@ -13,7 +13,8 @@ use Rattle.body_formats.specs.Identifier.{identifierBytes, identifier}
 use Rattle.body_extension.specs.Extension.{extensionOf}
 use Rattle.index.specs.Index.{Descriptor, Stream, Channel, Message, message, Index}
 use Rattle.index.specs.Places.{startPlace, endPlace, typePlace, resourceCountPlace, resourcesPlace, channelStreamPlace, channelProgramPlace, pcrPidPlace, channelDescriptorsPlace, streamPidPlace, streamDescriptorsPlace}
-use Rattle.index_fields.specs.Asked.{messageCount, messagePart, signaturePart, identifierPart, identifierDigit, extension, network, start, end, typePart, class, level, resourceCount, resourcePart, resourceDigit, flag, channelNetwork, channelStream, channelProgram, pcrPid, descriptorsPart, streamsPart, descriptorTag, descriptorPart, streamType, streamPid, streamDescriptors, descriptorCount, streamCount}
+use Rattle.index_fields.specs.Asked.{messageCount, messagePart, signaturePart, identifierPart, identifierDigit, extension, network, start, end, typePart, class, level, resourceCount, resourcePart, resourceDigit, flag, channelNetwork, channelStream, channelProgram, pcrPid, descriptorsPart, streamsPart}
+use Rattle.index_stream_fields.specs.Asked.{descriptorTag, descriptorPart, streamType, streamPid, streamDescriptors, descriptorCount, streamCount}
 
 -- "Every field of an accepted table can be asked for, opaque bytes as the part of the body they fill; one that isn't there is 19, place 0":
 -- a number is answered with the position after it, a digit with that of its byte, a part with where it begins and how many bytes it has.

@@ -5,7 +5,7 @@ use lib.ListN.{length}
 use lib.Dec.{ltb}
 use Rattle.ground_refusal.specs.declared.Refusal.the-variants.{OutsideSet}
 use Rattle.body_formats.specs.Reading.{Reading, found, andThen, need}
-use Rattle.body_formats.specs.Format.{Format, count, number, reserved, nibblesAmong, bytesAmong, listOf, many, opaque, rest, counted, lengthOf, length12}
+use Rattle.body_formats.specs.Format.{Format, count, number, reserved, nibblesAmong, bytesAmong, listOf, opaque, rest, counted, lengthOf, length12}
 use Rattle.body_formats.specs.Time.{time, endTime}
 use Rattle.body_formats.specs.Answers.{numberOf, partOf, fieldPart, numberRead, partListed, digitRead}
 use Rattle.body_formats.specs.declared.Number.{Number}
@@ -13,9 +13,8 @@ use Rattle.body_formats.specs.declared.Part.{Part}
 use Rattle.body_formats.specs.Resource.{resourceBytes, resource}
 use Rattle.body_formats.specs.Identifier.{identifier}
 use Rattle.body_extension.specs.Extension.{extensionAt}
-use Rattle.body_asking.specs.Asking.{inBody, fieldIn, askedAt, inPart}
-use Rattle.index.specs.Index.{descriptor, stream}
-use Rattle.index.specs.Places.{networkPlace, startPlace, endPlace, typePlace, classPlace, resourceCountPlace, resourcesPlace, channelStreamPlace, channelProgramPlace, pcrPidPlace, channelDescriptorsPlace, streamPidPlace, streamDescriptorsPlace}
+use Rattle.body_asking.specs.Asking.{inBody, fieldIn, askedAt}
+use Rattle.index.specs.Places.{networkPlace, startPlace, endPlace, typePlace, classPlace, resourceCountPlace, resourcesPlace, channelStreamPlace, channelProgramPlace, pcrPidPlace, channelDescriptorsPlace}
 
 -- ---- the table
 
@@ -106,35 +105,3 @@ descriptorsPart s at n = partOf (inChannel (counted length12 rest) channelDescri
 
 unfoldable pub streamsPart : List ℕ → ℕ → ℕ → Part
 streamsPart s at n = partOf (andThen (inChannel (counted length12 rest) channelDescriptorsPlace s at n) (λ xs q. counted (lengthOf 2) rest .parse s (at + n) q))
-
--- ---- a descriptor or a stream, told by where it begins and how many bytes its part has from there on: the next one begins where it ends
-
--- both begin with a byte
-unfoldable pub firstByte : List ℕ → ℕ → ℕ → Number
-firstByte s at n = numberOf (inPart s at n (λ l. number 1 .parse s l at))
-
-unfoldable pub descriptorTag : List ℕ → ℕ → ℕ → Number
-descriptorTag s at n = firstByte s at n
-
-unfoldable pub descriptorPart : List ℕ → ℕ → ℕ → Part
-descriptorPart s at n = partOf (inPart s at n (λ l. opaque 1 .parse s l (at + 1)))
-
-unfoldable pub streamType : List ℕ → ℕ → ℕ → Number
-streamType s at n = firstByte s at n
-
-unfoldable pub streamPid : List ℕ → ℕ → ℕ → Number
-streamPid s at n = numberOf (inPart s at n (λ l. reserved 3 1 .parse s l (at + streamPidPlace)))
-
-unfoldable pub streamDescriptors : List ℕ → ℕ → ℕ → Part
-streamDescriptors s at n = partOf (inPart s at n (λ l. counted length12 rest .parse s l (at + streamDescriptorsPlace)))
-
--- ---- how many descriptors or streams fill a part: "descriptors and streams repeat to the end of their part", and the first bad one is refused
-
-abbrev pub countOf : {A : Type 0} → Reading (List A) → Reading ℕ
-countOf x = andThen x (λ xs q. found (length xs) q)
-
-unfoldable pub descriptorCount : List ℕ → ℕ → ℕ → Number
-descriptorCount s at n = numberOf (countOf (inBody s at n (λ l. many descriptor .parse s l at)))
-
-unfoldable pub streamCount : List ℕ → ℕ → ℕ → Number
-streamCount s at n = numberOf (countOf (inBody s at n (λ l. many stream .parse s l at)))

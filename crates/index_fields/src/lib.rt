@@ -1,5 +1,4 @@
-// The fields of an index table, asked for one by one: of the body, of a message, and of a descriptor or a stream in its part.
-// A message is told by where it begins and its length; a descriptor or a stream by where it begins and how many bytes its part has from there on.
+// The fields of an index table, asked for one by one: of the body, and of a message, which is told by where it begins and its length.
 use body_formats::Number;
 use body_formats::Part;
 use body_formats::RESOURCE_BYTES;
@@ -15,8 +14,6 @@ use index::NETWORK_PLACE;
 use index::PCR_PID_PLACE;
 use index::RESOURCE_COUNT_PLACE;
 use index::START_PLACE;
-use index::STREAM_DESCRIPTORS_PLACE;
-use index::STREAM_PID_PLACE;
 use index::TYPE_PLACE;
 ghost use mathlib.Core.Path.{_≡_};
 ghost use mathlib.Core.Bool.{_&&_};
@@ -29,7 +26,7 @@ ghost use Rattle.body_formats.specs.Answers.{numberOf, ended};
 ghost use Rattle.body_asking.specs.Asking.{fieldIn};
 ghost use Rattle.index.specs.Index.{descriptor, descriptors, stream};
 ghost use Rattle.index.specs.Places.{classPlace, channelProgramPlace};
-ghost use Rattle.index_fields.specs.Asked.{messageCount, messagePart, signaturePart, identifierPart, identifierDigit, extension, network, start, end, typePart, class, level, resourceCount, resourceAt, resourcePart, resourceDigit, flag, channelAt, inChannel, channelNetwork, channelStream, channelProgram, pcrPid, descriptorsPart, streamsPart, firstByte, descriptorTag, descriptorPart, streamType, streamPid, streamDescriptors, countOf, descriptorCount, streamCount};
+ghost use Rattle.index_fields.specs.Asked.{messageCount, messagePart, signaturePart, identifierPart, identifierDigit, extension, network, start, end, typePart, class, level, resourceCount, resourceAt, resourcePart, resourceDigit, flag, channelAt, inChannel, channelNetwork, channelStream, channelProgram, pcrPid, descriptorsPart, streamsPart};
 
 // How many messages there are.
 pub fn message_count(s: &[u8]) -> Number
@@ -301,152 +298,4 @@ pub fn streams(s: &[u8], at: usize, n: usize) -> Part
         Part::Refused(r) => Part::Refused(r),
         Part::Of(a, m) => body_parts::read_part(s, at + n, a + m, 2),
     }
-}
-
-// The byte at `at`: a descriptor's tag, or a stream's type.
-fn first_byte(s: &[u8], at: usize, n: usize) -> Number
-    ensures { λ r. ⌜ r ≡ firstByte (now (s .entry)) at n ⌝ }
-{
-    if body_asking::in_part(s, at, n) {
-        return body_numbers::read_number(s, at + n, at, 1);
-    }
-    Number::Refused(Refusal::OutsideSet(0))
-}
-
-pub fn descriptor_tag(s: &[u8], at: usize, n: usize) -> Number
-    ensures { λ r. ⌜ r ≡ descriptorTag (now (s .entry)) at n ⌝ }
-{
-    first_byte(s, at, n)
-}
-
-// The part of the body that the descriptor's data fill.
-pub fn descriptor_part(s: &[u8], at: usize, n: usize) -> Part
-    ensures { λ r. ⌜ r ≡ descriptorPart (now (s .entry)) at n ⌝ }
-{
-    if body_asking::in_part(s, at, n) {
-        return body_parts::read_part(s, at + n, at + 1, 1);
-    }
-    Part::Refused(Refusal::OutsideSet(0))
-}
-
-pub fn stream_type(s: &[u8], at: usize, n: usize) -> Number
-    ensures { λ r. ⌜ r ≡ streamType (now (s .entry)) at n ⌝ }
-{
-    first_byte(s, at, n)
-}
-
-pub fn stream_pid(s: &[u8], at: usize, n: usize) -> Number
-    ensures { λ r. ⌜ r ≡ streamPid (now (s .entry)) at n ⌝ }
-{
-    if body_asking::in_part(s, at, n) {
-        return body_numbers::read_reserved(s, at + n, at + STREAM_PID_PLACE, 3, 1);
-    }
-    Number::Refused(Refusal::OutsideSet(0))
-}
-
-// The part of the body that the stream's descriptors fill.
-pub fn stream_descriptors(s: &[u8], at: usize, n: usize) -> Part
-    ensures { λ r. ⌜ r ≡ streamDescriptors (now (s .entry)) at n ⌝ }
-{
-    if body_asking::in_part(s, at, n) {
-        return body_parts::read_part12(s, at + n, at + STREAM_DESCRIPTORS_PLACE);
-    }
-    Part::Refused(Refusal::OutsideSet(0))
-}
-
-// Past the descriptor at p, whose tag stands in the part.
-fn skip_descriptor(s: &[u8], l: usize, p: usize) -> Step
-    requires { ⌜ (p < l) × (l ≤ length (now s)) ⌝ }
-    ensures { λ r. ⌜ r ≡ ended descriptor (now (s .entry)) l p ⌝ }
-{
-    match body_parts::read_part(s, l, p + 1, 1) {
-        Part::Refused(r) => Step::Refused(r),
-        Part::Of(a, m) => Step::At(a + m),
-    }
-}
-
-// How many descriptors fill the part from p to l.
-fn descriptors_in(s: &[u8], l: usize, p: usize) -> Number
-    requires { ⌜ l ≤ length (now s) ⌝ }
-    ensures { λ r. ⌜ r ≡ numberOf (countOf (many descriptor .parse (now (s .entry)) l p)) ⌝ }
-{
-    let mut at = p;
-    let mut m: u64 = 0;
-    while at < l {
-        match skip_descriptor(s, l, at) {
-            Step::Refused(r) => {
-                return Number::Refused(r);
-            }
-            Step::At(q) => {
-                at = q;
-            }
-        }
-        m = m + 1;
-    }
-    Number::Is(m, at)
-}
-
-// How many descriptors the part of n bytes from at on has.
-pub fn descriptor_count(s: &[u8], at: usize, n: usize) -> Number
-    ensures { λ r. ⌜ r ≡ descriptorCount (now (s .entry)) at n ⌝ }
-{
-    if body_asking::in_body(s, at, n) {
-        return descriptors_in(s, at + n, at);
-    }
-    Number::Refused(Refusal::OutsideSet(0))
-}
-
-// Past the descriptors after their 12-bit length at p, each of them looked at.
-fn skip_descriptors(s: &[u8], l: usize, p: usize) -> Step
-    ensures { λ r. ⌜ r ≡ ended descriptors (now (s .entry)) l p ⌝ }
-{
-    match body_parts::read_part12(s, l, p) {
-        Part::Refused(r) => Step::Refused(r),
-        Part::Of(a, m) => match descriptors_in(s, a + m, a) {
-            Number::Refused(r) => Step::Refused(r),
-            Number::Is(k, q) => Step::At(q),
-        },
-    }
-}
-
-// Past the stream at p, whose type stands in the part.
-fn skip_stream(s: &[u8], l: usize, p: usize) -> Step
-    requires { ⌜ (p < l) × (l ≤ length (now s)) ⌝ }
-    ensures { λ r. ⌜ r ≡ ended stream (now (s .entry)) l p ⌝ }
-{
-    match body_numbers::read_reserved(s, l, p + STREAM_PID_PLACE, 3, 1) {
-        Number::Refused(r) => Step::Refused(r),
-        Number::Is(v, q) => skip_descriptors(s, l, q),
-    }
-}
-
-// How many streams fill the part from p to l.
-fn streams_in(s: &[u8], l: usize, p: usize) -> Number
-    requires { ⌜ l ≤ length (now s) ⌝ }
-    ensures { λ r. ⌜ r ≡ numberOf (countOf (many stream .parse (now (s .entry)) l p)) ⌝ }
-{
-    let mut at = p;
-    let mut k: u64 = 0;
-    while at < l {
-        match skip_stream(s, l, at) {
-            Step::Refused(r) => {
-                return Number::Refused(r);
-            }
-            Step::At(q) => {
-                at = q;
-            }
-        }
-        k = k + 1;
-    }
-    Number::Is(k, at)
-}
-
-// How many streams the part of n bytes from at on has.
-pub fn stream_count(s: &[u8], at: usize, n: usize) -> Number
-    ensures { λ r. ⌜ r ≡ streamCount (now (s .entry)) at n ⌝ }
-{
-    if body_asking::in_body(s, at, n) {
-        return streams_in(s, at + n, at);
-    }
-    Number::Refused(Refusal::OutsideSet(0))
 }

@@ -1,5 +1,4 @@
 // The index table: its body read, and laid onto a form.
-mod channels;
 mod walking;
 
 use body_formats::Step;

@@ -1,5 +1,4 @@
 // Walks through the body of an index table, from a message's fields up to the whole: each is one field of the format of its name.
-use super::channels;
 use body_walk::Walk;
 ghost use lib.ListN.{length};
 ghost use Rattle.body_formats.specs.Format.{times};
@@ -26,7 +25,7 @@ fn walk_message(s: &[u8], l: usize, x: Walk, tape: &mut [u64], wet: bool) -> Wal
     let at = part.walk;
     let a = walk_head(s, part.end, at, tape, wet);
     let b = body_walk::walk_resources(s, part.end, a, tape, wet);
-    let c = channels::walk_flagged(s, part.end, b, tape, wet);
+    let c = index_channel_reader::walk_flagged(s, part.end, b, tape, wet);
     body_walk::leave(c, part.end)
 }
 

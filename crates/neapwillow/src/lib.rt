@@ -9,6 +9,7 @@ mod c_gathering;
 mod c_index;
 mod c_index_fields;
 mod c_index_records;
+mod c_index_stream_fields;
 mod c_section;
 mod c_time;
 mod c_time_days;

@@ -23,10 +23,10 @@ use Rattle.certificate.specs.Certificate.{certificate, certificateKind}
 use Rattle.certificate_fields.specs.Asked as certificate-fields
 use Rattle.certificate_fields.specs.Asked.{authorizationCount, authorizationPart, certificateCount, certificatePart}
 use Rattle.index.specs.Index.{index, indexKind}
+use Rattle.index_stream_fields.specs.Asked.{descriptorTag, descriptorPart, streamType, streamPid, streamDescriptors, descriptorCount, streamCount}
 use Rattle.index_fields.specs.Asked as index-fields
 use Rattle.index_fields.specs.Asked.{messageCount, messagePart, network, start, end, typePart, class, level, resourceCount, resourcePart, resourceDigit, flag}
-use Rattle.index_fields.specs.Asked.{channelNetwork, channelStream, channelProgram, pcrPid, descriptorsPart, streamsPart, descriptorTag, descriptorPart}
-use Rattle.index_fields.specs.Asked.{streamType, streamPid, streamDescriptors, descriptorCount, streamCount}
+use Rattle.index_fields.specs.Asked.{channelNetwork, channelStream, channelProgram, pcrPid, descriptorsPart, streamsPart}
 use Rattle.index_records.specs.Records.{bodyRecorded, recorded}
 use Rattle.index_records.specs.declared.Record.{Record}
 use Rattle.content.specs.Content.{contentRead, content, contentKind}
@@ -91,6 +91,14 @@ pub record Offered : Type 0 where
   pub nw-index-measure : (pool tape : List ℕ) → Determined (λ r. r ≡ writtenAnswer (measured index pool tape))
   pub nw-index-write : (pool tape out : List ℕ) →
       Determined₂ (λ r out′. (r ≡ writtenAnswer (bodyWritten index pool tape (length out))) × (out′ ≡ outputWritten index pool tape out))
+  -- The fields of a descriptor or a stream for C, asked for one by one, and how many there are.
+  pub nw-descriptor-tag : (body : List ℕ) (at length : ℕ) → Determined (λ r. r ≡ numberAnswer (descriptorTag body at length))
+  pub nw-descriptor-bytes : (body : List ℕ) (at length : ℕ) → Determined (λ r. r ≡ partAnswer (descriptorPart body at length))
+  pub nw-stream-type : (body : List ℕ) (at length : ℕ) → Determined (λ r. r ≡ numberAnswer (streamType body at length))
+  pub nw-stream-pid : (body : List ℕ) (at length : ℕ) → Determined (λ r. r ≡ numberAnswer (streamPid body at length))
+  pub nw-stream-descriptors : (body : List ℕ) (at length : ℕ) → Determined (λ r. r ≡ partAnswer (streamDescriptors body at length))
+  pub nw-descriptor-count : (body : List ℕ) (at length : ℕ) → Determined (λ r. r ≡ numberAnswer (descriptorCount body at length))
+  pub nw-stream-count : (body : List ℕ) (at length : ℕ) → Determined (λ r. r ≡ numberAnswer (streamCount body at length))
   -- The fields of an index table for C, asked for one by one.
   pub nw-index-message-count : (body : List ℕ) → Determined (λ r. r ≡ numberAnswer (messageCount body))
   pub nw-index-message : (body : List ℕ) (i : ℕ) → Determined (λ r. r ≡ partAnswer (messagePart body i))
@@ -114,13 +122,6 @@ pub record Offered : Type 0 where
   pub nw-message-pcr-pid : (body : List ℕ) (at length : ℕ) → Determined (λ r. r ≡ numberAnswer (pcrPid body at length))
   pub nw-message-descriptors : (body : List ℕ) (at length : ℕ) → Determined (λ r. r ≡ partAnswer (descriptorsPart body at length))
   pub nw-message-streams : (body : List ℕ) (at length : ℕ) → Determined (λ r. r ≡ partAnswer (streamsPart body at length))
-  pub nw-descriptor-tag : (body : List ℕ) (at length : ℕ) → Determined (λ r. r ≡ numberAnswer (descriptorTag body at length))
-  pub nw-descriptor-bytes : (body : List ℕ) (at length : ℕ) → Determined (λ r. r ≡ partAnswer (descriptorPart body at length))
-  pub nw-stream-type : (body : List ℕ) (at length : ℕ) → Determined (λ r. r ≡ numberAnswer (streamType body at length))
-  pub nw-stream-pid : (body : List ℕ) (at length : ℕ) → Determined (λ r. r ≡ numberAnswer (streamPid body at length))
-  pub nw-stream-descriptors : (body : List ℕ) (at length : ℕ) → Determined (λ r. r ≡ partAnswer (streamDescriptors body at length))
-  pub nw-descriptor-count : (body : List ℕ) (at length : ℕ) → Determined (λ r. r ≡ numberAnswer (descriptorCount body at length))
-  pub nw-stream-count : (body : List ℕ) (at length : ℕ) → Determined (λ r. r ≡ numberAnswer (streamCount body at length))
   pub nw-message-local-start : (body : List ℕ) (at length : ℕ) (offset : ℤ) → Determined (λ r. r ≡ localFieldAnswer offset (start body at length))
   pub nw-message-local-end : (body : List ℕ) (at length : ℕ) (offset : ℤ) → Determined (λ r. r ≡ localFieldAnswer offset (end body at length))
   -- The message records of an index table for C, which lends the list.

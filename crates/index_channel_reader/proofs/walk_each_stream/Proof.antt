@@ -1,0 +1,62 @@
+-- `index_channel_reader::walk_each_stream` meets its contract: each turn walks one stream nearer to the end of the part, and the count
+-- is laid last, before their entries.
+use Prim.Native.Nat.{_-_}
+use native.Mathlib.Omega.{arith}
+use borrow.Author.Needs.{needs}
+use Rattle.body_walk.proofs.Manys.{Along, many-start, many-nearer, many-turn, many-stop, many-done}
+use Rattle.index.specs.Index.{stream}
+use Rattle.index.proofs.Lawful.{stream-lawful, stream-takes}
+use Rattle.index_channel_reader.proofs.walk_each_stream.Statement.{statement}
+use Rattle.index_channel_reader.proofs.walk_each_stream.Tie as tie
+
+abbrev Inv-loop : tie.InvT-loop
+Inv-loop s l p room tape₀ wet at₀ left₀ n₀ tape at left n = Along stream s l p room wet tape₀ n at left tape
+
+abbrev μ-loop : tie.MeasureT-loop
+μ-loop s l p room tape₀ wet at₀ left₀ n₀ tape at left n = l - at
+
+pub walk-each-stream-spec : {M : Type 1} → statement M
+walk-each-stream-spec =
+    tie.close
+    (tie.spec
+    Inv-loop
+    μ-loop
+    (λ c κs. search needs)
+    (λ c. many-start (c .less .ensures))
+    (λ c κs. search needs)
+    (λ c. search needs)
+    (λ c. search needs)
+    (λ c.
+    let at-walk-stream = c .before .before .before .before .before in
+    let at-loop-test = at-walk-stream .before .before in
+    let at-loop = at-loop-test .before in
+    let at-shared-slice-known = at-loop .before .before .before in
+    let at-pre = at-shared-slice-known .before in
+    many-stop stream-lawful stream-takes (λ i. at-shared-slice-known .shared-slice-known .given i .fits) (at-pre .pre)
+    (at-loop-test .loop-test .taken) (at-walk-stream .walk-stream .ensures) (at-loop .loop .inv) (c .before .r .given .1))
+    (λ c. search needs)
+    (λ c.
+    let at-loop = c .before .before .before .before .before .before .before .before in
+    omega (arith, at-loop .loop .inv .small))
+    (λ c.
+    let at-walk-stream = c .before .before .before .before .before in
+    let at-loop-test = at-walk-stream .before .before in
+    let at-shared-slice-known = at-loop-test .before .before .before .before in
+    let at-pre = at-shared-slice-known .before in
+    let near = many-nearer stream-lawful stream-takes (λ i. at-shared-slice-known .shared-slice-known .given i .fits) (at-pre .pre)
+    (at-loop-test .loop-test .taken) (at-walk-stream .walk-stream .ensures) (c .before .q .given .1) in
+    omega (arith, near .0, near .1))
+    (λ c.
+    let at-walk-stream = c .before .before .before .before .before in
+    let at-loop-test = at-walk-stream .before .before in
+    let at-loop = at-loop-test .before in
+    let at-shared-slice-known = at-loop .before .before .before in
+    let at-pre = at-shared-slice-known .before in
+    many-turn stream-lawful stream-takes (λ i. at-shared-slice-known .shared-slice-known .given i .fits) (at-pre .pre)
+    (at-loop-test .loop-test .taken) (at-walk-stream .walk-stream .ensures) (at-loop .loop .inv) (c .before .q .given .1) (search needs))
+    (λ c κs. search needs)
+    (λ c. omega (arith, c .before .before .before .before .before .loop .inv .ahead .same))
+    (λ c.
+    let at-lay-entry = c .before .before in
+    let at-loop = at-lay-entry .before .before .before in
+    many-done (omega arith) (at-loop .loop .inv) (at-lay-entry .lay-entry .ensures .dry) (at-lay-entry .lay-entry .ensures .there)))

@@ -1,0 +1,25 @@
+-- `index_channel_reader::walk_flagged` meets its contract: the flag, and the channel where it is not 0.
+use native.Mathlib.Omega.{arith}
+use borrow.Author.Needs.{needs}
+use Rattle.body_formats.proofs.Leaves.{reserved-lawful}
+use Rattle.body_walk.proofs.Counts.{flag-off, flag-on}
+use Rattle.index.specs.Index.{flagged}
+use Rattle.index.proofs.Lawful.{channel-lawful}
+use Rattle.index_channel_reader.proofs.walk_flagged.Statement.{statement}
+use Rattle.index_channel_reader.proofs.walk_flagged.Tie as tie
+
+pub walk-flagged-spec : {M : Type 1} → statement M
+unfolding flagged
+walk-flagged-spec =
+    tie.close
+    (tie.spec
+    (λ c κs. search needs)
+    (λ c. search needs)
+    (λ c. flag-off (reserved-lawful 7 0 (omega arith)) (channel-lawful .formal) (c .before .before .before .before .walk-reserved .ensures) (c .if1 .taken))
+    (λ c κs. search needs)
+    (λ c. search needs)
+    (λ c.
+    let at-walk-channel = c .before .before in
+    let at-walk-reserved = at-walk-channel .before .before .before .before .before .before in
+    flag-on (reserved-lawful 7 0 (omega arith)) (channel-lawful .formal) (at-walk-reserved .walk-reserved .ensures) (omega arith)
+    (at-walk-channel .walk-channel .ensures)))
