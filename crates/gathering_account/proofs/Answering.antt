@@ -13,12 +13,14 @@ use Rattle.section_reader.specs.declared.Sectioned.the-variants.{Good, Refused 
 use Rattle.gathering_state.specs.State.{freshState, possibleOf, hasRoom, heldPayload}
 use Rattle.gathering_state.specs.declared.Gathering.{Gathering}
 use Rattle.gathering_tables.specs.Tables.{sameTable, isNewer}
-use Rattle.gathering_feed.specs.Feeding.{agrees, begins, verdictOf, answerBy}
+use Rattle.gathering_verdict.specs.Deciding.{agrees, begins, verdictOf}
+use Rattle.gathering_feed.specs.Feeding.{answerBy}
 use Rattle.gathering_feed.specs.declared.Answer.the-variants.{Taken, HeldAlready, Refused}
 use Rattle.gathering_feed.specs.declared.Fed.{Fed}
-use Rattle.gathering_feed.specs.declared.Verdict.{Verdict}
-use Rattle.gathering_feed.specs.declared.Verdict.the-variants.{Refuse, Begin}
-use Rattle.gathering_feed.proofs.Verdicts.{verdict-bad, verdict-good, Decided, old, other, short, begun, spoiled, new, again, clash, decided, feeds}
+use Rattle.gathering_verdict.specs.declared.Verdict.{Verdict}
+use Rattle.gathering_verdict.specs.declared.Verdict.the-variants.{Refuse, Begin}
+use Rattle.gathering_verdict.proofs.Verdicts.{verdict-bad, verdict-good, Decided, old, other, short, begun, spoiled, new, again, clash, decided}
+use Rattle.gathering_feed.proofs.Steps.{feeds}
 use Rattle.gathering_account.specs.Account.{heard, Section, Account, idle, table, accountAfter, account, Agree, Present}
 use Rattle.gathering_account.specs.Answering.{present, differs, agreeing, answerOfTable, answerOfFirst, answerOfGood, answerOfRead, answerTo, answersTo}
 use Rattle.gathering_account.specs.Latest.{beginsAfter}

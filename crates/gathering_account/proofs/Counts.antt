@@ -14,11 +14,12 @@ use Rattle.gathering_state.specs.State.{lengths, possibleOf, CountsRight, opene
 use Rattle.gathering_state.specs.declared.Gathering.{Gathering}
 use Rattle.gathering_state.proofs.Lists.{held-all}
 use Rattle.gathering_state.proofs.State.{Begun, possible-begun, begun-possible, opened-table, section-begun, spoiled-begun, counts-right}
-use Rattle.gathering_feed.specs.Feeding.{verdictOf, answerBy, stateBy, fedOf}
-use Rattle.gathering_feed.specs.declared.Verdict.{Verdict}
-use Rattle.gathering_feed.specs.declared.Verdict.the-variants.{Refuse, Repeat, Contradict, Begin, Take}
+use Rattle.gathering_verdict.specs.Deciding.{verdictOf}
+use Rattle.gathering_feed.specs.Feeding.{answerBy, stateBy, fedOf}
+use Rattle.gathering_verdict.specs.declared.Verdict.{Verdict}
+use Rattle.gathering_verdict.specs.declared.Verdict.the-variants.{Refuse, Repeat, Contradict, Begin, Take}
 use Rattle.gathering_feed.specs.declared.Answer.the-variants.{Taken}
-use Rattle.gathering_feed.proofs.Verdicts.{Heard, agrees-is, further-begun, verdict-bad, verdict-good, Decided, old, other, short, begun, spoiled, new, again, clash, decided}
+use Rattle.gathering_verdict.proofs.Verdicts.{Heard, agrees-is, further-begun, verdict-bad, verdict-good, Decided, old, other, short, begun, spoiled, new, again, clash, decided}
 use Rattle.gathering_hand_out.specs.Handing.{bodyHeld, handedOf}
 use Rattle.gathering_hand_out.specs.declared.Handed.the-variants.{Body}
 use Rattle.gathering_hand_out.proofs.Handing.{in-store-length, whole-in-store, handed-whole}

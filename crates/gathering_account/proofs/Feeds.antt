@@ -16,10 +16,11 @@ use Rattle.section_reader.proofs.RoundTrip.{good-printed}
 use Rattle.gathering_state.specs.State.{freshState, place, hasRoom, opened, withSection}
 use Rattle.gathering_state.specs.declared.Gathering.{Gathering}
 use Rattle.gathering_state.proofs.State.{place-within, OfTable, opened-table, section-begun}
-use Rattle.gathering_feed.specs.Feeding.{agrees, begins, verdictOf, stateBy, storeBy}
-use Rattle.gathering_feed.specs.declared.Verdict.{Verdict}
-use Rattle.gathering_feed.specs.declared.Verdict.the-variants.{Refuse, Repeat, Contradict, Begin, Take}
-use Rattle.gathering_feed.proofs.Verdicts.{SameHeading, verdict-bad, verdict-good, Decided, old, other, short, begun, spoiled, new, again, clash, decided}
+use Rattle.gathering_verdict.specs.Deciding.{agrees, begins, verdictOf}
+use Rattle.gathering_feed.specs.Feeding.{stateBy, storeBy}
+use Rattle.gathering_verdict.specs.declared.Verdict.{Verdict}
+use Rattle.gathering_verdict.specs.declared.Verdict.the-variants.{Refuse, Repeat, Contradict, Begin, Take}
+use Rattle.gathering_verdict.proofs.Verdicts.{SameHeading, verdict-bad, verdict-good, Decided, old, other, short, begun, spoiled, new, again, clash, decided}
 use Rattle.gathering_account.specs.Account.{heard, Section, Account, idle, table, accountAfter, account, Agree}
 use Rattle.gathering_account.specs.Latest.{beginsAfter}
 use Rattle.gathering_account.specs.Gathers.{Box, freshBox, ByteStrings, feed, boxAfter}

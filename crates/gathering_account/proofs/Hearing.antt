@@ -8,9 +8,10 @@ use Rattle.section_reader.specs.Section.{payloadOf, readSection}
 use Rattle.section_reader.specs.declared.Heading.{Heading}
 use Rattle.section_reader.specs.declared.Sectioned.{Sectioned}
 use Rattle.section_reader.specs.declared.Sectioned.the-variants.{Good, Refused}
-use Rattle.gathering_feed.specs.Feeding.{verdictOf, stateBy, storeBy}
-use Rattle.gathering_feed.specs.declared.Verdict.{Verdict}
-use Rattle.gathering_feed.proofs.Verdicts.{feeds}
+use Rattle.gathering_verdict.specs.Deciding.{verdictOf}
+use Rattle.gathering_feed.specs.Feeding.{stateBy, storeBy}
+use Rattle.gathering_verdict.specs.declared.Verdict.{Verdict}
+use Rattle.gathering_feed.proofs.Steps.{feeds}
 use Rattle.gathering_tables.specs.Tables.{sameTable, isNewer}
 use Rattle.gathering_tables.proofs.Tables.{same-not-newer}
 use Rattle.gathering_account.specs.Account.{nothing, goodCurrent, heardAs, heard, Section, Account, idle, table, begun, accountAfter}

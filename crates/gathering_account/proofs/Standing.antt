@@ -13,8 +13,8 @@ use Rattle.gathering_state.specs.declared.Gathering.{Gathering}
 use Rattle.gathering_state.proofs.Lists.{zeros-at}
 use Rattle.gathering_state.proofs.State.{Begun, begun-kind, begun-possible, fresh-possible, spoiled-begun}
 use Rattle.gathering_tables.specs.Tables.{sameTable, isNewer}
-use Rattle.gathering_feed.specs.Feeding.{agrees, begins}
-use Rattle.gathering_feed.proofs.Verdicts.{SameHeading, agrees-is, begins-none, begins-newer}
+use Rattle.gathering_verdict.specs.Deciding.{agrees, begins}
+use Rattle.gathering_verdict.proofs.Verdicts.{SameHeading, agrees-is, begins-none, begins-newer}
 use Rattle.gathering_account.specs.Account.{Section, Account, idle, table, Agree}
 use Rattle.gathering_account.specs.Gathers.{Box}
 use Rattle.gathering_account.proofs.Keeping.{Kept}

@@ -20,11 +20,12 @@ use Rattle.section_reader.specs.declared.Sectioned.the-variants.{Good, Refused 
 use Rattle.gathering_state.specs.State.{possibleOf, nothingBegun, spoiledState}
 use Rattle.gathering_state.specs.declared.Gathering.{Gathering}
 use Rattle.gathering_state.proofs.State.{possible-fresh, possible-begun}
+use Rattle.gathering_verdict.specs.Deciding.{verdictOf}
 use Rattle.gathering_feed.specs.Feeding as feeding
-use Rattle.gathering_feed.specs.declared.Verdict.{Verdict}
-use Rattle.gathering_feed.specs.declared.Verdict.the-variants.{Refuse, Repeat, Contradict, Begin, Take}
+use Rattle.gathering_verdict.specs.declared.Verdict.{Verdict}
+use Rattle.gathering_verdict.specs.declared.Verdict.the-variants.{Refuse, Repeat, Contradict, Begin, Take}
 use Rattle.gathering_feed.specs.declared.Answer.the-variants.{HeldAlready, Refused as NotFed}
-use Rattle.gathering_feed.proofs.Verdicts.{verdict-impossible, verdict-bad, verdict-good, Decided, old, other, short, begun, spoiled, new, again, clash, decided}
+use Rattle.gathering_verdict.proofs.Verdicts.{verdict-impossible, verdict-bad, verdict-good, Decided, old, other, short, begun, spoiled, new, again, clash, decided}
 use Rattle.gathering_hand_out.specs.Handing.{bodyHeld, handedOf, outBy, outAfter}
 use Rattle.gathering_hand_out.specs.declared.Handed.{Handed}
 use Rattle.gathering_hand_out.specs.declared.Handed.the-variants.{Body, Refused as NotHanded}
@@ -95,7 +96,7 @@ unfolding feeding.fedOf feeding.storeAfter handedOf outAfter bodyWritten content
 writes-nothing =
     record {
       cutter = λ body kind extension version number out. cut-keeps (cutter.cutting body kind extension version number (length out)) out;
-      feed = λ g store s. fed-keeps store (payloadOf s) (feeding.verdictOf g store s);
+      feed = λ g store s. fed-keeps store (payloadOf s) (verdictOf g store s);
       hand-out = λ g store out. handed-keeps (bodyHeld g store) out (handedOf g store out);
       pack = λ g store. handed-keeps (bodyHeld g store) store (packing.packedOf g store);
       writers = λ F pool tape out. written-keeps F out (writing F pool tape (length out));
@@ -169,10 +170,10 @@ module _ (g : Gathering) (store s : List ℕ) where
   good-spoils p h (again d z q) e = absurd-answer (cc)
   good-spoils p h (clash d z q) e = refl
 
-  verdict-spoils : Spoils (feeding.verdictOf g store s)
+  verdict-spoils : Spoils (verdictOf g store s)
   verdict-spoils = go (possibleOf g) refl (readSection s) refl
     where
-      go : (b : Bool) → possibleOf g ≡ b → (x : Sectioned) → readSection s ≡ x → Spoils (feeding.verdictOf g store s)
+      go : (b : Bool) → possibleOf g ≡ b → (x : Sectioned) → readSection s ≡ x → Spoils (verdictOf g store s)
       go false p x e = rw (verdict-impossible g store s p) (refuses-other ImpossibleState (differs ImpossibleState refl))
       go true p (NotGood r) e = rw (verdict-bad g store s p r e) (refuses-other r (λ z. section-not s (e ∙ ap NotGood z)))
       go true p (Good h n) e = rw (verdict-good g store s p h n e) (good-spoils p h (decided g store h (payloadOf s)))
@@ -181,10 +182,10 @@ only-spoils : OnlySpoils
 unfolding feeding.fedOf feeding.storeAfter packing.packingOf
 only-spoils =
     record {
-      state-stays = λ g store s. state-keeps g (payloadOf s) (feeding.verdictOf g store s);
+      state-stays = λ g store s. state-keeps g (payloadOf s) (verdictOf g store s);
       spoiled = verdict-spoils;
       packing-stays = λ g store. packing-keeps g (packing.packedOf g store);
-      repeat-stays = λ g store s. repeat-keeps g store (payloadOf s) (feeding.verdictOf g store s);
+      repeat-stays = λ g store s. repeat-keeps g store (payloadOf s) (verdictOf g store s);
     }
 
 -- ---- the demand

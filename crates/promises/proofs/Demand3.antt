@@ -12,9 +12,11 @@ use Rattle.gathering_state.specs.State.{possibleOf, nothingBegun, hasRoom}
 use Rattle.gathering_state.specs.declared.Gathering.{Gathering}
 use Rattle.gathering_state.proofs.State.{counts-right, first-counts}
 use Rattle.gathering_tables.specs.Tables.{isNewer}
-use Rattle.gathering_feed.specs.Feeding.{fixedHeading, begins, verdictOf, answerBy, stateBy, storeBy, fedOf}
-use Rattle.gathering_feed.specs.declared.Verdict.the-variants.{Begin}
-use Rattle.gathering_feed.proofs.Verdicts.{good-begins, verdict-good, feeds}
+use Rattle.gathering_verdict.specs.Deciding.{fixedHeading, begins, verdictOf}
+use Rattle.gathering_feed.specs.Feeding.{answerBy, stateBy, storeBy, fedOf}
+use Rattle.gathering_verdict.specs.declared.Verdict.the-variants.{Begin}
+use Rattle.gathering_verdict.proofs.Verdicts.{good-begins, verdict-good}
+use Rattle.gathering_feed.proofs.Steps.{feeds}
 use Rattle.gathering_pack.specs.Packing.{packingOf}
 use Rattle.gathering_account.proofs.Demand3.{demand-3, handing-answers}
 use Rattle.gathering_account.proofs.Answering.{run-possible, feed-answers, run-answers}

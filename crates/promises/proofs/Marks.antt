@@ -18,9 +18,10 @@ use Rattle.section_reader.proofs.RoundTrip.{reads-back}
 use Rattle.gathering_state.specs.Lists.{part}
 use Rattle.gathering_state.specs.State.{nothingBegun, hasRoom}
 use Rattle.gathering_state.specs.declared.Gathering.{Gathering}
-use Rattle.gathering_feed.specs.Feeding.{verdictOf, storeBy, storeAfter}
-use Rattle.gathering_feed.specs.declared.Verdict.{Verdict}
-use Rattle.gathering_feed.specs.declared.Verdict.the-variants.{Refuse, Repeat, Contradict, Begin, Take}
+use Rattle.gathering_verdict.specs.Deciding.{verdictOf}
+use Rattle.gathering_feed.specs.Feeding.{storeBy, storeAfter}
+use Rattle.gathering_verdict.specs.declared.Verdict.{Verdict}
+use Rattle.gathering_verdict.specs.declared.Verdict.the-variants.{Refuse, Repeat, Contradict, Begin, Take}
 use Rattle.gathering_hand_out.specs.Handing.{joined, bodyHeld, outBy, outAfter}
 use Rattle.gathering_account.specs.Account.{Account, idle, table, account}
 use Rattle.gathering_account.specs.Gathers.{Box, freshBox, ByteStrings, feed, boxAfter, HandsOut, Fixes}

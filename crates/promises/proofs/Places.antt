@@ -22,11 +22,12 @@ use Rattle.section_cutter.specs.declared.Cut.the-variants.{Refused as NotCut}
 use Rattle.gathering_state.specs.Lists.{smallestMissing}
 use Rattle.gathering_state.specs.State.{possibleOf, nothingBegun, hasRoom, lengths}
 use Rattle.gathering_state.specs.declared.Gathering.{Gathering}
+use Rattle.gathering_verdict.specs.Deciding.{verdictOf}
 use Rattle.gathering_feed.specs.Feeding as feeding
-use Rattle.gathering_feed.specs.declared.Verdict.{Verdict}
-use Rattle.gathering_feed.specs.declared.Verdict.the-variants.{Refuse}
+use Rattle.gathering_verdict.specs.declared.Verdict.{Verdict}
+use Rattle.gathering_verdict.specs.declared.Verdict.the-variants.{Refuse}
 use Rattle.gathering_feed.specs.declared.Answer.the-variants.{Refused as NotFed}
-use Rattle.gathering_feed.proofs.Verdicts.{verdict-impossible, verdict-bad, verdict-good, Decided, old, other, short, begun, spoiled, new, again, clash, decided}
+use Rattle.gathering_verdict.proofs.Verdicts.{verdict-impossible, verdict-bad, verdict-good, Decided, old, other, short, begun, spoiled, new, again, clash, decided}
 use Rattle.gathering_hand_out.specs.Handing as handing
 use Rattle.gathering_pack.specs.Packing as packing
 use Rattle.gathering_hand_out.specs.declared.Completeness.{Completeness}
@@ -156,10 +157,10 @@ module _ (g : Gathering) (store s : List ℕ) where
   good-nowhere h (again d z q) r e = absurd-answer (cc)
   good-nowhere h (clash d z q) r e = refuse-nowhere Contradiction refl r e
 
-  verdict-nowhere : Nowhere (feeding.verdictOf g store s)
+  verdict-nowhere : Nowhere (verdictOf g store s)
   verdict-nowhere = go (possibleOf g) refl (readSection s) refl
     where
-      go : (b : Bool) → possibleOf g ≡ b → (x : Sectioned) → readSection s ≡ x → Nowhere (feeding.verdictOf g store s)
+      go : (b : Bool) → possibleOf g ≡ b → (x : Sectioned) → readSection s ≡ x → Nowhere (verdictOf g store s)
       go false p x e = rw (verdict-impossible g store s p) (refuse-nowhere ImpossibleState refl)
       go true p (NotGood r) e = rw (verdict-bad g store s p r e) (refuse-nowhere r (section-place s r e))
       go true p (Good h n) e = rw (verdict-good g store s p h n e) (good-nowhere h (decided g store h (payloadOf s)))

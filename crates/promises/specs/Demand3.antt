@@ -14,7 +14,8 @@ use Rattle.ground_placing.specs.Placed.{placed}
 use Rattle.gathering_state.specs.State.{freshState, possibleOf, CountsRight, place, hasRoom, opened, withSection}
 use Rattle.gathering_state.specs.declared.Gathering.{Gathering}
 use Rattle.gathering_tables.specs.Tables.{isNewer}
-use Rattle.gathering_feed.specs.Feeding.{fixedHeading, fedOf, storeAfter}
+use Rattle.gathering_verdict.specs.Deciding.{fixedHeading}
+use Rattle.gathering_feed.specs.Feeding.{fedOf, storeAfter}
 use Rattle.gathering_feed.specs.declared.Answer.the-variants.{Taken}
 use Rattle.gathering_hand_out.specs.Handing.{handedOf, outAfter}
 use Rattle.gathering_hand_out.specs.declared.Handed.the-variants.{Body}

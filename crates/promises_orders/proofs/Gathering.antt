@@ -19,9 +19,10 @@ use Rattle.gathering_state.specs.declared.Gathering.{Gathering}
 use Rattle.gathering_state.proofs.State.{possible-fresh, possible-begun}
 use Rattle.gathering_tables.specs.Tables.{isOther}
 use Rattle.gathering_tables.proofs.Tables.{other-exactly}
-use Rattle.gathering_feed.specs.Feeding.{fixedHeading, agrees, begins, numberVerdict, goodVerdict, sectionVerdict, verdictOf, answerBy, fedOf}
-use Rattle.gathering_feed.specs.declared.Verdict.{Verdict}
-use Rattle.gathering_feed.specs.declared.Verdict.the-variants.{Refuse, Repeat, Contradict, Begin, Take}
+use Rattle.gathering_verdict.specs.Deciding.{fixedHeading, agrees, begins, numberVerdict, goodVerdict, sectionVerdict, verdictOf}
+use Rattle.gathering_feed.specs.Feeding.{answerBy, fedOf}
+use Rattle.gathering_verdict.specs.declared.Verdict.{Verdict}
+use Rattle.gathering_verdict.specs.declared.Verdict.the-variants.{Refuse, Repeat, Contradict, Begin, Take}
 use Rattle.gathering_feed.specs.declared.Answer.{Answer}
 use Rattle.gathering_feed.specs.declared.Answer.the-variants.{Taken, HeldAlready, Refused as NotFed}
 use Rattle.gathering_hand_out.specs.Handing.{bodyHeld, missingOf, completeOf, handedIfRoom, handedBy, handedOf}

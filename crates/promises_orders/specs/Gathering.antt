@@ -13,7 +13,8 @@ use Rattle.gathering_state.specs.Lists.{smallestMissing, sameBytes}
 use Rattle.gathering_state.specs.State.{possibleOf, nothingBegun, hasRoom, lengths, heldPayload}
 use Rattle.gathering_state.specs.declared.Gathering.{Gathering}
 use Rattle.gathering_tables.specs.Tables.{isOther}
-use Rattle.gathering_feed.specs.Feeding.{fixedHeading, agrees, begins, fedOf}
+use Rattle.gathering_verdict.specs.Deciding.{fixedHeading, agrees, begins}
+use Rattle.gathering_feed.specs.Feeding.{fedOf}
 use Rattle.gathering_feed.specs.declared.Answer.the-variants.{Taken, HeldAlready, Refused as NotFed}
 use Rattle.gathering_hand_out.specs.Handing.{bodyHeld}
 use Rattle.promises_orders.specs.Order.{Line, _when_, Given, None}

@@ -2,9 +2,10 @@
 use mathlib.Core.Path.{_≡_, refl, sym, _∙_}
 use borrow.Author.Needs.{needs}
 use denote.Ref.{now}
-use Rattle.gathering_feed.specs.Feeding.{verdictOf, answerBy, stateBy, storeBy}
-use Rattle.gathering_feed.specs.declared.Verdict.the-variants.{Begin, Take}
-use Rattle.gathering_feed.proofs.Verdicts.{first-versioned, first-takes, further-takes, feeds, feeds-with, feeds-begin}
+use Rattle.gathering_verdict.specs.Deciding.{verdictOf}
+use Rattle.gathering_verdict.specs.declared.Verdict.the-variants.{Begin, Take}
+use Rattle.gathering_feed.specs.Feeding.{answerBy, stateBy, storeBy}
+use Rattle.gathering_feed.proofs.Steps.{first-versioned, first-takes, further-takes, feeds, feeds-with, feeds-begin}
 use Rattle.gathering_feed.proofs.feed_step.Statement.{statement}
 use Rattle.gathering_feed.proofs.feed_step.Tie as tie
 

@@ -1,6 +1,6 @@
 -- `gathering_feed::take_section` meets its contract: the payload is the part of s that is copied, and its place lies in the store.
 use borrow.Author.Needs.{needs}
-use Rattle.gathering_feed.proofs.Verdicts.{takes}
+use Rattle.gathering_feed.proofs.Steps.{takes}
 use Rattle.gathering_feed.proofs.take_section.Statement.{statement}
 use Rattle.gathering_feed.proofs.take_section.Tie as tie
 

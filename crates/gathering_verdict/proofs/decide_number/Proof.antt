@@ -1,4 +1,4 @@
--- `gathering_feed::decide_number` meets its contract: the number is not held, or its payload in the store, which has room for it, is compared.
+-- `gathering_verdict::decide_number` meets its contract: the number is not held, or its payload in the store, which has room for it, is compared.
 use Prim.Native.Nat.{_+_, _≤_}
 use mathlib.Core.Path.{sym, _∙_}
 use native.Mathlib.Omega.{arith}
@@ -7,9 +7,9 @@ use denote.Ref.{now}
 use lib.ListN.{length}
 use Rattle.gathering_state.proofs.Lists.{greatest-at}
 use Rattle.gathering_state.proofs.State.{place-within}
-use Rattle.gathering_feed.proofs.Verdicts.{compared, number-new, number-same, number-other}
-use Rattle.gathering_feed.proofs.decide_number.Statement.{statement}
-use Rattle.gathering_feed.proofs.decide_number.Tie as tie
+use Rattle.gathering_verdict.proofs.Verdicts.{compared, number-new, number-same, number-other}
+use Rattle.gathering_verdict.proofs.decide_number.Statement.{statement}
+use Rattle.gathering_verdict.proofs.decide_number.Tie as tie
 
 -- the held payload lies in the store
 within : (c : tie.After-less-one) → c .before .place-of .result + c .less-one .result ≤ length (now (c .before .before .before .before .before .before .before .args .store))

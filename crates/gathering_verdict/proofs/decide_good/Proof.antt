@@ -1,14 +1,14 @@
--- `gathering_feed::decide_good` meets its contract: each refusal is the first of its order that applies, what begins does so where there is room, and
+-- `gathering_verdict::decide_good` meets its contract: each refusal is the first of its order that applies, what begins does so where there is room, and
 -- where none of this is so the number decides.
 use mathlib.Core.Bool.{false, not, _||_}
 use mathlib.Core.Path.{_≡_, sym, _∙_, ap, ap₂}
 use borrow.Author.Needs.{needs}
 use borrow.Author.Tests.{not-false}
 use denote.Ref.{now}
-use Rattle.gathering_feed.specs.Feeding.{begins}
-use Rattle.gathering_feed.proofs.Verdicts.{Past, good-old, good-other, good-short, good-begins, good-spoiled, good-further}
-use Rattle.gathering_feed.proofs.decide_good.Statement.{statement}
-use Rattle.gathering_feed.proofs.decide_good.Tie as tie
+use Rattle.gathering_verdict.specs.Deciding.{begins}
+use Rattle.gathering_verdict.proofs.Verdicts.{Past, good-old, good-other, good-short, good-begins, good-spoiled, good-further}
+use Rattle.gathering_verdict.proofs.decide_good.Statement.{statement}
+use Rattle.gathering_verdict.proofs.decide_good.Tie as tie
 
 -- past 10
 past : (c : tie.Else3)

@@ -1,8 +1,8 @@
--- `gathering_feed::begins_gathering` meets its contract: nothing is begun, or the fixed heading's table is compared.
+-- `gathering_verdict::begins_gathering` meets its contract: nothing is begun, or the fixed heading's table is compared.
 use borrow.Author.Needs.{needs}
-use Rattle.gathering_feed.proofs.Verdicts.{begins-none, begins-newer}
-use Rattle.gathering_feed.proofs.begins_gathering.Statement.{statement}
-use Rattle.gathering_feed.proofs.begins_gathering.Tie as tie
+use Rattle.gathering_verdict.proofs.Verdicts.{begins-none, begins-newer}
+use Rattle.gathering_verdict.proofs.begins_gathering.Statement.{statement}
+use Rattle.gathering_verdict.proofs.begins_gathering.Tie as tie
 
 pub begins-gathering-spec : {M : Type 1} → statement M
 begins-gathering-spec =

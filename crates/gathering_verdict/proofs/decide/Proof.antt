@@ -1,4 +1,4 @@
--- `gathering_feed::decide` meets its contract: 12, then what the section reader refuses, then the verdict on a good section.
+-- `gathering_verdict::decide` meets its contract: 12, then what the section reader refuses, then the verdict on a good section.
 use Prim.Native.Nat.{_+_, _≤_}
 use mathlib.Core.Bool.{true}
 use mathlib.Core.Path.{_≡_, sym, _∙_, ap}
@@ -11,10 +11,10 @@ use Rattle.section_reader.specs.declared.Sectioned.the-variants.{Good}
 use Rattle.gathering_state.specs.State.{possibleOf}
 use Rattle.gathering_state.proofs.State.{possible-short}
 use Rattle.ground_choices.proofs.Tests.{unmet, met}
-use Rattle.gathering_feed.specs.Feeding.{goodVerdict}
-use Rattle.gathering_feed.proofs.Verdicts.{verdict-impossible, verdict-bad, verdict-good, Sized, sized, payload-part}
-use Rattle.gathering_feed.proofs.decide.Statement.{statement}
-use Rattle.gathering_feed.proofs.decide.Tie as tie
+use Rattle.gathering_verdict.specs.Deciding.{goodVerdict}
+use Rattle.gathering_verdict.proofs.Verdicts.{verdict-impossible, verdict-bad, verdict-good, Sized, sized, payload-part}
+use Rattle.gathering_verdict.proofs.decide.Statement.{statement}
+use Rattle.gathering_verdict.proofs.decide.Tie as tie
 
 possible-at : (c : tie.Else1) → possibleOf (c .before .before .before .before .args .g) ≡ true
 possible-at c = met _ (c .before .possible .ensures) (c .if1 .left)
