@@ -2,7 +2,7 @@
 // into sections in FILE. drill.txt is such a form.
 //
 // A line is a word, a space or tab, and its value; a line that begins with # is a remark. The words are
-//   identifier  35 digits
+//   identifier  35 digits, of which the 24th to the 31st are a day, year first, from 19000301 to 20380422
 //   offset      minutes by which local time is east of UTC, -720 to 840
 //   start       dd/mm/yyyy hh:mm:ss, local and day first, from 01/03/1900 to 22/04/2038, in UTC too
 //   end         the same, after the start; or the word live, until it is called off
@@ -135,8 +135,12 @@ static void fault_digits(struct drill *d, const struct line *l, unsigned wanted)
     else fault(d, l, "it has to be %u digits, and byte %zu of it is none", wanted, digits + 1);
 }
 
+// The library judges the digits that are the day, with the identifier by itself.
 static void take_identifier(struct drill *d, const struct line *l) {
     if (!nw_identifier_bytes(l->value, d->identifier)) fault_digits(d, l, NW_IDENTIFIER_DIGITS);
+    else if (NW_REFUSAL(nw_content_identifier(d->identifier, NW_IDENTIFIER_BYTES)) != NW_TAKEN)
+        fault(d, l, "its day, digits 24 to 31, is %.8s: it has to be a day of the calendar, year, month and day, from 19000301 to 20380422",
+              l->value + 23);
 }
 
 static void take_type(struct drill *d, const struct line *l) {

@@ -175,14 +175,27 @@ static inline void put_resource(struct input *in, nw_form *f) {
     nw_form_bytes(f, bytes, sizeof bytes);
 }
 
-// An identifier; one of digits has a real day.
+// The identifier by itself is taken exactly if its digits are decimal and the calendar has their day.
+static inline void hold_day(const uint8_t *identifier, bool digits) {
+    uint8_t bytes[18];
+    memcpy(bytes, identifier, sizeof bytes);
+    bytes[0] |= 0xF0;
+    struct real_day d = day_in(bytes);
+    unsigned refusal = NW_REFUSAL(nw_content_identifier(bytes, sizeof bytes));
+    if (digits) must(refusal == (taken(nw_day_of(d.year, d.month, d.day)) ? NW_TAKEN : NW_IMPOSSIBLE_DAY));
+    else must(refusal == NW_TAKEN || refusal == NW_DIGIT_ABOVE_NINE || refusal == NW_IMPOSSIBLE_DAY);
+}
+
+// An identifier; one of digits has a real day, now and then the day that its digits are: mostly none.
 static inline void put_identifier(struct input *in, nw_form *f) {
     uint8_t bytes[18];
-    if (take_digits(in, bytes, sizeof bytes)) {
+    bool digits = take_digits(in, bytes, sizeof bytes), real = !now_and_then(in, 32);
+    if (digits && real) {
         put_real_day(bytes);
         struct real_day d = day_in(bytes);
         must(taken(nw_day_of(d.year, d.month, d.day)));
     }
+    hold_day(bytes, digits);
     nw_form_bytes(f, bytes, sizeof bytes);
 }
 

@@ -41,6 +41,8 @@ uint32_t nw_version(void);
  * - The extension of a content table is the CRC-16 of its identifier's 140 bits, without the four
  *   reserved bits before them: no longer nw_crc16 of the 18 bytes. nw_message_extension, which is new,
  *   and nw_content_extension tell it; a table that is sent with the old one is refused (23).
+ * - An identifier has to have a real day, YYYYMMDD from 19000301 to 20380422, as its digits 24 to 31,
+ *   counted from 1: else it is refused (20), read, written or asked for.
  * - Refusal 25 is gone, and its number is not given again. */
 
 /* ---- Answers ----------------------------------------------------------------------------------
@@ -402,8 +404,10 @@ static inline void nw_form_thing(nw_form *f, size_t list)
 /* ---- Identifiers and resources ----------------------------------------------------------------
  *
  * A message's identifier is 35 decimal digits in 18 bytes; a resource, and a terminal is one, has 23 in
- * 12 bytes. Each digit has four bits, and before the first stand four reserved ones. The helpers here
- * are plain C, tested and not proved. */
+ * 12 bytes. Each digit has four bits, and before the first stand four reserved ones. Digits 24 to 31 of
+ * an identifier, counted from 1, are a real day from 1 March 1900 to 22 April 2038, year, month and day
+ * (YYYYMMDD), in bytes 12 to 15 of the 18; a resource has no day. The helpers here are plain C, tested
+ * and not proved, and do not judge the day: nw_content_identifier(bytes, 18) does. */
 #define NW_IDENTIFIER_BYTES 18u
 #define NW_IDENTIFIER_DIGITS 35u
 #define NW_RESOURCE_BYTES 12u
@@ -517,9 +521,9 @@ nw_answer nw_certificate_lay(uint32_t kind, const uint8_t *body, size_t n, uint6
  * Its body is a list of messages and a signature:
  *
  *   message     an identifier of 35 decimal digits (18 bytes, four reserved bits before the first
- *               digit), network, start and end (time fields), type (five bytes of at most 0x7F), class
- *               and level (1 to 4 each), a list of resources, of 23 digits each (12 bytes), and perhaps
- *               a channel
+ *               digit) with a real day as its digits 24 to 31, network, start and end (time fields),
+ *               type (five bytes of at most 0x7F), class and level (1 to 4 each), a list of resources,
+ *               of 23 digits each (12 bytes), and perhaps a channel
  *   channel     network, stream and program (16 bits each), PCR PID (13 bits), descriptors, streams
  *   stream      type (8 bits), PID (13 bits), descriptors
  *   descriptor  tag (8 bits) and up to 255 bytes
@@ -574,11 +578,11 @@ typedef struct nw_record {
  * byte where the field begins; 16, bytes after the signature, at the first of them.
  * At one field, in this order: 14, it passes the body's end; 15, it passes the end of its message, or
  * of the descriptors or streams it stands in; 17, a reserved bit is 0; 18, a digit above 9; 19, a type
- * byte above 0x7F, a class or a level that is not 1 to 4; 20, an impossible day or time. A length is 14
- * or 15 too if what it counts passes an end; one of descriptors counts by its low ten bits, and is then
- * 17 if one of the two bits above them is 1. Bytes left in a message are 15, at the first of them.
- * Reserved bits are a field before the one whose byte they share. NW_LIVE is a good end, and 18 as a
- * start. An end before its start is accepted. */
+ * byte above 0x7F, a class or a level that is not 1 to 4; 20, an impossible day or time, or an
+ * identifier without a real day. A length is 14 or 15 too if what it counts passes an end; one of
+ * descriptors counts by its low ten bits, and is then 17 if one of the two bits above them is 1. Bytes
+ * left in a message are 15, at the first of them. Reserved bits are a field before the one whose byte
+ * they share. NW_LIVE is a good end, and 18 as a start. An end before its start is accepted. */
 nw_answer nw_index_read(uint32_t kind, const uint8_t *body, size_t n);
 
 /* Judges a body and writes a record for each message at the start of list, which has room for so many;
@@ -607,9 +611,10 @@ nw_part nw_index_signature(const uint8_t *body, size_t n);
  * for the streams, those of the descriptors' length; then 14 to 20 of the field itself, at its place,
  * which may lie after the body's end; last, for a digit, 19, there is no such digit (place 0). Class
  * and level share a byte and are judged together; descriptors and streams are not judged with the part
- * that they fill. The extension is that of the sections of the message's content table, the CRC-16 of
- * the identifier's 140 bits, and is refused as the identifier is. Two identifiers may have the same
- * one, so the table that is found by it must have the identifier too (nw_content_identifier). */
+ * that they fill. A digit of the identifier is refused as the identifier is, also for its day (20). The
+ * extension is that of the sections of the message's content table, the CRC-16 of the identifier's 140
+ * bits, and is refused so too. Two identifiers may have the same one, so the table that is found by it
+ * must have the identifier too (nw_content_identifier). */
 nw_part nw_message_identifier(const uint8_t *body, size_t n, size_t at, size_t length);
 nw_answer nw_message_identifier_digit(const uint8_t *body, size_t n, size_t at, size_t length,
                                       uint64_t i);
@@ -673,9 +678,10 @@ nw_answer nw_stream_count(const uint8_t *body, size_t n, size_t at, size_t lengt
  * Refusals, in this order, with nothing written and place 0: that of the first field that is wrong, in
  * the order of the tape (19, the tape is too short, a span is not in the pool or has not the length
  * stated above, or a number is outside its set or has more bits than its field; 18, a digit above 9;
- * 20, an impossible day or time); 19, the tape has entries left over; 22, a count or length too large
- * for its field (descriptors: more than 1,023 bytes together), or more than NW_MOST_BODY bytes; 21, out
- * is too small: nw_index_measure tells the room. Out must overlap neither pool nor tape. */
+ * 20, an impossible day or time, or an identifier without a real day); 19, the tape has entries left
+ * over; 22, a count or length too large for its field (descriptors: more than 1,023 bytes together), or
+ * more than NW_MOST_BODY bytes; 21, out is too small: nw_index_measure tells the room. Out must overlap
+ * neither pool nor tape. */
 nw_answer nw_index_write(const uint8_t *pool, size_t pool_bytes, const uint64_t *tape, size_t entries,
                          uint8_t *out, size_t room);
 
@@ -695,7 +701,8 @@ nw_answer nw_index_lay(uint32_t kind, const uint8_t *body, size_t n, uint64_t *t
  *
  * Its body is the message's identifier, one to five languages and a signature:
  *
- *   identifier  35 decimal digits (18 bytes, four reserved bits before the first digit)
+ *   identifier  35 decimal digits (18 bytes, four reserved bits before the first digit) with a real day
+ *               as digits 24 to 31
  *   language    letters (three bytes a to z), character set (0 to 4), text (up to 65,535 bytes), agency
  *               (up to 255 bytes), and up to two auxiliary files
  *   file        type (8 bits, free) and up to 16,777,215 bytes
@@ -731,9 +738,9 @@ static inline const char *nw_character_set_text(uint64_t number)
  * signature, at the first of them; 23, the extension is not the CRC-16 of the identifier (place 0).
  * At one field, in this order: 14, it passes the body's end; 15, it passes the end of its language;
  * 17, a reserved bit is 0; 18, a digit above 9; 19, a letter that is not a to z, a character set above
- * 4, a language count that is not 1 to 5, an auxiliary count above 2. A length is 14 or 15 too if what
- * it counts passes an end. Bytes left in a language are 15, at the first of them. Reserved bits are a
- * field before the one whose byte they share. */
+ * 4, a language count that is not 1 to 5, an auxiliary count above 2; 20, the identifier has no real
+ * day. A length is 14 or 15 too if what it counts passes an end. Bytes left in a language are 15, at the
+ * first of them. Reserved bits are a field before the one whose byte they share. */
 nw_answer nw_content_read(uint32_t kind, uint32_t extension, const uint8_t *body, size_t n);
 
 /* The fields of the body, each judged as nw_content_read judges this field, whatever else is wrong
@@ -742,7 +749,7 @@ nw_answer nw_content_read(uint32_t kind, uint32_t extension, const uint8_t *body
  * Refusals, in this order: for a language and the signature, those of the language count; for a
  * language, 19, there is no i-th, counted from 0 (place 0); for both, 14, a length before the part, or
  * its own, is cut off or passes the body's end, at its place; for the identifier, its digits and the
- * extension, 14, 17 or 18 of the identifier (place 0), and for the language count 14, 17 or 19 of it
+ * extension, 14, 17, 18 or 20 of the identifier (place 0), and for the language count 14, 17 or 19 of it
  * (place 18); last, for a digit, 19, there is no such digit (place 0). For the identifier, its digits
  * and the extension only the first 18 bytes are looked at, so these alone are enough: after
  * nw_identifier_bytes(text, bytes), nw_content_extension(bytes, 18) is the extension of those digits. */
@@ -780,10 +787,10 @@ nw_part nw_language_auxiliary(const uint8_t *body, size_t n, size_t at, size_t l
  * The first four bits of the identifier in the pool do not matter.
  * Refusals, in this order, with nothing written and place 0: that of the first field that is wrong, in
  * the order of the tape (19, the tape is too short, a span is not in the pool or has not the length
- * stated above, or a number or a letter is outside its set, the two counts too; 18, a digit above 9);
- * 19, the tape has entries left over; 22, a length too large for its field, or more than NW_MOST_BODY
- * bytes; 21, out is too small: nw_content_measure tells the room. Out must overlap neither pool nor
- * tape. */
+ * stated above, or a number or a letter is outside its set, the two counts too; 18, a digit above 9;
+ * 20, the identifier has no real day); 19, the tape has entries left over; 22, a length too large for
+ * its field, or more than NW_MOST_BODY bytes; 21, out is too small: nw_content_measure tells the room.
+ * Out must overlap neither pool nor tape. */
 nw_written nw_content_write(const uint8_t *pool, size_t pool_bytes, const uint64_t *tape,
                             size_t entries, uint8_t *out, size_t room);
 

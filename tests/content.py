@@ -104,14 +104,14 @@ def main():
 
     told = library.compare([*checks.hand_made(second_content_calls, by_hand()), *readings(bodies, tables)])
     library.must_meet('content_read', content_cases.READ)
-    body_numbers = {0, 2, 14, 15, 16, 17, 18, 19, 22}
+    body_numbers = {0, 2, 14, 15, 16, 17, 18, 19, 20, 22}
     assert told['content_read'] == body_numbers | {23} and told['content_lay'] == body_numbers | {21}
 
-    library.compare_writings('content', make_content, {0, 18, 19, 21, 22}, content_cases.WRITE)
+    library.compare_writings('content', make_content, {0, 18, 19, 20, 21, 22}, content_cases.WRITE)
 
     cases = [*askings(bodies)]
     told = library.compare(cases)
-    digits, count = {0, 14, 17, 18}, {0, 14, 17, 19}
+    digits, count = {0, 14, 17, 18, 20}, {0, 14, 17, 19}
     checks.fields_met(told, 'content_fields', digits, digits, count, count)
     assert told['content_identifier_digit'] == digits | {19} and told['content_language'] == count
     opaque, shared = {0, 14, 15, 19}, {0, 14, 15, 17, 19}

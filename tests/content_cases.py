@@ -18,8 +18,8 @@ def language(rest='f8' '0000' '00' 'f0', letters=ZHO, length=None):
     return '%08x' % (len(fields) // 2 if length is None else length) + fields
 
 
-def body(*languages, more='0000'):
-    return IDENTIFIER + 'f%x' % len(languages) + ''.join(languages) + more
+def body(*languages, more='0000', day='20241103'):
+    return IDENTIFIER[:24] + day + IDENTIFIER[32:] + 'f%x' % len(languages) + ''.join(languages) + more
 
 
 SMALLEST = body(language())
@@ -36,6 +36,12 @@ BODIES = [
     ('fa' + '00' * 17, (18, 0)), (IDENTIFIER, (14, 18)), (IDENTIFIER + 'e0', (17, 18)), (IDENTIFIER + 'e1', (17, 18)),
     (IDENTIFIER + 'f0' + SMALLEST[38:], (19, 18)), (IDENTIFIER + 'f6', (19, 18)), (IDENTIFIER + 'f5', (14, 19)),
     (body(*[language()] * 5), None), (body(*[language()] * 6), (19, 18)), (body(*[language()] * 5, more=''), (14, 79)),
+    # The identifier's day: a date from 1 March 1900 to 22 April 2038, year first, after its 18 and before what follows it. A body with another
+    # good day comes as far as its extension, which is another.
+    (body(language(), day='20240231'), (20, 0)), (body(language(), day='19000228'), (20, 0)), (body(language(), day='19000301'), (23, 0)),
+    (body(language(), day='20380422'), (23, 0)), (body(language(), day='20380423'), (20, 0)), (body(language(), day='20000229'), (23, 0)),
+    (body(language(), day='20241311'), (20, 0)), (body(language(), day='03112024'), (20, 0)), (body(language(), day='2024023a'), (18, 0)),
+    (body(day='20240231', more=''), (20, 0)), (IDENTIFIER[:-8] + 'a' + '0' * 7, (18, 0)),
     # Letters, character set, text, agency.
     (body(language(letters='7a6860')), (19, 23)), (body(language(letters='7a687b')), (19, 23)),
     (body(language(letters='5a484f')), (19, 23)), (body(language(letters='617a61')), None),
@@ -56,6 +62,7 @@ BODIES = [
     (body(language('f8' '0000' '00' 'f0' 'ff' '000000')), (15, 31))]
 
 LEAST = bytes.fromhex(SMALLEST)
+NO_DAY = bytes.fromhex(body(language(), day='20240231'))
 # Letters at 23, text at 29, agency at 32, the file's type at 34 and its data at 38, the signature at 43.
 FULL = bytes.fromhex(body(language('f9' '0002' '6162' '01' '63' 'f1' '07' '000003' '646566'), more='000167'))
 LONG = bytes(1045505)
@@ -94,6 +101,13 @@ CALLS = [
     (('content_write', pool_of(b'a', 99), [0, 18, 6], b''), '19 0 -'),
     (('content_write', pool_of(b'A', 99), [0, 18, 1, 0, 3], b''), '19 0 -'),
     (('content_write', b'\xAA' * 99, [0, 18, 0], b''), '18 0 -'),
+    # A day is 20 at 0 from a writer, before what follows it; from measuring, at the identifier's entry, which is the first.
+    (('content_write', NO_DAY[:18] + b'zho', SMALLEST_TAPE, b'\xE5' * 33), '20 0 ' + 'e5' * 33),
+    (('content_write', NO_DAY, [0, 18, 6], b''), '20 0 -'), (('content_measure', NO_DAY, [0, 18, 6]), '20 0'),
+    (('content_write', NO_DAY[:17] + b'\xAA', [0, 18, 6], b''), '18 0 -'),
+    # The identifier, its digits and its extension are judged as they are read, and no other field for them.
+    (('content_fields', NO_DAY), '20 0 20 0 0 1 ' + part(33, 0)), (('content_identifier_digit', NO_DAY, 0), '20 0'),
+    (('content_identifier_digit', NO_DAY, 35), '20 0'),
     # Fields asked for, in bodies of which little is good: the language count is at 18 whatever stands before it.
     (('content_fields', b''), '14 0 14 0 14 18 14 18'),
     (('content_fields', bytes(18) + b'\xF6'), '17 0 17 0 19 18 19 18'),
@@ -121,7 +135,7 @@ READ = {*pairs("""
 kind: 2
 body: 22
 identifier reserved: 14 17
-identifier: 14 18
+identifier: 14 18 20
 language count reserved: 14 17
 language count: 19
 language length: 14
@@ -143,7 +157,7 @@ extension: 23
 WRITE = on_tape(
     '', 'language count, character set, auxiliary count, auxiliary type', 'text, agency, auxiliary data, signature',
     'identifier, letters') | {*pairs("""
-identifier: 18
+identifier: 18 20
 letters: 19
 text length: 22
 agency length: 22

@@ -19,6 +19,7 @@ DAY = 'there is no such day in the calendar'
 TIME = 'there is no such time of day'
 RANGE = 'the day is out of the range 01/03/1900 to 22/04/2038'
 RANGE_IN_UTC = 'in UTC, less the offset, ' + RANGE
+REAL_DAY = 'it has to be a day of the calendar, year, month and day, from 19000301 to 20380422'
 TYPES = 'it has to be 5 ASCII characters, none of them a space'
 LETTERS = 'it has to be three letters a to z, a space and the number of a character set'
 SET = 'the character set has to be a whole number from 0 to 4'
@@ -41,6 +42,8 @@ VALUES = [
     (IDENTIFIER, '3654320O000000303010103202411030001', 'it has to be 35 digits, and byte 8 of it is none'),
     (IDENTIFIER, '36543200000000303010103 202411030001', 'it has to be 35 digits, and byte 24 of it is none'),
     (IDENTIFIER, '-6543200000000303010103202411030001', 'it has to be 35 digits, and byte 1 of it is none'),
+    *((IDENTIFIER, '36543200000000303010103' + day + '0001', 'its day, digits 24 to 31, is %s: ' % day + REAL_DAY) for day in (
+        '20240231', '20230229', '19000228', '20380423', '03112024', '20241303', '20241100', '20240011', '00000000', '99999999')),
     (IDENTIFIER, '', NOTHING),
     (RESOURCE, '12', 'it has to be 23 digits, and has 2'),
     (RESOURCE, '365432000000003030101034', 'it has to be 23 digits, and has 24'),

@@ -192,7 +192,8 @@ def main():
     told = library.compare(cases)
     assert told['index_message_count'] == told['index_signature'] == {0, 14} and told['index_message'] == {0, 14, 19}
     digits = {0, 14, 15, 17, 18, 19}
-    assert told['message_fields'] == told['message_resource'] == told['message_resource_digit'] == digits
+    assert told['message_resource'] == told['message_resource_digit'] == digits
+    assert told['message_fields'] == told['message_identifier_digit'] == digits | {20}
     assert told['message_local_times'] == {0, 14, 15, 18, 19, 20}
     assert told['descriptor_count'] == {0, 14, 15, 19} and told['stream_count'] == {0, 14, 15, 17, 19}
     assert len(cases) > COUNT

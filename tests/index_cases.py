@@ -7,9 +7,9 @@ KIND = 0xFD
 IDENTIFIER, EXTENSION = 'f' + checked('1' + '23' * 11 + '20241103' + '23' * 2), 0x1971
 
 
-def message(start='ecc9074500', end='ffffffffff', rest='11' '00' 'fe'):
+def message(start='ecc9074500', end='ffffffffff', rest='11' '00' 'fe', day='20241103'):
     """A message: identifier at 3, network at 21, start at 23, end at 28, type at 33, class and level at 38."""
-    return IDENTIFIER + '0007' + start + end + '3131413031' + rest
+    return IDENTIFIER[:24] + day + IDENTIFIER[32:] + '0007' + start + end + '3131413031' + rest
 
 
 def body(message, more='0000'):
@@ -28,6 +28,12 @@ BODIES = [
     ('010001' '7a' + '00' * 17, (17, 3)), ('010012' 'fa' + '00' * 17, (18, 3)), ('010012' 'f0' + '0a' * 17, (18, 3)),
     (body(message()), None), (body(message() + '00'), (15, 41)), (body(message(), '0001'), (14, 41)),
     (body(message(), '000000'), (16, 43)),
+    # The identifier's day: a date from 1 March 1900 to 22 April 2038, year first, at its first byte, after its 18 and before what follows it.
+    (body(message(day='20240231')), (20, 3)), (body(message(day='19000228')), (20, 3)), (body(message(day='19000301')), None),
+    (body(message(day='20380422')), None), (body(message(day='20380423')), (20, 3)), (body(message(day='20000229')), None),
+    (body(message(day='20241311')), (20, 3)), (body(message(day='03112024')), (20, 3)), (body(message(day='00000000')), (20, 3)),
+    (body(message(day='2024023a')), (18, 3)), (body(message(day='20240231', start='ffffffffff', rest='')), (20, 3)),
+    ('010012' 'f0' + '00' * 17, (20, 3)), ('010011' 'f0' + '00' * 17, (15, 3)), ('010012' 'e0' + '00' * 17, (17, 3)),
     # Times: the live mark only at the end, digits before days, an end before its start is good.
     (body(message(start='ffffffffff')), (18, 23)), (body(message(start='00ffffffff')), (18, 23)),
     (body(message(end='00ffffffff')), (18, 28)), (body(message(start='3ae6000000')), (20, 23)),
@@ -58,6 +64,9 @@ BODIES = [
     (body(message(rest=CHANNEL + 'f000')), (15, 51))]
 
 ONE = bytes.fromhex(body(message()))
+NO_DAY = bytes.fromhex(body(message(day='20240231')))
+# Their messages as forms: the identifier is at 3 of the pool, the type at 33.
+TAPE = [1, 3, 18, 7, 0xECC9074500, 2**40 - 1, 33, 5, 1, 1, 0, 0, 0, 0]
 BAD_TIMES = bytes.fromhex(body(message(start='ecc907450a', end='ecc9240000')))
 LAST_DAY = bytes.fromhex(body(message(start='ffff230000')))
 RECORD = [3, 38, 0xECC9074500, 2**40 - 1, 1, 1]
@@ -82,6 +91,13 @@ CALLS = [
     (('index_write', b'ab', [0, 1, 1], b'\xE5' * 6), '0 4 00000162e5e5'),
     (('index_write', b'ab', [0, 1, 1], b'\xE5' * 3), '21 0 e5e5e5'),
     (('index_write', b'ab', [0, 1, 1, 0], b'\xE5' * 6), '19 0 e5e5e5e5e5e5'),
+    # A day is 20 at 0 from a writer, at the entry where its identifier begins from measuring.
+    (('index_write', ONE, TAPE, b'\xE5' * 43), '0 43 ' + ONE.hex()), (('index_write', NO_DAY, TAPE, b'\xE5' * 43), '20 0 ' + 'e5' * 43),
+    (('index_write', NO_DAY, TAPE[:3] + [2**16], b''), '20 0 -'), (('index_measure', NO_DAY, TAPE), '20 1'),
+    (('index_measure', NO_DAY[:20] + b'\xAA' + NO_DAY[21:], TAPE), '18 1'),
+    # The identifier, its digits and its extension are judged as they are read, and no other field for them.
+    (('message_identifier_digit', NO_DAY, 3, 38, 0), '20 3'), (('message_identifier_digit', NO_DAY, 3, 38, 35), '20 3'),
+    (('message_fields', NO_DAY, 3, 22), '20 3 20 3 0 7 15 23 15 28 15 33 15 38 15 38' + ' 15 39' * 8),
     # Fields asked for: the resource count is at 39, the channel's parts at 51 and 56.
     (('index_message_count', b''), '14 0'), (('index_message', b'', 9), '14 0'), (('index_message', b'\1', 1), '19 0'),
     (('index_message', b'\1', 0), '14 1'), (('index_message', ONE, 0), '0 %d' % (3 * 2**24 + 38)),
@@ -123,7 +139,7 @@ body: 22
 message count: 14
 EBM_length: 14
 identifier reserved: 14 15 17
-identifier: 14 15 18
+identifier: 14 15 18 20
 network: 14 15
 start: 14 15 18 20
 end: 14 15 18 20
@@ -158,7 +174,7 @@ WRITE = on_tape(
     'network, start, end, class, level, channel flag, channel network, channel stream, channel program, PCR PID,'
     'program descriptor tag, stream type, stream PID, ES descriptor tag',
     'program descriptor data, ES descriptor data, signature', 'identifier, type, resource') | {*pairs("""
-identifier: 18
+identifier: 18 20
 start: 18 20
 end: 18 20
 type: 19

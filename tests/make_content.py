@@ -108,7 +108,7 @@ def count_in_low_bits(chance, what):
 
 
 BAD = {
-    'identifier': [make.cleared(4), make.digit_above_nine],
+    'identifier': [make.cleared(4), make.digit_above_nine, make.with_unreal_day],
     'language count': [make.cleared(4), count_in_low_bits, count_in_low_bits],
     'letters': [make.one_byte(0, 0x60), make.one_byte(0x7B, 0xFF), make.one_of(b'ZHO', b'zh ', b'zh0', b'\xFAho')],
     'character set': [make.cleared(5), make.low_bits(3)],

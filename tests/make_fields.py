@@ -55,6 +55,30 @@ def identifier(chance):
     return text[:23] + real_day(int(text[23:31])) + text[31:]
 
 
+def unreal_day(chance):
+    """Eight digits that are no day of the range: just outside it, past a month's end, no month, day 0 or any."""
+    year = chance.randint(1899, 2039)
+    text = chance.choice((
+        chance.choice(('19000228', '19000229', '20380423', '18991231', '20380501')),
+        '%d%s' % (year, chance.choice(('0230', '0231', '0431', '0631', '0931', '1131', '0132', '1232'))),
+        '%d0229' % (year - year % 4 + chance.randint(1, 3)),
+        '%d%02d%02d' % (year, chance.choice((0, 13, 20, chance.randint(13, 99))), chance.randint(1, 28)),
+        '%d%02d%02d' % (year, chance.randint(1, 12), chance.choice((0, 32, 40, chance.randint(32, 99)))),
+        digits(chance, 4) + '1103', digits(chance, 8)))
+    try:
+        day = datetime.date(int(text[:4]), int(text[4:6]), int(text[6:])).toordinal()
+    except ValueError:
+        return text
+    return '19000228' if day in DAYS else text
+
+
+def with_unreal_day(chance, what):
+    """The 18 bytes of an identifier with an unreal day, now and then also with a digit above 9."""
+    text = what.hex()
+    found = bytes.fromhex(text[:24] + unreal_day(chance) + text[32:])
+    return digit_above_nine(chance, found) if chance.randrange(4) == 0 else found
+
+
 # How often each day is that of an identifier made as good.
 days_made = collections.Counter()
 
@@ -511,6 +535,15 @@ def pool_changed(chance, form, pool, tape, bad):
     return pool[:at] + bytes([value]) + pool[at + 1:], tape
 
 
+def day_changed(chance, form, pool, tape, bad):
+    """The identifier of some message has an unreal day."""
+    places = [i for i, name in enumerate(form.names) if name == 'identifier start']
+    if not places or tape[places[0]] + 18 > len(pool):
+        return pool_changed(chance, form, pool, tape, bad)
+    begin = tape[chance.choice(places)]
+    return pool[:begin] + with_unreal_day(chance, pool[begin:begin + 18]) + pool[begin + 18:], tape
+
+
 def tape_cut(chance, form, pool, tape, bad):
     return pool, tape[:picked(chance, form.names)]
 
@@ -529,7 +562,8 @@ def pool_cut(chance, form, pool, tape, bad):
 
 
 KEEP_LENGTH = (entry_changed, entry_changed, entry_changed, value_of_its_own, value_of_its_own, value_of_its_own,
-               span_changed, span_changed, span_changed, pool_changed, pool_changed, pool_changed, pool_cut)
+               span_changed, span_changed, span_changed, pool_changed, pool_changed, pool_changed, pool_cut,
+               day_changed)
 END_WITH = (tape_cut, tape_cut, tape_prolonged, entries_lost_or_won)
 
 

@@ -158,7 +158,7 @@ def descriptor_items(descriptors, whose):
 
 BAD = {
     'message count': [make.count_changed],
-    'identifier': [make.cleared(4), make.digit_above_nine],
+    'identifier': [make.cleared(4), make.digit_above_nine, make.with_unreal_day],
     'start': [make.time_wrong],
     'end': [make.time_wrong],
     'type': [make.one_byte(0x80, 0xFF)],

@@ -55,6 +55,14 @@ def digits_spoiled(names, pool, tape):
             yield pool[:last] + bytes([pool[last] | 0x0F]) + pool[last + 1:], tape, 18, at
 
 
+def days_spoiled(names, pool, tape):
+    """The month of each identifier is 13."""
+    for at in range(len(tape)):
+        if names[at] == 'identifier start':
+            month = tape[at] + 14
+            yield pool[:month] + b'\x13' + pool[month + 1:], tape, 20, at
+
+
 def tapes_spoiled(names, pool, tape):
     """The tape ends before each entry; and goes on after the last."""
     for size in range(len(tape)):
@@ -63,7 +71,7 @@ def tapes_spoiled(names, pool, tape):
 
 
 def spoiled(names, pool, tape):
-    for how in numbers_spoiled, spans_spoiled, digits_spoiled, tapes_spoiled:
+    for how in numbers_spoiled, spans_spoiled, digits_spoiled, days_spoiled, tapes_spoiled:
         yield from how(names, pool, tape)
 
 

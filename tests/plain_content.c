@@ -44,7 +44,7 @@ static unsigned take_language(struct reader *r) {
 }
 
 static unsigned take_body(struct reader *r) {
-    unsigned no = take_digits(r, IDENTIFIER_BYTES);
+    unsigned no = take_identifier(r);
     r->entries += 2;
     if (no || (no = take_several(r, 0xF0, 1, MOST_LANGUAGES, take_language))) return no;
     return take_signature(r);
@@ -97,7 +97,7 @@ static unsigned form_language(struct form *f) {
 }
 
 static unsigned form_body(struct form *f) {
-    unsigned no = form_digits(f, IDENTIFIER_BYTES);
+    unsigned no = form_identifier(f);
     if (no || (no = form_several(f, 1, MOST_LANGUAGES, form_language))) return no;
     return form_signature(f);
 }
@@ -149,7 +149,7 @@ plain_answer plain_content_write(const uint8_t *pool, size_t pool_bytes, const u
 
 plain_answer plain_content_identifier(const uint8_t *body, size_t n) {
     struct reader r = {body, n, n, 0, 0};
-    return asked_digits(&r, IDENTIFIER_BYTES);
+    return asked_identifier(&r);
 }
 
 plain_answer plain_content_identifier_digit(const uint8_t *body, size_t n, uint64_t i) {

@@ -61,6 +61,18 @@ static inline unsigned time_fault(uint64_t field) {
     return 0;
 }
 
+// 0 or 20 of the day in an identifier of digits, YYYYMMDD in bytes 12 to 15, where numbers of decimal digits stand in their order. In the range
+// every fourth year is a leap year: the February of 1900 is before it.
+INLINED unsigned day_fault(const uint8_t *s) {
+    static const uint8_t last[] = {
+        [1] = 0x31, [2] = 0x28, [3] = 0x31, [4] = 0x30,    [5] = 0x31,    [6] = 0x30,
+        [7] = 0x31, [8] = 0x31, [9] = 0x30, [0x10] = 0x31, [0x11] = 0x30, [0x12] = 0x31};
+    uint64_t date = big_endian(s + 12, 4);
+    unsigned month = s[14], day = s[15], leap = month == 2 && ((s[13] >> 4) * 2 + (s[13] & 15)) % 4 == 0;
+    if (date < 0x19000301 || date > 0x20380422 || month > 0x12 || day == 0 || day > last[month] + leap) return IMPOSSIBLE;
+    return 0;
+}
+
 // A place in a body, and the end of the counted part that is being read. Each `take` passes a field and answers 0, or
 // answers the refusal's number and stays: the place of a refusal is where the reader then stands.
 struct reader {
@@ -102,6 +114,12 @@ INLINED unsigned take_digits(struct reader *r, size_t width) {
     if (bad_digits(r->s + r->at, width)) return DIGIT;
     r->at += width;
     return 0;
+}
+
+INLINED unsigned take_identifier(struct reader *r) {
+    unsigned no = take_digits(r, IDENTIFIER_BYTES);
+    if (no == 0 && (no = day_fault(r->s + r->at - IDENTIFIER_BYTES))) r->at -= IDENTIFIER_BYTES;
+    return no;
 }
 
 // A length in so many bytes whose part, right after it, lies in the body and in the part that is being read.
@@ -231,6 +249,12 @@ INLINED unsigned form_digits(struct form *f, size_t width) {
     return bad_digits(s, width) ? DIGIT : 0;
 }
 
+INLINED unsigned form_identifier(struct form *f) {
+    const uint64_t *first = f->t;
+    unsigned no = form_digits(f, IDENTIFIER_BYTES);
+    return no ? no : day_fault(f->pool + *first);
+}
+
 // Bytes after a length field, whose most is given. What is too large is not measured: its size can't matter any more.
 static inline unsigned form_opaque(struct form *f, size_t width, uint64_t most) {
     const uint8_t *s;
@@ -327,6 +351,11 @@ static inline plain_answer asked_small(struct reader *r, unsigned mask, unsigned
 static inline plain_answer asked_digits(struct reader *r, size_t width) {
     unsigned no = take_digits(r, width);
     return no ? refused(no, r->at) : part(r->at - width, width);
+}
+
+static inline plain_answer asked_identifier(struct reader *r) {
+    unsigned no = take_identifier(r);
+    return no ? refused(no, r->at) : part(r->at - IDENTIFIER_BYTES, IDENTIFIER_BYTES);
 }
 
 static inline plain_answer asked_digit(const uint8_t *body, plain_answer digits, uint64_t i) {

@@ -104,7 +104,7 @@ static unsigned take_channel(struct reader *r) {
 
 static unsigned take_message_fields(struct reader *r) {
     unsigned no;
-    if ((no = take_digits(r, IDENTIFIER_BYTES)) || (no = take(r, 2)) || (no = take_time(r, 0)) ||
+    if ((no = take_identifier(r)) || (no = take(r, 2)) || (no = take_time(r, 0)) ||
         (no = take_time(r, 1)) || (no = take_type(r)) || (no = need(r, 1)))
         return no;
     if (!in_set(r->s[r->at] >> 4) || !in_set(r->s[r->at] & 15u)) return OUTSIDE;
@@ -223,7 +223,7 @@ static unsigned form_channel(struct form *f) {
 static unsigned form_message(struct form *f) {
     uint64_t before = f->bytes;
     unsigned no;
-    if ((no = form_digits(f, IDENTIFIER_BYTES)) || (no = form_number(f, 0, 0xFFFF)) || (no = form_time(f, 0)) ||
+    if ((no = form_identifier(f)) || (no = form_number(f, 0, 0xFFFF)) || (no = form_time(f, 0)) ||
         (no = form_time(f, 1)) || (no = form_type(f)) || (no = form_number(f, 1, 4)) || (no = form_number(f, 1, 4)) ||
         (no = form_several(f, 0, UINT64_MAX, form_resource)) || (no = form_number(f, 0, 1)) ||
         (f->t[-1] && (no = form_channel(f))))
@@ -356,7 +356,7 @@ static plain_answer asked_time(struct reader *r, int is_end) {
 
 plain_answer plain_message_identifier(const uint8_t *body, size_t n, size_t at, size_t length) {
     struct reader r;
-    return stands(&r, body, n, at, length, 0) ? asked_digits(&r, IDENTIFIER_BYTES) : OUTSIDE;
+    return stands(&r, body, n, at, length, 0) ? asked_identifier(&r) : OUTSIDE;
 }
 
 plain_answer plain_message_identifier_digit(const uint8_t *body, size_t n, size_t at, size_t length, uint64_t i) {

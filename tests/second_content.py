@@ -32,7 +32,7 @@ def judge_extension(body, given):
 def read(kind, body):
     """The table, whatever the extension."""
     reader = Reader(kind, KIND, body)
-    return {'identifier': reader.digits('identifier', 18),
+    return {'identifier': reader.identifier(),
             'languages': read_languages(reader),
             'signature': reader.signature()}
 
@@ -89,7 +89,7 @@ def read_files(reader):
 def form(pool, tape):
     """The table that a form asks for; its byte fields have their places in the pool."""
     taken = Tape(pool, tape)
-    return {'identifier': taken.digits('identifier', 18),
+    return {'identifier': taken.identifier(),
             'languages': [form_language(taken) for _ in range(taken.number('language count', 5, least=1))],
             'signature': taken.signature()}
 

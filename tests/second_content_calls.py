@@ -56,7 +56,7 @@ def content_write(pool, tape, out):
 
 
 def identifier(body):
-    return Part(body, 0, len(body)).digits('identifier', 18)
+    return Part(body, 0, len(body)).identifier()
 
 
 def extension(body):

@@ -1,9 +1,13 @@
 """What the second programs for index, content and configuration share: bodies by fields, tapes by entries."""
+import datetime
+
 from calls import Refused
 
 MOST_BODY = 1045504
 LIVE = 2**40 - 1
 FIRST_DAY = 15079
+# The days that an identifier may have, as eight digits of it.
+REAL_DAYS = '19000301', '20380422'
 
 # A byte field, in a table that was read and in a form: where it begins, its length, and what it is (bytes, or text of
 # digits). In a table that was read the places are those of the body, in a form those of the pool.
@@ -19,6 +23,16 @@ def refuse(number, field, place=0):
 def only_digits(data):
     """Whether all digits but the first, whose place the reserved bits take, are decimal."""
     return data.hex()[1:].isdecimal()
+
+
+def is_real_day(identifier):
+    """Whether the 24th to the 31st of an identifier's digits are a day of the range, by Python's calendar."""
+    day = identifier[23:31]
+    try:
+        datetime.date(int(day[:4]), int(day[4:6]), int(day[6:]))
+    except ValueError:
+        return False
+    return REAL_DAYS[0] <= day <= REAL_DAYS[1]
 
 
 def time_fault(value, live):
@@ -86,6 +100,13 @@ class Reader:
             refuse(18, field, self.at)
         begin, width, data = self.taken(width)
         return begin, width, data.hex()[1:]
+
+    def identifier(self):
+        """The digits of an identifier, and then their day."""
+        found = self.digits('identifier', 18)
+        if not is_real_day(found[2]):
+            refuse(20, 'identifier', found[0])
+        return found
 
     def pid(self, field):
         self.reserved(field, 3)
@@ -189,6 +210,14 @@ class Tape:
         if not only_digits(data):
             refuse(18, field, place)
         return begin, length, data.hex()[1:]
+
+    def identifier(self):
+        """The digits of an identifier, and then their day."""
+        place = self.at
+        found = self.digits('identifier', 18)
+        if not is_real_day(found[2]):
+            refuse(20, 'identifier', place)
+        return found
 
     def time(self, field, live):
         place, value = self.at, self.number(field, LIVE)

@@ -26,7 +26,7 @@ def read_message(reader, records):
 
 def message_fields(reader):
     message = {
-        'identifier': reader.digits('identifier', 18),
+        'identifier': reader.identifier(),
         'network': reader.number('network', 2),
         'start': reader.time('start', live=False),
         'end': reader.time('end', live=True),
@@ -89,7 +89,7 @@ def form(pool, tape):
 
 def form_message(taken):
     return {
-        'identifier': taken.digits('identifier', 18),
+        'identifier': taken.identifier(),
         'network': taken.number('network', 0xFFFF),
         'start': taken.time('start', live=False),
         'end': taken.time('end', live=True),

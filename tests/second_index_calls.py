@@ -121,7 +121,7 @@ def index_signature(body):
 
 
 def identifier(*message):
-    return inside(*message, 0).digits('identifier', 18)
+    return inside(*message, 0).identifier()
 
 
 def class_or_level(message, which):

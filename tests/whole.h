@@ -25,8 +25,8 @@
     X(certificate_write, "19 21 22") X(certificate_lay, "2 14 16 21 22")                                             \
     X(index_read, "2 14 15 16 17 18 19 20 22") X(index_records, "2 14 15 16 17 18 19 20 21 22")                      \
     X(index_message_count, "14") X(index_message, "14 19") X(index_signature, "14")                                  \
-    X(message_identifier, "14 15 17 18 19") X(message_identifier_digit, "14 15 17 18 19")                            \
-    X(message_extension, "14 15 17 18 19")                                                                           \
+    X(message_identifier, "14 15 17 18 19 20") X(message_identifier_digit, "14 15 17 18 19 20")                      \
+    X(message_extension, "14 15 17 18 19 20")                                                                        \
     X(message_network, "14 15 19") X(message_start, "14 15 18 19 20") X(message_end, "14 15 18 19 20")               \
     X(message_type, "14 15 19") X(message_class, "14 15 19") X(message_level, "14 15 19")                            \
     X(message_resource_count, "14 15 19") X(message_resource, "14 15 17 18 19")                                      \
@@ -39,13 +39,13 @@
     X(stream_descriptors, "14 15 17 19") X(descriptor_count, "14 15 19") X(stream_count, "14 15 17 19")              \
     X(index_write, "18 19 20 21 22")                                                                                 \
     X(index_lay, "2 14 15 16 17 18 19 20 21 22")                                                                     \
-    X(content_read, "2 14 15 16 17 18 19 22 23") X(content_identifier, "14 17 18")                                   \
-    X(content_identifier_digit, "14 17 18 19") X(content_extension, "14 17 18")                                      \
+    X(content_read, "2 14 15 16 17 18 19 20 22 23") X(content_identifier, "14 17 18 20")                             \
+    X(content_identifier_digit, "14 17 18 19 20") X(content_extension, "14 17 18 20")                                \
     X(content_language_count, "14 17 19") X(content_language, "14 17 19") X(content_signature, "14 17 19")           \
     X(language_letters, "14 15 19") X(language_character_set, "14 15 17 19") X(language_text, "14 15 19")            \
     X(language_agency, "14 15 19") X(language_auxiliary_count, "14 15 17 19")                                        \
     X(language_auxiliary_type, "14 15 17 19") X(language_auxiliary, "14 15 17 19")                                   \
-    X(content_write, "18 19 21 22") X(content_lay, "2 14 15 16 17 18 19 21 22")                                      \
+    X(content_write, "18 19 20 21 22") X(content_lay, "2 14 15 16 17 18 19 20 21 22")                                \
     X(configuration_read, "2 14 15 16 17 18 19 20 22") X(configuration_command_count, "14")                          \
     X(configuration_command, "14 19") X(configuration_signature, "14")                                               \
     X(command_tag, "19") X(command_content, "14 15 19")                                                              \

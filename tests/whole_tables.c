@@ -63,6 +63,25 @@ static void resource(nw_form *f) {
 // The identifiers made as good, and how many of them had a day at which a calendar goes wrong.
 static uint64_t identifiers, at_an_end, on_leap_day, at_month_end;
 
+// The identifiers made with a day that there is not.
+static uint64_t without_day;
+
+// A month 00 or 13, a day 00 or 32, 30 February, or a day just outside the range, in the place of a real day.
+static void spoil_day(uint8_t *s) {
+    static const uint8_t before[] = {0x19, 0x00, 0x02, 0x28}, after[] = {0x20, 0x38, 0x04, 0x23};
+    uint8_t *day = s + DAY_AT;
+    switch (below(5)) {
+    case 0: day[2] = one_in(2) ? 0 : 0x13; break;
+    case 1: day[3] = one_in(2) ? 0 : 0x32; break;
+    case 2: day[2] = 0x02, day[3] = 0x30; break;
+    case 3: memcpy(day, before, sizeof before); break;
+    default: memcpy(day, after, sizeof after);
+    }
+    struct real_day d = day_in(s);
+    if (!refusal_of(plain_day_of(d.year, d.month, d.day))) wrong("a spoiled day is real");
+    without_day++;
+}
+
 // Counts an identifier made as good, whose day plain C's calendar must have.
 static void hold_real_day(const uint8_t *s) {
     struct real_day d = day_in(s);
@@ -79,6 +98,7 @@ static void identifier(nw_form *f) {
     draw_digits(s, sizeof s);
     put_real_day(s);
     hold_real_day(s);
+    if (at_fault(50)) spoil_day(s);
     put_digits(f, s, sizeof s);
 }
 
@@ -646,7 +666,8 @@ void try_tables(void) {
         try_noise(tables + i);
     }
     if (!at_an_end || !on_leap_day || !at_month_end) wrong("no identifier has a day at which a calendar goes wrong");
+    if (!without_day) wrong("no identifier has an unreal day");
     printf("whole: %" PRIu64 " identifiers made as good have a real day, %" PRIu64 " times the first or last, %" PRIu64
-           " a 29 February, %" PRIu64 " another month's end\n",
-           identifiers, at_an_end, on_leap_day, at_month_end);
+           " a 29 February, %" PRIu64 " another month's end; %" PRIu64 " then got an unreal one\n",
+           identifiers, at_an_end, on_leap_day, at_month_end, without_day);
 }

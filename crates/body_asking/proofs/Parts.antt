@@ -10,7 +10,7 @@ use borrow.Author.Tests.{le-leb, lt-ltb, le-ltb}
 use Rattle.ground_refusal.specs.declared.Refusal.the-variants.{OutsideSet}
 use Rattle.body_formats.specs.Reading.{found, fine}
 use Rattle.body_formats.specs.Format.{Format, followed, rest, Length, lengthOf, length12, counted}
-use Rattle.body_formats.specs.Answers.{partOf, digitRead}
+use Rattle.body_formats.specs.Answers.{partOf, nthDigit, digitRead}
 use Rattle.body_formats.specs.Held.{PartHolds}
 use Rattle.body_formats.specs.declared.Number.the-variants.{Is, Refused as NoNumber}
 use Rattle.body_formats.specs.declared.Part.the-variants.{Of}
@@ -108,11 +108,11 @@ part-begins w F f s b l p x q e = part-after (lengthOf w) w (length-sized w) F f
 -- digits asked for one by one: so many as were read are there, and no other
 module _ (D : Format (List ℕ)) (s : List ℕ) (l p : ℕ) (ds : List ℕ) (q : ℕ) (e : D .parse s l p ≡ found ds q) (i : ℕ) where
   pub digit-there : i < length ds → digitRead D i s l p ≡ Is (getD ds i 0) (p + (i + 1) / 2)
-  unfolding digitRead
+  unfolding digitRead nthDigit
   digit-there k = rw (e, lt-ltb i (length ds) k)
 
   pub digit-past : length ds ≤ i → digitRead D i s l p ≡ NoNumber (OutsideSet 0)
-  unfolding digitRead
+  unfolding digitRead nthDigit
   digit-past k = rw (e, le-ltb i (length ds) k)
 
 -- ---- one after the other

@@ -1,5 +1,4 @@
 // Bytes of a stated set, and decimal digits, two to a byte, in a body: s is a whole body, l the end of the innermost counted part, p the position.
-use body_formats::IDENTIFIER_PAIRS;
 use body_formats::Number;
 use body_formats::Part;
 use body_formats::Step;
@@ -10,9 +9,8 @@ ghost use Prim.Native.Nat.{_+_, _≤_};
 ghost use lib.ListN.{length, take, drop};
 ghost use lib.Dec.{leb};
 ghost use mathlib.Core.Bool.{_&&_};
-ghost use Rattle.body_formats.specs.Format.{bytesAmong, halves, decimal, digits, every};
-ghost use Rattle.body_formats.specs.Identifier.{identifier};
-ghost use Rattle.body_formats.specs.Answers.{fieldPart, reached, digitRead};
+ghost use Rattle.body_formats.specs.Format.{bytesAmong, halves, tail, decimal, digits, every};
+ghost use Rattle.body_formats.specs.Answers.{numberOf, fieldPart, reached, nthDigit, digitRead};
 
 // Where n bytes at p end, of a field that begins at `at`.
 fn field_end(s: &[u8], l: usize, at: usize, p: usize, n: usize) -> Step
@@ -158,11 +156,21 @@ pub fn read_digits(s: &[u8], l: usize, p: usize, h: usize) -> Part
     }
 }
 
-// A message's identifier: "4 reserved, 35 digits".
-pub fn read_identifier(s: &[u8], l: usize, p: usize) -> Part
-    ensures { λ r. ⌜ r ≡ fieldPart p (identifier .parse (now (s .entry)) l p) ⌝ }
+// The i-th of the digits in the n bytes at p, of which the first holds one, and the position of the byte that it stands in; 19 where there is none.
+pub fn digit_of(s: &[u8], p: usize, n: usize, i: u64) -> Number
+    requires { ⌜ p + n ≤ length (now s) ⌝ }
+    ensures { λ r. ⌜ r ≡ numberOf (nthDigit (tail (halves (take n (drop p (now (s .entry)))))) i p) ⌝ }
 {
-    read_digits(s, l, p, IDENTIFIER_PAIRS)
+    let k = i / 2 + i % 2;
+    if (n as u64) <= k {
+        return Number::Refused(Refusal::OutsideSet(0));
+    }
+    let at = p + (k as usize);
+    let b = wide(s[at]);
+    if i % 2 == 0 {
+        return Number::Is(b % 16, at);
+    }
+    Number::Is(b / 16, at)
 }
 
 // The i-th of the 2 h + 1 digits at p, and the position of the byte that it stands in; 19 where there is none.
@@ -171,24 +179,6 @@ pub fn digit_at(s: &[u8], l: usize, p: usize, h: usize, i: u64) -> Number
 {
     match read_digits(s, l, p, h) {
         Part::Refused(r) => Number::Refused(r),
-        Part::Of(a, n) => {
-            let k = i / 2 + i % 2;
-            if (n as u64) <= k {
-                return Number::Refused(Refusal::OutsideSet(0));
-            }
-            let at = a + (k as usize);
-            let b = wide(s[at]);
-            if i % 2 == 0 {
-                return Number::Is(b % 16, at);
-            }
-            Number::Is(b / 16, at)
-        }
+        Part::Of(a, n) => digit_of(s, a, n, i),
     }
-}
-
-// The i-th digit of the identifier at p, and the position of the byte that it stands in; 19 where there is none.
-pub fn identifier_digit_at(s: &[u8], l: usize, p: usize, i: u64) -> Number
-    ensures { λ r. ⌜ r ≡ digitRead identifier i (now (s .entry)) l p ⌝ }
-{
-    digit_at(s, l, p, IDENTIFIER_PAIRS, i)
 }

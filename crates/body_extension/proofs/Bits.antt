@@ -5,16 +5,17 @@ use mathlib.Core.Bool.{Bool, true}
 use mathlib.Core.List.{List, [], _∷_, _++_, append-assoc}
 use native.Mathlib.Omega.{arith}
 use lib.ListN.{length, drop, length-append}
-use lib.Dec.{ltb, eqb}
-use borrow.Author.Tests.{ltb-true, eqb-true}
+use lib.Dec.{ltb}
+use borrow.Author.Tests.{ltb-true}
 use Rattle.ground_choices.proofs.Tests.{both}
 use Rattle.crc_register.specs.Register.{odd, bitsOf, bytesBits}
 use Rattle.crc_register.proofs.Bits.{length-bits, bits-above}
 use Rattle.crc.specs.Crc.{crc16Of, crc16Bits, crc16AfterFour}
 use Rattle.crc.proofs.Laws.{crc16-whole}
 use Rattle.crc.proofs.Burst.{crc16-four-ones}
-use Rattle.body_formats.specs.Format.{paired, decimal, digits}
+use Rattle.body_formats.specs.Format.{paired, decimal}
 use Rattle.body_formats.specs.Identifier.{identifier}
+use Rattle.body_formats.proofs.Identifiers.{identifier-digits, identifier-print}
 use Rattle.body_extension.specs.Extension.{identifierBits, extensionOf}
 
 length-identifier-bits : (ds : List ℕ) → length (identifierBits ds) ≡ 4 * length ds
@@ -43,16 +44,13 @@ paired-bits (suc h) a (x ∷ (y ∷ r)) n d =
 
 module _ (ds : List ℕ) (writable : identifier .writable ds ≡ true) where
   pub checked-bits : length (identifierBits ds) ≡ 140
-  unfolding identifier digits
-  checked-bits =
-      let many = eqb-true (length ds) 35 (both (eqb (length ds) 35) (decimal ds) writable .0) in
-      length-identifier-bits ds ∙ omega (arith, many)
+  checked-bits = length-identifier-bits ds ∙ omega (arith, identifier-digits ds writable .0)
 
   pub four-ones : bytesBits (identifier .print ds) ≡ true ∷ true ∷ true ∷ true ∷ identifierBits ds
-  unfolding identifier digits bitsOf odd
+  unfolding bitsOf odd
   four-ones =
-      let parts = both (eqb (length ds) 35) (decimal ds) writable in
-      paired-bits 17 15 ds (eqb-true (length ds) 35 (parts .0)) (parts .1)
+      let right = identifier-digits ds writable in
+      ap bytesBits (identifier-print ds) ∙ paired-bits 17 15 ds (right .0) (right .1)
 
   -- what is worked out of the 18 bytes
   pub checked : crc16AfterFour (identifier .print ds) ≡ extensionOf ds

@@ -11,7 +11,7 @@ pub fn extension_at(s: &[u8], l: usize, p: usize) -> Number
     requires { ⌜ l ≤ length (now s) ⌝ }
     ensures { λ r. ⌜ r ≡ extensionAt (now (s .entry)) l p ⌝ }
 {
-    match body_digits::read_identifier(s, l, p) {
+    match body_identifier::read_identifier(s, l, p) {
         Part::Refused(r) => Number::Refused(r),
         Part::Of(a, n) => {
             let q = p + 18;

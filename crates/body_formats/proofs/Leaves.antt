@@ -216,7 +216,7 @@ unfolding paired halves
 paired-halves [] = refl
 paired-halves (b ∷ bs) = ap₂ (λ (x : ℕ) (r : List ℕ). x ∷ r) (div-add-mod' b 16) (paired-halves bs)
 
-length-halves : (bs : List ℕ) → length (halves bs) ≡ length bs + length bs
+pub length-halves : (bs : List ℕ) → length (halves bs) ≡ length bs + length bs
 unfolding halves
 length-halves [] = refl
 length-halves (b ∷ bs) = omega (arith, length-halves bs)

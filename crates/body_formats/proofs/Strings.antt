@@ -6,8 +6,8 @@ use mathlib.Core.Bool.{Bool, true, false, _&&_}
 use native.Mathlib.Omega.{arith}
 use native.Mathlib.Numerals.{add-one}
 use native.Mathlib.Nat.{add-sub-cancel-left, le-refl}
-use lib.ListN.{length, getD, take, drop}
-use lib.Seq.{drop-cons, getD-take, getD-drop}
+use lib.ListN.{length, getD, take, drop, length-drop}
+use lib.Seq.{drop-cons, getD-take, getD-drop, length-take-le}
 use lib.Dec.{leb, ltb, eqb}
 use borrow.Author.Tests.{leb-true, eqb-true, le-leb, lt-leb, lt-ltb, le-ltb, eq-eqb, ne-eqb}
 use Rattle.ground_choices.proofs.Tests.{both}
@@ -19,14 +19,14 @@ use Rattle.time_fields.specs.declared.EndTimed.{EndTimed}
 use Rattle.body_formats.specs.Reading.{Reading, found, refused, andThen, need, Fault, judged, within}
 use Rattle.body_formats.specs.Format.{Format, only, number, bytes, every, bytesAmong, halves, tail, decimal, digits}
 use Rattle.body_formats.specs.Time.{timeFault, endFault, time, endTime}
-use Rattle.body_formats.specs.Answers.{stepOf, numberOf, fieldPart, reached, numberRead, digitRead}
+use Rattle.body_formats.specs.Answers.{stepOf, numberOf, fieldPart, reached, numberRead, nthDigit, digitRead}
 use Rattle.body_formats.specs.declared.Step.the-variants.{At, Refused as NoStep}
 use Rattle.body_formats.specs.declared.Number.the-variants.{Is, Refused as NoNumber}
 use Rattle.body_formats.specs.declared.Part.the-variants.{Of, Refused as NoPart}
 use Rattle.body_formats.proofs.Stand.{taken, stands-whole}
 use Rattle.body_formats.proofs.Outcomes.{found-inj, need-found, within-found}
 use Rattle.body_formats.proofs.Classes.{Bytes, Ok, Found}
-use Rattle.body_formats.proofs.Leaves.{reserved-found, digits-lawful}
+use Rattle.body_formats.proofs.Leaves.{reserved-found, length-halves, digits-lawful}
 use Rattle.body_formats.proofs.Readers.{field-found, field-refused}
 use Rattle.body_formats.proofs.Bits.{number-is-count}
 
@@ -339,46 +339,78 @@ tail-get : (r : List ℕ) (i : ℕ) → getD (tail r) i 0 ≡ getD r (i + 1) 0
 tail-get [] i = refl
 tail-get (a ∷ r) i = rw (add-one i)
 
-module _ (s : List ℕ) (l p h i : ℕ) where
-  pub digit-no : (r : Refusal) → NoPart r ≡ fieldPart p (digits h .parse s l p) → NoNumber r ≡ digitRead (digits h) i s l p
-  unfolding digitRead
-  digit-no r e = rw (field-refused p (digits h .parse s l p) r e)
+-- of the n bytes at p, of which the first holds one digit
+module _ (s : List ℕ) (p n : ℕ) (there : p + n ≤ length s) where
+  abbrev ds : List ℕ
+  ds = tail (halves (take n (drop p s)))
 
-  module _ (b : Bytes s) (a n : ℕ) (e : Of a n ≡ fieldPart p (digits h .parse s l p)) where
-    pub digit-none : n ≤ i / 2 + i % 2 → NoNumber (OutsideSet 0) ≡ digitRead (digits h) i s l p
-    unfolding digitRead
-    digit-none k =
-        let f = digits-fill s l p h a n b e in
-        let m = digits-many s l p h (f .2 .value) (p + (h + 1)) (f .2 .parsed) b in
-        rw (f .2 .parsed, le-ltb i (length (f .2 .value)) (omega (arith, m, f .1)))
+  many : length ds ≡ n + n - 1
+  many = tail-many (halves (take n (drop p s))) ∙ omega (arith, length-halves (take n (drop p s)), length-take-le n (drop p s) (simp length-drop (omega arith)))
+    where
+      tail-many : (r : List ℕ) → length (tail r) ≡ length r - 1
+      tail-many [] = refl
+      tail-many (a ∷ r) = omega arith
 
-    module _ (k : i / 2 + i % 2 < n) (at x : ℕ) (here : at ≡ a + (i / 2 + i % 2)) where
-      digit-is : x ≡ getD (halves (take (suc h) (drop p s))) (i + 1) 0 → Is x at ≡ digitRead (digits h) i s l p
-      unfolding digitRead
-      digit-is g =
-          let f = digits-fill s l p h a n b e in
-          let ds = f .2 .value in
-          let m = digits-many s l p h ds (p + (h + 1)) (f .2 .parsed) b in
-          let v : x ≡ getD ds i 0 =
-          g ∙ sym (tail-get (halves (take (suc h) (drop p s))) i) ∙ ap (λ (r : List ℕ). getD r i 0) (digits-found s l p h ds (p + (h + 1)) (f .2 .parsed) .2) in
-          let z : at ≡ p + (i + 1) / 2 = omega (arith, f .0, here) in
-          rw (f .2 .parsed, lt-ltb i (length ds) (omega (arith, m, f .1)), v, z)
+  byte-at : (k : ℕ) → k < n → getD (take n (drop p s)) k 0 ≡ getD s (p + k) 0
+  byte-at k h = getD-take n (drop p s) k 0 h ∙ getD-drop p s k 0
 
-      -- the byte that it stands in
-      byte : getD (take (suc h) (drop p s)) (i / 2 + i % 2) 0 ≡ getD s at 0
-      byte =
-          let f = digits-fill s l p h a n b e in
-          let z : p + (i / 2 + i % 2) ≡ at = omega (arith, f .0, here) in
-          getD-take (suc h) (drop p s) (i / 2 + i % 2) 0 (omega (arith, f .1)) ∙ getD-drop p s (i / 2 + i % 2) 0 ∙ ap (λ (j : ℕ). getD s j 0) z
+  pub low-digit : (k : ℕ) → k < n → getD ds (k + k) 0 ≡ getD s (p + k) 0 % 16
+  low-digit k h = tail-get (halves (take n (drop p s))) (k + k) ∙ halves-get (take n (drop p s)) k .1 ∙ ap (λ b. b % 16) (byte-at k h)
 
-      pub digit-low : i % 2 ≡ 0 → x ≡ getD s at 0 % 16 → Is x at ≡ digitRead (digits h) i s l p
+  pub high-digit : (k : ℕ) → k + 1 < n → getD ds (k + k + 1) 0 ≡ getD s (p + (k + 1)) 0 / 16
+  high-digit k h =
+      let z : k + k + 1 + 1 ≡ (k + 1) + (k + 1) = omega arith in
+      tail-get (halves (take n (drop p s))) (k + k + 1) ∙ ap (λ (j : ℕ). getD (halves (take n (drop p s))) j 0) z
+      ∙ halves-get (take n (drop p s)) (k + 1) .0 ∙ ap (λ b. b / 16) (byte-at (k + 1) h)
+
+  module _ (i : ℕ) where
+    pub digit-none : n ≤ i / 2 + i % 2 → NoNumber (OutsideSet 0) ≡ numberOf (nthDigit ds i p)
+    unfolding nthDigit
+    digit-none k = rw (le-ltb i (length ds) (omega (arith, many)))
+
+    module _ (k : i / 2 + i % 2 < n) (at x : ℕ) (here : at ≡ p + (i / 2 + i % 2)) where
+      digit-is : x ≡ getD ds i 0 → Is x at ≡ numberOf (nthDigit ds i p)
+      unfolding nthDigit
+      digit-is v =
+          let z : at ≡ p + (i + 1) / 2 = omega (arith, here) in
+          rw (lt-ltb i (length ds) (omega (arith, many)), v, z)
+
+      pub digit-low : i % 2 ≡ 0 → x ≡ getD s at 0 % 16 → Is x at ≡ numberOf (nthDigit ds i p)
       digit-low even g =
-          let j = halves-get (take (suc h) (drop p s)) (i / 2 + i % 2) in
-          let z : i / 2 + i % 2 + (i / 2 + i % 2) + 1 ≡ i + 1 = omega arith in
-          digit-is (g ∙ ap (λ y. y % 16) (sym byte) ∙ sym (j .1) ∙ ap (λ (y : ℕ). getD (halves (take (suc h) (drop p s))) y 0) z)
+          let z : i / 2 + i / 2 ≡ i = omega arith in
+          let y : at ≡ p + i / 2 = omega (arith, here) in
+          digit-is (g ∙ ap (λ (j : ℕ). getD s j 0 % 16) y ∙ sym (low-digit (i / 2) (omega arith)) ∙ ap (λ (j : ℕ). getD ds j 0) z)
 
-      pub digit-high : (i % 2 ≡ 0 → ⊥) → x ≡ getD s at 0 / 16 → Is x at ≡ digitRead (digits h) i s l p
+      pub digit-high : (i % 2 ≡ 0 → ⊥) → x ≡ getD s at 0 / 16 → Is x at ≡ numberOf (nthDigit ds i p)
       digit-high odd g =
-          let j = halves-get (take (suc h) (drop p s)) (i / 2 + i % 2) in
-          let z : i / 2 + i % 2 + (i / 2 + i % 2) ≡ i + 1 = omega arith in
-          digit-is (g ∙ ap (λ y. y / 16) (sym byte) ∙ sym (j .0) ∙ ap (λ (y : ℕ). getD (halves (take (suc h) (drop p s))) y 0) z)
+          let z : i / 2 + i / 2 + 1 ≡ i = omega arith in
+          let y : at ≡ p + (i / 2 + 1) = omega (arith, here) in
+          digit-is (g ∙ ap (λ (j : ℕ). getD s j 0 / 16) y ∙ sym (high-digit (i / 2) (omega arith)) ∙ ap (λ (j : ℕ). getD ds j 0) z)
+
+-- of the digits that D reads
+module _ (D : Format (List ℕ)) (s : List ℕ) (l p i : ℕ) where
+  pub digit-no : (r : Refusal) → NoPart r ≡ fieldPart p (D .parse s l p) → NoNumber r ≡ digitRead D i s l p
+  unfolding digitRead
+  digit-no r e = rw (field-refused p (D .parse s l p) r e)
+
+  pub digit-of : (a n q : ℕ) → a ≡ p → D .parse s l p ≡ found (tail (halves (take n (drop p s)))) q
+      → numberOf (nthDigit (tail (halves (take n (drop a s)))) i a) ≡ digitRead D i s l p
+  unfolding digitRead
+  digit-of a n q h e = rw (h, e)
+
+-- what digits read are
+pub digits-value : (s : List ℕ) (l p h a n : ℕ) → Bytes s → Of a n ≡ fieldPart p (digits h .parse s l p)
+    → (a ≡ p) × (n ≡ h + 1) × (p + n ≤ length s) × (digits h .parse s l p ≡ found (tail (halves (take n (drop p s)))) (p + n))
+digits-value s l p h a n b e =
+    let f = digits-fill s l p h a n b e in
+    let v = digits-found s l p h (f .2 .value) (p + (h + 1)) (f .2 .parsed) .2 in
+    let z : suc h ≡ n = omega (arith, f .1) in
+    let y : p + (h + 1) ≡ p + n = omega (arith, f .1) in
+    (f .0, f .1, omega (arith, f .1, f .2 .in-body), f .2 .parsed ∙ ap₂ (λ (ds : List ℕ) (q : ℕ). found ds q) (sym v ∙ ap (λ (m : ℕ). tail (halves (take m (drop p s)))) z) y)
+
+-- each of them, asked for in the bytes of the part
+pub digits-each : (s : List ℕ) (l p h a n : ℕ) → Bytes s → Of a n ≡ fieldPart p (digits h .parse s l p)
+    → (a + n ≤ length s) × ((i : ℕ) → numberOf (nthDigit (tail (halves (take n (drop a s)))) i a) ≡ digitRead (digits h) i s l p)
+digits-each s l p h a n b e =
+    let v = digits-value s l p h a n b e in
+    (omega (arith, v .0, v .2), λ i. digit-of (digits h) s l p i a n (p + n) (v .0) (v .3))

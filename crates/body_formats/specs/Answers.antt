@@ -71,8 +71,11 @@ thingListed C F i s l p = andThen (C .parse s l p) (λ n q. need (ltb i n) (Outs
 unfoldable pub partListed : ℕ → ℕ → ℕ → List ℕ → ℕ → ℕ → Part
 partListed c w i s l p = partOf (thingListed (count c) (opaque w) i s l p)
 
--- the i-th of the digits that D reads at p, and the position of the byte that it stands in: one that isn't there is 19, place 0
+-- the i-th of the digits that stand from p on, one with the reserved bits and then two to a byte, and the position of its byte: one that isn't
+-- there is 19, place 0
+unfoldable pub nthDigit : List ℕ → ℕ → ℕ → Reading ℕ
+nthDigit ds i p = need (ltb i (length ds)) (OutsideSet 0) (found (getD ds i 0) (p + (i + 1) / 2))
+
+-- that of the digits that D reads at p
 unfoldable pub digitRead : Format (List ℕ) → ℕ → List ℕ → ℕ → ℕ → Number
-digitRead D i s l p =
-    numberOf
-    (andThen (D .parse s l p) (λ ds q. need (ltb i (length ds)) (OutsideSet 0) (found (getD ds i 0) (p + (i + 1) / 2))))
+digitRead D i s l p = numberOf (andThen (D .parse s l p) (λ ds q. nthDigit ds i p))

@@ -6,4 +6,5 @@ pub mod Times
 pub mod Pairs
 pub mod Lengths
 pub mod Lists
+pub mod Identifiers
 pub mod Writers

@@ -538,11 +538,20 @@ pub fn take_count(tape: &[u64], x: Pen) -> Count
     }
 }
 
-// A message's identifier.
+// A message's identifier. Its day is judged once its digits are put: the wet pen, which comes second, meets none that is refused.
 pub fn put_identifier(pool: &[u8], tape: &[u64], x: Pen, out: &mut [u8], wet: bool) -> Pen
     ensures { λ r. ⌜ Penned identifier (now (pool .entry)) (now (tape .entry)) x wet (now (out .entry)) r (now (out .exit)) ⌝ }
 {
-    put_digits(pool, tape, x, IDENTIFIER_PAIRS, out, wet)
+    let k = entry(x);
+    match put_digits(pool, tape, x, IDENTIFIER_PAIRS, out, wet) {
+        Pen::Refused(r) => Pen::Refused(r),
+        Pen::At(size, j) => {
+            if body_identifier::has_day(pool, tape[k] as usize) {
+                return Pen::At(size, j);
+            }
+            Pen::Refused(Refusal::ImpossibleDay(k))
+        }
+    }
 }
 
 // "resource count 8, resources of 4 reserved + 23 digits".

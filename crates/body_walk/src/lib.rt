@@ -304,7 +304,7 @@ pub fn walk_identifier(s: &[u8], l: usize, x: Walk, tape: &mut [u64], wet: bool)
 {
     match x {
         Walk::Refused(r) => Walk::Refused(r),
-        Walk::At(p, room) => past_part(body_digits::read_identifier(s, l, p), tape, room, wet),
+        Walk::At(p, room) => past_part(body_identifier::read_identifier(s, l, p), tape, room, wet),
     }
 }
 

@@ -10,9 +10,10 @@ use borrow.Author.Tests.{leb-true, eqb-true}
 use Rattle.ground_choices.proofs.Tests.{both}
 use Rattle.ground_refusal.specs.declared.Refusal.{Refusal}
 use Rattle.ground_refusal.specs.declared.Refusal.the-variants.{OutsideSet}
+use Rattle.time_days.specs.Calendar.{leap, monthLength, isDate, monthsFrom, yearOf, monthOf, daysOf, monthStart, dayNumber, inRange, hasDay}
 use Rattle.body_formats.specs.Reading.{isFine, unless}
 use Rattle.body_formats.specs.Format.{numberAt, count, only, among, reserved, bytes, halves, decimal, digits, followed, view, repeat, printAll, every, listOf, rest, exact, lengthOf, counted}
-use Rattle.body_formats.specs.Identifier.{identifier}
+use Rattle.body_formats.specs.Identifier.{identifierYear, identifierMonth, identifierDay, hasRealDay, identifier}
 use Rattle.body_formats.specs.Body.{reading, bodyRead}
 use Rattle.body_formats.specs.declared.Step.the-variants.{At}
 use Rattle.body_formats.proofs.Leaves.{length-bytes}
@@ -48,12 +49,12 @@ module _ (w : ℕ) where
       let twelve = languages-take (c .languages) (leb-true 1 n some) (languages .1) in
       simp (length-append, length-bytes) (omega (arith, eighteen, twelve))
 
--- zeros, one language `aaa` with nothing in it, an empty signature
+-- zeros but for the day 1 March 1900, one language `aaa` with nothing in it, an empty signature
 unfoldable pub smallestBody : List ℕ
 smallestBody =
-    0xF0 ∷ 0 ∷ 0 ∷ 0 ∷ 0 ∷ 0 ∷ 0 ∷ 0 ∷ 0 ∷ 0 ∷ 0 ∷ 0 ∷ 0 ∷ 0 ∷ 0 ∷ 0 ∷ 0 ∷ 0 ∷ 0xF1
+    0xF0 ∷ 0 ∷ 0 ∷ 0 ∷ 0 ∷ 0 ∷ 0 ∷ 0 ∷ 0 ∷ 0 ∷ 0 ∷ 0 ∷ 0x19 ∷ 0x00 ∷ 0x03 ∷ 0x01 ∷ 0 ∷ 0 ∷ 0xF1
     ∷ 0 ∷ 0 ∷ 0 ∷ 8 ∷ 0x61 ∷ 0x61 ∷ 0x61 ∷ 0xF8 ∷ 0 ∷ 0 ∷ 0 ∷ 0xF0 ∷ 0 ∷ 0 ∷ []
 
 pub smallest-accepted : bodyRead (content 3) contentKind contentKind smallestBody ≡ At 33
-unfolding smallestBody bodyRead reading content fields language languageFields auxiliaries counted lengthOf exact view followed listOf repeat only every bytes reserved count numberAt rest identifier digits halves decimal
+unfolding smallestBody bodyRead reading content fields language languageFields auxiliaries counted lengthOf exact view followed listOf repeat only every bytes reserved count numberAt rest identifier digits halves decimal hasRealDay identifierYear identifierMonth identifierDay hasDay isDate monthLength leap dayNumber monthsFrom yearOf monthOf daysOf monthStart inRange
 smallest-accepted = refl

@@ -13,14 +13,14 @@ ghost use Rattle.content_fields.specs.Asked.{identifierPart, identifierD
 pub fn identifier(s: &[u8]) -> Part
     ensures { λ r. ⌜ r ≡ identifierPart (now (s .entry)) ⌝ }
 {
-    body_digits::read_identifier(s, s.len(), 0)
+    body_identifier::read_identifier(s, s.len(), 0)
 }
 
 // The i-th digit of the identifier.
 pub fn identifier_digit(s: &[u8], i: u64) -> Number
     ensures { λ r. ⌜ r ≡ identifierDigit (now (s .entry)) i ⌝ }
 {
-    body_digits::identifier_digit_at(s, s.len(), 0, i)
+    body_identifier::identifier_digit_at(s, s.len(), 0, i)
 }
 
 // The extension that goes with the body: that of its identifier.

@@ -4,11 +4,11 @@ use mathlib.Core.Path.{_≡_, refl}
 use mathlib.Core.List.{List, [], _∷_, _++_}
 use lib.ListN.{length}
 use Rattle.ground_refusal.specs.declared.Refusal.the-variants.{ReservedBitZero, DigitAboveNine, OutsideSet}
-use Rattle.time_days.specs.Calendar.{inRange}
+use Rattle.time_days.specs.Calendar.{leap, monthLength, isDate, monthsFrom, yearOf, monthOf, daysOf, monthStart, dayNumber, inRange, hasDay}
 use Rattle.time_fields.specs.Field.{worth, decimalPair, isDecimal, possible, momentOf, readTime, readEnd}
 use Rattle.body_formats.specs.Format.{numberAt, count, only, number, bytes, every, halves, decimal, digits, reserved, nibbles, followed, view, rest, parseMany, many, length12, lengthOf, counted}
 use Rattle.body_formats.specs.Time.{time, endTime}
-use Rattle.body_formats.specs.Identifier.{identifier}
+use Rattle.body_formats.specs.Identifier.{identifierYear, identifierMonth, identifierDay, hasRealDay, identifier}
 use Rattle.body_formats.specs.Answers.{stepOf}
 use Rattle.body_formats.specs.declared.Step.{Step}
 use Rattle.body_formats.specs.declared.Step.the-variants.{At, Refused}
@@ -44,7 +44,7 @@ pub heads :
     × (headRead drillStart 0x35 ≡ Refused (OutsideSet 35))
     -- "The live mark is tried first and only at the end field": at the start it is 18
     × (headRead (0xFF ∷ 0xFF ∷ 0xFF ∷ 0xFF ∷ 0xFF ∷ []) 0x34 ≡ Refused (DigitAboveNine 20))
-unfolding head followed identifier digits halves decimal number only count numberAt time endTime readTime readEnd isDecimal decimalPair possible inRange worth momentOf bytes every nibbles
+unfolding head followed identifier digits halves decimal hasRealDay identifierYear identifierMonth identifierDay hasDay isDate monthLength leap dayNumber monthsFrom yearOf monthOf daysOf monthStart inRange number only count numberAt time endTime readTime readEnd isDecimal decimalPair possible worth momentOf bytes every nibbles
 heads = (refl, refl, refl, refl, refl, refl)
 
 -- ---- descriptors

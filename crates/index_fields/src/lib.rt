@@ -58,7 +58,7 @@ pub fn identifier(s: &[u8], at: usize, n: usize) -> Part
     ensures { λ r. ⌜ r ≡ identifierPart (now (s .entry)) at n ⌝ }
 {
     if body_asking::in_body(s, at, n) {
-        return body_digits::read_identifier(s, at + n, at);
+        return body_identifier::read_identifier(s, at + n, at);
     }
     Part::Refused(Refusal::OutsideSet(0))
 }
@@ -68,7 +68,7 @@ pub fn identifier_digit(s: &[u8], at: usize, n: usize, i: u64) -> Number
     ensures { λ r. ⌜ r ≡ identifierDigit (now (s .entry)) at n i ⌝ }
 {
     if body_asking::in_body(s, at, n) {
-        return body_digits::identifier_digit_at(s, at + n, at, i);
+        return body_identifier::identifier_digit_at(s, at + n, at, i);
     }
     Number::Refused(Refusal::OutsideSet(0))
 }

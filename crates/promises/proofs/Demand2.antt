@@ -53,6 +53,7 @@ use Rattle.configuration.proofs.RoundTrips.{configuration-trips}
 use Rattle.configuration_fields.proofs.Asked.{configuration-asked}
 use Rattle.promises.specs.Demand2.{WellFormed, Holds, WrittenAndRead, Checked, HoldsContent, Extended, Smallest, SectionsRead, Times, Days, Demand2}
 use Rattle.promises.proofs.LocalTimes.{local-times}
+use Rattle.promises.proofs.RealDays.{real-days}
 
 -- ---- tables
 
@@ -288,6 +289,7 @@ demand2 =
       indexes = round-trips index indexKind index-trips;
       contents = round-trips (content 3) contentKind (content-trips 3);
       configurations = round-trips configuration configurationKind configuration-trips;
+      real-days = real-days;
       checked = checked;
       extended = extended;
       smallest-content = smallest;

@@ -4,6 +4,7 @@ pub mod Places
 pub mod Told
 pub mod Demand1
 pub mod LocalTimes
+pub mod RealDays
 pub mod Demand2
 pub mod Demand3
 pub mod Values

@@ -22,12 +22,12 @@ use Rattle.section_cutter.specs.Cutting.{partsJoined, sectionCount, partCarried
 use Rattle.section_reader.specs.declared.Heading.{Heading}
 use Rattle.section_cutter.specs.declared.Counted.the-variants.{Sections}
 use Rattle.section_cutter.specs.declared.Cut.the-variants.{Written}
-use Rattle.body_formats.specs.Reading.{found}
-use Rattle.body_formats.specs.Format.{Format}
+use Rattle.body_formats.specs.Reading.{found, andThen, unless, judged}
+use Rattle.body_formats.specs.Format.{Format, decimal, digits}
 use Rattle.ground_numbers.specs.Sizes.{bodyMost}
 use Rattle.body_formats.specs.Body.{reading, bodyRead, writing, bodyWritten, outputWritten, bodyLaid, laidTape}
 use Rattle.body_formats.specs.declared.Step.the-variants.{At, Refused as NoStep}
-use Rattle.body_formats.specs.Identifier.{identifier}
+use Rattle.body_formats.specs.Identifier.{identifierPairs, identifierYear, identifierMonth, identifierDay, hasRealDay, identifier}
 use Rattle.body_extension.specs.Extension.{identifierBits, extensionOf}
 use Rattle.certificate.specs.Certificate.{Certificates, certificateKind, certificate}
 use Rattle.certificate_fields.specs.Agreement.{CertificateAsked}
@@ -88,6 +88,17 @@ pub record Checked : Type 0 where
   -- an identifier is sent as four reserved ones and then the bits that are checked, which are 140
   pub four-ones : (ds : List ℕ) → identifier .writable ds ≡ true → bytesBits (identifier .print ds) ≡ true ∷ true ∷ true ∷ true ∷ identifierBits ds
   pub no-more : (ds : List ℕ) → identifier .writable ds ≡ true → length (identifierBits ds) ≡ 140
+
+-- M-101: "Digits 24 to 31 of the identifier (YYYYMMDD) must be a real day from 1 March 1900 to 22 April 2038"
+pub record RealDays : Type 0 where
+  -- an identifier can be sent exactly if its 35 digits are decimal and some day of the range has the date that eight of them are
+  pub sent-exactly : (ds : List ℕ) → (identifier .writable ds ≡ true) ↔ ((length ds ≡ 35) × (decimal ds ≡ true)
+      × ((n : ℕ) × (dateOf n ≡ On (record { year = identifierYear ds; month = identifierMonth ds; day = identifierDay ds }))))
+  -- "20 at the identifier's place, after 18": where its digits are found, in a body and in a form, their day decides; what is refused before stays
+  pub read-judged : (s : List ℕ) (l p : ℕ)
+      → identifier .parse s l p ≡ andThen (digits identifierPairs .parse s l p) (λ ds q. judged (unless (hasRealDay ds) (ImpossibleDay p)) (found ds q))
+  pub form-judged : (pool tape : List ℕ) (k : ℕ)
+      → identifier .form pool tape k ≡ andThen (digits identifierPairs .form pool tape k) (λ ds j. judged (unless (hasRealDay ds) (ImpossibleDay k)) (found ds j))
 
 -- a content table also has the extension of its identifier
 pub record HoldsContent (kind extension : ℕ) (body : List ℕ) (t : Content) : Type 0 where
@@ -153,6 +164,7 @@ pub record Demand2 : Type 0 where
   pub indexes : WrittenAndRead index indexKind
   pub contents : WrittenAndRead (content 3) contentKind
   pub configurations : WrittenAndRead configuration configurationKind
+  pub real-days : RealDays
   pub checked : Checked
   pub extended : Extended
   pub smallest-content : Smallest
