@@ -288,35 +288,38 @@ static uint64_t ask_all(const struct askers *ask, const uint8_t *s, size_t n) {
 static uint64_t asking_library(const uint8_t *s, size_t n) { return ask_all(&library_askers, s, n); }
 static uint64_t asking_plain(const uint8_t *s, size_t n) { return ask_all(&plain_askers, s, n); }
 
-// ---- a content body read, written from a form, and asked for every field
+// ---- a content body of either variant read, written from a form, and asked for every field
 
 static uint64_t content_tape[NW_CONTENT_ENTRIES];
 static size_t content_entries;
-static uint32_t content_extension;
+static uint32_t content_extension, content_variant;
 
 static uint64_t content_library(const uint8_t *s, size_t n) {
-    return nw_content_read(NW_CONTENT, content_extension, s, n).packed;
+    return nw_content_read(NW_CONTENT, content_variant, content_extension, s, n).packed;
 }
 
 static uint64_t content_plain(const uint8_t *s, size_t n) {
-    return plain_content_read(NW_CONTENT, content_extension, s, n);
+    return plain_content_read(NW_CONTENT, content_variant, content_extension, s, n);
 }
 
 static uint64_t content_writing_library(const uint8_t *s, size_t n) {
-    return nw_content_write(s, n, content_tape, content_entries, output, sizeof output).packed;
+    return nw_content_write(content_variant, s, n, content_tape, content_entries, output, sizeof output).packed;
 }
 
 static uint64_t content_writing_plain(const uint8_t *s, size_t n) {
-    return plain_content_write(s, n, content_tape, content_entries, output, sizeof output);
+    return plain_content_write(content_variant, s, n, content_tape, content_entries, output, sizeof output);
 }
 
 typedef plain_answer of_body(const uint8_t *body, size_t n);
-typedef plain_answer numbered(const uint8_t *body, size_t n, size_t at, size_t length, uint64_t i);
+typedef plain_answer of_file(uint32_t variant, const uint8_t *body, size_t n, size_t at, size_t length, uint64_t i);
+#define OF_FILE(name)                                                                                                \
+    PACKED(name, (uint32_t variant, const uint8_t *body, size_t n, size_t at, size_t length, uint64_t i), variant,   \
+           body, n, at, length, i)
 
 OF_BODY(content_identifier) OF_BODY(content_extension) OF_BODY(content_signature) OF_BODY(content_language_count)
 COUNTED_IN_BODY(content_language) OF_PART(language_letters) OF_PART(language_character_set) OF_PART(language_text)
-OF_PART(language_agency) OF_PART(language_auxiliary_count) COUNTED_IN_PART(language_auxiliary_type)
-COUNTED_IN_PART(language_auxiliary)
+OF_PART(language_agency) OF_PART(language_auxiliary_count) OF_FILE(language_auxiliary_type)
+OF_FILE(language_auxiliary)
 
 enum { OF_CONTENT = 3, OF_LANGUAGE = 4 };
 
@@ -324,7 +327,7 @@ struct content_askers {
     of_body *of_content[OF_CONTENT], *language_count;
     plain_answer (*language)(const uint8_t *body, size_t n, uint64_t i);
     placed *of_language[OF_LANGUAGE], *auxiliary_count;
-    numbered *auxiliary_type, *auxiliary;
+    of_file *auxiliary_type, *auxiliary;
 };
 
 #define CONTENT_ASKERS(prefix)                                                                                       \
@@ -346,8 +349,8 @@ static uint64_t ask_language(const struct content_askers *ask, const uint8_t *s,
     plain_answer count = ask->auxiliary_count(s, n, at, length);
     so_far = answered(so_far, count);
     for (uint64_t i = 0; i < value_of(count); i++) {
-        so_far = answered(so_far, ask->auxiliary_type(s, n, at, length, i));
-        so_far = answered(so_far, ask->auxiliary(s, n, at, length, i));
+        so_far = answered(so_far, ask->auxiliary_type(content_variant, s, n, at, length, i));
+        so_far = answered(so_far, ask->auxiliary(content_variant, s, n, at, length, i));
     }
     return so_far;
 }
@@ -640,31 +643,35 @@ static uint8_t *put_opaque(uint8_t *to, size_t width, size_t length) {
 
 // A language of so many bytes: a third of them text, if that is not too long for its length, the others mostly files.
 static uint8_t *put_language(uint8_t *to, size_t bytes) {
-    size_t text = bytes / 3 < MOST_TEXT ? bytes / 3 : MOST_TEXT;
-    size_t data = (bytes - 8 - text - AGENCY_BYTES) / FILES - 4;
-    put_opaque(to, 4, 8 + text + AGENCY_BYTES + FILES * (4 + data));
+    size_t text = bytes / 3 < MOST_TEXT ? bytes / 3 : MOST_TEXT, width = content_variant / 8;
+    size_t data = (bytes - 8 - text - AGENCY_BYTES) / FILES - (1 + width);
+    put_opaque(to, 4, 8 + text + AGENCY_BYTES + FILES * (1 + width + data));
     memcpy(to + 4, "zho\xF9", 4);
     to = put_opaque(to + 8, 2, text);
     to = put_opaque(to, 1, AGENCY_BYTES);
     *to++ = 0xF0 | FILES;
-    for (int i = 0; i < FILES; i++) to = put_opaque(to + 1, 3, data);
+    for (int i = 0; i < FILES; i++) to = put_opaque(to + 1, width, data);
     return to;
 }
 
 // A content body of n bytes, the signature having what the languages leave, and its form.
-static void fill_content(size_t n) {
+static void fill_content(size_t n, uint32_t variant) {
+    content_variant = variant;
     fill_bytes(n);
     uint8_t *to = put_identifier(input);
     *to++ = 0xF0 | LANGUAGES;
     for (int i = 0; i < LANGUAGES; i++) to = put_language(to, (n - 100) / LANGUAGES - 4);
     put_opaque(to, 2, n - 2 - (size_t)(to - input));
     content_extension = (uint32_t)value_of(plain_content_extension(input, n));
-    plain_answer laid = plain_content_lay(NW_CONTENT, input, n, content_tape, NW_CONTENT_ENTRIES);
+    plain_answer laid = plain_content_lay(NW_CONTENT, variant, input, n, content_tape, NW_CONTENT_ENTRIES);
     content_entries = value_of(laid);
     if (refusal_of(laid) || content_plain(input, n) != 0 ||
         written_length(content_writing_plain(input, n)) != n || memcmp(input, output, n) != 0)
         abort();
 }
+
+static void fill_content_24(size_t n) { fill_content(n, NW_AUXILIARY_24); }
+static void fill_content_32(size_t n) { fill_content(n, NW_AUXILIARY_32); }
 
 // A configuration body of so many rounds, each of a command of each tag; the bytes of a round without terminals.
 enum { TAGS = NW_QUERY, ROUND_BYTES = 117, MOST_COMMAND_ROUNDS = 34, PARAMETERS = 10 };
@@ -773,16 +780,28 @@ static const struct operation operations[] = {
      fill_index,
      {{"neapwillow", asking_library}, {"C", asking_plain}},
      TABLE_SIZES},
-    {"content read",
-     fill_content,
+    {"content 24, read",
+     fill_content_24,
      {{"neapwillow", content_library}, {"C", content_plain}},
      TABLE_SIZES},
-    {"content written",
-     fill_content,
+    {"content 32, read",
+     fill_content_32,
+     {{"neapwillow", content_library}, {"C", content_plain}},
+     TABLE_SIZES},
+    {"content 24, written",
+     fill_content_24,
      {{"neapwillow", content_writing_library}, {"C", content_writing_plain}},
      TABLE_SIZES},
-    {"content asked",
-     fill_content,
+    {"content 32, written",
+     fill_content_32,
+     {{"neapwillow", content_writing_library}, {"C", content_writing_plain}},
+     TABLE_SIZES},
+    {"content 24, asked",
+     fill_content_24,
+     {{"neapwillow", content_asking_library}, {"C", content_asking_plain}},
+     TABLE_SIZES},
+    {"content 32, asked",
+     fill_content_32,
      {{"neapwillow", content_asking_library}, {"C", content_asking_plain}},
      TABLE_SIZES},
     {"configuration read",

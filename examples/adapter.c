@@ -1,5 +1,7 @@
-// adapter FILE: a drill, typed day first in lines on standard input, becomes an index table and a content table, cut
-// into sections in FILE. drill.txt is such a form.
+// adapter [--auxiliary BITS] FILE: a drill, typed day first in lines on standard input, becomes an index table and a
+// content table, cut into sections in FILE. drill.txt is such a form. The content table is of the variant of BITS, 24 or 32,
+// or without them 24: the bits of an auxiliary file's length. A form has no such files, so that its sections are the same
+// for both kinds of boxes; an adapter that sends pictures to donated boxes is told 32, as they are.
 //
 // A line is a word, a space or tab, and its value; a line that begins with # is a remark. The words are
 //   identifier  35 digits, of which the 24th to the 31st are a day, year first, from 19000301 to 20380422
@@ -73,6 +75,7 @@ struct desk {
     uint8_t sections[2 * NW_MOST_BODY];
     size_t bytes;
     unsigned extension; // of the message's content table
+    uint32_t variant;   // of that table
 };
 
 // ---- what is said
@@ -460,7 +463,7 @@ static bool write_index(const struct drill *d, struct desk *k) {
 static bool write_content(const struct drill *d, struct desk *k) {
     nw_form f = nw_form_start(k->pool, POOL, k->tape, ENTRIES);
     content_form(d, &f);
-    nw_written made = nw_content_write(f.pool, f.pool_bytes, f.tape, f.entries, k->body, sizeof k->body);
+    nw_written made = nw_content_write(k->variant, f.pool, f.pool_bytes, f.tape, f.entries, k->body, sizeof k->body);
     return !refused("the content table", NW_REFUSAL(made))
         && cut(k, nw_written_length(made), NW_CONTENT, k->extension, d->version);
 }
@@ -473,26 +476,38 @@ static int write_file(const struct desk *k, const char *name) {
     return complain("%s is not whole, it can't be written: %s", name, strerror(errno)), UNUSABLE;
 }
 
-static int run(struct drill *d, struct desk *k, const char *name) {
+static int run(struct drill *d, struct desk *k, uint32_t variant, const char *name) {
     if (d == NULL || k == NULL) return complain("there is no memory left"), UNUSABLE;
+    k->variant = variant;
     int status = read_drill(d);
     if (status != MADE) return status;
     return write_index(d, k) && write_content(d, k) ? write_file(k, name) : REFUSED;
 }
 
+static const char usage[] = "usage: adapter [--auxiliary BITS] FILE, with the form on standard input";
+
+// The word before FILE, if any, and its BITS. Answers where FILE stands, or 0 where they are wrong, which is said.
+static int read_option(char **word, int *bits) {
+    if (word[1] == NULL || strcmp(word[1], "--auxiliary") != 0) return 1;
+    if (word[2] == NULL) return complain("--auxiliary: BITS have to follow, 24 or 32\n%s", usage), 0;
+    if (read_number(word[2], 24, 32, bits) && (*bits == NW_AUXILIARY_24 || *bits == NW_AUXILIARY_32)) return 3;
+    return complain("BITS %s: an auxiliary file's length has 24 or 32 of them\n%s", word[2], usage), 0;
+}
+
 int main(int words, char **word) {
-    static const char usage[] = "usage: adapter FILE, with the form on standard input";
     if (words == 2 && strcmp(word[1], "--help") == 0) {
         printf("%s\nExit status: 0, FILE is written; 1, the form is refused and nothing is written;\n"
                "2, wrong usage, a form that can't be read or a FILE that can't be written.\n", usage);
         return fflush(stdout) == 0 ? MADE : UNUSABLE;
     }
-    if (words != 2) return complain("%d words are given, and one is wanted\n%s", words - 1, usage), UNUSABLE;
-    if (word[1][0] == '-' || word[1][0] == '\0')
-        return complain("'%s' is taken for no file's name\n%s", word[1], usage), UNUSABLE;
+    int bits = NW_AUXILIARY_24, at = read_option(word, &bits);
+    if (at == 0) return UNUSABLE;
+    if (words - at != 1) return complain("%d words are given, and one is wanted\n%s", words - at, usage), UNUSABLE;
+    if (word[at][0] == '-' || word[at][0] == '\0')
+        return complain("'%s' is taken for no file's name\n%s", word[at], usage), UNUSABLE;
     struct drill *d = calloc(1, sizeof *d);
     struct desk *k = calloc(1, sizeof *k);
-    int status = run(d, k, word[1]);
+    int status = run(d, k, (uint32_t)bits, word[at]);
     free(d);
     free(k);
     return status;

@@ -1,7 +1,8 @@
-// box [--whole] FILE [MINUTES]: the sections in a file, one after the other in any order, repeats and damage among them, are
-// gathered into tables, and the messages are shown with their texts: times day first and local, at MINUTES east of UTC, -720
-// to 840, or without them in UTC. Of a text the first lines are shown, with --whole all. As a table comes in, it is said how
-// many of its sections have come and how many bytes are held.
+// box [--whole] [--auxiliary BITS] FILE [MINUTES]: the sections in a file, one after the other in any order, repeats and damage
+// among them, are gathered into tables, and the messages are shown with their texts: times day first and local, at MINUTES east
+// of UTC, -720 to 840, or without them in UTC. Of a text the first lines are shown, with --whole all. The length of an auxiliary
+// file has BITS bits, 24 or 32, or without them 24: a donated box that follows the standard's text, and not its Table 4, is 32.
+// As a table comes in, it is said how many of its sections have come and how many bytes are held.
 //
 // Of a table the newest version is held: one that is 1 to 15 steps ahead, round the ring of 32, takes over from the one before,
 // and sections of other versions are left out.
@@ -61,6 +62,7 @@ struct box {
     size_t stretch_count, stretch_room;
     unsigned taken, held, refused, faults;
     int offset;
+    uint32_t variant; // of content tables
     bool whole;
 };
 
@@ -230,12 +232,12 @@ static void gather(struct box *b) {
 
 // ---- what is whole, and what is not
 
-static nw_answer read_table(const struct table *t) {
+static nw_answer read_table(const struct table *t, uint32_t variant) {
     switch (t->was.kind) {
     case NW_CONFIGURATION: return nw_configuration_read(t->was.kind, t->body, t->n);
     case NW_CERTIFICATE: return nw_certificate_read(t->was.kind, t->body, t->n);
     case NW_INDEX: return nw_index_read(t->was.kind, t->body, t->n);
-    default: return nw_content_read(t->was.kind, t->was.extension, t->body, t->n);
+    default: return nw_content_read(t->was.kind, variant, t->was.extension, t->body, t->n);
     }
 }
 
@@ -244,6 +246,16 @@ static void tell_missing(struct box *b, const struct table *t, uint64_t first) {
     name_table(&t->was);
     fault(b, "not whole, %u of its %u sections %s missing, the first of them number %u", missing, t->was.last + 1u,
           missing == 1 ? "is" : "are", (unsigned)first);
+}
+
+// A table that is refused; it is also said if the other variant would take it.
+static void tell_not_accepted(struct box *b, const struct table *t, nw_answer got) {
+    unsigned number = NW_REFUSAL(got), other = b->variant == NW_AUXILIARY_24 ? NW_AUXILIARY_32 : NW_AUXILIARY_24;
+    name_table(&t->was);
+    fault(b, "whole but refused, %s (refusal %u at byte %u of its body)", nw_refusal_text(number), number,
+          (unsigned)NW_PLACE(got));
+    if (t->was.kind == NW_CONTENT && NW_REFUSAL(read_table(t, other)) == NW_TAKEN)
+        printf("  (with auxiliary lengths of %u bits it is accepted: box --auxiliary %u)\n", other, other);
 }
 
 // Packs a table where it stands and judges it.
@@ -262,13 +274,9 @@ static void pack(struct box *b, struct table *t) {
     }
     t->body = t->store;
     t->n = nw_value(got);
-    got = read_table(t);
-    number = NW_REFUSAL(got);
-    t->accepted = number == NW_TAKEN;
-    if (t->accepted) return;
-    name_table(&t->was);
-    fault(b, "whole but refused, %s (refusal %u at byte %u of its body)", nw_refusal_text(number), number,
-          (unsigned)NW_PLACE(got));
+    got = read_table(t, b->variant);
+    t->accepted = NW_REFUSAL(got) == NW_TAKEN;
+    if (!t->accepted) tell_not_accepted(b, t, got);
 }
 
 // Why nothing is lost with the section that bytes were before their damage, by what their heading says, or NULL: the bytes are
@@ -391,8 +399,8 @@ static void show_language(const struct box *b, const struct table *t, nw_part pa
     }
     uint64_t files = nw_value(nw_language_auxiliary_count(t->body, t->n, at, length));
     for (uint64_t i = 0; i < files; i++) {
-        unsigned type = (unsigned)nw_value(nw_language_auxiliary_type(t->body, t->n, at, length, i));
-        nw_part file = nw_language_auxiliary(t->body, t->n, at, length, i);
+        unsigned type = (unsigned)nw_value(nw_language_auxiliary_type(b->variant, t->body, t->n, at, length, i));
+        nw_part file = nw_language_auxiliary(b->variant, t->body, t->n, at, length, i);
         printf("  file        type %u, %zu bytes, not shown\n", type, nw_part_length(file));
     }
 }
@@ -559,20 +567,37 @@ static void clear(struct box *b) {
 
 // ---- the words of the command
 
-// A whole decimal number from -720 to 840 and nothing else.
-static bool read_minutes(const char *s, int *out) {
-    bool negative = *s == '-';
-    if (*s == '-' || *s == '+') s++;
+static const char usage[] = "usage: box [--whole] [--auxiliary BITS] FILE [MINUTES]; box --help says more";
+
+// A whole decimal number from least to most and nothing else; a sign only where there are numbers below 0.
+static bool read_number(const char *s, int least, int most, int *out) {
+    bool negative = least < 0 && *s == '-';
+    if (least < 0 && (*s == '-' || *s == '+')) s++;
     size_t digits = strspn(s, "0123456789");
     int x = 0;
-    for (size_t i = 0; i < digits && x <= 1000; i++) x = 10 * x + (s[i] - '0'); // a larger one is out of the range
+    for (size_t i = 0; i < digits && x <= 1000; i++) x = 10 * x + (s[i] - '0'); // a larger one is out of any range
     *out = negative ? -x : x;
-    return digits != 0 && s[digits] == '\0' && -720 <= *out && *out <= 840;
+    return digits != 0 && s[digits] == '\0' && least <= *out && *out <= most;
+}
+
+// The words before FILE. Answers where FILE stands, or 0 where one of them is wrong, which is said.
+static int read_options(struct box *b, char **word) {
+    int at = 1, bits = NW_AUXILIARY_24;
+    for (; word[at] != NULL && strncmp(word[at], "--", 2) == 0; at++) {
+        if (strcmp(word[at], "--whole") == 0) b->whole = true;
+        else if (strcmp(word[at], "--auxiliary") != 0) return unusable("there is no word %s\n%s", word[at], usage), 0;
+        else if (word[++at] == NULL) return unusable("--auxiliary: BITS have to follow, 24 or 32\n%s", usage), 0;
+        else if (!read_number(word[at], 24, 32, &bits) || (bits != NW_AUXILIARY_24 && bits != NW_AUXILIARY_32))
+            return unusable("BITS %s: an auxiliary file's length has 24 or 32 of them\n%s", word[at], usage), 0;
+    }
+    b->variant = (uint32_t)bits;
+    return at;
 }
 
 static int help(void) {
-    puts("usage: box [--whole] FILE [MINUTES]\n"
+    puts("usage: box [--whole] [--auxiliary BITS] FILE [MINUTES]\n"
          "Shows the messages of the sections in FILE, in local time at MINUTES east of UTC, -720 to 840, or else in UTC.\n"
+         "The length of an auxiliary file has BITS bits, 24 or 32, or else 24.\n"
          "Exit status: 0, every table is whole and accepted, and messages and texts belong together; 1, something is damaged,\n"
          "missing or refused, or no table came; 2, wrong usage, a FILE that can't be read or is a transport stream, or output\n"
          "that can't be written. Of a text the first lines are shown, with --whole all.");
@@ -580,17 +605,15 @@ static int help(void) {
 }
 
 int main(int words, char **word) {
-    static const char usage[] = "usage: box [--whole] FILE [MINUTES]; box --help says more";
     setlocale(LC_CTYPE, "");
     if (words == 2 && strcmp(word[1], "--help") == 0) return help();
     struct box *b = calloc(1, sizeof *b);
     if (b == NULL) return unusable("there is no memory");
-    b->whole = words > 1 && strcmp(word[1], "--whole") == 0;
-    int status, at = b->whole ? 2 : 1, given = words - at;
-    if (given > 0 && strncmp(word[at], "--", 2) == 0) status = unusable("there is no word %s\n%s", word[at], usage);
+    int status, at = read_options(b, word), given = words - at;
+    if (at == 0) status = UNUSABLE;
     else if (given < 1 || given > 2)
         status = unusable("a FILE is wanted, and perhaps MINUTES; words given: %d\n%s", given, usage);
-    else if (given == 2 && !read_minutes(word[at + 1], &b->offset))
+    else if (given == 2 && !read_number(word[at + 1], -720, 840, &b->offset))
         status = unusable("MINUTES %s: they have to be a whole number from -720 to 840\n%s", word[at + 1], usage);
     else status = run(b, word[at]);
     clear(b);

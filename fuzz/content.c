@@ -1,5 +1,7 @@
-// The content table's target.
+// The content table's target, in both variants.
 #include "table.h"
+
+static uint32_t variant;
 
 static void put_letters(struct input *in, nw_form *f) {
     uint8_t letters[3];
@@ -28,16 +30,26 @@ static void make(struct input *in, nw_form *f) {
 static nw_answer read_content(uint32_t kind, const uint8_t *body, size_t n) {
     nw_answer extension = nw_content_extension(body, n);
     uint32_t right = taken(extension) ? (uint32_t)nw_value(extension) : 0;
-    nw_answer a = nw_content_read(kind, right, body, n);
+    nw_answer a = nw_content_read(kind, variant, right, body, n);
     must(!taken(a) || taken(extension));
-    must(refused(nw_content_read(kind, right ^ 1, body, n), taken(a) ? NW_OTHER_CHECKSUM : a.packed));
+    must(refused(nw_content_read(kind, variant, right ^ 1, body, n), taken(a) ? NW_OTHER_CHECKSUM : a.packed));
+    must(refused(nw_content_read(kind, variant + 1, right, body, n), kind == NW_CONTENT ? NW_OUTSIDE_SET : NW_OTHER_KIND));
     return a;
+}
+
+static nw_answer lay_content(uint32_t kind, const uint8_t *body, size_t n, uint64_t *tape, size_t entries) {
+    return nw_content_lay(kind, variant, body, n, tape, entries);
+}
+
+static nw_answer measure_content(const uint8_t *pool, size_t pool_bytes, const uint64_t *tape, size_t entries) {
+    must(refused(nw_content_measure(variant + 1, pool, pool_bytes, tape, entries), NW_OUTSIDE_SET));
+    return nw_content_measure(variant, pool, pool_bytes, tape, entries);
 }
 
 // The extension is that of the identifier; the answer goes on with the length alone.
 static nw_answer write_content(const uint8_t *pool, size_t pool_bytes, const uint64_t *tape, size_t entries, uint8_t *out,
                                size_t room) {
-    nw_written a = nw_content_write(pool, pool_bytes, tape, entries, out, room);
+    nw_written a = nw_content_write(variant, pool, pool_bytes, tape, entries, out, room);
     must(!taken(a) || nw_written_extension(a) == extension_of(out));
     return (nw_answer){taken(a) ? (uint64_t)nw_written_length(a) << 8 : a.packed};
 }
@@ -51,12 +63,13 @@ static void ask_language(struct input *in, const uint8_t *body, size_t n, size_t
     hold_part(nw_language_agency(body, n, at, length), n);
     hold_number(files, 2);
     for (uint64_t i = 0; i < 3; i++) {
-        hold_number(nw_language_auxiliary_type(body, n, at, length, i), 255);
-        nw_part file = nw_language_auxiliary(body, n, at, length, i);
+        hold_number(nw_language_auxiliary_type(variant, body, n, at, length, i), 255);
+        nw_part file = nw_language_auxiliary(variant, body, n, at, length, i);
         hold_part(file, n);
         must(!accepted || taken(file) == (i < nw_value(files)));
     }
-    must(!taken(nw_language_auxiliary(body, n, at, length, 3 + take(in, 7))));
+    must(!taken(nw_language_auxiliary(variant, body, n, at, length, 3 + take(in, 7))));
+    must(refused(nw_language_auxiliary(variant - 1, body, n, at, length, 0), NW_OUTSIDE_SET));
     must(!accepted || (taken(text) && taken(files)));
 }
 
@@ -85,9 +98,11 @@ static void ask(struct input *in, const uint8_t *body, size_t n, bool accepted) 
 
 static size_t enough(size_t n) { return (void)n, NW_CONTENT_ENTRIES; }
 
-static const struct table content = {NW_CONTENT, read_content, nw_content_lay, nw_content_measure, write_content, enough, make, ask};
+static const struct table content = {NW_CONTENT, read_content, lay_content, measure_content, write_content, enough, make, ask};
 
 int LLVMFuzzerTestOneInput(const uint8_t *data, size_t size) {
-    try_table(&content, (struct input){data, size});
+    struct input in = {data, size};
+    variant = take(&in, 1) % 2 ? NW_AUXILIARY_32 : NW_AUXILIARY_24;
+    try_table(&content, in);
     return 0;
 }

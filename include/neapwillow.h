@@ -43,6 +43,9 @@ uint32_t nw_version(void);
  *   and nw_content_extension tell it; a table that is sent with the old one is refused (23).
  * - An identifier has to have a real day, YYYYMMDD from 19000301 to 20380422, as its digits 24 to 31,
  *   counted from 1: else it is refused (20), read, written or asked for.
+ * - What reads or writes an auxiliary file's length takes a variant, NW_AUXILIARY_24 for what was
+ *   before: nw_content_read and nw_content_lay after the kind; nw_content_write, nw_content_measure,
+ *   nw_language_auxiliary_type and nw_language_auxiliary first. A call without it does not compile.
  * - Refusal 25 is gone, and its number is not given again. */
 
 /* ---- Answers ----------------------------------------------------------------------------------
@@ -705,12 +708,24 @@ nw_answer nw_index_lay(uint32_t kind, const uint8_t *body, size_t n, uint64_t *t
  *               as digits 24 to 31
  *   language    letters (three bytes a to z), character set (0 to 4), text (up to 65,535 bytes), agency
  *               (up to 255 bytes), and up to two auxiliary files
- *   file        type (8 bits, free) and up to 16,777,215 bytes
+ *   file        type (8 bits, free), the length of its data in 24 or 32 bits, and the data
  *
  * The table's extension, in the headings of its sections, is the CRC-16 of the identifier's 140 bits:
  * the four reserved bits before the first digit are not part of it, so it is not nw_crc16 of the bytes.
  * A language is told by where it begins in the body, the byte after its length, and that length. Text,
  * agency, files and signature are opaque. The smallest body has 33 bytes. */
+
+/* How many bits the length of an auxiliary file has, which a body does not say itself. The standard's
+ * Table 4 has 24, and so do the tables of this library's networks; its text has 32, which a batch of
+ * donated boxes follows. Such a box is given NW_AUXILIARY_32, by whoever sends to it and by what runs
+ * in it: in the calls below that take a variant, in all of them the same. Every other number is refused
+ * there (19, place 0), also of a table without auxiliary files, which is the same in both variants. A
+ * body with such a file that is read by the other variant is refused or, if its bytes allow it, read as
+ * another table: nothing in the sections tells the two apart. */
+enum nw_variant {
+    NW_AUXILIARY_24 = 24,
+    NW_AUXILIARY_32 = 32
+};
 
 /* Entries that are always enough to lay a body: counted by hand and tested, not proved. */
 #define NW_CONTENT_ENTRIES 75u
@@ -732,16 +747,18 @@ static inline const char *nw_character_set_text(uint64_t number)
     return number <= 4 ? texts[number] : "no such character set";
 }
 
-/* Judges a body and the extension that its sections had. Value: 0. Refusals, in this order: 2, the
- * kind is not NW_CONTENT; 22, more than NW_MOST_BODY bytes; then that of the first field that is
- * wrong, in the order of the body and at the byte where the field begins; 16, bytes after the
- * signature, at the first of them; 23, the extension is not the CRC-16 of the identifier (place 0).
+/* Judges a body of a variant and the extension that its sections had. Value: 0. Refusals, in this
+ * order: 2, the kind is not NW_CONTENT; 19, the variant is none of enum nw_variant (place 0); 22, more
+ * than NW_MOST_BODY bytes; then that of the first field that is wrong, in the order of the body and at
+ * the byte where the field begins; 16, bytes after the signature, at the first of them; 23, the
+ * extension is not the CRC-16 of the identifier (place 0).
  * At one field, in this order: 14, it passes the body's end; 15, it passes the end of its language;
  * 17, a reserved bit is 0; 18, a digit above 9; 19, a letter that is not a to z, a character set above
  * 4, a language count that is not 1 to 5, an auxiliary count above 2; 20, the identifier has no real
  * day. A length is 14 or 15 too if what it counts passes an end. Bytes left in a language are 15, at the
  * first of them. Reserved bits are a field before the one whose byte they share. */
-nw_answer nw_content_read(uint32_t kind, uint32_t extension, const uint8_t *body, size_t n);
+nw_answer nw_content_read(uint32_t kind, uint32_t variant, uint32_t extension, const uint8_t *body,
+                          size_t n);
 
 /* The fields of the body, each judged as nw_content_read judges this field, whatever else is wrong
  * with the body: so of an accepted body they are told. Value: the CRC-16; a digit, 0 to 34; a count;
@@ -764,48 +781,53 @@ nw_part nw_content_signature(const uint8_t *body, size_t n);
  * as nw_content_read judges this field, whatever else is wrong with the language or the body. Value:
  * the number; or the part of the body that the bytes fill (letters, text, agency and an auxiliary
  * file's data). Files are counted from 0.
- * Refusals, in this order: 19, the language does not lie in the body (place 0); for what stands after
- * the text, those of its length; for what stands after the agency, those of its length; for a file,
- * those of the auxiliary count, then 19, there is no i-th (place 0), then 14 or 15 of a type or a
- * length before it; last 14 to 19 of the field itself, at its place, which may lie after the body's
- * end. */
+ * Refusals, in this order: for a file, 19, the variant is none of enum nw_variant (place 0); 19, the
+ * language does not lie in the body (place 0); for what stands after the text, those of its length; for
+ * what stands after the agency, those of its length; for a file, those of the auxiliary count, then 19,
+ * there is no i-th (place 0), then 14 or 15 of a type or a length before it; last 14 to 19 of the field
+ * itself, at its place, which may lie after the body's end. */
 nw_part nw_language_letters(const uint8_t *body, size_t n, size_t at, size_t length);
 nw_answer nw_language_character_set(const uint8_t *body, size_t n, size_t at, size_t length);
 nw_part nw_language_text(const uint8_t *body, size_t n, size_t at, size_t length);
 nw_part nw_language_agency(const uint8_t *body, size_t n, size_t at, size_t length);
 nw_answer nw_language_auxiliary_count(const uint8_t *body, size_t n, size_t at, size_t length);
-nw_answer nw_language_auxiliary_type(const uint8_t *body, size_t n, size_t at, size_t length,
-                                     uint64_t i);
-nw_part nw_language_auxiliary(const uint8_t *body, size_t n, size_t at, size_t length, uint64_t i);
+nw_answer nw_language_auxiliary_type(uint32_t variant, const uint8_t *body, size_t n, size_t at,
+                                     size_t length, uint64_t i);
+nw_part nw_language_auxiliary(uint32_t variant, const uint8_t *body, size_t n, size_t at,
+                              size_t length, uint64_t i);
 
-/* Writes the table of a form at the start of out; bytes of out after it stay. Value: the extension for
- * its sections, and the body's length. The tape has, where "bytes" are their start and
- * their length in the pool:
+/* Writes the table of a form, in this variant, at the start of out; bytes of out after it stay. Value:
+ * the extension for its sections, and the body's length. The tape, the same for both variants, has,
+ * where "bytes" are their start and their length in the pool:
  *   the identifier (18 bytes); the count of languages, and for each its letters (3 bytes), character
  *   set, text (bytes), agency (bytes), the count of auxiliary files, and for each its type and data
  *   (bytes); the signature (bytes).
  * The first four bits of the identifier in the pool do not matter.
- * Refusals, in this order, with nothing written and place 0: that of the first field that is wrong, in
- * the order of the tape (19, the tape is too short, a span is not in the pool or has not the length
- * stated above, or a number or a letter is outside its set, the two counts too; 18, a digit above 9;
- * 20, the identifier has no real day); 19, the tape has entries left over; 22, a length too large for
- * its field, or more than NW_MOST_BODY bytes; 21, out is too small: nw_content_measure tells the room.
- * Out must overlap neither pool nor tape. */
-nw_written nw_content_write(const uint8_t *pool, size_t pool_bytes, const uint64_t *tape,
-                            size_t entries, uint8_t *out, size_t room);
+ * Refusals, in this order, with nothing written and place 0: 19, the variant is none of enum
+ * nw_variant; that of the first field that is wrong, in the order of the tape (19, the tape is too
+ * short, a span is not in the pool or has not the length stated above, or a number or a letter is
+ * outside its set, the two counts too; 18, a digit above 9; 20, the identifier has no real day);
+ * 19, the tape has entries left over; 22, a length too large for its field, or more than NW_MOST_BODY
+ * bytes; 21, out is too small: nw_content_measure tells the room. Out must overlap neither pool nor
+ * tape. */
+nw_written nw_content_write(uint32_t variant, const uint8_t *pool, size_t pool_bytes,
+                            const uint64_t *tape, size_t entries, uint8_t *out, size_t room);
 
 /* Judges and measures a form, as nw_content_write does before it writes, and writes nothing. Value: the
  * length of its body alone, the room that nw_content_write needs. Refusals: those of nw_content_write
- * but 21, each but 22 with a place: the entry of the tape, from 0, where the field that is wrong begins,
- * bytes at the entry of their start; the first of entries left over. */
-nw_answer nw_content_measure(const uint8_t *pool, size_t pool_bytes, const uint64_t *tape,
-                             size_t entries);
+ * but 21, the variant's 19 and 22 at place 0 and each other with a place: the entry of the tape, from 0,
+ * where the field that is wrong begins, bytes at the entry of their start; the first of entries left
+ * over. */
+nw_answer nw_content_measure(uint32_t variant, const uint8_t *pool, size_t pool_bytes,
+                             const uint64_t *tape, size_t entries);
 
-/* Lays an accepted body, whatever its extension, onto a tape: the form from which, with the body
- * itself as the pool, nw_content_write writes it again. Value: the entries laid; entries after them
- * stay. Refusals, with nothing laid: those of nw_content_read but 23, then 21, the tape is too short:
- * NW_CONTENT_ENTRIES are enough for any body. The tape must not overlap the body. */
-nw_answer nw_content_lay(uint32_t kind, const uint8_t *body, size_t n, uint64_t *tape, size_t entries);
+/* Lays an accepted body of a variant, whatever its extension, onto a tape: the form from which, with
+ * the body itself as the pool, nw_content_write writes it again, in this variant or as the same table in
+ * the other. Value: the entries laid; entries after them stay. Refusals, with nothing laid: those of
+ * nw_content_read but 23, then 21, the tape is too short: NW_CONTENT_ENTRIES are enough for any body.
+ * The tape must not overlap the body. */
+nw_answer nw_content_lay(uint32_t kind, uint32_t variant, const uint8_t *body, size_t n, uint64_t *tape,
+                         size_t entries);
 
 /* ---- The configuration table ------------------------------------------------------------------
  *

@@ -503,49 +503,53 @@ static void put_language(const struct argument *body, size_t at, size_t length) 
     ASK(language_auxiliary_count, at, length);
 }
 
-static void put_auxiliary(const struct argument *body, size_t at, size_t length, uint64_t i) {
-    put_answer(nw_language_auxiliary_type(body->bytes, body->length, at, length, i));
-    put_answer(nw_language_auxiliary(body->bytes, body->length, at, length, i));
+static void put_auxiliary(uint32_t variant, const struct argument *body, size_t at, size_t length, uint64_t i) {
+    put_answer(nw_language_auxiliary_type(variant, body->bytes, body->length, at, length, i));
+    put_answer(nw_language_auxiliary(variant, body->bytes, body->length, at, length, i));
 }
 
-static void put_whole_language(const struct argument *body, nw_part part) {
+static void put_whole_language(uint32_t variant, const struct argument *body, nw_part part) {
     size_t at = nw_part_start(part), length = nw_part_length(part);
     put_answer(part);
     put_language(body, at, length);
     uint64_t count = nw_value(nw_language_auxiliary_count(body->bytes, body->length, at, length));
-    for (uint64_t i = 0; i < count; i++) put_auxiliary(body, at, length, i);
+    for (uint64_t i = 0; i < count; i++) put_auxiliary(variant, body, at, length, i);
 }
 
 // An accepted body's fields follow, each as it is answered.
 static void call_content_read(const struct argument *a) {
-    const struct argument *body = &a[2];
-    nw_answer got = nw_content_read((uint32_t)a[0].number, (uint32_t)a[1].number, body->bytes, body->length);
+    const struct argument *body = &a[3];
+    uint32_t variant = (uint32_t)a[1].number;
+    nw_answer got = nw_content_read((uint32_t)a[0].number, variant, (uint32_t)a[2].number, body->bytes, body->length);
     put_answer(got);
     if (NW_REFUSAL(got)) return;
     put_content(body);
     next_item();
     for (uint64_t i = 0; i < 35; i++) put_digit(nw_content_identifier_digit(body->bytes, body->length, i));
     uint64_t count = nw_value(nw_content_language_count(body->bytes, body->length));
-    for (uint64_t i = 0; i < count; i++) put_whole_language(body, nw_content_language(body->bytes, body->length, i));
+    for (uint64_t i = 0; i < count; i++)
+        put_whole_language(variant, body, nw_content_language(body->bytes, body->length, i));
 }
 
 static void call_content_lay(const struct argument *a) {
-    put_answer(nw_content_lay((uint32_t)a[0].number, a[1].bytes, a[1].length, a[2].tape, a[2].length));
-    put_tape(a[2].tape, a[2].length);
+    put_answer(nw_content_lay((uint32_t)a[0].number, (uint32_t)a[1].number, a[2].bytes, a[2].length, a[3].tape,
+                              a[3].length));
+    put_tape(a[3].tape, a[3].length);
 }
 
 static void call_content_measure(const struct argument *a) {
-    put_answer(nw_content_measure(a[0].bytes, a[0].length, a[1].tape, a[1].length));
+    put_answer(nw_content_measure((uint32_t)a[0].number, a[1].bytes, a[1].length, a[2].tape, a[2].length));
 }
 
 static void call_content_write(const struct argument *a) {
-    nw_written got = nw_content_write(a[0].bytes, a[0].length, a[1].tape, a[1].length, a[2].bytes, a[2].length);
+    nw_written got = nw_content_write((uint32_t)a[0].number, a[1].bytes, a[1].length, a[2].tape, a[2].length, a[3].bytes,
+                                      a[3].length);
     put_answer(got);
     if (NW_REFUSAL(got) == 0) {
         put_number(nw_written_extension(got));
         put_number(nw_written_length(got));
     }
-    put_bytes(a[2].bytes, a[2].length);
+    put_bytes(a[3].bytes, a[3].length);
 }
 
 static void call_content_fields(const struct argument *a) { put_content(&a[0]); }
@@ -559,7 +563,10 @@ static void call_content_language(const struct argument *a) {
 }
 
 static void call_language_fields(const struct argument *a) { put_language(&a[0], a[1].wide, a[2].wide); }
-static void call_auxiliary_fields(const struct argument *a) { put_auxiliary(&a[0], a[1].wide, a[2].wide, a[3].wide); }
+
+static void call_auxiliary_fields(const struct argument *a) {
+    put_auxiliary((uint32_t)a[0].number, &a[1], a[2].wide, a[3].wide, a[4].wide);
+}
 
 // ---- the configuration table
 
@@ -714,15 +721,15 @@ static const struct call calls[] = {
     {"stream_fields", "bww", call_stream_fields},
     {"descriptor_count", "bww", call_descriptor_count},
     {"stream_count", "bww", call_stream_count},
-    {"content_read", "uub", call_content_read},
-    {"content_lay", "ubl", call_content_lay},
-    {"content_measure", "bt", call_content_measure},
-    {"content_write", "bto", call_content_write},
+    {"content_read", "uuub", call_content_read},
+    {"content_lay", "uubl", call_content_lay},
+    {"content_measure", "ubt", call_content_measure},
+    {"content_write", "ubto", call_content_write},
     {"content_fields", "b", call_content_fields},
     {"content_identifier_digit", "bw", call_content_identifier_digit},
     {"content_language", "bw", call_content_language},
     {"language_fields", "bww", call_language_fields},
-    {"auxiliary_fields", "bwww", call_auxiliary_fields},
+    {"auxiliary_fields", "ubwww", call_auxiliary_fields},
     {"configuration_read", "ub", call_configuration_read},
     {"configuration_lay", "ubl", call_configuration_lay},
     {"configuration_measure", "bt", call_configuration_measure},

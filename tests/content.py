@@ -1,4 +1,5 @@
 """Content bodies, forms, fields asked for, good, damaged, by chance: as the library takes them and a second program."""
+import functools
 import random
 
 import content_cases
@@ -7,7 +8,7 @@ import make_fields
 import second_content
 import second_content_calls
 import table_checks as checks
-from make_content import KIND, MOST_BODY
+from make_content import KIND, MOST_BODY, NO_VARIANTS, VARIANTS
 from table_checks import COUNT, SEED
 
 chance = random.Random(SEED)
@@ -19,13 +20,15 @@ MOST_ENTRIES = 75
 def by_hand():
     """A body is also refused with 23 by another extension if nothing else is wrong with it, and else as ever."""
     right = content_cases.EXTENSION
-    for body, expected in content_cases.BODIES:
-        told, data = expected and '%d %d' % expected, bytes.fromhex(body)
-        yield ('content_read', KIND, right, data), told
-        yield ('content_read', KIND, right ^ 0x8000, data), told or '23 0'
-    assert min(len(body) // 2 for body, expected in content_cases.BODIES if expected is None) == 33
+    for variant, bodies in content_cases.BODIES.items():
+        for body, expected in bodies:
+            told, data = expected and '%d %d' % expected, bytes.fromhex(body)
+            yield ('content_read', KIND, variant, right, data), told
+            yield ('content_read', KIND, variant, right ^ 0x8000, data), told or '23 0'
+            yield ('content_read', KIND, chance.choice(NO_VARIANTS), right, data), '19 0'
+        assert min(len(body) // 2 for body, expected in bodies if expected is None) == 33
     assert second_content.checksum(b'123456789') == 0x29B1
-    yield from content_cases.CALLS
+    yield from content_cases.VARIED + content_cases.CALLS
 
 
 # ---- bodies
@@ -33,15 +36,29 @@ def by_hand():
 
 def readings(bodies, tables):
     """Each body read and laid; an accepted one also written again from its tape."""
-    for i, (kind, body, given) in enumerate(bodies):
-        yield 'content_read', kind, given, body
-        table = tables.get((kind, body))
+    for i, (kind, variant, body, given) in enumerate(bodies):
+        yield 'content_read', kind, variant, given, body
+        table = tables.get((kind, variant, body))
         if table:
             laid = second_content.tape_of(table)
             assert len(laid) <= MOST_ENTRIES
-            yield from checks.laid_and_written('content', kind, body, laid, checks.ways(chance, body))
+            yield from checks.laid_and_written('content', kind, body, laid, checks.ways(chance, body), variant)
         elif i % 2 or len(body) > MOST_BODY:
-            yield 'content_lay', kind, body, checks.lent_tape(chance.choice((0, 1, 13, 30, MOST_ENTRIES)))
+            yield 'content_lay', kind, variant, body, checks.lent_tape(chance.choice((0, 1, 13, 30, MOST_ENTRIES)))
+
+
+def by_the_other(bodies, tables):
+    """What becomes of bodies with files that are read by the other variant: refused, or read as another table; says how many."""
+    refused = other = alike = 0
+    for kind, body in {(kind, body) for kind, _, body, _ in bodies}:
+        narrow, wide = (tables.get((kind, variant, body)) for variant in VARIANTS)
+        if narrow or wide:
+            filed = any(language['files'] for table in (narrow, wide) if table for language in table['languages'])
+            assert filed == (narrow != wide)
+            alike, refused, other = alike + (not filed), refused + (not narrow or not wide), other + (filed and bool(narrow and wide))
+    assert min(alike, refused, other) > COUNT // 100
+    print('of %d accepted bodies with files, the other variant refuses %d and reads %d as another table; it reads %d without '
+          'files alike' % (refused + other, refused, other, alike))
 
 
 # ---- fields asked for
@@ -52,10 +69,11 @@ def lengths_of(body):
 
 
 def of_language(body, at, length):
-    """All that is asked of a language."""
+    """All that is asked of a language, its files by one variant or the other, and now and then by none."""
     yield 'language_fields', body, at, length
     for i in 0, 1, chance.choice(checks.numbers_near(chance, 2)):
-        yield 'auxiliary_fields', body, at, length, i
+        variant = chance.choice(NO_VARIANTS if chance.random() < 0.05 else VARIANTS)
+        yield 'auxiliary_fields', variant, body, at, length, i
 
 
 def of_body(body):
@@ -86,28 +104,35 @@ def of_sample(body):
 
 
 def askings(bodies):
-    """One body in every way; those made by hand and some of the others, good and damaged, in a few ways."""
-    yield from of_sample(make_fields.body_of(make_content.items(make_content.sample_table(chance))))
-    small = [body for _, body, _ in bodies if len(body) < 1000]
-    for body in [bytes.fromhex(body) for body, _ in content_cases.BODIES] + chance.sample(small, 1200):
+    """A body of each variant in every way; those made by hand and some of the others, good and damaged, in a few ways."""
+    by_hand = [bytes.fromhex(body) for made in content_cases.BODIES.values() for body, _ in made]
+    for variant in VARIANTS:
+        yield from of_sample(make_fields.body_of(make_content.items(make_content.sample_table(chance), variant)))
+    small = sorted({body for _, _, body, _ in bodies if len(body) < 1000})
+    for body in by_hand + chance.sample(small, 1200):
         yield from of_body(body)
     for byte in b'\0', b'\xF1':
         yield from of_body(byte * (MOST_BODY + 1))
 
 
 def main():
-    checks.there_and_back(chance, second_content.read, second_content.write, make_content)
+    for variant in VARIANTS:
+        checks.there_and_back(chance, lambda kind, body: second_content.read(kind, variant, body),
+                              functools.partial(second_content.write, variant), make_content.of_variant(variant))
     library = checks.Comparison(second_content_calls, 'content_', 'language_', 'auxiliary_')
     bodies = [*make_content.readings(SEED, COUNT)]
-    tables = checks.tables_of(second_content_calls.table_of, ((kind, body) for kind, body, _ in bodies))
+    tables = checks.tables_of(second_content_calls.table_of, (body[:3] for body in bodies))
     assert len(set(bodies)) > COUNT and len(tables) > COUNT // 6
+    by_the_other(bodies, tables)
 
     told = library.compare([*checks.hand_made(second_content_calls, by_hand()), *readings(bodies, tables)])
     library.must_meet('content_read', content_cases.READ)
     body_numbers = {0, 2, 14, 15, 16, 17, 18, 19, 20, 22}
     assert told['content_read'] == body_numbers | {23} and told['content_lay'] == body_numbers | {21}
 
-    library.compare_writings('content', make_content, {0, 18, 19, 20, 21, 22}, content_cases.WRITE)
+    for variant in VARIANTS:
+        library.compare_writings('content', make_content.of_variant(variant), {0, 18, 19, 20, 21, 22}, content_cases.WRITE, variant,
+                                 count=COUNT // 2)
 
     cases = [*askings(bodies)]
     told = library.compare(cases)

@@ -34,10 +34,10 @@ def cases(digits):
     # The identifier alone is as good as a body, or a message, for its own fields.
     yield ('content_fields', identifier), found
     yield ('message_fields', identifier, 0, len(identifier)), found
-    yield ('content_read', KIND, extension, identifier + REST), '0 0 ' + found
-    yield ('content_read', KIND, old, identifier + REST), '23 0'
+    yield ('content_read', KIND, 24, extension, identifier + REST), '0 0 ' + found
+    yield ('content_read', KIND, 24, old, identifier + REST), '23 0'
     pool, tape = identifier + b'aaa', [0, 18, 1, 18, 3, 0, 0, 0, 0, 0, 0, 0, 0]
-    yield ('content_write', pool, tape, bytes(33)), '0 %d %d 33' % (extension * 2**24 + 33, extension)
+    yield ('content_write', 24, pool, tape, bytes(33)), '0 %d %d 33' % (extension * 2**24 + 33, extension)
 
 
 def main():

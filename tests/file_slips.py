@@ -3,6 +3,7 @@ import binascii
 import random
 import re
 
+from form_slips import BITS, NO_BITS, NOT_BITS
 from second_content import extension
 from second_sections import cut, printed
 
@@ -262,11 +263,15 @@ def streams():
 
 
 # The words of a call, and what is said: status 2.
-USAGE = 'usage: box [--whole] FILE [MINUTES]; box --help says more'
+USAGE = 'usage: box [--whole] [--auxiliary BITS] FILE [MINUTES]; box --help says more'
 RANGE = 'MINUTES %s: they have to be a whole number from -720 to 840'
 WANTED = 'a FILE is wanted, and perhaps MINUTES; words given: %d'
 CALLS = [([], WANTED % 0), (['--whole'], WANTED % 0), (['received', '480', 'more'], WANTED % 3),
          (['--hole', 'received'], 'there is no word --hole'), (['--whole', '--help'], 'there is no word --help'),
+         (['--auxiliary'], NO_BITS), (['--whole', '--auxiliary'], NO_BITS), (['--auxiliary', '32'], WANTED % 0),
+         (['--auxiliary', 'received'], BITS % 'received'), (['--auxiliary', '--whole', 'received'], BITS % '--whole'),
+         (['--auxiliary32', 'received'], 'there is no word --auxiliary32'),
+         *((['--auxiliary', bits, 'received'], BITS % bits) for bits in NOT_BITS),
          *((['received', minutes], RANGE % minutes) for minutes in (
              '841', '-721', '4294967776', '-4294966816', '8.5', '+08:00', '480x', '', 'x', '+', '0x10', '18446744073709552096'))]
 

@@ -202,10 +202,19 @@ OTHERS = [
       '    (more lines: 62, which box --whole shows)'], []),
     ({TEXT: b'text # no remark'}, ['    | # no remark'], [])]
 
-USAGE = 'usage: adapter FILE, with the form on standard input'
+USAGE = 'usage: adapter [--auxiliary BITS] FILE, with the form on standard input'
+
+# No variant of auxiliary lengths, and what is said of it.
+BITS, NO_BITS = "BITS %s: an auxiliary file's length has 24 or 32 of them", '--auxiliary: BITS have to follow, 24 or 32'
+NOT_BITS = ('25', '31', '23', '33', '0', '-24', '+24', '24x', '0x20', '24.0', '4', '3', '', 'x', '280', '4294967320',
+            '18446744073709551648')
 
 # The words of a call, and what is said: status 2.
 CALLS = [
     ([], '0 words are given, and one is wanted'), (['sent', 'more'], '2 words are given, and one is wanted'),
     (['--version'], "'--version' is taken for no file's name"), (['-'], "'-' is taken for no file's name"),
-    ([''], "'' is taken for no file's name")]
+    ([''], "'' is taken for no file's name"), (['--auxiliary', '32'], '0 words are given, and one is wanted'),
+    (['--auxiliary', '24', 'sent', 'more'], '2 words are given, and one is wanted'), (['--auxiliary'], NO_BITS),
+    (['--auxiliary', '32', '--auxiliary'], "'--auxiliary' is taken for no file's name"),
+    (['sent', '--auxiliary', '32'], '3 words are given, and one is wanted'),
+    *((['--auxiliary', bits, 'sent'], BITS % bits) for bits in (*NOT_BITS, 'sent'))]

@@ -113,6 +113,15 @@ def header_constants(header):
     return {name: int(value) for name, value in re.findall(r'#define (NW_\w+) (\d+)u', header)}
 
 
+def source_variants():
+    """The variants of content tables that the source takes, named as the header does."""
+    return {'NW_AUXILIARY_' + bits: bits for bits in re.findall(r'variant == (\d+)', read('crates', 'content_variant', 'src', 'lib.rt'))}
+
+
+def header_variants(header):
+    return dict(re.findall(r'(NW_\w+) = (\d+)', re.search(r'enum nw_variant \{(.*?)\}', header, re.S)[1]))
+
+
 def source_fields(path, name):
     """A struct's fields in their order, as C has them: name, type, and how many of it where it is an array."""
     body = re.search(r'pub struct %s \{(.*?)\}' % name, without_comments(read(path)), re.S).group(1)
@@ -181,7 +190,8 @@ def main():
               {lent: header_fields(header, lent) for lent, _, _ in STRUCTS}),
              ('shape', dict.fromkeys(['nw_answer', *SHAPES.values()], 'uint64_t packed;'), shapes(header)),
              ('field told', source_fields_told(), header_fields_told(header)), ('macro', MACROS, header_macros(header)),
-             functions[1], ('constant', source_constants(), header_constants(commands))]
+             ('variant', source_variants(), header_variants(header)), functions[1],
+             ('constant', source_constants(), header_constants(commands))]
     wrong = 0
     for what, source, declared in pairs:
         for name in sorted(source.keys() | declared.keys()):

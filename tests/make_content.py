@@ -1,12 +1,18 @@
-"""Content tables by chance, as values, bodies and forms, good and damaged; all from a seed."""
+"""Content tables by chance, as values, bodies of both variants and forms, good and damaged; all from a seed."""
 import binascii
+import functools
+import itertools
 import random
+import types
 
 import make_fields as make
 from make_fields import END, MOST_BODY, TOP
 
 KIND = 0xFE
 LETTERS = (b'zho', b'eng', b'bod', b'uig', b'aaa', b'zzz')
+# The bits of an auxiliary file's length; others, some of which end in the bits of one, are no variant.
+VARIANTS = (24, 32)
+NO_VARIANTS = (0, 1, 3, 4, 8, 16, 23, 25, 31, 33, 40, 56, 64, 24 + 2**8, 32 + 2**8, 24 + 2**16, 32 + 2**31, 2**32 - 1)
 
 
 def extension(body):
@@ -56,10 +62,15 @@ def large(chance):
     yield table_of(chance, [language(chance, files=[file(chance, b'')] * 2) for _ in range(5)])
 
 
-def largest(chance):
-    """A body of 1,045,504 bytes, and one of a byte less: 37 bytes are not the file's."""
+def overhead(variant):
+    """The bytes of a body with one file that are not the file's: 33, its type and its length."""
+    return 34 + variant // 8
+
+
+def largest(chance, variant):
+    """A body of 1,045,504 bytes, and one of a byte less."""
     for size in MOST_BODY, MOST_BODY - 1:
-        data = chance.randbytes(size - 37)
+        data = chance.randbytes(size - overhead(variant))
         yield table_of(chance, [language(chance, text=b'', agency=b'', files=[file(chance, data)])], b'')
 
 
@@ -78,14 +89,14 @@ def smallest():
 # ---- bodies
 
 
-def items(table):
+def items(table, variant):
     return [('identifier', make.digit_bytes(make.checked(table['identifier']))),
             ('language count', bytes([0xF0 + len(table['languages'])])),
-            *(item for language in table['languages'] for item in language_items(language)),
+            *(item for language in table['languages'] for item in language_items(language, variant)),
             ('signature length', 2), ('signature', table['signature']), END]
 
 
-def language_items(language):
+def language_items(language, variant):
     return [
         ('language length', 4),
         ('letters', language['letters']),
@@ -93,12 +104,20 @@ def language_items(language):
         ('text length', 2), ('text', language['text']), END,
         ('agency length', 1), ('agency', language['agency']), END,
         ('auxiliary count', bytes([0xF0 + len(language['files'])])),
-        *(item for file in language['files'] for item in file_items(file)),
+        *(item for file in language['files'] for item in file_items(file, variant)),
         END]
 
 
-def file_items(file):
-    return [('auxiliary type', bytes([file['type']])), ('auxiliary length', 3), ('auxiliary data', file['data']), END]
+def file_items(file, variant):
+    return [('auxiliary type', bytes([file['type']])), ('auxiliary length', variant // 8), ('auxiliary data', file['data']), END]
+
+
+def of_both(chance):
+    """A table whose 24-bit body is a 32-bit one too, of other files: an empty file, and one whose type is the other's length."""
+    size, left = chance.randint(3, 40), chance.randrange(30)
+    data = chance.randbytes(size - 2) + left.to_bytes(4, 'big') + chance.randbytes(left)
+    files = [file(chance, b''), {'type': size, 'data': data}]
+    return table_of(chance, [language(chance, files=[]), language(chance, files=files)])
 
 
 def count_in_low_bits(chance, what):
@@ -116,28 +135,40 @@ BAD = {
 
 
 def right_and_wrong(chance, body):
-    """The body with its extension, or now and then another one."""
+    """The body's extension, or now and then another one."""
     right = extension(body)
     wrong = chance.choice((right ^ 1 << chance.randrange(16), right ^ 0xFFFF, right + 65536, 0, 0xFFFF,
                            chance.randrange(65536), binascii.crc_hqx(body[:18], 0), binascii.crc_hqx(body[:18], 0xFFFF),
                            (right >> 8 | right << 8) & 0xFFFF))
-    return KIND, body, right if chance.random() < 0.85 else wrong
+    return right if chance.random() < 0.85 else wrong
+
+
+def bodies_of(chance, count, variant):
+    """About so many bodies of a variant by chance, good and damaged, each with an extension; some that are always the same."""
+    sample, in_variant = sample_table(chance), functools.partial(items, variant=variant)
+    names = ('language count', 'character set', 'auxiliary count')
+    found = [*make.near(in_variant(sample)), *make.every_value(in_variant(sample), (*names, 'letters'))]
+    if variant == 24:  # these have no files, and are the same in both
+        found += [*make.all_short(), *make.near(in_variant(smallest())), *make.every_value(in_variant(smallest()), names)]
+    tables = (table(chance) for _ in range(count // 5))
+    more = map(make.body_of, map(in_variant, (*largest(chance, variant), *(of_both(chance) for _ in range(count // 12)))))
+    yield from ((body, extension(body)) for body in (*found, *more))
+    yield from ((body, right_and_wrong(chance, body))
+                for body in make.bodies(chance, tables, in_variant, BAD, large(chance)))
 
 
 def readings(seed, count):
-    """About so many bodies by chance, good and damaged, and some more that are always the same: what `read` takes."""
+    """What `read` takes: of each variant a third as many bodies, each read by both variants, now and then by none."""
     chance = random.Random(seed)
-    sample = sample_table(chance)
-    names = ('language count', 'character set', 'auxiliary count')
-    found = [*make.all_short(), *make.near(items(smallest())), *make.near(items(sample)),
-             *make.every_value(items(sample), (*names, 'letters')), *make.every_value(items(smallest()), names)]
-    tables = (table(chance) for _ in range(count // 5))
-    yield from ((KIND, body, extension(body)) for body in found)
-    yield from (right_and_wrong(chance, body) for body in make.bodies(chance, tables, items, BAD, large(chance)))
-    yield from ((KIND, body, extension(body)) for body in map(make.body_of, map(items, largest(chance))))
-    for kind, body in make.kinds_and_sizes(KIND, make.body_of(items(sample))):
-        yield kind, body, extension(body)
-        yield kind, body, 0
+    for variant in VARIANTS:
+        for body, given in bodies_of(chance, count // 3, variant):
+            yield from ((KIND, read_by, body, given) for read_by in VARIANTS)
+            if chance.random() < 0.05:
+                yield KIND, chance.choice(NO_VARIANTS), body, given
+    sample = make.body_of(items(sample_table(chance), 24))
+    for (kind, body), variant in itertools.product([*make.kinds_and_sizes(KIND, sample)], (*VARIANTS, *NO_VARIANTS[-3:])):
+        yield kind, variant, body, extension(body)
+        yield kind, variant, body, 0
 
 
 # ---- forms
@@ -190,18 +221,26 @@ def too_large():
         yield tape(files=(1,) * files)
 
 
-def around_most_body():
-    """One file with which the body is as long as it may be, or longer, also longer than its field can say."""
-    for size in MOST_BODY - 38, MOST_BODY - 37, MOST_BODY - 36, 2**24 - 1, 2**24, 2**24 + 5:
+def around_most_body(variant):
+    """One file with which the body is as long as it may be, or longer, also longer than 24 bits can say."""
+    most = MOST_BODY - overhead(variant)
+    for size in most - 1, most, most + 1, 2**24 - 1, 2**24, 2**24 + 5:
         yield tape(files=(size,))
     yield tape(text=65535, files=(300000, 600000))
     yield tape(text=65535, agency=255, files=(65535, 65535), languages=5, signature=61600)
     yield tape(text=65535, agency=255, files=(65535, 65535), languages=5, signature=65535)
 
 
-def forms_always():
+def forms_always(variant):
     """Forms around the most of each count and length."""
     for one in too_large():
         yield from make.with_faults(make.pool_of(b'a', 65537), one, sum(one) + 100)
-    for one in around_most_body():
+    for one in around_most_body(variant):
         yield from make.in_large_rooms(make.pool_of(b'a', max(65535, *one)), one)
+
+
+def of_variant(variant):
+    """What makes tables of one variant, as the tests of every table take it."""
+    return types.SimpleNamespace(
+        KIND=KIND, table=table, large=large, sample_table=sample_table, form_of=form_of, BAD_ENTRIES=BAD_ENTRIES, COUNTS=COUNTS,
+        items=functools.partial(items, variant=variant), forms_always=functools.partial(forms_always, variant))

@@ -8,7 +8,9 @@ import make_fields
 import make_index
 
 chance = random.Random(86)
-TABLES = {'index': make_index, 'content': make_content, 'configuration': make_configuration}
+# A table, the variant that its calls take, if any, and what makes its forms.
+TABLES = [('index', (), make_index), ('configuration', (), make_configuration),
+          *(('content', (variant,), make_content.of_variant(variant)) for variant in make_content.VARIANTS)]
 
 # A value that spoils an entry of this name, and the refusal that it gets: by document 01, not by another program.
 SPOILED = {
@@ -77,17 +79,17 @@ def spoiled(names, pool, tape):
 
 def main():
     requests, expected, met = [], [], set()
-    for table, make in TABLES.items():
+    for table, variant, make in TABLES:
         for value in [make.sample_table(chance), *(make.table(chance) for _ in range(60))]:
             form = make.form_of(chance, value)
             pool, need = form.laid(chance), len(make_fields.body_of(make.items(value)))
             for room in need, need - 1:
-                requests.append(calls.request(table + '_write', pool, form.tape, bytes(room)))
+                requests.append(calls.request(table + '_write', *variant, pool, form.tape, bytes(room)))
                 expected.append('0' if room == need else '21 0')
-            requests.append(calls.request(table + '_measure', pool, form.tape))
+            requests.append(calls.request(table + '_measure', *variant, pool, form.tape))
             expected.append('0 %d' % need)
             for changed, tape, refusal, entry in spoiled(form.names, pool, form.tape):
-                requests.append(calls.request(table + '_measure', changed, tape))
+                requests.append(calls.request(table + '_measure', *variant, changed, tape))
                 expected.append('%d %d' % (refusal, entry))
             met.update(form.names)
     assert SPOILED.keys() <= met, SPOILED.keys() - met

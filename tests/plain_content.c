@@ -4,7 +4,16 @@
 #include "plain_numbers.h"
 #include "plain_tables.h"
 
-enum { LETTERS = 3, MOST_SET = 4, MOST_LANGUAGES = 5, MOST_FILES = 2, MOST_DATA = 0xFFFFFF };
+enum { LETTERS = 3, MOST_SET = 4, MOST_LANGUAGES = 5, MOST_FILES = 2 };
+
+// The bytes of a file's length in each variant; and what goes through a table in both, by what goes through its files.
+enum { width_24 = 3, width_32 = 4 };
+#define BOTH(name, state, inner)                                                                                      \
+    static unsigned name##_24(struct state *x) { return name(x, inner##_24); }                                       \
+    static unsigned name##_32(struct state *x) { return name(x, inner##_32); }
+#define BOTH_DO(name, state, inner)                                                                                   \
+    static void name##_24(struct state *x) { name(x, inner##_24); }                                                   \
+    static void name##_32(struct state *x) { name(x, inner##_32); }
 
 // Where the language count stands in a body, and the character set and the text length in a language.
 enum { COUNT_AT = IDENTIFIER_BYTES, LANGUAGES_AT, SET_AT = LETTERS, TEXT_AT };
@@ -22,55 +31,64 @@ static unsigned take_letters(struct reader *r) {
     return 0;
 }
 
-static unsigned take_file(struct reader *r) {
+INLINED unsigned take_file(struct reader *r, size_t width) {
     r->entries += 3;
     unsigned no = take(r, 1);
-    return no ? no : skip_part(r, 3);
+    return no ? no : skip_part(r, width);
 }
+BOTH(take_file, reader, width)
 
-static unsigned take_language_fields(struct reader *r) {
+INLINED unsigned take_language_fields(struct reader *r, taker *file) {
     unsigned no;
     r->entries += 7;
     if ((no = take_letters(r)) || (no = take_small(r, 0xF8, 0, MOST_SET)) || (no = skip_part(r, 2)) ||
         (no = skip_part(r, 1)))
         return no;
-    return take_several(r, 0xF0, 0, MOST_FILES, take_file);
+    return take_several(r, 0xF0, 0, MOST_FILES, file);
 }
+BOTH(take_language_fields, reader, take_file)
 
-static unsigned take_language(struct reader *r) {
+INLINED unsigned take_language(struct reader *r, taker *fields) {
     size_t length;
     unsigned no = take_length(r, 4, &length);
-    return no ? no : take_filled(r, length, take_language_fields);
+    return no ? no : take_filled(r, length, fields);
 }
+BOTH(take_language, reader, take_language_fields)
 
-static unsigned take_body(struct reader *r) {
+INLINED unsigned take_body(struct reader *r, taker *language) {
     unsigned no = take_identifier(r);
     r->entries += 2;
-    if (no || (no = take_several(r, 0xF0, 1, MOST_LANGUAGES, take_language))) return no;
+    if (no || (no = take_several(r, 0xF0, 1, MOST_LANGUAGES, language))) return no;
     return take_signature(r);
 }
+BOTH(take_body, reader, take_language)
 
 // ---- an accepted body laid onto a tape: nothing is judged any more
 
-static void lay_file(struct layer *l) {
-    lay_number(l, 1, 0xFF);
-    lay_part(l, 3);
-}
+typedef void laying(struct layer *l);
 
-static void lay_language(struct layer *l) {
+INLINED void lay_file(struct layer *l, size_t width) {
+    lay_number(l, 1, 0xFF);
+    lay_part(l, width);
+}
+BOTH_DO(lay_file, layer, width)
+
+INLINED void lay_language(struct layer *l, laying *file) {
     l->at += 4;
     lay_span(l, LETTERS);
     lay_number(l, 1, 7);
     lay_part(l, 2);
     lay_part(l, 1);
-    lay_several(l, 15, lay_file);
+    lay_several(l, 15, file);
 }
+BOTH_DO(lay_language, layer, lay_file)
 
-static void lay_body(struct layer *l) {
+INLINED void lay_body(struct layer *l, laying *language) {
     lay_span(l, IDENTIFIER_BYTES);
-    lay_several(l, 15, lay_language);
+    lay_several(l, 15, language);
     lay_part(l, 2);
 }
+BOTH_DO(lay_body, layer, lay_language)
 
 // ---- a form judged and measured
 
@@ -81,67 +99,87 @@ static unsigned form_letters(struct form *f) {
     return no || length != LETTERS || !are_letters(s) ? OUTSIDE : 0;
 }
 
-static unsigned form_file(struct form *f) {
+typedef unsigned forming(struct form *f);
+
+INLINED unsigned form_file(struct form *f, size_t width) {
     unsigned no = form_number(f, 0, 0xFF);
     f->bytes++;
-    return no ? no : form_opaque(f, 3, MOST_DATA);
+    return no ? no : form_opaque(f, width, (UINT64_C(1) << 8 * width) - 1);
 }
+BOTH(form_file, form, width)
 
-static unsigned form_language(struct form *f) {
+INLINED unsigned form_language(struct form *f, forming *file) {
     unsigned no;
     if ((no = form_letters(f)) || (no = form_number(f, 0, MOST_SET)) || (no = form_opaque(f, 2, 0xFFFF)) ||
         (no = form_opaque(f, 1, 0xFF)))
         return no;
     f->bytes += 4 + LETTERS + 1;
-    return form_several(f, 0, MOST_FILES, form_file);
+    return form_several(f, 0, MOST_FILES, file);
 }
+BOTH(form_language, form, form_file)
 
-static unsigned form_body(struct form *f) {
+INLINED unsigned form_body(struct form *f, forming *language) {
     unsigned no = form_identifier(f);
-    if (no || (no = form_several(f, 1, MOST_LANGUAGES, form_language))) return no;
+    if (no || (no = form_several(f, 1, MOST_LANGUAGES, language))) return no;
     return form_signature(f);
 }
+BOTH(form_body, form, form_language)
 
 // ---- a form written: nothing is judged any more
 
-static void put_file(struct writer *w) {
-    put_number(w, 1, 0);
-    put_opaque(w, 3);
-}
+typedef void putting(struct writer *w);
 
-static void put_language(struct writer *w) {
+INLINED void put_file(struct writer *w, size_t width) {
+    put_number(w, 1, 0);
+    put_opaque(w, width);
+}
+BOTH_DO(put_file, writer, width)
+
+INLINED void put_language(struct writer *w, putting *file) {
     uint8_t *length = w->to;
     w->to += 4;
     put_span(w);
     put_number(w, 1, 0xF8);
     put_opaque(w, 2);
     put_opaque(w, 1);
-    put_several(w, 0xF0, put_file);
+    put_several(w, 0xF0, file);
     put_length(w, length, 4, 0);
 }
+BOTH_DO(put_language, writer, put_file)
 
-static void put_body(struct writer *w) {
+INLINED void put_body(struct writer *w, putting *language) {
     put_digits(w);
-    put_several(w, 0xF0, put_language);
+    put_several(w, 0xF0, language);
     put_opaque(w, 2);
 }
+BOTH_DO(put_body, writer, put_language)
 
 // ---- whole bodies and forms
 
-static const struct table table = {NW_CONTENT, take_body, lay_body, form_body, put_body};
+static const struct table table_24 = {NW_CONTENT, take_body_24, lay_body_24, form_body_24, put_body_24};
+static const struct table table_32 = {NW_CONTENT, take_body_32, lay_body_32, form_body_32, put_body_32};
 
-plain_answer plain_content_read(uint32_t kind, uint32_t extension, const uint8_t *body, size_t n) {
-    plain_answer got = read_table(&table, kind, body, n);
+// What a variant's table answers; another is refused.
+#define BY(variant, call, ...)                                                                                        \
+    ((variant) == NW_AUXILIARY_24   ? call(&table_24, __VA_ARGS__)                                                    \
+     : (variant) == NW_AUXILIARY_32 ? call(&table_32, __VA_ARGS__)                                                    \
+                                    : (plain_answer)OUTSIDE)
+
+plain_answer plain_content_read(uint32_t kind, uint32_t variant, uint32_t extension, const uint8_t *body, size_t n) {
+    if (kind != NW_CONTENT) return NW_OTHER_KIND;
+    plain_answer got = BY(variant, read_table, kind, body, n);
     return got ? got : extension == plain_extension(body) ? 0 : NW_OTHER_CHECKSUM;
 }
 
-plain_answer plain_content_lay(uint32_t kind, const uint8_t *body, size_t n, uint64_t *tape, size_t entries) {
-    return lay_table(&table, kind, body, n, tape, entries);
+plain_answer plain_content_lay(uint32_t kind, uint32_t variant, const uint8_t *body, size_t n, uint64_t *tape,
+                               size_t entries) {
+    if (kind != NW_CONTENT) return NW_OTHER_KIND;
+    return BY(variant, lay_table, kind, body, n, tape, entries);
 }
 
-plain_answer plain_content_write(const uint8_t *pool, size_t pool_bytes, const uint64_t *tape, size_t entries,
-                                 uint8_t *out, size_t room) {
-    plain_answer got = write_table(&table, pool, pool_bytes, tape, entries, out, room);
+plain_answer plain_content_write(uint32_t variant, const uint8_t *pool, size_t pool_bytes, const uint64_t *tape,
+                                 size_t entries, uint8_t *out, size_t room) {
+    plain_answer got = BY(variant, write_table, pool, pool_bytes, tape, entries, out, room);
     return refusal_of(got) ? got : part(plain_extension(out), value_of(got));
 }
 
@@ -224,25 +262,35 @@ plain_answer plain_language_auxiliary_count(const uint8_t *body, size_t n, size_
 }
 
 // The reader at a file. Answers 0, or what is wrong before it.
-static plain_answer file_of(struct reader *r, const uint8_t *body, size_t n, size_t at, size_t length, uint64_t i) {
+static plain_answer file_of(struct reader *r, size_t width, const uint8_t *body, size_t n, size_t at, size_t length,
+                            uint64_t i) {
+    if (width == 0) return OUTSIDE;
     plain_answer count = count_of(r, body, n, at, length);
     if (refusal_of(count)) return count;
     if (i >= value_of(count)) return OUTSIDE;
     for (unsigned no; i > 0; i--)
-        if ((no = take_file(r))) return refused(no, r->at);
+        if ((no = take_file(r, width))) return refused(no, r->at);
     return 0;
 }
 
-plain_answer plain_language_auxiliary_type(const uint8_t *body, size_t n, size_t at, size_t length, uint64_t i) {
+// 0 for no variant.
+static size_t width_of(uint32_t variant) {
+    return variant == NW_AUXILIARY_24 ? width_24 : variant == NW_AUXILIARY_32 ? width_32 : 0;
+}
+
+plain_answer plain_language_auxiliary_type(uint32_t variant, const uint8_t *body, size_t n, size_t at, size_t length,
+                                           uint64_t i) {
     struct reader r;
-    plain_answer no = file_of(&r, body, n, at, length, i);
+    plain_answer no = file_of(&r, width_of(variant), body, n, at, length, i);
     return no ? no : asked_number(&r, 1);
 }
 
-plain_answer plain_language_auxiliary(const uint8_t *body, size_t n, size_t at, size_t length, uint64_t i) {
+plain_answer plain_language_auxiliary(uint32_t variant, const uint8_t *body, size_t n, size_t at, size_t length,
+                                      uint64_t i) {
     struct reader r;
-    plain_answer no = file_of(&r, body, n, at, length, i);
+    size_t width = width_of(variant);
+    plain_answer no = file_of(&r, width, body, n, at, length, i);
     if (no) return no;
     unsigned missing = take(&r, 1);
-    return missing ? refused(missing, r.at) : asked_part(&r, 3);
+    return missing ? refused(missing, r.at) : asked_part(&r, width);
 }

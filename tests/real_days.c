@@ -56,10 +56,10 @@ static void ask_content(void) {
     uint64_t tape[CONTENT_ENTRIES];
     uint64_t extension = nw_content_extension(s, n).packed;
     told(extension, 0);
-    told(nw_content_read(NW_CONTENT, (uint32_t)(extension >> 8), s, n).packed, 0);
-    told(nw_content_lay(NW_CONTENT, s, n, tape, CONTENT_ENTRIES).packed, 0);
-    told(nw_content_measure(s, n, content_tape, CONTENT_ENTRIES).packed, 0);
-    told(nw_content_write(s, n, content_tape, CONTENT_ENTRIES, out, sizeof out).packed, 0);
+    told(nw_content_read(NW_CONTENT, NW_AUXILIARY_24, (uint32_t)(extension >> 8), s, n).packed, 0);
+    told(nw_content_lay(NW_CONTENT, NW_AUXILIARY_24, s, n, tape, CONTENT_ENTRIES).packed, 0);
+    told(nw_content_measure(NW_AUXILIARY_24, s, n, content_tape, CONTENT_ENTRIES).packed, 0);
+    told(nw_content_write(NW_AUXILIARY_24, s, n, content_tape, CONTENT_ENTRIES, out, sizeof out).packed, 0);
     told(nw_content_identifier(s, n).packed, 0);
     told(nw_content_identifier_digit(s, n, 0).packed, 0);
 }

@@ -2,6 +2,14 @@
 from second_fields import Reader, Tape, counted, digits, entries, opaque, part, places, refuse, within
 
 KIND = 0xFE
+# The bytes of an auxiliary file's length, by the variant.
+WIDTHS = {24: 3, 32: 4}
+
+
+def width_of(variant):
+    if variant not in WIDTHS:
+        refuse(19, 'variant')
+    return WIDTHS[variant]
 
 
 def checksum(data, first=0):
@@ -29,30 +37,32 @@ def judge_extension(body, given):
         refuse(23, 'extension')
 
 
-def read(kind, body):
-    """The table, whatever the extension."""
+def read(kind, variant, body):
+    """The table, whatever the extension. The variant is judged after the kind and before the size."""
+    if kind == KIND:
+        width_of(variant)
     reader = Reader(kind, KIND, body)
     return {'identifier': reader.identifier(),
-            'languages': read_languages(reader),
+            'languages': read_languages(reader, width_of(variant)),
             'signature': reader.signature()}
 
 
-def read_languages(reader):
+def read_languages(reader, width):
     place = reader.at
     count = reader.shared('language count', 4)
     if not 1 <= count <= 5:
         refuse(19, 'language count', place)
-    return [reader.filled('language', reader.length('language length', 4), lambda: language_fields(reader))
+    return [reader.filled('language', reader.length('language length', 4), lambda: language_fields(reader, width))
             for _ in range(count)]
 
 
-def language_fields(reader):
+def language_fields(reader, width):
     return {
         'letters': read_letters(reader),
         'character set': read_character_set(reader),
         'text': reader.opaque('text length', 2),
         'agency': reader.opaque('agency length', 1),
-        'files': read_files(reader)}
+        'files': read_files(reader, width)}
 
 
 def are_letters(data):
@@ -74,12 +84,12 @@ def read_character_set(reader):
     return value
 
 
-def read_files(reader):
+def read_files(reader, width):
     place = reader.at
     count = reader.shared('auxiliary count', 4)
     if count > 2:
         refuse(19, 'auxiliary count', place)
-    return [{'type': reader.number('auxiliary type', 1), 'data': reader.opaque('auxiliary length', 3)}
+    return [{'type': reader.number('auxiliary type', 1), 'data': reader.opaque('auxiliary length', width)}
             for _ in range(count)]
 
 
@@ -118,28 +128,29 @@ def form_file(taken):
 # ---- writing
 
 
-def write(pool, tape, room):
-    """The body that a form asks for. Its extension is that of its first 18 bytes."""
-    return within(written(form(pool, tape)), room)
+def write(variant, pool, tape, room):
+    """The body that a form asks for. Its extension is that of its first 18 bytes. The variant is judged before all fields."""
+    width = width_of(variant)
+    return within(written(form(pool, tape), width), room)
 
 
-def written(table):
+def written(table, width):
     languages = table['languages']
     return b''.join((
         digits(table['identifier']),
         bytes([0xF0 | len(languages)]),
-        *(part('language length', language_bytes(language), 4) for language in languages),
+        *(part('language length', language_bytes(language, width), 4) for language in languages),
         opaque('signature length', table['signature'], 2)))
 
 
-def language_bytes(language):
+def language_bytes(language, width):
     return b''.join((
         language['letters'][2],
         bytes([0xF8 | language['character set']]),
         opaque('text length', language['text'], 2),
         opaque('agency length', language['agency'], 1),
         bytes([0xF0 | len(language['files'])]),
-        *(counted('auxiliary type', file['type'], 1) + opaque('auxiliary length', file['data'], 3)
+        *(counted('auxiliary type', file['type'], 1) + opaque('auxiliary length', file['data'], width)
           for file in language['files'])))
 
 

@@ -10,26 +10,26 @@ from second_fields import refuse
 
 
 @functools.lru_cache(maxsize=None)
-def table_of(kind, body):
+def table_of(kind, variant, body):
     """The table of a body whatever its extension, read once for all that is asked of it."""
-    return second_content.read(kind, body)
+    return second_content.read(kind, variant, body)
 
 
-def content_read(kind, given, body):
+def content_read(kind, variant, given, body):
     """Of an accepted body every field, taken from the whole table that was read."""
-    table = table_of(kind, body)
+    table = table_of(kind, variant, body)
     second_content.judge_extension(body, given)
     identifier, languages = table['identifier'], table['languages']
     found = unrefused(span(identifier), given, len(languages), span(table['signature'])) + [identifier[2]]
     for language in languages:
-        found += language_items(language)
+        found += language_items(language, second_content.WIDTHS[variant])
     return 0, *found
 
 
-def language_items(language):
+def language_items(language, width):
     """A language begins with its letters and fills what its fields fill: eight bytes, the texts, the files."""
     files = language['files']
-    length = 8 + language['text'][1] + language['agency'][1] + sum(4 + file['data'][1] for file in files)
+    length = 8 + language['text'][1] + language['agency'][1] + sum(1 + width + file['data'][1] for file in files)
     found = unrefused(part(language['letters'][0], length), span(language['letters']), language['character set'],
                       span(language['text']), span(language['agency']), len(files))
     for file in files:
@@ -37,17 +37,17 @@ def language_items(language):
     return found
 
 
-def content_lay(kind, body, tape):
-    return lent(tape, lambda: second_content.tape_of(table_of(kind, body)))
+def content_lay(kind, variant, body, tape):
+    return lent(tape, lambda: second_content.tape_of(table_of(kind, variant, body)))
 
 
-def content_measure(pool, tape):
-    return measured(second_content.write, pool, tape)
+def content_measure(variant, pool, tape):
+    return measured(functools.partial(second_content.write, variant), pool, tape)
 
 
-def content_write(pool, tape, out):
+def content_write(variant, pool, tape, out):
     """The extension stands above 24 bits of length, and both are also given by themselves."""
-    body, after = written(second_content.write, pool, tape, out)
+    body, after = written(functools.partial(second_content.write, variant), pool, tape, out)
     extension = second_content.extension(body[:18])
     return part(extension, len(body)), extension, len(body), after
 
@@ -143,31 +143,33 @@ def language_fields(*language):
     return joined(answered(call, *language) for call in (letters, character_set, text, agency, auxiliary_count))
 
 
-def at_file(language, i):
+def at_file(width, language, i):
     """At a file, those before it passed by their types and lengths."""
     reader = at_files(*language)
     up_to(i, count_within(reader, 'auxiliary count', 0, 2))
     for _ in range(i):
-        pass_file(reader)
+        pass_file(reader, width)
     return reader
 
 
-def pass_file(reader):
+def pass_file(reader, width):
     reader.number('auxiliary type', 1)
-    reader.taken(reader.length('auxiliary length', 3))
+    reader.taken(reader.length('auxiliary length', width))
 
 
-def file_type(language, i):
-    return at_file(language, i).number('auxiliary type', 1)
+def file_type(variant, language, i):
+    """The variant is judged before the language is looked at."""
+    return at_file(second_content.width_of(variant), language, i).number('auxiliary type', 1)
 
 
-def file_data(language, i):
+def file_data(variant, language, i):
     """The type stands before the length."""
-    reader = at_file(language, i)
+    width = second_content.width_of(variant)
+    reader = at_file(width, language, i)
     reader.number('auxiliary type', 1)
-    return reader.counted('auxiliary length', 3)
+    return reader.counted('auxiliary length', width)
 
 
-def auxiliary_fields(body, at, length, i):
+def auxiliary_fields(variant, body, at, length, i):
     language = body, at, length
-    return joined((answered(file_type, language, i), answered(file_data, language, i)))
+    return joined((answered(file_type, variant, language, i), answered(file_data, variant, language, i)))

@@ -83,6 +83,10 @@ def try_forms():
         expect('the form %.300r' % form, run('adapter', ['kept'], form), 1, exactly=said(sentences))
         if read('kept') != b'as it was':
             wrong.append('the form %.300r: it is refused and a file is written' % form)
+    for bits in '24', '32':
+        expect('adapter --auxiliary ' + bits, run('adapter', ['--auxiliary', bits, 'same'], good), 0, exactly=[])
+        if read('same') != sent:
+            wrong.append('adapter --auxiliary %s: without files its sections are others' % bits)
     for form in forms.SAME:
         write('same', b'')
         expect('the form %.300r' % form, run('adapter', ['same'], form), 0, exactly=[])
@@ -134,7 +138,15 @@ def try_files():
         try_file(files.ONE + files.content(files.language(agency=text, number=number))[0], 0, in_agency)
     try_file(files.ONE + b''.join(files.LONG), 0, ['    | Go on foot.'] * 1000, ['--whole'])
     two = files.content(files.language(files=b'\xF2\x03\0\0\x02xy\x04\0\0\0'))[0]
-    try_file(files.ONE + two, 0, ['  file        type 3, 2 bytes, not shown', '  file        type 4, 0 bytes, not shown'])
+    wide = files.content(files.language(files=b'\xF2\x03\0\0\0\x02xy\x04\0\0\0\0'))[0]
+    shown = ['  file        type 3, 2 bytes, not shown', '  file        type 4, 0 bytes, not shown']
+    for data, bits, other in (two, '24', '32'), (wide, '32', '24'):
+        try_file(files.ONE + data, 0, shown, ['--auxiliary', bits])
+        try_file(files.ONE + data, 0, shown, ['--whole', '--auxiliary', other, '--auxiliary', bits])
+        try_file(files.ONE + data, 1, ['  (with auxiliary lengths of %s bits it is accepted: box --auxiliary %s)' % (bits, bits)],
+                 ['--auxiliary', other])
+    try_file(files.ONE + two, 0, shown)
+    try_file(files.DRILL, 0, [], ['--auxiliary', '32'])
     (chinese,) = files.content(files.language('演练'.encode(), number=2))
     in_ascii = files.STEERS.replace('UTF-8', 'ANSI_X3.4-1968')
     try_file(files.ONE + chinese, 0, ['    | \\u{6F14}\\u{7EC3}', in_ascii], terminal='C')
@@ -152,7 +164,7 @@ def try_box_calls():
     write('received', late)
     expect('box out of the range', run('box', ['received', '1']), 0, [
         '  end         22/04/2038 23:59:59 Thursday, UTC: its local day is out of the range 01/03/1900 to 22/04/2038'])
-    expect('box --help', run('box', ['--help']), 0, ['usage: box [--whole] FILE [MINUTES]'])
+    expect('box --help', run('box', ['--help']), 0, ['usage: box [--whole] [--auxiliary BITS] FILE [MINUTES]'])
     expect('box none', run('box', ['none']), 2, exactly=["box: none can't be opened: No such file or directory"])
     expect('box folder', run('box', ['folder']), 2, exactly=["box: folder can't be read: Is a directory"])
     with open('/dev/full', 'wb') as full:

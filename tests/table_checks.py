@@ -38,13 +38,13 @@ class Comparison:
         """The numbers with which each call, and each field of one that asks for several, was answered."""
         return by_refusal(cases, calls.compare('a second program', self.program, cases))
 
-    def compare_writings(self, table, make, numbers, refusals):
+    def compare_writings(self, table, make, numbers, refusals, *before, count=COUNT):
         """The generator's forms written and measured: these numbers are answered, these refusals met, and no others."""
         write, measure = table + '_write', table + '_measure'
-        forms = [*make_fields.writings(make, SEED, COUNT)]
-        cases = [(write, pool, tape, out(room)) for pool, tape, room in forms]
-        cases += [(measure, pool, tape) for pool, tape, _ in forms]
-        assert self.compare(cases) == {write: numbers, measure: numbers - {21}} and len(forms) > COUNT
+        forms = [*make_fields.writings(make, SEED, count)]
+        cases = [(write, *before, pool, tape, out(room)) for pool, tape, room in forms]
+        cases += [(measure, *before, pool, tape) for pool, tape, _ in forms]
+        assert self.compare(cases) == {write: numbers, measure: numbers - {21}} and len(forms) > count
         self.must_meet(write, refusals)
         self.must_meet(measure, refusals - {(21, 'room')})
 
@@ -106,11 +106,11 @@ def days_made():
 
 
 def tables_of(table_of, bodies):
-    """The tables of those bodies, each with its kind, that are accepted."""
+    """The tables of those bodies, each with its kind, and its variant if any, that are accepted."""
     found = {}
-    for kind, body in bodies:
+    for body in bodies:
         try:
-            found[kind, body] = table_of(kind, body)
+            found[body] = table_of(*body)
         except calls.Refused:
             pass
     return found
@@ -134,11 +134,11 @@ def ways(chance, body):
     return (0, -1, 2) if len(body) < LARGE else (chance.choice((0, 2)),)
 
 
-def laid_and_written(table, kind, body, laid, rooms):
-    """An accepted body laid on a tape, and written again from it."""
+def laid_and_written(table, kind, body, laid, rooms, *variant):
+    """An accepted body laid on a tape, and written again from it; in a variant, where the table has some."""
     for more in rooms:
-        yield table + '_lay', kind, body, lent_tape(len(laid) + more)
-        yield table + '_write', body, laid, out(len(body) + more)
+        yield table + '_lay', kind, *variant, body, lent_tape(len(laid) + more)
+        yield table + '_write', *variant, body, laid, out(len(body) + more)
 
 
 # ---- places and numbers for what is asked for

@@ -292,6 +292,12 @@ static void index_longest(nw_form *f, size_t more) {
     opaque_of(f, more);
 }
 
+// The variant that content tables are made in, and the one that they are written, laid and read by: now and then another.
+static uint32_t variant, by_variant;
+
+static void in_variant(uint32_t bits) { variant = by_variant = bits; }
+static uint32_t mostly_the_variant(void) { return one_in(8) ? (uint32_t)around(one_in(2) ? 24 : 32) : variant; }
+
 static void content_longest(nw_form *f, size_t more) {
     identifier(f);
     nw_form_number(f, 1);
@@ -301,7 +307,7 @@ static void content_longest(nw_form *f, size_t more) {
     opaque_of(f, 0);
     nw_form_number(f, 1);
     nw_form_number(f, 9);
-    opaque_of(f, NW_MOST_BODY - 1 - 37 + more);
+    opaque_of(f, NW_MOST_BODY - 1 - (34 + variant / 8) + more);
     opaque_of(f, 0);
 }
 
@@ -438,8 +444,9 @@ static void ask_language(const uint8_t *body, size_t n, size_t at, size_t length
     plain_answer count = TRY(language_auxiliary_count, body, n, at, length);
     for (int left = 3; left > 0; left--) {
         uint64_t i = one_of(count);
-        TRY(language_auxiliary_type, body, n, at, length, i);
-        TRY(language_auxiliary, body, n, at, length, i);
+        by_variant = mostly_the_variant();
+        TRY(language_auxiliary_type, by_variant, body, n, at, length, i);
+        TRY(language_auxiliary, by_variant, body, n, at, length, i);
     }
 }
 
@@ -447,7 +454,9 @@ static void ask_content(const uint8_t *body, size_t n) {
     uint32_t kind = mostly(NW_CONTENT), extension = (uint32_t)around(value_of(TRY(content_extension, body, n)));
     uint64_t digit = around(below(36));
     if (one_in(8)) extension += (uint32_t)below(3) << 16;
-    TRY(content_read, kind, extension, body, n);
+    by_variant = mostly_the_variant();
+    TRY(content_read, kind, by_variant, extension, body, n);
+    TRY(content_read, kind, variant == 24 ? 32 : 24, extension, body, n);
     TRY(content_identifier, body, n);
     TRY(content_identifier_digit, body, n, digit);
     plain_answer count = TRY(content_language_count, body, n);
@@ -530,8 +539,23 @@ typedef plain_answer lays(uint32_t kind, const uint8_t *body, size_t n, uint64_t
 
 LIBRARYS(certificate)
 LIBRARYS(index)
-LIBRARYS(content)
 LIBRARYS(configuration)
+
+// The content table's and plain C's, by the variant.
+static plain_answer writes_content(const uint8_t *s, size_t n, const uint64_t *its, size_t entries, uint8_t *out,
+                                   size_t room) {
+    return nw_content_write(by_variant, s, n, its, entries, out, room).packed;
+}
+static plain_answer lays_content(uint32_t kind, const uint8_t *s, size_t n, uint64_t *its, size_t entries) {
+    return nw_content_lay(kind, by_variant, s, n, its, entries).packed;
+}
+static plain_answer writes_plain_content(const uint8_t *s, size_t n, const uint64_t *its, size_t entries, uint8_t *out,
+                                         size_t room) {
+    return plain_content_write(by_variant, s, n, its, entries, out, room);
+}
+static plain_answer lays_plain_content(uint32_t kind, const uint8_t *s, size_t n, uint64_t *its, size_t entries) {
+    return plain_content_lay(kind, by_variant, s, n, its, entries);
+}
 
 struct table {
     uint32_t kind;
@@ -541,12 +565,14 @@ struct table {
     lays *lays_library, *lays_plain;
 };
 
-#define TABLE(name, kind)                                                                                            \
+#define TABLE_BY(name, kind, writes_plain, lays_plain)                                                                \
     {kind, name##_form, name##_longest, ask_##name, F_##name##_write, F_##name##_lay,                                \
-     writes_##name, plain_##name##_write, lays_##name, plain_##name##_lay}
+     writes_##name, writes_plain, lays_##name, lays_plain}
+#define TABLE(name, kind) TABLE_BY(name, kind, plain_##name##_write, plain_##name##_lay)
 
 static const struct table tables[] = {TABLE(certificate, NW_CERTIFICATE), TABLE(index, NW_INDEX),
-                                      TABLE(content, NW_CONTENT), TABLE(configuration, NW_CONFIGURATION)};
+                                      TABLE_BY(content, NW_CONTENT, writes_plain_content, lays_plain_content),
+                                      TABLE(configuration, NW_CONFIGURATION)};
 
 static plain_answer try_write(const struct table *t, const nw_form *f, size_t room) {
     const uint8_t *s = lend(&input, f->pool, f->pool_bytes);
@@ -573,6 +599,7 @@ static size_t try_form(const struct table *t, const nw_form *f, uint8_t *body) {
 
 static plain_answer try_lay(const struct table *t, const uint8_t *body, size_t n, size_t entries) {
     uint32_t kind = mostly(t->kind);
+    by_variant = mostly_the_variant();
     lend_outputs(entries * sizeof(uint64_t));
     trying = t->lay;
     return same_outputs(t->lays_library(kind, body, n, (void *)output_library.at, entries),
@@ -610,6 +637,7 @@ static void try_damaged_forms(const struct table *t, const nw_form *f, int count
     for (; count > 0; count--) {
         nw_form damaged = *f;
         for (uint64_t left = 1 + below(2); left > 0; left--) damage_form(&damaged);
+        by_variant = mostly_the_variant();
         try_write(t, &damaged, room);
         memcpy(f->pool, kept_pool, f->pool_bytes);
         memcpy(f->tape, kept_tape, f->entries * sizeof(uint64_t));
@@ -619,6 +647,7 @@ static void try_damaged_forms(const struct table *t, const nw_form *f, int count
 // A form and its body, then both damaged in some ways, and the body at every length up to some hundreds.
 static void try_made(const struct table *t, int is_long) {
     static uint8_t body[MOST_TRIED], damaged[MOST_TRIED];
+    in_variant(one_in(2) ? NW_AUXILIARY_24 : NW_AUXILIARY_32);
     nw_form f = begin(is_long ? 70000 : 64, one_in(3), is_long ? below(20) : UINT64_MAX);
     t->form(&f);
     size_t n = try_form(t, &f, body);
@@ -638,6 +667,7 @@ static void try_made(const struct table *t, int is_long) {
 static void try_longest_of(const struct table *t) {
     static uint8_t body[MOST_TRIED];
     for (size_t more = 0; more < 3; more++) {
+        in_variant(variant);
         nw_form f = begin(1100000, 0, UINT64_MAX);
         t->longest(&f, more);
         size_t n = try_form(t, &f, body);
@@ -662,7 +692,10 @@ void try_tables(void) {
     for (size_t i = 0; i < sizeof tables / sizeof tables[0]; i++) {
         for (int left = 8000; left > 0; left--) try_made(tables + i, 0);
         for (int left = 800; left > 0; left--) try_made(tables + i, 1);
+        in_variant(NW_AUXILIARY_24);
         try_longest_of(tables + i);
+        in_variant(NW_AUXILIARY_32);
+        if (tables[i].kind == NW_CONTENT) try_longest_of(tables + i);
         try_noise(tables + i);
     }
     if (!at_an_end || !on_leap_day || !at_month_end) wrong("no identifier has a day at which a calendar goes wrong");

@@ -4,3 +4,4 @@ pub mod RoundTrips
 pub mod Extension
 pub mod Places
 pub mod Smallest
+pub mod Variants

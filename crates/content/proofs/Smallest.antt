@@ -49,12 +49,13 @@ module _ (w : ℕ) where
       let twelve = languages-take (c .languages) (leb-true 1 n some) (languages .1) in
       simp (length-append, length-bytes) (omega (arith, eighteen, twelve))
 
--- zeros but for the day 1 March 1900, one language `aaa` with nothing in it, an empty signature
+-- zeros but for the day 1 March 1900, one language `aaa` with nothing in it, an empty signature: no auxiliary file, so that the width of its
+-- length plays no part
 unfoldable pub smallestBody : List ℕ
 smallestBody =
     0xF0 ∷ 0 ∷ 0 ∷ 0 ∷ 0 ∷ 0 ∷ 0 ∷ 0 ∷ 0 ∷ 0 ∷ 0 ∷ 0 ∷ 0x19 ∷ 0x00 ∷ 0x03 ∷ 0x01 ∷ 0 ∷ 0 ∷ 0xF1
     ∷ 0 ∷ 0 ∷ 0 ∷ 8 ∷ 0x61 ∷ 0x61 ∷ 0x61 ∷ 0xF8 ∷ 0 ∷ 0 ∷ 0 ∷ 0xF0 ∷ 0 ∷ 0 ∷ []
 
-pub smallest-accepted : bodyRead (content 3) contentKind contentKind smallestBody ≡ At 33
+pub smallest-accepted : (w : ℕ) → bodyRead (content w) contentKind contentKind smallestBody ≡ At 33
 unfolding smallestBody bodyRead reading content fields language languageFields auxiliaries counted lengthOf exact view followed listOf repeat only every bytes reserved count numberAt rest identifier digits halves decimal hasRealDay identifierYear identifierMonth identifierDay hasDay isDate monthLength leap dayNumber monthsFrom yearOf monthOf daysOf monthStart inRange
-smallest-accepted = refl
+smallest-accepted w = refl

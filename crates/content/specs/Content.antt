@@ -1,26 +1,29 @@
--- What a reader has to believe of the content table: its fields in wire order, and its extension.
+-- What a reader has to believe of the content table: its fields in wire order, its extension, and its two variants.
 use Prim.Native.Nat.{ℕ}
 use mathlib.Core.List.{List}
+use lib.ListN.{length}
 use lib.Dec.{eqb}
 use Rattle.ground_refusal.specs.declared.Refusal.the-variants.{LeftOver, PastPart, OtherChecksum}
 use Rattle.body_formats.specs.Reading.{Reading, found, andThen, need}
 use Rattle.body_formats.specs.Format.{Format, _▷_, number, among, bytesAmong, reserved, listOf, opaque, exact, view, lengthOf, counted}
 use Rattle.body_formats.specs.Identifier.{identifier}
 use Rattle.body_formats.specs.Answers.{stepOf}
-use Rattle.body_formats.specs.Body.{reading}
+use Rattle.body_formats.specs.Body.{reading, bodyLaid, laidTape}
 use Rattle.body_formats.specs.declared.Step.{Step}
+use Rattle.body_formats.specs.declared.Step.the-variants.{Refused as NoStep}
 use Rattle.body_extension.specs.Extension.{extensionOf}
+use Rattle.content_variant.specs.Variant.{byWidth, opened}
 -- "FE content"
 pub use Rattle.ground_numbers.specs.Sizes.{contentKind}
 
 -- ---- auxiliary files
 
--- "each with type 8 (free), length 24, data"
+-- "each with type 8 (free), length 24, data", the length of 32 bits in the other variant
 pub record Auxiliary : Type 0 where
   pub type : ℕ
   pub bytes : List ℕ
 
--- w is the length's width in bytes: "Its Table 4 says 24 bits, its text 32. The table decides: 24"
+-- w is the length's width in bytes: "Its Table 4 says 24 bits, its text 32. The table decides: 24"; 3 or 4 bytes, by the variant
 unfoldable pub auxiliary : ℕ → Format Auxiliary
 auxiliary w = view (λ x. record { type = x .0; bytes = x .1 }) (λ a. (a .type, a .bytes)) (number 1 ▷ opaque w)
 
@@ -82,3 +85,16 @@ readingOf w kind extension s =
 -- where the table ends, or why it is refused
 unfoldable pub contentRead : ℕ → ℕ → ℕ → List ℕ → Step
 contentRead w kind extension s = stepOf (readingOf w kind extension s)
+
+-- ---- the variant, 24 or 32: "The reader and writer take a named variant"
+
+-- what is said above, with the width of the variant v
+unfoldable pub variantRead : ℕ → ℕ → ℕ → List ℕ → Step
+variantRead kind v extension s = byWidth (opened kind v (length s)) (λ w. contentRead w kind extension s) NoStep
+
+-- a body laid out for a writer, in a lent tape: its extension, which is no part of it, is not looked at
+unfoldable pub variantLaid : ℕ → ℕ → List ℕ → ℕ → Step
+variantLaid kind v s room = byWidth (opened kind v (length s)) (λ w. bodyLaid (content w) contentKind kind s room) NoStep
+
+unfoldable pub variantTape : ℕ → ℕ → List ℕ → List ℕ → List ℕ
+variantTape kind v s tape = byWidth (opened kind v (length s)) (λ w. laidTape (content w) contentKind kind s tape) (λ r. tape)

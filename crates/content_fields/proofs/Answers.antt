@@ -11,12 +11,14 @@ use Rattle.body_formats.specs.declared.Step.the-variants.{At, Refused as NoStep
 use Rattle.body_formats.specs.declared.Number.the-variants.{Is, Refused as NoNumber}
 use Rattle.body_formats.specs.declared.Part.the-variants.{Of, Refused as NoPart}
 use Rattle.body_formats.proofs.Outcomes.{andThen-found}
-use Rattle.body_formats.proofs.Classes.{Bytes}
+use Rattle.body_formats.proofs.Classes as classes
 use Rattle.body_formats.proofs.Readers.{number-found, number-refused, opaque-found}
 use Rattle.body_asking.specs.Asking.{headedPart, nthOf}
 use Rattle.body_asking.proofs.Answers.{count-number, found-in, part-refused, part-found, step-refused, step-found}
 use Rattle.body_asking.proofs.Entries.{all-headless, nth-headless}
-use Rattle.content_fields.specs.Asked.{languagesCounted, languageCount, languagePart, signaturePart, textIn, agencyIn, auxiliariesIn, textPart, agencyPart, auxiliaryCount, typeIn, auxiliaryType, auxiliaryPart}
+use Rattle.content_variant.specs.Variant.{widthOf}
+use Rattle.content_variant.specs.declared.Width.the-variants.{Bytes, Refused as NoWidth}
+use Rattle.content_fields.specs.Asked.{languagesCounted, languageCount, languagePart, signaturePart, textIn, agencyIn, auxiliariesIn, textPart, agencyPart, auxiliaryCount, typeIn, auxiliaryType, auxiliaryPart, variantType, variantPart}
 
 -- ---- the languages and the signature
 
@@ -132,7 +134,7 @@ module _ (s : List ℕ) (at n : ℕ) where
     unfolding auxiliaryType typeIn
     type-none w i r f = rw (files-there, step-refused (nthOf (headedPart 1 w) m i s (at + n) q) r f)
 
-    pub type-is : (w i p : ℕ) → Bytes s → At p ≡ stepOf (nthOf (headedPart 1 w) m i s (at + n) q) → numberRead 1 s (at + n) p ≡ auxiliaryType w s at n i
+    pub type-is : (w i p : ℕ) → classes.Bytes s → At p ≡ stepOf (nthOf (headedPart 1 w) m i s (at + n) q) → numberRead 1 s (at + n) p ≡ auxiliaryType w s at n i
     unfolding auxiliaryType typeIn numberRead
     type-is w i p b f = rw (files-there, step-found (nthOf (headedPart 1 w) m i s (at + n) q) p f .1) (count-number 1 s (at + n) p b)
 
@@ -157,3 +159,24 @@ module _ (s : List ℕ) (at n : ℕ) where
       pub file-is : partRead w s (at + n) q ≡ auxiliaryPart w s at n i
       unfolding auxiliaryPart partRead
       file-is = rw type-there
+
+-- ---- an auxiliary file in a table of a variant
+
+module _ (v : ℕ) where
+  module _ (w : ℕ) (e : Bytes w ≡ widthOf v) (s : List ℕ) (at n i : ℕ) where
+    pub variant-type-is : auxiliaryType w s at n i ≡ variantType v s at n i
+    unfolding variantType
+    variant-type-is = rw (← e)
+
+    pub variant-part-is : auxiliaryPart w s at n i ≡ variantPart v s at n i
+    unfolding variantPart
+    variant-part-is = rw (← e)
+
+  module _ (r : Refusal) (e : NoWidth r ≡ widthOf v) (s : List ℕ) (at n i : ℕ) where
+    pub variant-type-no : NoNumber r ≡ variantType v s at n i
+    unfolding variantType
+    variant-type-no = rw (← e)
+
+    pub variant-part-no : NoPart r ≡ variantPart v s at n i
+    unfolding variantPart
+    variant-part-no = rw (← e)

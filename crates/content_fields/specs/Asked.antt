@@ -7,9 +7,12 @@ use Rattle.body_formats.specs.Format.{Format, number, among, bytesAmong, reserv
 use Rattle.body_formats.specs.Identifier.{identifier}
 use Rattle.body_formats.specs.Answers.{numberOf, partOf, fieldPart, digitRead}
 use Rattle.body_formats.specs.declared.Number.{Number}
+use Rattle.body_formats.specs.declared.Number.the-variants.{Refused as NoNumber}
 use Rattle.body_formats.specs.declared.Part.{Part}
+use Rattle.body_formats.specs.declared.Part.the-variants.{Refused as NoPart}
 use Rattle.body_asking.specs.Asking.{inBody, fieldIn, headedPart, nthOf}
 use Rattle.body_extension.specs.Extension.{extensionAt}
+use Rattle.content_variant.specs.Variant.{widthOf, byWidth}
 
 -- ---- the table
 
@@ -80,3 +83,11 @@ auxiliaryType w s at n i = numberOf (typeIn w s at n i)
 
 unfoldable pub auxiliaryPart : ℕ → List ℕ → ℕ → ℕ → ℕ → Part
 auxiliaryPart w s at n i = partOf (andThen (typeIn w s at n i) (λ t q. opaque w .parse s (at + n) q))
+
+-- in a table of the variant v, 24 or 32: another is 19, place 0, before all that is asked of the body
+
+unfoldable pub variantType : ℕ → List ℕ → ℕ → ℕ → ℕ → Number
+variantType v s at n i = byWidth (widthOf v) (λ w. auxiliaryType w s at n i) NoNumber
+
+unfoldable pub variantPart : ℕ → List ℕ → ℕ → ℕ → ℕ → Part
+variantPart v s at n i = byWidth (widthOf v) (λ w. auxiliaryPart w s at n i) NoPart

@@ -2,12 +2,13 @@
 use body_formats::Number;
 use body_formats::Part;
 use body_formats::Step;
+use content_variant::Width;
 use ground_refusal::Refusal;
 ghost use mathlib.Core.Path.{_≡_};
 ghost use Prim.Native.Nat.{_≤_};
 ghost use Rattle.body_formats.specs.Format.{among, reserved};
 ghost use Rattle.body_formats.specs.Answers.{numberOf};
-ghost use Rattle.content_fields.specs.Asked.{identifierPart, identifierDigit, extension, languageCount, languagePart, signaturePart, lettersPart, characterSet, textPart, agencyPart, auxiliaryCount, auxiliaryType, auxiliaryPart};
+ghost use Rattle.content_fields.specs.Asked.{identifierPart, identifierDigit, extension, languageCount, languagePart, signaturePart, lettersPart, characterSet, textPart, agencyPart, auxiliaryCount, auxiliaryType, auxiliaryPart, variantType, variantPart};
 
 // The part of the body that the identifier fills.
 pub fn identifier(s: &[u8]) -> Part
@@ -122,25 +123,47 @@ pub fn auxiliary_count(s: &[u8], at: usize, n: usize) -> Number
     }
 }
 
-// The type of the i-th auxiliary file: it begins the file.
-pub fn auxiliary_type(s: &[u8], at: usize, n: usize, i: u64) -> Number
-    ensures { λ r. ⌜ r ≡ auxiliaryType 3 (now (s .entry)) at n i ⌝ }
+// The type of the i-th auxiliary file, w the width in bytes of its length: it begins the file.
+fn type_wide(w: usize, s: &[u8], at: usize, n: usize, i: u64) -> Number
+    requires { ⌜ w ≤ 7 ⌝ }
+    ensures { λ r. ⌜ r ≡ auxiliaryType w (now (s .entry)) at n i ⌝ }
 {
     match auxiliary_count(s, at, n) {
         Number::Refused(r) => Number::Refused(r),
-        Number::Is(m, q) => match body_asking::nth_entry(s, at + n, q, 1, 3, m, i) {
+        Number::Is(m, q) => match body_asking::nth_entry(s, at + n, q, 1, w, m, i) {
             Step::Refused(r) => Number::Refused(r),
             Step::At(p) => body_numbers::read_number(s, at + n, p, 1),
         },
     }
 }
 
-// The part of the body that the data of the i-th auxiliary file fill.
-pub fn auxiliary(s: &[u8], at: usize, n: usize, i: u64) -> Part
-    ensures { λ r. ⌜ r ≡ auxiliaryPart 3 (now (s .entry)) at n i ⌝ }
+// The part of the body that its data fill.
+fn part_wide(w: usize, s: &[u8], at: usize, n: usize, i: u64) -> Part
+    requires { ⌜ w ≤ 7 ⌝ }
+    ensures { λ r. ⌜ r ≡ auxiliaryPart w (now (s .entry)) at n i ⌝ }
 {
-    match auxiliary_type(s, at, n, i) {
+    match type_wide(w, s, at, n, i) {
         Number::Refused(r) => Part::Refused(r),
-        Number::Is(t, q) => body_parts::read_part(s, at + n, q, 3),
+        Number::Is(t, q) => body_parts::read_part(s, at + n, q, w),
+    }
+}
+
+// The type of the i-th auxiliary file, in a table of this variant.
+pub fn auxiliary_type(variant: u32, s: &[u8], at: usize, n: usize, i: u64) -> Number
+    ensures { λ r. ⌜ r ≡ variantType variant (now (s .entry)) at n i ⌝ }
+{
+    match content_variant::width_of(variant) {
+        Width::Refused(r) => Number::Refused(r),
+        Width::Bytes(w) => type_wide(w, s, at, n, i),
+    }
+}
+
+// The part of the body that the data of the i-th auxiliary file fill, in a table of this variant.
+pub fn auxiliary(variant: u32, s: &[u8], at: usize, n: usize, i: u64) -> Part
+    ensures { λ r. ⌜ r ≡ variantPart variant (now (s .entry)) at n i ⌝ }
+{
+    match content_variant::width_of(variant) {
+        Width::Refused(r) => Part::Refused(r),
+        Width::Bytes(w) => part_wide(w, s, at, n, i),
     }
 }

@@ -1,24 +1,23 @@
-// The content table: its body read, and laid onto a form.
+// The content table of either variant: its body read, and laid onto a form.
 mod walking;
 
 use body_formats::Step;
 use body_walk::Walk;
-use ground_numbers::CONTENT_KIND;
+use content_variant::Width;
 use ground_refusal::Refusal;
 ghost use mathlib.Core.Path.{_≡_};
 ghost use lib.ListN.{length};
-ghost use Rattle.body_formats.specs.Body.{bodyLaid, laidTape};
-ghost use Rattle.content.specs.Content.{contentKind, content, contentRead};
+ghost use Rattle.content.specs.Content.{variantRead, variantLaid, variantTape};
 
 // Where the table ends, or why it is refused; the extension is looked at last.
-pub fn read(kind: u32, extension: u32, s: &[u8]) -> Step
-    ensures { λ r. ⌜ r ≡ contentRead 3 kind extension (now (s .entry)) ⌝ }
+pub fn read(kind: u32, variant: u32, extension: u32, s: &[u8]) -> Step
+    ensures { λ r. ⌜ r ≡ variantRead kind variant extension (now (s .entry)) ⌝ }
 {
-    match body_parts::open_body(CONTENT_KIND, kind, s) {
-        Step::Refused(r) => Step::Refused(r),
-        Step::At(start) => {
+    match content_variant::open(kind, variant, s) {
+        Width::Refused(r) => Step::Refused(r),
+        Width::Bytes(w) => {
             let mut none: [u64; 1] = [0; 1];
-            let walk = walking::walk_content(s, Walk::At(0, 0), 3, &mut none, false);
+            let walk = walking::walk_content(s, Walk::At(0, 0), w, &mut none, false);
             match body_walk::body_end(walk) {
                 Step::Refused(r) => Step::Refused(r),
                 Step::At(end) => {
@@ -34,19 +33,19 @@ pub fn read(kind: u32, extension: u32, s: &[u8]) -> Step
 
 // Lays a body onto a tape, with the body itself as the pool: the form from which it is written again. The extension, which is no part
 // of the body, is not looked at.
-pub fn lay(kind: u32, s: &[u8], tape: &mut [u64]) -> Step
-    ensures said { λ r. ⌜ r ≡ bodyLaid (content 3) contentKind kind (now (s .entry)) (length (now (tape .entry))) ⌝ }
-    ensures left { λ r. ⌜ now (tape .exit) ≡ laidTape (content 3) contentKind kind (now (s .entry)) (now (tape .entry)) ⌝ }
+pub fn lay(kind: u32, variant: u32, s: &[u8], tape: &mut [u64]) -> Step
+    ensures said { λ r. ⌜ r ≡ variantLaid kind variant (now (s .entry)) (length (now (tape .entry))) ⌝ }
+    ensures left { λ r. ⌜ now (tape .exit) ≡ variantTape kind variant (now (s .entry)) (now (tape .entry)) ⌝ }
 {
-    match body_parts::open_body(CONTENT_KIND, kind, s) {
-        Step::Refused(r) => Step::Refused(r),
-        Step::At(start) => {
+    match content_variant::open(kind, variant, s) {
+        Width::Refused(r) => Step::Refused(r),
+        Width::Bytes(w) => {
             let room = tape.len() + 1;
-            let dry = walking::walk_content(s, Walk::At(0, room), 3, tape, false);
+            let dry = walking::walk_content(s, Walk::At(0, room), w, tape, false);
             match body_walk::entries_needed(dry, room) {
                 Step::Refused(r) => Step::Refused(r),
                 Step::At(n) => {
-                    walking::walk_content(s, Walk::At(0, room), 3, tape, true);
+                    walking::walk_content(s, Walk::At(0, room), w, tape, true);
                     Step::At(n)
                 }
             }

@@ -6,7 +6,7 @@ ghost use Rattle.body_formats.specs.Format.{times};
 ghost use Rattle.body_walk.specs.Walked.{Walked};
 ghost use Rattle.content.specs.Content.{auxiliary, auxiliaries, languageFields, language, content};
 
-// "type 8 (free), length 24, data".
+// "type 8 (free), length 24, data", the length of w bytes.
 fn walk_auxiliary(s: &[u8], l: usize, x: Walk, w: usize, tape: &mut [u64], wet: bool) -> Walk
     requires { ⌜ w ≤ 7 ⌝ }
     ensures { λ r. ⌜ Walked (auxiliary w) (now (s .entry)) l x wet (now (tape .entry)) r (now (tape .exit)) ⌝ }

@@ -6,7 +6,7 @@ ghost use Rattle.body_formats.specs.Format.{among, reserved, listOf};
 ghost use Rattle.body_pen.specs.Penned.{Penned};
 ghost use Rattle.content.specs.Content.{auxiliary, auxiliaries, language, content};
 
-// "type 8 (free), length 24, data".
+// "type 8 (free), length 24, data", the length of w bytes.
 fn put_auxiliary(pool: &[u8], tape: &[u64], x: Pen, w: usize, out: &mut [u8], wet: bool) -> Pen
     requires { ⌜ w ≤ 7 ⌝ }
     ensures { λ r. ⌜ Penned (auxiliary w) (now (pool .entry)) (now (tape .entry)) x wet (now (out .entry)) r (now (out .exit)) ⌝ }

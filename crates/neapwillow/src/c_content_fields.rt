@@ -1,6 +1,6 @@
 // The fields of a content table for C, asked for one by one.
 ghost use mathlib.Core.Path.{_≡_};
-ghost use Rattle.content_fields.specs.Asked.{identifierPart, identifierDigit, extension, languageCount, languagePart, signaturePart, lettersPart, characterSet, textPart, agencyPart, auxiliaryCount, auxiliaryType, auxiliaryPart};
+ghost use Rattle.content_fields.specs.Asked.{identifierPart, identifierDigit, extension, languageCount, languagePart, signaturePart, lettersPart, characterSet, textPart, agencyPart, auxiliaryCount, variantType, variantPart};
 ghost use Rattle.c_answers.specs.Answers.{numberAnswer, partAnswer};
 
 #[no_mangle]
@@ -81,15 +81,27 @@ pub extern "C" fn nw_language_auxiliary_count(body: &[u8], at: usize, length: us
 }
 
 #[no_mangle]
-pub extern "C" fn nw_language_auxiliary_type(body: &[u8], at: usize, length: usize, i: u64) -> u64
-    ensures { λ r. ⌜ r ≡ numberAnswer (auxiliaryType 3 (now (body .entry)) at length i) ⌝ }
+pub extern "C" fn nw_language_auxiliary_type(
+    variant: u32,
+    body: &[u8],
+    at: usize,
+    length: usize,
+    i: u64,
+) -> u64
+    ensures { λ r. ⌜ r ≡ numberAnswer (variantType variant (now (body .entry)) at length i) ⌝ }
 {
-    c_answers::number_answer(content_fields::auxiliary_type(body, at, length, i))
+    c_answers::number_answer(content_fields::auxiliary_type(variant, body, at, length, i))
 }
 
 #[no_mangle]
-pub extern "C" fn nw_language_auxiliary(body: &[u8], at: usize, length: usize, i: u64) -> u64
-    ensures { λ r. ⌜ r ≡ partAnswer (auxiliaryPart 3 (now (body .entry)) at length i) ⌝ }
+pub extern "C" fn nw_language_auxiliary(
+    variant: u32,
+    body: &[u8],
+    at: usize,
+    length: usize,
+    i: u64,
+) -> u64
+    ensures { λ r. ⌜ r ≡ partAnswer (variantPart variant (now (body .entry)) at length i) ⌝ }
 {
-    c_answers::part_answer(content_fields::auxiliary(body, at, length, i))
+    c_answers::part_answer(content_fields::auxiliary(variant, body, at, length, i))
 }

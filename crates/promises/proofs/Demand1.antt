@@ -37,8 +37,11 @@ use Rattle.body_formats.specs.Answers.{stepOf}
 use Rattle.body_formats.specs.Body.{writing, writtenOver, bodyWritten, outputWritten, laying, laidOver, bodyLaid, laidTape}
 use Rattle.body_formats.specs.declared.Step.the-variants.{Refused as NoStep}
 use Rattle.index.specs.Index.{Index}
-use Rattle.content.specs.Content.{Content, content}
-use Rattle.content_writer.specs.Written.{writtenOf, contentWritten}
+use Rattle.content_variant.specs.Variant.{widthOf, byWidth, opened}
+use Rattle.content_variant.specs.declared.Width.{Width}
+use Rattle.content_variant.specs.declared.Width.the-variants.{Bytes, Refused as NoWidth}
+use Rattle.content.specs.Content.{Content, contentKind, content, variantLaid, variantTape}
+use Rattle.content_writer.specs.Written.{writtenOf, contentWritten, variantWritten, variantOutput}
 use Rattle.content_writer.specs.declared.Written.the-variants.{Refused as NotWritten}
 use Rattle.index_records.specs.Records.{recording, bodyRecorded, recordedOver, recorded}
 use Rattle.index_records.specs.declared.Record.{Record}
@@ -71,13 +74,27 @@ written-keeps : {A : Type 0} (F : Format A) (out : List ℕ) (x : Reading A) (r 
 written-keeps F out (refused r′) r e = refl
 written-keeps F out (found a n) r e = absurd-answer (cc)
 
-content-keeps : (out : List ℕ) (x : Reading Content) (r : Refusal) → writtenOf x ≡ NotWritten r → writtenOver (content 3) out x ≡ out
-content-keeps out (refused r′) r e = refl
-content-keeps out (found a n) r e = absurd-answer (cc)
+content-keeps : (w : ℕ) (out : List ℕ) (x : Reading Content) (r : Refusal) → writtenOf x ≡ NotWritten r → writtenOver (content w) out x ≡ out
+content-keeps w out (refused r′) r e = refl
+content-keeps w out (found a n) r e = absurd-answer (cc)
+
+-- of a variant, which is refused or has its width
+variant-keeps : (pool tape out : List ℕ) (x : Width) (r : Refusal) → byWidth x (λ w. contentWritten w pool tape (length out)) NotWritten ≡ NotWritten r
+    → byWidth x (λ w. outputWritten (content w) pool tape out) (λ u. out) ≡ out
+unfolding contentWritten outputWritten
+variant-keeps pool tape out (Bytes w) r e = content-keeps w out (writing (content w) pool tape (length out)) r e
+variant-keeps pool tape out (NoWidth u) r e = refl
 
 laid-keeps : {A : Type 0} (F : Format A) (tape : List ℕ) (x : Reading A) (r : Refusal) → stepOf x ≡ NoStep r → laidOver F tape x ≡ tape
 laid-keeps F tape (refused r′) r e = refl
 laid-keeps F tape (found a n) r e = absurd-answer (cc)
+
+variant-laid-keeps : (kind : ℕ) (body tape : List ℕ) (x : Width) (r : Refusal)
+    → byWidth x (λ w. bodyLaid (content w) contentKind kind body (length tape)) NoStep ≡ NoStep r
+    → byWidth x (λ w. laidTape (content w) contentKind kind body tape) (λ u. tape) ≡ tape
+unfolding bodyLaid laidTape
+variant-laid-keeps kind body tape (Bytes w) r e = laid-keeps (content w) tape (laying (content w) contentKind kind body (length tape)) r e
+variant-laid-keeps kind body tape (NoWidth u) r e = refl
 
 recorded-keeps : (list : List Record) (x : Reading Index) (r : Refusal) → stepOf x ≡ NoStep r → recordedOver list x ≡ list
 recorded-keeps list (refused r′) r e = refl
@@ -92,7 +109,7 @@ fed-keeps store payload (Begin h) r e = absurd-answer (cc)
 fed-keeps store payload (Take h) r e = absurd-answer (cc)
 
 writes-nothing : WritesNothing
-unfolding feeding.fedOf feeding.storeAfter handedOf outAfter bodyWritten contentWritten outputWritten bodyLaid laidTape bodyRecorded recorded packing.packingOf packing.storePacked
+unfolding feeding.fedOf feeding.storeAfter handedOf outAfter bodyWritten variantWritten variantOutput variantLaid variantTape outputWritten bodyLaid laidTape bodyRecorded recorded packing.packingOf packing.storePacked
 writes-nothing =
     record {
       cutter = λ body kind extension version number out. cut-keeps (cutter.cutting body kind extension version number (length out)) out;
@@ -100,7 +117,8 @@ writes-nothing =
       hand-out = λ g store out. handed-keeps (bodyHeld g store) out (handedOf g store out);
       pack = λ g store. handed-keeps (bodyHeld g store) store (packing.packedOf g store);
       writers = λ F pool tape out. written-keeps F out (writing F pool tape (length out));
-      content-writer = λ pool tape out. content-keeps out (writing (content 3) pool tape (length out));
+      content-writer = λ v pool tape out. variant-keeps pool tape out (widthOf v);
+      content-layer = λ kind v body tape. variant-laid-keeps kind body tape (opened kind v (length body));
       layers = λ F own kind body tape. laid-keeps F tape (laying F own kind body (length tape));
       records = λ kind body list. recorded-keeps list (recording kind body (length list));
     }

@@ -8,7 +8,7 @@ use lib.ListN.{length, getD, take}
 use lib.Dec.{ltb, leb, eqb}
 use borrow.Author.Tests.{ltb-true, eqb-true, le-leb, eq-eqb, ne-eqb}
 use Rattle.ground_choices.proofs.Tests.{both}
-use Rattle.ground_refusal.specs.declared.Refusal.the-variants.{OtherKind, OutputTooSmall, OtherChecksum}
+use Rattle.ground_refusal.specs.declared.Refusal.the-variants.{OtherKind, OutsideSet, OutputTooSmall, OtherChecksum}
 use Rattle.ground_placing.specs.Placed.{placed}
 use Rattle.ground_placing.proofs.Placing.{placed-start}
 use Rattle.crc.specs.Crc.{AreBytes, crc16Of}
@@ -45,13 +45,19 @@ use Rattle.content.specs.Content.{Content, contentKind, content, readingOf, con
 use Rattle.content.proofs.Extension.{other-before}
 use Rattle.content.proofs.RoundTrips.{content-trips}
 use Rattle.content.proofs.Smallest.{content-takes, smallestBody, smallest-accepted}
+use Rattle.content.proofs.Variants.{read-no, laid-no, unnamed-tape, variant-reads, variant-lays, variant-tape}
+use Rattle.content_variant.specs.Variant.{widthOf}
+use Rattle.content_variant.specs.declared.Width.the-variants.{Bytes, Refused as NoWidth}
+use Rattle.content_variant.proofs.Variant as variant
+use Rattle.content_fields.proofs.Answers.{variant-type-no, variant-type-is, variant-part-no, variant-part-is}
 use Rattle.content_fields.proofs.Asked.{content-asked}
 use Rattle.content_writer.specs.Written.{writtenOf, contentWritten}
 use Rattle.content_writer.specs.declared.Written.the-variants.{Of}
+use Rattle.content_writer.proofs.Variants.{measured-no, written-no, output-no, measured-wide, written-wide, output-wide}
 use Rattle.configuration.specs.Configuration.{configurationKind, configuration}
 use Rattle.configuration.proofs.RoundTrips.{configuration-trips}
 use Rattle.configuration_fields.proofs.Asked.{configuration-asked}
-use Rattle.promises.specs.Demand2.{WellFormed, Holds, WrittenAndRead, Checked, HoldsContent, Extended, Smallest, SectionsRead, Times, Days, Demand2}
+use Rattle.promises.specs.Demand2.{WellFormed, Holds, WrittenAndRead, Checked, HoldsContent, Extended, Smallest, OfWidth, IsVariant, NoVariant, Variants, SectionsRead, Times, Days, Demand2}
 use Rattle.promises.proofs.LocalTimes.{local-times}
 use Rattle.promises.proofs.RealDays.{real-days}
 
@@ -150,31 +156,31 @@ module _ {A : Type 0} (F : Format A) (own : ℕ) (f : trips.RoundTrips F own) wh
 
 -- ---- the content table's extension
 
-module _ (kind extension : ℕ) (body : List ℕ) where
-  content-holds : (t : Content) → AreBytes body → readingOf 3 kind extension body ≡ found t (length body) → HoldsContent kind extension body t
+module _ (w kind extension : ℕ) (body : List ℕ) where
+  content-holds : (t : Content) → AreBytes body → readingOf w kind extension body ≡ found t (length body) → HoldsContent w kind extension body t
   unfolding readingOf
   content-holds t b e =
-      let i = andThen-found (reading (content 3) contentKind kind body) _ t (length body) e in
+      let i = andThen-found (reading (content w) contentKind kind body) _ t (length body) e in
       let c = need-found (eqb extension (extensionOf (i .0 .identifier))) OtherChecksum _ t (length body) (i .3) in
-      let h : HoldsContent kind extension body (i .0) =
+      let h : HoldsContent w kind extension body (i .0) =
       record {
-        holds = read-holds (content 3) contentKind (content-trips 3) kind body (i .0) (i .1) b (i .2) .0;
+        holds = read-holds (content w) contentKind (content-trips w) kind body (i .0) (i .1) b (i .2) .0;
         extension-is = eqb-true extension (extensionOf (i .0 .identifier)) (c .0);
       } in
-      subst (HoldsContent kind extension body) (found-inj (c .1) .0) h
+      subst (HoldsContent w kind extension body) (found-inj (c .1) .0) h
 
-  content-reads : (t : Content) → HoldsContent kind extension body t → readingOf 3 kind extension body ≡ found t (length body)
+  content-reads : (t : Content) → HoldsContent w kind extension body t → readingOf w kind extension body ≡ found t (length body)
   unfolding readingOf
   content-reads t h =
-      rw (held-reads (content 3) contentKind (content-trips 3) kind body t (h .holds), eq-eqb extension (extensionOf (t .identifier)) (h .extension-is))
+      rw (held-reads (content w) contentKind (content-trips w) kind body t (h .holds), eq-eqb extension (extensionOf (t .identifier)) (h .extension-is))
 
-  content-accepts : AreBytes body → contentRead 3 kind extension body ≡ At (length body) → (t : Content) × HoldsContent kind extension body t
+  content-accepts : AreBytes body → contentRead w kind extension body ≡ At (length body) → (t : Content) × HoldsContent w kind extension body t
   unfolding contentRead
   content-accepts b e =
-      let x = step-found (readingOf 3 kind extension body) (length body) e in
+      let x = step-found (readingOf w kind extension body) (length body) e in
       (x .0, content-holds (x .0) b (x .1))
 
-  content-accepted : (t : Content) → HoldsContent kind extension body t → contentRead 3 kind extension body ≡ At (length body)
+  content-accepted : (t : Content) → HoldsContent w kind extension body t → contentRead w kind extension body ≡ At (length body)
   unfolding contentRead
   content-accepted t h = ap stepOf (content-reads t h)
 
@@ -186,44 +192,44 @@ given (found t m) n extension e =
     (t, ap (found t) a, b)
 given (refused r) n extension e = absurd (let z : _≡_ {A = ℕ} 0 1 = cc in omega arith)
 
-written-with : (pool tape out : List ℕ) (n extension : ℕ) → contentWritten pool tape (length out) ≡ Of n extension
-    → (t : Content) × (outputWritten (content 3) pool tape out ≡ placed out 0 (content 3 .print t)) × (readingOf 3 contentKind extension (content 3 .print t) ≡ found t n)
+written-with : (w : ℕ) (pool tape out : List ℕ) (n extension : ℕ) → contentWritten w pool tape (length out) ≡ Of n extension
+    → (t : Content) × (outputWritten (content w) pool tape out ≡ placed out 0 (content w .print t)) × (readingOf w contentKind extension (content w .print t) ≡ found t n)
 unfolding contentWritten readingOf
-written-with pool tape out n extension e =
-    let g = given (writing (content 3) pool tape (length out)) n extension e in
-    let r = round-trips (content 3) contentKind (content-trips 3) .reads-back pool tape out (g .0) n (g .1) in
+written-with w pool tape out n extension e =
+    let g = given (writing (content w) pool tape (length out)) n extension e in
+    let r = round-trips (content w) contentKind (content-trips w) .reads-back pool tape out (g .0) n (g .1) in
     (g .0, r .0, rw (r .2, eq-eqb extension (extensionOf (g .0 .identifier)) (g .2)))
 
-old-refused : (kind : ℕ) (body : List ℕ) (t : Content) → Holds (content 3) contentKind kind body t
-    → contentRead 3 kind (crc16Of (take 18 body)) body ≡ NoStep OtherChecksum
+old-refused : (w kind : ℕ) (body : List ℕ) (t : Content) → Holds (content w) contentKind kind body t
+    → contentRead w kind (crc16Of (take 18 body)) body ≡ NoStep OtherChecksum
 unfolding contentRead readingOf
-old-refused kind body t h =
+old-refused w kind body t h =
     let never : crc16Of (take 18 body) ≡ extensionOf (t .identifier) → ⊥ = λ e.
-    other-before 3 t (ok (content 3) contentKind (content-trips 3) t (h .formed)) (ap (λ (s : List ℕ). crc16Of (take 18 s)) (sym (h .body-is)) ∙ e) in
-    rw (held-reads (content 3) contentKind (content-trips 3) kind body t h, ne-eqb (crc16Of (take 18 body)) (extensionOf (t .identifier)) never)
+    other-before w t (ok (content w) contentKind (content-trips w) t (h .formed)) (ap (λ (s : List ℕ). crc16Of (take 18 s)) (sym (h .body-is)) ∙ e) in
+    rw (held-reads (content w) contentKind (content-trips w) kind body t h, ne-eqb (crc16Of (take 18 body)) (extensionOf (t .identifier)) never)
 
 checked : Checked
 checked = record { whole-bytes = crc16-whole; four-ones = four-ones; no-more = checked-bits }
 
-extended : Extended
-extended =
+extended : (w : ℕ) → Extended w
+extended w =
     record {
-      reads-exactly = λ kind extension body t b. (content-holds kind extension body t b, content-reads kind extension body t);
-      accepts-exactly = λ kind extension body b. (content-accepts kind extension body b, λ x. content-accepted kind extension body (x .0) (x .1));
-      written-with = written-with;
-      old-refused = old-refused;
+      reads-exactly = λ kind extension body t b. (content-holds w kind extension body t b, content-reads w kind extension body t);
+      accepts-exactly = λ kind extension body b. (content-accepts w kind extension body b, λ x. content-accepted w kind extension body (x .0) (x .1));
+      written-with = written-with w;
+      old-refused = old-refused w;
     }
 
 -- ---- the smallest content body
 
-module _ (kind extension : ℕ) (body : List ℕ) where
-  content-least : (n : ℕ) → AreBytes body → contentRead 3 kind extension body ≡ At n → 33 ≤ length body
+module _ (w kind extension : ℕ) (body : List ℕ) where
+  content-least : (n : ℕ) → AreBytes body → contentRead w kind extension body ≡ At n → 33 ≤ length body
   unfolding contentRead readingOf
   content-least n b e =
-      let x = step-found (readingOf 3 kind extension body) n e in
-      let i = andThen-found (reading (content 3) contentKind kind body) _ (x .0) n (x .1) in
-      let h = read-holds (content 3) contentKind (content-trips 3) kind body (i .0) (i .1) b (i .2) .0 in
-      subst (λ (s : List ℕ). 33 ≤ length s) (sym (h .body-is)) (content-takes 3 (i .0) (h .formed .writable))
+      let x = step-found (readingOf w kind extension body) n e in
+      let i = andThen-found (reading (content w) contentKind kind body) _ (x .0) n (x .1) in
+      let h = read-holds (content w) contentKind (content-trips w) kind body (i .0) (i .1) b (i .2) .0 in
+      subst (λ (s : List ℕ). 33 ≤ length s) (sym (h .body-is)) (content-takes w (i .0) (h .formed .writable))
 
 all-bytes : (s : List ℕ) → every (λ x. ltb x 256) s ≡ true → (i : ℕ) → getD s i 0 < 256
 unfolding every
@@ -231,17 +237,66 @@ all-bytes [] e i = omega arith
 all-bytes (x ∷ xs) e zero = ltb-true x 256 (both (ltb x 256) _ e .0)
 all-bytes (x ∷ xs) e (suc i) = all-bytes xs (both (ltb x 256) _ e .1) i
 
-smallest-read : (t : Content) × (reading (content 3) contentKind contentKind smallestBody ≡ found t 33)
+smallest-read : (w : ℕ) → (t : Content) × (reading (content w) contentKind contentKind smallestBody ≡ found t 33)
 unfolding bodyRead
-smallest-read = step-found (reading (content 3) contentKind contentKind smallestBody) 33 smallest-accepted
+smallest-read w = step-found (reading (content w) contentKind contentKind smallestBody) 33 (smallest-accepted w)
 
-smallest : Smallest
+smallest : (w : ℕ) → Smallest w
 unfolding contentRead readingOf every smallestBody
-smallest =
-    let given = extensionOf (smallest-read .0 .identifier) in
+smallest w =
+    let given = extensionOf (smallest-read w .0 .identifier) in
     record {
-      least = content-least;
-      reached = (given, smallestBody, record { byte = all-bytes smallestBody refl }, refl, rw (smallest-read .1, eq-eqb given given refl));
+      least = content-least w;
+      reached = (given, smallestBody, record { byte = all-bytes smallestBody refl }, refl, rw (smallest-read w .1, eq-eqb given given refl));
+    }
+
+-- ---- the content table's variants
+
+of-width : (w : ℕ) → OfWidth w
+of-width w =
+    record {
+      written-and-read = round-trips (content w) contentKind (content-trips w);
+      extended = extended w;
+      smallest = smallest w;
+      asked = λ kind body t b h.
+          content-asked w kind body (b .byte) t (length body) (held-reads (content w) contentKind (content-trips w) kind body t h);
+    }
+
+is-variant : (v w : ℕ) → Bytes w ≡ widthOf v → IsVariant v w
+is-variant v w e =
+    record {
+      reads = λ kind extension body. variant-reads v w e kind body extension;
+      lays = λ kind body. variant-lays v w e kind body;
+      tape-left = λ kind body. variant-tape v w e kind body;
+      measures = λ pool tape. sym (measured-wide v w e pool tape);
+      writes = λ pool tape room. sym (written-wide v w e pool tape room);
+      output-left = λ pool tape out. sym (output-wide v w e pool tape out);
+      type-asked = λ body at n i. sym (variant-type-is v w e body at n i);
+      file-asked = λ body at n i. sym (variant-part-is v w e body at n i);
+    }
+
+no-variant : (v : ℕ) → NoWidth (OutsideSet 0) ≡ widthOf v → NoVariant v
+no-variant v e =
+    record {
+      other-kind = λ kind extension body h. sym (read-no kind v body OtherKind (variant.other-kind kind v (length body) h) extension);
+      other-kind-laid = λ kind body room h. sym (laid-no kind v body OtherKind (variant.other-kind kind v (length body) h) room);
+      unread = λ extension body. sym (read-no contentKind v body (OutsideSet 0) (variant.no-variant contentKind v (length body) refl (OutsideSet 0) e) extension);
+      unlaid = λ body room. sym (laid-no contentKind v body (OutsideSet 0) (variant.no-variant contentKind v (length body) refl (OutsideSet 0) e) room);
+      tape-stays = λ kind body tape. unnamed-tape kind v body (OutsideSet 0) e tape;
+      unmeasured = λ pool tape. sym (measured-no v (OutsideSet 0) e pool tape);
+      unwritten = λ pool tape room. sym (written-no v (OutsideSet 0) e pool tape room);
+      output-stays = λ pool tape out. sym (output-no v (OutsideSet 0) e pool tape out);
+      no-type = λ body at n i. sym (variant-type-no v (OutsideSet 0) e body at n i);
+      no-file = λ body at n i. sym (variant-part-no v (OutsideSet 0) e body at n i);
+    }
+
+variants : Variants
+variants =
+    record {
+      of-width = of-width;
+      is-24 = is-variant 24 3 (variant.width-24 24 refl);
+      is-32 = is-variant 32 4 (variant.width-32 32 refl);
+      no-other = λ v a b. no-variant v (variant.no-width v a b);
     }
 
 -- ---- sections
@@ -287,18 +342,14 @@ demand2 =
     record {
       certificates = round-trips certificate certificateKind certificate-trips;
       indexes = round-trips index indexKind index-trips;
-      contents = round-trips (content 3) contentKind (content-trips 3);
+      contents = variants;
       configurations = round-trips configuration configurationKind configuration-trips;
       real-days = real-days;
       checked = checked;
-      extended = extended;
-      smallest-content = smallest;
       certificates-asked = λ kind body t b h.
           certificate-asked kind body (b .byte) t (length body) (held-reads certificate certificateKind certificate-trips kind body t h);
       indexes-asked = λ kind body t b h.
           index-asked kind body (b .byte) t (length body) (held-reads index indexKind index-trips kind body t h);
-      contents-asked = λ kind body t b h.
-          content-asked 3 kind body (b .byte) t (length body) (held-reads (content 3) contentKind (content-trips 3) kind body t h);
       configurations-asked = λ kind body t b h.
           configuration-asked kind body (b .byte) t (length body) (held-reads configuration configurationKind configuration-trips kind body t h);
       records-are = λ kind body t b h.

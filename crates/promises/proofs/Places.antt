@@ -1,6 +1,6 @@
 -- The places of refusals: for every table from its format's laws, for the others because each names the refusals that it gives.
 use Prim.Native.Nat.{ℕ, _+_, _-_, _≤_, zero-le}
-use mathlib.Core.Path.{_≡_, refl, ap, subst, _∙_}
+use mathlib.Core.Path.{_≡_, refl, sym, ap, subst, _∙_}
 use mathlib.Core.Bool.{Bool, true, false, not, _&&_}
 use mathlib.Core.List.{List}
 use native.Mathlib.Omega.{arith}
@@ -36,7 +36,7 @@ use Rattle.gathering_hand_out.specs.declared.Handed.the-variants.{Body, Refused
 use Rattle.body_formats.specs.Reading.{Reading, found, refused, need}
 use Rattle.body_formats.specs.Format.{Format}
 use Rattle.body_formats.specs.Answers.{stepOf}
-use Rattle.body_formats.specs.Body.{reading, measuring, measured, fitting, writing, bodyWritten}
+use Rattle.body_formats.specs.Body.{reading, measuring, measured, fitting, writing, bodyWritten, bodyLaid}
 use Rattle.body_formats.specs.declared.Step.the-variants.{At, Refused as NoStep}
 use Rattle.body_formats.proofs.Places.{Until, ends, stands, then-until, need-until, Placed, step-place, reading-until, read-place, laid-place, measured-place, writing-until, written-place}
 use Rattle.certificate.specs.Certificate.{certificateKind, certificate}
@@ -44,9 +44,14 @@ use Rattle.certificate.proofs.Places.{certificate-placed}
 use Rattle.index.specs.Index.{indexKind, index}
 use Rattle.index.proofs.Places.{index-placed}
 use Rattle.index_records.specs.Records.{recording, bodyRecorded}
-use Rattle.content.specs.Content.{Content, contentKind, content}
-use Rattle.content.proofs.Places.{content-placed, extended-place}
-use Rattle.content_writer.specs.Written.{writtenOf, contentWritten}
+use Rattle.content_variant.specs.Variant.{widthOf, byWidth, opened}
+use Rattle.content_variant.specs.declared.Width.{Width}
+use Rattle.content_variant.specs.declared.Width.the-variants.{Bytes, Refused as NoWidth}
+use Rattle.content_variant.proofs.Variant.{width-place, opened-place}
+use Rattle.content.specs.Content.{Content, contentKind, content, variantLaid}
+use Rattle.content.proofs.Places.{content-placed}
+use Rattle.content.proofs.Variants.{variant-place}
+use Rattle.content_writer.specs.Written.{writtenOf, contentWritten, variantMeasured, variantWritten}
 use Rattle.content_writer.specs.declared.Written.the-variants.{Refused as NotWritten}
 use Rattle.configuration.specs.Configuration.{configurationKind, configuration}
 use Rattle.configuration.proofs.Places.{configuration-placed}
@@ -100,15 +105,45 @@ recorded kind body room =
     (then-until {last′ = room} (reading index indexKind kind body) _ (reading-until index index-placed indexKind kind body) (λ t q m.
     need-until (leb (length (t .messages)) room) _ zero-le (λ u. ends (leb-true _ _ u))))
 
-content-written : (pool tape : List ℕ) (room : ℕ) (r : Refusal) → contentWritten pool tape room ≡ NotWritten r → refusalPlace r ≡ 0
-unfolding contentWritten
-content-written pool tape room r e = go (writing (content 3) pool tape room) (writing-until (content 3) pool tape room) e
-  where
-    go : (x : Reading Content) → Until 0 room x → writtenOf x ≡ NotWritten r → refusalPlace r ≡ 0
-    go (found t n) h e = absurd-answer (cc)
-    go (refused r′) (stands h) e =
-        let same : r′ ≡ r = cc in
-        omega (arith, subst (λ (q : Refusal). refusalPlace q ≤ 0) same h)
+-- the content table's calls, by the variant: it is refused at place 0, or its width answers
+module _ (kind v : ℕ) (body : List ℕ) where
+  content-laid : (room : ℕ) (r : Refusal) → variantLaid kind v body room ≡ NoStep r → refusalPlace r ≤ length body
+  unfolding variantLaid
+  content-laid room r e = go (opened kind v (length body)) refl e
+    where
+      go : (x : Width) → opened kind v (length body) ≡ x → byWidth x (λ w. bodyLaid (content w) contentKind kind body room) NoStep ≡ NoStep r
+          → refusalPlace r ≤ length body
+      go (Bytes w) k f = laid-place (content w) (content-placed w) contentKind kind body room r f
+      go (NoWidth t) k f =
+          let same : t ≡ r = cc in
+          omega (arith, ap refusalPlace same, opened-place kind v (length body) t (sym k))
+
+module _ (v : ℕ) (pool tape : List ℕ) where
+  content-measured : (r : Refusal) → variantMeasured v pool tape ≡ NoStep r → refusalPlace r ≤ length tape
+  unfolding variantMeasured
+  content-measured r e = go (widthOf v) refl e
+    where
+      go : (x : Width) → widthOf v ≡ x → byWidth x (λ w. measured (content w) pool tape) NoStep ≡ NoStep r → refusalPlace r ≤ length tape
+      go (Bytes w) k f = measured-place (content w) (content-placed w) pool tape r f
+      go (NoWidth t) k f =
+          let same : t ≡ r = cc in
+          omega (arith, ap refusalPlace same, width-place v t (sym k))
+
+  content-written : (room : ℕ) (r : Refusal) → variantWritten v pool tape room ≡ NotWritten r → refusalPlace r ≡ 0
+  unfolding variantWritten contentWritten
+  content-written room r e = go (widthOf v) refl e
+    where
+      refusing : (x : Reading Content) → Until 0 room x → writtenOf x ≡ NotWritten r → refusalPlace r ≡ 0
+      refusing (found t n) h f = absurd-answer (cc)
+      refusing (refused r′) (stands h) f =
+          let same : r′ ≡ r = cc in
+          omega (arith, subst (λ (q : Refusal). refusalPlace q ≤ 0) same h)
+
+      go : (x : Width) → widthOf v ≡ x → byWidth x (λ w. writtenOf (writing (content w) pool tape room)) NotWritten ≡ NotWritten r → refusalPlace r ≡ 0
+      go (Bytes w) k f = refusing (writing (content w) pool tape room) (writing-until (content w) pool tape room) f
+      go (NoWidth t) k f =
+          let same : t ≡ r = cc in
+          ap refusalPlace (sym same) ∙ width-place v t (sym k)
 
 -- ---- what names its refusals one after the other: each of them has Q
 
@@ -241,10 +276,12 @@ places =
     record {
       certificates = of-table certificate certificateKind certificate-placed;
       indexes = of-table index indexKind index-placed;
-      contents = of-table (content 3) contentKind (content-placed 3);
+      contents = λ w. of-table (content w) contentKind (content-placed w);
       configurations = of-table configuration configurationKind configuration-placed;
       recorded = recorded;
-      extended = extended-place 3;
+      extended = variant-place;
+      content-laid = content-laid;
+      content-measured = content-measured;
       content-written = content-written;
       section = section-place;
       fed = verdict-nowhere;

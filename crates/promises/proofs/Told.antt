@@ -59,9 +59,12 @@ use Rattle.body_formats.proofs.RoundTrips.{measured-value, written-measured}
 use Rattle.index.specs.Index.{Index, indexKind, index}
 use Rattle.index_records.specs.Records.{recording, bodyRecorded}
 use Rattle.body_extension.specs.Extension.{extensionOf}
+use Rattle.content_variant.specs.Variant.{widthOf, byWidth}
+use Rattle.content_variant.specs.declared.Width.{Width}
+use Rattle.content_variant.specs.declared.Width.the-variants.{Bytes, Refused as NoWidth}
 use Rattle.content.specs.Content.{Content, content}
-use Rattle.content_writer.specs.Written.{writtenOf, contentWritten}
-use Rattle.content_writer.specs.declared.Written.the-variants.{Of as WrittenOf}
+use Rattle.content_writer.specs.Written.{writtenOf, contentWritten, variantWritten}
+use Rattle.content_writer.specs.declared.Written.the-variants.{Of as WrittenOf, Refused as NotWritten}
 use Rattle.c_answers.specs.Answers.{answerOf, localAnswer, sectionAnswer, contentAnswer, localFieldAnswer}
 use Rattle.c_answers.specs.Taking.{TellsValue, TellsTime, TellsHeading, TellsContent}
 use Rattle.c_answers.proofs.Taking.{refusal-told, value-told, date-told, time-told, heading-told, part-told, content-told}
@@ -195,18 +198,23 @@ extension-fits : (ds : List ℕ) → extensionOf ds < 2 ^ 16
 unfolding extensionOf crc16Bits
 extension-fits ds = crc-lt 16 _ _ _
 
-content-back : (pool tape : List ℕ) (room n extension : ℕ) → contentWritten pool tape room ≡ WrittenOf n extension
+content-back : (v : ℕ) (pool tape : List ℕ) (room n extension : ℕ) → variantWritten v pool tape room ≡ WrittenOf n extension
     → TellsContent (contentAnswer (WrittenOf n extension)) extension n
-unfolding contentWritten
-content-back pool tape room n extension e = go (writing (content 3) pool tape room) refl e
+unfolding variantWritten contentWritten
+content-back v pool tape room n extension e = by-width (widthOf v) e
   where
-    go : (x : Reading Content) → writing (content 3) pool tape room ≡ x → writtenOf x ≡ WrittenOf n extension
+    of-width : (w : ℕ) (x : Reading Content) → writing (content w) pool tape room ≡ x → writtenOf x ≡ WrittenOf n extension
         → TellsContent (contentAnswer (WrittenOf n extension)) extension n
-    go (found c q) w e =
+    of-width w (found c q) f e =
         let z : extensionOf (c .identifier) ≡ extension = cc in
         let y : q ≡ n = cc in
-        content-told extension n (rw (← z) (extension-fits (c .identifier))) (rw (← y) (written-most (content 3) pool tape room c q w))
-    go (refused r) w e = let z : _≡_ {A = ℕ} 0 1 = cc in absurd (omega arith)
+        content-told extension n (rw (← z) (extension-fits (c .identifier))) (rw (← y) (written-most (content w) pool tape room c q f))
+    of-width w (refused r) f e = let z : _≡_ {A = ℕ} 0 1 = cc in absurd (omega arith)
+
+    by-width : (x : Width) → byWidth x (λ w. writtenOf (writing (content w) pool tape room)) NotWritten ≡ WrittenOf n extension
+        → TellsContent (contentAnswer (WrittenOf n extension)) extension n
+    by-width (Bytes w) e = of-width w (writing (content w) pool tape room) refl e
+    by-width (NoWidth r) e = let z : _≡_ {A = ℕ} 0 1 = cc in absurd (omega arith)
 
 -- ---- refusals
 

@@ -20,8 +20,8 @@ use Rattle.gathering_pack.specs.Packing.{packingOf, storePacked}
 use Rattle.body_formats.specs.Format.{Format}
 use Rattle.body_formats.specs.Body.{bodyWritten, outputWritten, bodyLaid, laidTape}
 use Rattle.body_formats.specs.declared.Step.the-variants.{Refused as NoStep}
-use Rattle.content.specs.Content.{content}
-use Rattle.content_writer.specs.Written.{contentWritten}
+use Rattle.content.specs.Content.{variantLaid, variantTape}
+use Rattle.content_writer.specs.Written.{variantWritten, variantOutput}
 use Rattle.content_writer.specs.declared.Written.the-variants.{Refused as NotWritten}
 use Rattle.index_records.specs.Records.{bodyRecorded, recorded}
 use Rattle.index_records.specs.declared.Record.{Record}
@@ -41,7 +41,7 @@ pub record Numbered : Type 0 where
 
 -- "[..] given exactly when the list says": for sections, the gathering, the cutter, local times and text `Lists` states it, list by list. For
 -- bodies and writers the order is that of the fields, and the list is the definition that the answer is equal to (`Offered`): `reading` and the
--- tables' formats, for content `readingOf`; `writing`. So it is for days and instants, which have 18 to 20 alone: `dayOf`, `dateOf`, `showing`.
+-- tables' formats, for content `variantRead`; `writing`, for content `variantWritten`. So it is for days and instants, which have 18 to 20 alone: `dayOf`, `dateOf`, `showing`.
 
 -- "[..] and a refused call writes nothing": whatever the refusal r, the output, the store, the tape and the list of records are left as they were
 pub record WritesNothing : Type 1 where
@@ -52,7 +52,9 @@ pub record WritesNothing : Type 1 where
   pub pack : (g : Gathering) (store : List ℕ) (r : Refusal) → packingOf g store .answer ≡ NotHanded r → storePacked g store ≡ store
   -- once for every format, so for every table
   pub writers : {A : Type 0} (F : Format A) (pool tape out : List ℕ) (r : Refusal) → bodyWritten F pool tape (length out) ≡ NoStep r → outputWritten F pool tape out ≡ out
-  pub content-writer : (pool tape out : List ℕ) (r : Refusal) → contentWritten pool tape (length out) ≡ NotWritten r → outputWritten (content 3) pool tape out ≡ out
+  -- and of the content table, whatever the variant
+  pub content-writer : (v : ℕ) (pool tape out : List ℕ) (r : Refusal) → variantWritten v pool tape (length out) ≡ NotWritten r → variantOutput v pool tape out ≡ out
+  pub content-layer : (kind v : ℕ) (body tape : List ℕ) (r : Refusal) → variantLaid kind v body (length tape) ≡ NoStep r → variantTape kind v body tape ≡ tape
   pub layers : {A : Type 0} (F : Format A) (own kind : ℕ) (body tape : List ℕ) (r : Refusal)
       → bodyLaid F own kind body (length tape) ≡ NoStep r → laidTape F own kind body tape ≡ tape
   pub records : (kind : ℕ) (body : List ℕ) (list : List Record) (r : Refusal) → bodyRecorded kind body (length list) ≡ NoStep r → recorded kind body list ≡ list

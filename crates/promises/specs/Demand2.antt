@@ -5,7 +5,7 @@ use mathlib.Core.Bool.{true, false}
 use mathlib.Core.List.{List, _∷_}
 use mathlib.Core.Logic.{_↔_}
 use lib.ListN.{length, take}
-use Rattle.ground_refusal.specs.declared.Refusal.the-variants.{ImpossibleDay, OtherChecksum}
+use Rattle.ground_refusal.specs.declared.Refusal.the-variants.{OtherKind, OutsideSet, ImpossibleDay, OtherChecksum}
 use Rattle.ground_placing.specs.Placed.{placed}
 use Rattle.crc_register.specs.Register.{bytesBits}
 use Rattle.crc.specs.Crc.{AreBytes, crc16Of, crc16Bits}
@@ -25,7 +25,7 @@ use Rattle.section_cutter.specs.declared.Cut.the-variants.{Written}
 use Rattle.body_formats.specs.Reading.{found, andThen, unless, judged}
 use Rattle.body_formats.specs.Format.{Format, decimal, digits}
 use Rattle.ground_numbers.specs.Sizes.{bodyMost}
-use Rattle.body_formats.specs.Body.{reading, bodyRead, writing, bodyWritten, outputWritten, bodyLaid, laidTape}
+use Rattle.body_formats.specs.Body.{reading, bodyRead, measured, writing, bodyWritten, outputWritten, bodyLaid, laidTape}
 use Rattle.body_formats.specs.declared.Step.the-variants.{At, Refused as NoStep}
 use Rattle.body_formats.specs.Identifier.{identifierPairs, identifierYear, identifierMonth, identifierDay, hasRealDay, identifier}
 use Rattle.body_extension.specs.Extension.{identifierBits, extensionOf}
@@ -34,10 +34,13 @@ use Rattle.certificate_fields.specs.Agreement.{CertificateAsked}
 use Rattle.index.specs.Index.{Index, indexKind, index}
 use Rattle.index_fields.specs.Agreement.{IndexAsked}
 use Rattle.index_records.specs.Agreement.{RecordsAre}
-use Rattle.content.specs.Content.{Content, contentKind, content, readingOf, contentRead}
+use Rattle.body_formats.specs.declared.Number.the-variants.{Refused as NoNumber}
+use Rattle.body_formats.specs.declared.Part.the-variants.{Refused as NoPart}
+use Rattle.content.specs.Content.{Content, contentKind, content, readingOf, contentRead, variantRead, variantLaid, variantTape}
+use Rattle.content_fields.specs.Asked.{auxiliaryType, auxiliaryPart, variantType, variantPart}
 use Rattle.content_fields.specs.Agreement.{ContentAsked}
-use Rattle.content_writer.specs.Written.{contentWritten}
-use Rattle.content_writer.specs.declared.Written.the-variants.{Of}
+use Rattle.content_writer.specs.Written.{contentWritten, variantMeasured, variantWritten, variantOutput}
+use Rattle.content_writer.specs.declared.Written.the-variants.{Of, Refused as NotWritten}
 use Rattle.configuration.specs.Configuration.{Configuration, configurationKind, configuration}
 use Rattle.configuration_fields.specs.Agreement.{ConfigurationAsked}
 use Rattle.promises.specs.LocalTimes.{LocalTimes}
@@ -100,27 +103,65 @@ pub record RealDays : Type 0 where
   pub form-judged : (pool tape : List ℕ) (k : ℕ)
       → identifier .form pool tape k ≡ andThen (digits identifierPairs .form pool tape k) (λ ds j. judged (unless (hasRealDay ds) (ImpossibleDay k)) (found ds j))
 
--- a content table also has the extension of its identifier
-pub record HoldsContent (kind extension : ℕ) (body : List ℕ) (t : Content) : Type 0 where
-  pub holds : Holds (content 3) contentKind kind body t
+-- a content table, whose auxiliary files have lengths of w bytes, also has the extension of its identifier
+pub record HoldsContent (w kind extension : ℕ) (body : List ℕ) (t : Content) : Type 0 where
+  pub holds : Holds (content w) contentKind kind body t
   pub extension-is : extension ≡ extensionOf (t .identifier)
 
-pub record Extended : Type 0 where
+pub record Extended (w : ℕ) : Type 0 where
   pub reads-exactly : (kind extension : ℕ) (body : List ℕ) (t : Content) → AreBytes body
-      → (readingOf 3 kind extension body ≡ found t (length body)) ↔ HoldsContent kind extension body t
+      → (readingOf w kind extension body ≡ found t (length body)) ↔ HoldsContent w kind extension body t
   pub accepts-exactly : (kind extension : ℕ) (body : List ℕ) → AreBytes body
-      → (contentRead 3 kind extension body ≡ At (length body)) ↔ ((t : Content) × HoldsContent kind extension body t)
+      → (contentRead w kind extension body ≡ At (length body)) ↔ ((t : Content) × HoldsContent w kind extension body t)
   -- "the content writer also gives the extension": what it wrote reads back with the one that it gave
-  pub written-with : (pool tape out : List ℕ) (n extension : ℕ) → contentWritten pool tape (length out) ≡ Of n extension
-      → (t : Content) × (outputWritten (content 3) pool tape out ≡ placed out 0 (content 3 .print t)) × (readingOf 3 contentKind extension (content 3 .print t) ≡ found t n)
+  pub written-with : (pool tape out : List ℕ) (n extension : ℕ) → contentWritten w pool tape (length out) ≡ Of n extension
+      → (t : Content) × (outputWritten (content w) pool tape out ≡ placed out 0 (content w .print t)) × (readingOf w contentKind extension (content w .print t) ≡ found t n)
   -- with the checksum of before M-103, over the 18 bytes, none is accepted: 23
-  pub old-refused : (kind : ℕ) (body : List ℕ) (t : Content) → Holds (content 3) contentKind kind body t
-      → contentRead 3 kind (crc16Of (take 18 body)) body ≡ NoStep OtherChecksum
+  pub old-refused : (kind : ℕ) (body : List ℕ) (t : Content) → Holds (content w) contentKind kind body t
+      → contentRead w kind (crc16Of (take 18 body)) body ≡ NoStep OtherChecksum
 
 -- "The smallest body is 33 bytes": no accepted one is shorter, and one has as many
-pub record Smallest : Type 0 where
-  pub least : (kind extension : ℕ) (body : List ℕ) (n : ℕ) → AreBytes body → contentRead 3 kind extension body ≡ At n → 33 ≤ length body
-  pub reached : (extension : ℕ) × (body : List ℕ) × AreBytes body × (length body ≡ 33) × (contentRead 3 contentKind extension body ≡ At 33)
+pub record Smallest (w : ℕ) : Type 0 where
+  pub least : (kind extension : ℕ) (body : List ℕ) (n : ℕ) → AreBytes body → contentRead w kind extension body ≡ At n → 33 ≤ length body
+  pub reached : (extension : ℕ) × (body : List ℕ) × AreBytes body × (length body ≡ 33) × (contentRead w contentKind extension body ≡ At 33)
+
+-- M-107: "Prove reading and writing once over the width": of content tables whose auxiliary files have lengths of w bytes
+pub record OfWidth (w : ℕ) : Type 0 where
+  pub written-and-read : WrittenAndRead (content w) contentKind
+  pub extended : Extended w
+  pub smallest : Smallest w
+  pub asked : (kind : ℕ) (body : List ℕ) (t : Content) → AreBytes body → Holds (content w) contentKind kind body t → ContentAsked w body t
+
+-- "[..] and get both variants from it": where the variant v is named, the answers are those of w bytes, whatever else is handed in
+pub record IsVariant (v w : ℕ) : Type 0 where
+  pub reads : (kind extension : ℕ) (body : List ℕ) → variantRead kind v extension body ≡ contentRead w kind extension body
+  pub lays : (kind : ℕ) (body : List ℕ) (room : ℕ) → variantLaid kind v body room ≡ bodyLaid (content w) contentKind kind body room
+  pub tape-left : (kind : ℕ) (body tape : List ℕ) → variantTape kind v body tape ≡ laidTape (content w) contentKind kind body tape
+  pub measures : (pool tape : List ℕ) → variantMeasured v pool tape ≡ measured (content w) pool tape
+  pub writes : (pool tape : List ℕ) (room : ℕ) → variantWritten v pool tape room ≡ contentWritten w pool tape room
+  pub output-left : (pool tape out : List ℕ) → variantOutput v pool tape out ≡ outputWritten (content w) pool tape out
+  pub type-asked : (body : List ℕ) (at n i : ℕ) → variantType v body at n i ≡ auxiliaryType w body at n i
+  pub file-asked : (body : List ℕ) (at n i : ℕ) → variantPart v body at n i ≡ auxiliaryPart w body at n i
+
+-- "Refusals: 19 for any other variant, after 2", before all else, whatever the body or the form, and nothing is written
+pub record NoVariant (v : ℕ) : Type 0 where
+  pub other-kind : (kind extension : ℕ) (body : List ℕ) → (kind ≡ contentKind → ⊥) → variantRead kind v extension body ≡ NoStep OtherKind
+  pub other-kind-laid : (kind : ℕ) (body : List ℕ) (room : ℕ) → (kind ≡ contentKind → ⊥) → variantLaid kind v body room ≡ NoStep OtherKind
+  pub unread : (extension : ℕ) (body : List ℕ) → variantRead contentKind v extension body ≡ NoStep (OutsideSet 0)
+  pub unlaid : (body : List ℕ) (room : ℕ) → variantLaid contentKind v body room ≡ NoStep (OutsideSet 0)
+  pub tape-stays : (kind : ℕ) (body tape : List ℕ) → variantTape kind v body tape ≡ tape
+  pub unmeasured : (pool tape : List ℕ) → variantMeasured v pool tape ≡ NoStep (OutsideSet 0)
+  pub unwritten : (pool tape : List ℕ) (room : ℕ) → variantWritten v pool tape room ≡ NotWritten (OutsideSet 0)
+  pub output-stays : (pool tape out : List ℕ) → variantOutput v pool tape out ≡ out
+  pub no-type : (body : List ℕ) (at n i : ℕ) → variantType v body at n i ≡ NoNumber (OutsideSet 0)
+  pub no-file : (body : List ℕ) (at n i : ℕ) → variantPart v body at n i ≡ NoPart (OutsideSet 0)
+
+-- "Demand 2 is read per variant; 01's cases are the 24-bit one"
+pub record Variants : Type 0 where
+  pub of-width : (w : ℕ) → OfWidth w
+  pub is-24 : IsVariant 24 3
+  pub is-32 : IsVariant 32 4
+  pub no-other : (v : ℕ) → (v ≡ 24 → ⊥) → (v ≡ 32 → ⊥) → NoVariant v
 
 -- ---- sections
 
@@ -162,17 +203,14 @@ pub record Days : Type 0 where
 pub record Demand2 : Type 0 where
   pub certificates : WrittenAndRead certificate certificateKind
   pub indexes : WrittenAndRead index indexKind
-  pub contents : WrittenAndRead (content 3) contentKind
+  pub contents : Variants
   pub configurations : WrittenAndRead configuration configurationKind
   pub real-days : RealDays
   pub checked : Checked
-  pub extended : Extended
-  pub smallest-content : Smallest
   -- "Every field of an accepted table can be asked for, opaque bytes as the part of the body they fill; one that isn't there is 19, place 0"
   pub certificates-asked : (kind : ℕ) (body : List ℕ) (t : Certificates) → AreBytes body → Holds certificate certificateKind kind body t
       → CertificateAsked body t
   pub indexes-asked : (kind : ℕ) (body : List ℕ) (t : Index) → AreBytes body → Holds index indexKind kind body t → IndexAsked body t
-  pub contents-asked : (kind : ℕ) (body : List ℕ) (t : Content) → AreBytes body → Holds (content 3) contentKind kind body t → ContentAsked 3 body t
   pub configurations-asked : (kind : ℕ) (body : List ℕ) (t : Configuration) → AreBytes body → Holds configuration configurationKind kind body t
       → ConfigurationAsked body t
   -- "messages are laid in a lent list of message records": record i is message i's

@@ -29,11 +29,10 @@ use Rattle.index_fields.specs.Asked.{messageCount, messagePart, network, start,
 use Rattle.index_fields.specs.Asked.{channelNetwork, channelStream, channelProgram, pcrPid, descriptorsPart, streamsPart}
 use Rattle.index_records.specs.Records.{bodyRecorded, recorded}
 use Rattle.index_records.specs.declared.Record.{Record}
-use Rattle.content.specs.Content.{contentRead, content, contentKind}
-use Rattle.content_writer.specs.Written.{contentWritten}
+use Rattle.content.specs.Content.{variantRead, variantLaid, variantTape}
+use Rattle.content_writer.specs.Written.{variantMeasured, variantWritten, variantOutput}
 use Rattle.content_fields.specs.Asked as content-fields
-use Rattle.content_fields.specs.Asked.{languageCount, languagePart, lettersPart, characterSet, textPart, agencyPart, auxiliaryCount, auxiliaryType}
-use Rattle.content_fields.specs.Asked.{auxiliaryPart}
+use Rattle.content_fields.specs.Asked.{languageCount, languagePart, lettersPart, characterSet, textPart, agencyPart, auxiliaryCount, variantType, variantPart}
 use Rattle.configuration.specs.Configuration.{configuration, configurationKind}
 use Rattle.configuration_fields.specs.Asked as configuration-fields
 use Rattle.configuration_fields.specs.Asked.{commandCount, commandPart, commandTag, commandContent, clockYear, clockMonth, clockDay, clockHour, clockMinute}
@@ -127,14 +126,13 @@ pub record Offered : Type 0 where
   -- The message records of an index table for C, which lends the list.
   pub nw-index-records : (kind : ℕ) (body : List ℕ) (list : List Record) →
       Determined₂ (λ r list′. (r ≡ writtenAnswer (bodyRecorded kind body (length list))) × (list′ ≡ recorded kind body list))
-  -- The content table for C: read with its extension, laid onto a form, written from one with its extension.
-  pub nw-content-read : (kind extension : ℕ) (body : List ℕ) → Determined (λ r. r ≡ readAnswer (contentRead 3 kind extension body))
-  pub nw-content-lay : (kind : ℕ) (body tape : List ℕ) →
-      Determined₂ (λ r tape′. (r ≡ writtenAnswer (bodyLaid (content 3) contentKind kind body (length tape))) ×
-      (tape′ ≡ laidTape (content 3) contentKind kind body tape))
-  pub nw-content-measure : (pool tape : List ℕ) → Determined (λ r. r ≡ writtenAnswer (measured (content 3) pool tape))
-  pub nw-content-write : (pool tape out : List ℕ) →
-      Determined₂ (λ r out′. (r ≡ contentAnswer (contentWritten pool tape (length out))) × (out′ ≡ outputWritten (content 3) pool tape out))
+  -- The content table of either variant for C: read with its extension, laid onto a form, written from one with its extension.
+  pub nw-content-read : (kind variant extension : ℕ) (body : List ℕ) → Determined (λ r. r ≡ readAnswer (variantRead kind variant extension body))
+  pub nw-content-lay : (kind variant : ℕ) (body tape : List ℕ) →
+      Determined₂ (λ r tape′. (r ≡ writtenAnswer (variantLaid kind variant body (length tape))) × (tape′ ≡ variantTape kind variant body tape))
+  pub nw-content-measure : (variant : ℕ) (pool tape : List ℕ) → Determined (λ r. r ≡ writtenAnswer (variantMeasured variant pool tape))
+  pub nw-content-write : (variant : ℕ) (pool tape out : List ℕ) →
+      Determined₂ (λ r out′. (r ≡ contentAnswer (variantWritten variant pool tape (length out))) × (out′ ≡ variantOutput variant pool tape out))
   -- The fields of a content table for C, asked for one by one.
   pub nw-content-identifier : (body : List ℕ) → Determined (λ r. r ≡ partAnswer (content-fields.identifierPart body))
   pub nw-content-identifier-digit : (body : List ℕ) (i : ℕ) → Determined (λ r. r ≡ numberAnswer (content-fields.identifierDigit body i))
@@ -147,8 +145,8 @@ pub record Offered : Type 0 where
   pub nw-language-text : (body : List ℕ) (at length : ℕ) → Determined (λ r. r ≡ partAnswer (textPart body at length))
   pub nw-language-agency : (body : List ℕ) (at length : ℕ) → Determined (λ r. r ≡ partAnswer (agencyPart body at length))
   pub nw-language-auxiliary-count : (body : List ℕ) (at length : ℕ) → Determined (λ r. r ≡ numberAnswer (auxiliaryCount body at length))
-  pub nw-language-auxiliary-type : (body : List ℕ) (at length i : ℕ) → Determined (λ r. r ≡ numberAnswer (auxiliaryType 3 body at length i))
-  pub nw-language-auxiliary : (body : List ℕ) (at length i : ℕ) → Determined (λ r. r ≡ partAnswer (auxiliaryPart 3 body at length i))
+  pub nw-language-auxiliary-type : (variant : ℕ) (body : List ℕ) (at length i : ℕ) → Determined (λ r. r ≡ numberAnswer (variantType variant body at length i))
+  pub nw-language-auxiliary : (variant : ℕ) (body : List ℕ) (at length i : ℕ) → Determined (λ r. r ≡ partAnswer (variantPart variant body at length i))
   -- The configuration table for C: read, laid onto a form, written from one.
   pub nw-configuration-read : (kind : ℕ) (body : List ℕ) → Determined (λ r. r ≡ readAnswer (bodyRead configuration configurationKind kind body))
   pub nw-configuration-lay : (kind : ℕ) (body tape : List ℕ) →

@@ -24,8 +24,8 @@ use Rattle.body_formats.specs.declared.Step.the-variants.{At, Refused as NoStep
 use Rattle.certificate.specs.Certificate.{certificateKind, certificate}
 use Rattle.index.specs.Index.{indexKind, index}
 use Rattle.index_records.specs.Records.{bodyRecorded}
-use Rattle.content.specs.Content.{contentKind, content, contentRead}
-use Rattle.content_writer.specs.Written.{contentWritten}
+use Rattle.content.specs.Content.{contentKind, content, variantRead, variantLaid}
+use Rattle.content_writer.specs.Written.{variantMeasured, variantWritten}
 use Rattle.content_writer.specs.declared.Written.the-variants.{Refused as NotWritten}
 use Rattle.configuration.specs.Configuration.{configurationKind, configuration}
 
@@ -46,12 +46,14 @@ pub record PlacesOf {A : Type 0} (F : Format A) (own : ℕ) : Type 0 where
 pub record Places : Type 0 where
   pub certificates : PlacesOf certificate certificateKind
   pub indexes : PlacesOf index indexKind
-  pub contents : PlacesOf (content 3) contentKind
+  pub contents : (w : ℕ) → PlacesOf (content w) contentKind
   pub configurations : PlacesOf configuration configurationKind
-  -- the index reader that lays records, the content reader with its extension, and the content writer
+  -- the index reader that lays records; the content table's reader with its extension and its other calls, which take a variant
   pub recorded : (kind : ℕ) (body : List ℕ) (room : ℕ) (r : Refusal) → bodyRecorded kind body room ≡ NoStep r → refusalPlace r ≤ length body
-  pub extended : (kind extension : ℕ) (body : List ℕ) (r : Refusal) → contentRead 3 kind extension body ≡ NoStep r → refusalPlace r ≤ length body
-  pub content-written : (pool tape : List ℕ) (room : ℕ) (r : Refusal) → contentWritten pool tape room ≡ NotWritten r → refusalPlace r ≡ 0
+  pub extended : (kind v extension : ℕ) (body : List ℕ) (r : Refusal) → variantRead kind v extension body ≡ NoStep r → refusalPlace r ≤ length body
+  pub content-laid : (kind v : ℕ) (body : List ℕ) (room : ℕ) (r : Refusal) → variantLaid kind v body room ≡ NoStep r → refusalPlace r ≤ length body
+  pub content-measured : (v : ℕ) (pool tape : List ℕ) (r : Refusal) → variantMeasured v pool tape ≡ NoStep r → refusalPlace r ≤ length tape
+  pub content-written : (v : ℕ) (pool tape : List ℕ) (room : ℕ) (r : Refusal) → variantWritten v pool tape room ≡ NotWritten r → refusalPlace r ≡ 0
   -- "else 0": of a section, of feeding and of the cutter
   pub section : (s : List ℕ) (r : Refusal) → readSection s ≡ NotGood r → refusalPlace r ≡ 0
   pub fed : (g : Gathering) (store s : List ℕ) (r : Refusal) → fedOf g store s .answer ≡ NotFed r → refusalPlace r ≡ 0

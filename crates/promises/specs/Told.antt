@@ -40,7 +40,7 @@ use Rattle.body_formats.specs.declared.Number.{Number}
 use Rattle.body_formats.specs.declared.Number.the-variants.{Is, Refused as NoNumber}
 use Rattle.body_formats.specs.declared.Part.the-variants.{Of, Refused as NoPart}
 use Rattle.index_records.specs.Records.{bodyRecorded}
-use Rattle.content_writer.specs.Written.{contentWritten}
+use Rattle.content_writer.specs.Written.{variantWritten}
 use Rattle.content_writer.specs.declared.Written.the-variants.{Of as WrittenOf, Refused as NotWritten}
 use Rattle.c_answers.specs.Answers.{answerOf, dayAnswer, dateAnswer, weekdayAnswer, fieldAnswer, localAnswer, showingAnswer, sectionAnswer, countAnswer, lengthAnswer, feedAnswer, handAnswer, readAnswer, numberAnswer, partAnswer, writtenAnswer, contentAnswer, localFieldAnswer}
 use Rattle.c_answers.specs.Taking.{refusalTold, TellsRefusal, TellsValue, TellsDate, TellsTime, TellsHeading, TellsPart, TellsContent}
@@ -101,7 +101,7 @@ pub record Told : Type 1 where
   pub accepted : (end : ℕ) → TellsValue (readAnswer (At end)) 0
   pub measured-length : {A : Type 0} (F : Format A) (pool tape : List ℕ) (n : ℕ) → measured F pool tape ≡ At n → TellsValue (writtenAnswer (At n)) n
   pub written : {A : Type 0} (F : Format A) (pool tape : List ℕ) (room n : ℕ) → bodyWritten F pool tape room ≡ At n → TellsValue (writtenAnswer (At n)) n
-  pub content-written : (pool tape : List ℕ) (room n extension : ℕ) → contentWritten pool tape room ≡ WrittenOf n extension
+  pub content-written : (v : ℕ) (pool tape : List ℕ) (room n extension : ℕ) → variantWritten v pool tape room ≡ WrittenOf n extension
       → TellsContent (contentAnswer (WrittenOf n extension)) extension n
   pub laid : {A : Type 0} (F : Format A) (own kind : ℕ) (body : List ℕ) (room n : ℕ) → room < 2 ^ 56 → bodyLaid F own kind body room ≡ At n
       → TellsValue (writtenAnswer (At n)) n

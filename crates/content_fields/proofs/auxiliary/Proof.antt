@@ -1,6 +1,7 @@
--- `content_fields::auxiliary` meets its contract: its data follow its type.
+-- `content_fields::auxiliary` meets its contract: another variant is refused, and a named one asks with its width.
 use mathlib.Core.Path.{sym, _∙_}
-use Rattle.content_fields.proofs.Answers.{file-no, after-type, file-is}
+use Rattle.content_variant.proofs.Variant.{width-most}
+use Rattle.content_fields.proofs.Answers.{variant-part-no, variant-part-is}
 use native.Mathlib.Omega.{arith}
 use borrow.Author.Needs.{needs}
 use Rattle.content_fields.proofs.auxiliary.Statement.{statement}
@@ -13,7 +14,6 @@ auxiliary-spec =
     (λ c κs. search needs)
     (λ c. search needs)
     (λ c. search needs)
-    (λ c. omega (arith, after-type _ _ _ 3 _ _ _ (sym (c .before .t .given .1) ∙ c .before .before .before .auxiliary-type .ensures)))
-    (λ c κs. search needs)
-    (λ c. file-no _ _ _ 3 _ _ (sym (c .before .r .given .1) ∙ c .before .before .before .auxiliary-type .ensures))
-    (λ c. c .read-part .ensures ∙ file-is _ _ _ 3 _ _ _ (sym (c .before .before .t .given .1) ∙ c .before .before .before .before .auxiliary-type .ensures)))
+    (λ c κs. omega (arith, width-most _ _ (sym (c .before .w .given .1) ∙ c .before .before .before .width-of .ensures)))
+    (λ c. variant-part-no _ _ (sym (c .before .r .given .1) ∙ c .before .before .before .width-of .ensures) _ _ _ _)
+    (λ c. c .part-wide .ensures ∙ variant-part-is _ _ (sym (c .before .before .w .given .1) ∙ c .before .before .before .before .width-of .ensures) _ _ _ _))

@@ -1,6 +1,7 @@
--- `content_fields::auxiliary_type` meets its contract: it stands after the auxiliary files before it, as many as the count allows, and is not refused for its value.
+-- `content_fields::auxiliary_type` meets its contract: another variant is refused, and a named one asks with its width.
 use mathlib.Core.Path.{sym, _∙_}
-use Rattle.content_fields.proofs.Answers.{type-no, after-count, type-none, type-is}
+use Rattle.content_variant.proofs.Variant.{width-most}
+use Rattle.content_fields.proofs.Answers.{variant-type-no, variant-type-is}
 use native.Mathlib.Omega.{arith}
 use borrow.Author.Needs.{needs}
 use Rattle.content_fields.proofs.auxiliary_type.Statement.{statement}
@@ -13,27 +14,6 @@ auxiliary-type-spec =
     (λ c κs. search needs)
     (λ c. search needs)
     (λ c. search needs)
-    (λ c. omega (arith, after-count _ _ _ _ _ (sym (c .before .m .given .1) ∙ c .before .before .before .auxiliary-count .ensures)))
-    (λ c κs. search needs)
-    (λ c. search needs)
-    (λ c. search needs)
-    (λ c.
-    let at-m = c .before .before .before .before .before in
-    let at-auxiliary-count = at-m .before .before in
-    omega (arith, after-count _ _ _ _ _ (sym (at-m .m .given .1) ∙ at-auxiliary-count .auxiliary-count .ensures)))
-    (λ c κs. search needs)
-    (λ c. type-no _ _ _ 3 _ _ (sym (c .before .r .given .1) ∙ c .before .before .before .auxiliary-count .ensures))
-    (λ c.
-    let at-nth-entry = c .before .before .before in
-    let at-m = at-nth-entry .before .before in
-    let at-auxiliary-count = at-m .before .before in
-    type-none _ _ _ _ _ (sym (at-m .m .given .1) ∙ at-auxiliary-count .auxiliary-count .ensures) 3 _ _
-    (sym (c .before .r2 .given .1) ∙ at-nth-entry .nth-entry .ensures))
-    (λ c.
-    let at-p = c .before .before in
-    let at-nth-entry = at-p .before .before in
-    let at-m = at-nth-entry .before .before in
-    let at-auxiliary-count = at-m .before .before in
-    let at-shared-slice-known = at-auxiliary-count .before in
-    c .read-number .ensures ∙ type-is _ _ _ _ _ (sym (at-m .m .given .1) ∙ at-auxiliary-count .auxiliary-count .ensures) 3 _ _
-    (λ i. at-shared-slice-known .shared-slice-known .given i .fits) (sym (at-p .p .given .1) ∙ at-nth-entry .nth-entry .ensures)))
+    (λ c κs. omega (arith, width-most _ _ (sym (c .before .w .given .1) ∙ c .before .before .before .width-of .ensures)))
+    (λ c. variant-type-no _ _ (sym (c .before .r .given .1) ∙ c .before .before .before .width-of .ensures) _ _ _ _)
+    (λ c. c .type-wide .ensures ∙ variant-type-is _ _ (sym (c .before .before .w .given .1) ∙ c .before .before .before .before .width-of .ensures) _ _ _ _))

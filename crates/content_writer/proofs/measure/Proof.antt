@@ -1,7 +1,9 @@
--- `content_writer::measure` meets its contract: a dry pen goes through the whole form.
-use mathlib.Core.Path.{_∙_}
+-- `content_writer::measure` meets its contract: another variant is refused, and a named one measures with its width.
+use mathlib.Core.Path.{sym, _∙_}
+use native.Mathlib.Omega.{arith}
 use borrow.Author.Needs.{needs}
-use Rattle.body_pen.proofs.Writers.{measured-is}
+use Rattle.content_variant.proofs.Variant.{width-most}
+use Rattle.content_writer.proofs.Variants.{measured-no, measured-wide}
 use Rattle.content_writer.proofs.measure.Statement.{statement}
 use Rattle.content_writer.proofs.measure.Tie as tie
 
@@ -9,7 +11,9 @@ pub measure-spec : {M : Type 1} → statement M
 measure-spec =
     tie.close
     (tie.spec
+    (λ c κs. search needs)
     (λ c. search needs)
-    (λ c κs. search needs)
-    (λ c κs. search needs)
-    (λ c. c .measured .ensures ∙ measured-is _ _ (c .before .before .put-content .ensures)))
+    (λ c. search needs)
+    (λ c κs. omega (arith, width-most _ _ (sym (c .before .w .given .1) ∙ c .before .before .before .width-of .ensures)))
+    (λ c. measured-no _ _ (sym (c .before .r .given .1) ∙ c .before .before .before .width-of .ensures) _ _)
+    (λ c. c .measure-wide .ensures ∙ measured-wide _ _ (sym (c .before .before .w .given .1) ∙ c .before .before .before .before .width-of .ensures) _ _))

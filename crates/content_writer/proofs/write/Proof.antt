@@ -1,9 +1,9 @@
--- `content_writer::write` meets its contract: what was measured decides all refusals, only then the wet pen writes, and the extension is
--- worked out of the identifier that it wrote.
+-- `content_writer::write` meets its contract: another variant is refused, and a named one writes with its width.
+use mathlib.Core.Path.{sym, _∙_}
 use native.Mathlib.Omega.{arith}
 use borrow.Author.Needs.{needs}
-use Rattle.body_pen.proofs.Writers.{write-done}
-use Rattle.content_writer.proofs.Extension.{refused-kept, identifier-fits, first-there, with-extension}
+use Rattle.content_variant.proofs.Variant.{width-most}
+use Rattle.content_writer.proofs.Variants.{written-no, output-no, written-wide, output-wide}
 use Rattle.content_writer.proofs.write.Statement.{statement}
 use Rattle.content_writer.proofs.write.Tie as tie
 
@@ -12,23 +12,17 @@ write-spec =
     tie.close
     (tie.spec
     (λ c κs. search needs)
-    (λ c κs. search needs)
     (λ c. search needs)
     (λ c. search needs)
-    (λ c κs. search needs)
+    (λ c κs.
+    let wide : tie.After-w = c .before .before in
+    omega (arith, width-most _ _ (sym (wide .w .given .1) ∙ wide .before .before .width-of .ensures)))
     (λ c.
-    let put = c .before .before in
-    let w = write-done _ _ _ _ (put .before .before .before .size .given .0 .0) (cc) (put .put-content .ensures) in
-    omega (arith, identifier-fits _ _ _ _ (w .0) _ (w .1)))
-    (λ c.
-    let put = c .before .before .before in
-    let w = write-done _ _ _ _ (put .before .before .before .size .given .0 .0) (cc) (put .put-content .ensures) in
-    first-there _ _ _ _ (w .0) _ (w .1) _ (omega arith))
-    (λ c κs. search needs)
-    (λ c. search needs)
-    (λ c. refused-kept _ _ _ _ (cc))
+    let no = sym (c .before .r .given .1) ∙ c .before .before .before .width-of .ensures in
+    (written-no _ _ no _ _ _, output-no _ _ no _ _ _))
     (λ c. search needs)
     (λ c.
-    let put = c .before .before .before .before in
-    let w = write-done _ _ _ _ (put .before .before .before .size .given .0 .0) (cc) (put .put-content .ensures) in
-    (with-extension _ _ _ _ (w .0) _ (w .1) _ (c .crc16-after-four .ensures), w .1)))
+    let written : tie.After-write-wide = c .before .before in
+    let wide : tie.After-w = written .before .before .before in
+    let width = sym (wide .w .given .1) ∙ wide .before .before .width-of .ensures in
+    (written .write-wide .ensures .0 ∙ written-wide _ _ width _ _ _, written .write-wide .ensures .1 ∙ output-wide _ _ width _ _ _)))
