@@ -1,4 +1,4 @@
-# make proves and builds the library and its two commands; `make help` lists what else it can do.
+# make proves and builds the library and its commands; `make help` lists what else it can do.
 # What is built is for x86-64. Elsewhere it is cross-built, and what is run runs under the kit's emulator.
 VERSION := $(shell cat VERSION)
 PREFIX ?= /usr/local
@@ -12,7 +12,7 @@ INSTALL ?= install
 # The archives of the crates that tools/kit lists; the library's alone is installed.
 ARCHIVE = target/staticlib/libneapwillow.a
 ARCHIVES := $(patsubst %,target/staticlib/lib%.a,$(shell sed -n 's/^exporting=(\(.*\))/\1/p' tools/kit))
-PROGRAMS = nw-dates nw-section
+PROGRAMS = nw-dates nw-salvage nw-section
 COMMANDS = $(PROGRAMS:%=target/bin/%)
 SOURCES := crates.txt $(shell find crates -type f)
 

@@ -99,6 +99,23 @@ static uint64_t cut_all(cutter *cut, const uint8_t *s, size_t n) {
 static uint64_t cut_library(const uint8_t *s, size_t n) { return cut_all(packed_section_cut, s, n); }
 static uint64_t cut_slicing(const uint8_t *s, size_t n) { return cut_all(plain_section_cut, s, n); }
 
+// ---- a capture salvaged: of good sections alone, and the worst, in which each byte begins a section that only fails its check
+
+typedef plain_answer salvager(const uint8_t *capture, size_t n, uint8_t *out, size_t room, uint32_t *list, size_t numbers);
+
+PACKED(salvage, (const uint8_t *capture, size_t n, uint8_t *out, size_t room, uint32_t *list, size_t numbers), capture, n, out,
+       room, list, numbers)
+
+static uint64_t salvage_all(salvager *salvage, const uint8_t *s, size_t n) {
+    static uint32_t list[NW_SALVAGE_NUMBERS(NW_MOST_CAPTURE)];
+    return salvage(s, n, output, sizeof output, list, sizeof list / sizeof list[0]);
+}
+
+static uint64_t salvage_library(const uint8_t *s, size_t n) { return salvage_all(packed_salvage, s, n); }
+static uint64_t salvage_slicing(const uint8_t *s, size_t n) { return salvage_all(plain_salvage, s, n); }
+
+static void fill_false(size_t n) { memset(input, 0xFE, n); }
+
 // ---- a table of full sections, which come one right after the other, gathered and handed out
 
 typedef plain_answer feeder(struct nw_gathering *g, uint8_t *store, size_t room, const uint8_t *s, size_t n);
@@ -736,6 +753,14 @@ static const struct operation operations[] = {
      fill_bytes,
      {{"neapwillow", cut_library}, {"C, slicing by 8", cut_slicing}},
      {4084, 16 * 4084, 256 * 4084}},
+    {"salvage, all good",
+     fill_in_order,
+     {{"neapwillow", salvage_library}, {"C, slicing by 8", salvage_slicing}},
+     {4096, NW_MOST_CAPTURE}},
+    {"salvage, worst",
+     fill_false,
+     {{"neapwillow", salvage_library}, {"C, slicing by 8", salvage_slicing}},
+     {NW_MOST_CAPTURE}},
     {"feeding",
      fill_feeding,
      {{"neapwillow", feed_library}, {"C, slicing by 8", feed_slicing}},

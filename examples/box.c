@@ -13,11 +13,9 @@
 // file that can't be read or is a transport stream, or output that can't be written. The status says nothing about a text's
 // characters.
 //
-// A section tells its own length. Where none that is good begins, the next good one is looked for byte by byte: the library
-// looks at the heading first, and few bytes look like one. Where one does, its check is computed over up to 4 KiB; so that
-// junk of false headings, each inside the one before, can't make this long, a file has a purse of 64 times its bytes for
-// false headings. When that is spent, which is said, the search goes on after a false section and no longer inside it. With
-// the looks at good sections, no more than 70 times the file's bytes are ever looked at.
+// The library salvages the good sections of the file, window by window: where none begins, it looks a byte further on. Few bytes
+// look like a heading. Where one does, its check is computed over up to 4 KiB; junk in which each byte looks like one, inside
+// a false section, is gone over some 4,000 times, which takes seconds for each MiB.
 //
 // Limits: 16 tables, files of 64 MiB, no signature is checked, of certificate and configuration tables nothing is shown, and
 // sections that are not current are left out, which is said.
@@ -35,7 +33,7 @@
 #include <wchar.h>
 #include <wctype.h>
 
-enum { TABLES = 16, MOST_FILE = 1 << 26, PURSE = 64, LINES = 4, PACKET = 188, SYNC = 0x47 };
+enum { TABLES = 16, MOST_FILE = 1 << 26, LINES = 4, PACKET = 188, SYNC = 0x47 };
 enum { WHOLE = 0, FAULTY = 1, UNUSABLE = 2 }; // exit statuses
 
 // A table that is being gathered. A whole one is packed: its body then stands in its store, and its state is fresh.
@@ -55,7 +53,7 @@ struct stretch {
 
 struct box {
     uint8_t *s; // the file
-    size_t n, purse;
+    size_t n;
     struct table tables[TABLES];
     size_t count;
     struct stretch *stretches;
@@ -189,45 +187,48 @@ static bool note_stretch(struct box *b, struct stretch bad) {
     return true;
 }
 
-// How far the search goes on from where no good section begins: a byte, but past a false section that the purse can't pay.
-static size_t step(struct box *b, nw_heading got, size_t length, size_t at) {
-    if (NW_REFUSAL(got) != NW_CHECK_NOT_ZERO) return 1;
-    if (length <= b->purse) {
-        b->purse -= length;
-        return 1;
+// Notes bytes in which no good section begins: a section that only fails its check by itself, others together.
+static void pass_over(struct box *b, size_t at, size_t end) {
+    while (at < end) {
+        size_t length, left = end - at;
+        unsigned number = NW_REFUSAL(judge(b->s + at, b->n - at, &length));
+        size_t next = number == NW_CHECK_NOT_ZERO && length < left ? at + length : end;
+        b->refused++;
+        if (!note_stretch(b, (struct stretch){at, next, number}))
+            fault(b, "bytes %zu to %zu are no good section, and there is no memory to note them", at, next - 1);
+        at = next;
     }
-    if (b->purse != 0)
-        fault(b, "from byte %zu on, sections inside false sections are not looked for: there are too many false headings", at);
-    b->purse = 0;
-    return length;
 }
 
-// Passes over what begins no good section, to the next that does. A section that only fails its check is passed over by
-// itself, unless a good one begins inside. Answers where to go on.
-static size_t pass_over(struct box *b, size_t at, nw_heading got, size_t length) {
-    unsigned number = NW_REFUSAL(got);
-    size_t end = number == NW_CHECK_NOT_ZERO ? at + length : b->n, next = at + step(b, got, length, at);
-    while (next < end) {
-        got = judge(b->s + next, b->n - next, &length);
-        if (NW_REFUSAL(got) == NW_TAKEN) break;
-        next += step(b, got, length, next);
+// The runs of a window of the file that begin in its `sure` bytes, after which a section may be cut off. Up to *passed the file
+// is gone through. Answers where the next window begins.
+static size_t take_runs(struct box *b, size_t window, size_t sure, const uint32_t *list, size_t count, size_t *passed) {
+    size_t next = window;
+    for (size_t i = 0; i < count && next < window + sure; i++) {
+        nw_run run = nw_run_at(list, i);
+        size_t at = window + run.first, end = at + run.length;
+        if (run.kept == 0) {
+            next = end < window + sure ? end : window + sure;
+            continue;
+        }
+        pass_over(b, *passed, at);
+        feed(b, at, run.length, nw_section_read(b->s + at, run.length));
+        *passed = next = end;
     }
-    b->refused++;
-    if (!note_stretch(b, (struct stretch){at, next, number}))
-        fault(b, "bytes %zu to %zu are no good section, and there is no memory to note them", at, next - 1);
     return next;
 }
 
 static void gather(struct box *b) {
-    b->purse = PURSE * b->n;
+    static uint8_t kept[NW_SALVAGE_BYTES(NW_MOST_CAPTURE)];
+    static uint32_t list[NW_SALVAGE_NUMBERS(NW_MOST_CAPTURE)];
+    size_t passed = 0;
     for (size_t at = 0; at < b->n;) {
-        size_t length;
-        nw_heading got = judge(b->s + at, b->n - at, &length);
-        if (NW_REFUSAL(got) == NW_TAKEN) {
-            feed(b, at, length, got);
-            at += length;
-        } else at = pass_over(b, at, got, length);
+        size_t n = b->n - at < NW_MOST_CAPTURE ? b->n - at : NW_MOST_CAPTURE;
+        size_t sure = at + n == b->n ? n : n - (NW_MOST_SECTION - 1);
+        nw_salvaged got = nw_salvage(b->s + at, n, kept, sizeof kept, list, sizeof list / sizeof list[0]);
+        at = take_runs(b, at, sure, list, nw_salvaged_runs(got), &passed);
     }
+    pass_over(b, passed, b->n);
 }
 
 // ---- what is whole, and what is not

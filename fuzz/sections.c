@@ -1,4 +1,4 @@
-// The target of sections, read and cut.
+// The target of sections, read and cut, and of captures, salvaged.
 #include "trial.h"
 
 static void try_reading(const uint8_t *data, size_t n) {
@@ -47,8 +47,68 @@ static void try_cutting(struct input *in) {
     free(body);
 }
 
+// Runs follow each other and cover the capture; what they keep is good and is what was written.
+static void hold_runs(const uint8_t *s, size_t n, const uint8_t *out, const uint32_t *list, nw_salvaged a) {
+    size_t at = 0, used = 0;
+    bool skipped = false;
+    for (size_t i = 0; i < nw_salvaged_runs(a); i++) {
+        nw_run run = nw_run_at(list, i);
+        must(run.kept <= 1 && run.first == at && run.length > 0 && run.length <= n - at && (run.kept == 1 || !skipped));
+        if (run.kept == 1) {
+            must(taken(nw_section_read(s + at, run.length)) && memcmp(out + used, s + at, run.length) == 0);
+            used += run.length;
+        }
+        skipped = run.kept == 0;
+        at += run.length;
+    }
+    must(at == n && used == nw_salvaged_bytes(a));
+}
+
+// A capture of good sections among what the input has, some of them damaged.
+static size_t put_capture(struct input *in, uint8_t *s, size_t most) {
+    size_t n = 0;
+    while (in->n > 0 && n + 200 < most) {
+        bool good = !now_and_then(in, 3);
+        size_t some = upto(in, 60);
+        if (some > in->n) some = in->n; // what draws takes of the input, too
+        nw_answer got = {NW_PAST_BODY};
+        if (good) got = nw_section_cut(in->s, some, 0xFB + some % 4, 7, 3, 0, s + n, most - n);
+        if (taken(got)) n += (size_t)nw_value(got);
+        else
+            for (size_t i = 0; i < some; i++) s[n++] = in->s[i];
+        in->s += some, in->n -= some;
+        if (n > 0 && now_and_then(in, 4)) s[upto(in, n - 1)] ^= (uint8_t)(1 << upto(in, 7));
+        if (n > 0 && now_and_then(in, 6)) n -= upto(in, n < 20 ? n : 20);
+    }
+    return n;
+}
+
+static void try_salvage(struct input in) {
+    enum { MOST = 8192 };
+    uint8_t *bytes = block_of(MOST);
+    bool tight = now_and_then(&in, 2);
+    size_t n = put_capture(&in, bytes, MOST), numbers = NW_SALVAGE_NUMBERS(n);
+    uint8_t *s = copy_of(bytes, n);
+    struct lent out = lend(NW_SALVAGE_BYTES(n), 0x5a), list = lend(numbers * sizeof(uint32_t), 0x5a);
+    nw_salvaged a = nw_salvage(s, n, out.bytes, out.size, (uint32_t *)(void *)list.bytes, numbers);
+    must(taken(a) && kept(&out, nw_salvaged_bytes(a)) && kept(&list, 3 * nw_salvaged_runs(a) * sizeof(uint32_t)));
+    hold_runs(s, n, out.bytes, (uint32_t *)(void *)list.bytes, a);
+    if (tight && nw_salvaged_runs(a) > 0) {
+        struct lent less = lend((3 * nw_salvaged_runs(a) - 1) * sizeof(uint32_t), 0x5a), same = lend(nw_salvaged_bytes(a), 0x5a);
+        nw_salvaged b = nw_salvage(s, n, same.bytes, same.size, (uint32_t *)(void *)less.bytes, less.size / sizeof(uint32_t));
+        must(refused(b, NW_OUTPUT_TOO_SMALL) && kept(&less, 0) && kept(&same, 0));
+        give_back(&less);
+        give_back(&same);
+    }
+    give_back(&out);
+    give_back(&list);
+    free(s);
+    free(bytes);
+}
+
 int LLVMFuzzerTestOneInput(const uint8_t *data, size_t size) {
     struct input in = {data, size};
+    try_salvage(in);
     nw_answer count = nw_section_count((size_t)take(&in, 4));
     must(taken(count) ? nw_value(count) >= 1 && nw_value(count) <= 256 : NW_PLACE(count) == 0);
     try_cutting(&in);

@@ -46,7 +46,8 @@ uint32_t nw_version(void);
  * - What reads or writes an auxiliary file's length takes a variant, NW_AUXILIARY_24 for what was
  *   before: nw_content_read and nw_content_lay after the kind; nw_content_write, nw_content_measure,
  *   nw_language_auxiliary_type and nw_language_auxiliary first. A call without it does not compile.
- * - Refusal 25 is gone, and its number is not given again. */
+ * - Refusal 25 is gone, and its number is not given again.
+ * - nw_salvage is new, the good sections of a damaged capture, and with it refusal 36. */
 
 /* ---- Answers ----------------------------------------------------------------------------------
  *
@@ -60,6 +61,7 @@ typedef struct nw_date { uint64_t packed; } nw_date;       /* a date of the cale
 typedef struct nw_time { uint64_t packed; } nw_time;       /* a local date and time */
 typedef struct nw_heading { uint64_t packed; } nw_heading; /* a section's heading */
 typedef struct nw_written { uint64_t packed; } nw_written; /* a content table's extension and length */
+typedef struct nw_salvaged { uint64_t packed; } nw_salvaged; /* how many runs and bytes were salvaged */
 
 /* Of an answer of any shape: the refusal's number, and its place. */
 #define NW_REFUSAL(answer) ((unsigned)((answer).packed & 0xFFu))
@@ -93,6 +95,9 @@ static inline unsigned nw_heading_last(nw_heading a) { return (unsigned)(a.packe
 static inline unsigned nw_written_extension(nw_written a) { return (unsigned)(a.packed >> 32); }
 static inline size_t nw_written_length(nw_written a) { return (size_t)(a.packed >> 8 & 0xFFFFFFu); }
 
+static inline size_t nw_salvaged_runs(nw_salvaged a) { return (size_t)(a.packed >> 32); }
+static inline size_t nw_salvaged_bytes(nw_salvaged a) { return (size_t)(a.packed >> 8 & 0xFFFFFFu); }
+
 /* The refusals, by their numbers. The place is the offset, in the body, of the byte where the refused
  * field begins (14 to 20), of a form that is measured the entry on its tape, the smallest missing
  * section number (13), and else 0. */
@@ -118,11 +123,12 @@ enum nw_refusal {
     NW_DIGIT_ABOVE_NINE = 18,       /* a decimal digit above 9 */
     NW_OUTSIDE_SET = 19,            /* a value outside its stated set */
     NW_IMPOSSIBLE_DAY = 20,         /* an impossible day or time, or a day outside 15079 to 65535 */
-    NW_OUTPUT_TOO_SMALL = 21,       /* the output buffer or the record list is too small */
+    NW_OUTPUT_TOO_SMALL = 21,       /* the output buffer or the list of records or runs is too small */
     NW_TOO_LARGE = 22,              /* a length or count too large for its field; a body too long */
     NW_OTHER_CHECKSUM = 23,         /* the extension is not the CRC-16 of the identifier */
-    NW_NOT_OF_THE_FORM = 24         /* date text not of the exact form */
+    NW_NOT_OF_THE_FORM = 24,        /* date text not of the exact form */
     /* 25 was a joined body above 1,045,504 bytes, which no possible state has; it is not given again */
+    NW_CAPTURE_TOO_LONG = 36        /* a capture above 65,536 bytes */
 };
 
 /* What a refusal's number means, in words for a person; any other number is no such refusal. Plain C in
@@ -155,6 +161,7 @@ static inline const char *nw_refusal_text(unsigned number)
     case NW_TOO_LARGE: return "a length, a count or a body is too large";
     case NW_OTHER_CHECKSUM: return "the extension is not the CRC-16 of the identifier";
     case NW_NOT_OF_THE_FORM: return "the text is not dd/mm/yyyy hh:mm:ss";
+    case NW_CAPTURE_TOO_LONG: return "the capture has more than 65,536 bytes";
     default: return "no such refusal";
     }
 }
@@ -252,6 +259,48 @@ nw_answer nw_section_count(size_t length);
  * enough for any. The body must not overlap out. */
 nw_answer nw_section_cut(const uint8_t *body, size_t n, uint32_t kind, uint32_t extension,
                          uint32_t version, uint32_t number, uint8_t *out, size_t room);
+
+/* ---- Damaged captures -------------------------------------------------------------------------
+ *
+ * A capture from which pieces are missing is read byte by byte: where a good section begins, one that
+ * nw_section_read takes at its own stated length, it is kept and reading goes on after its end; else
+ * one byte is skipped. Each kept section is a run, and so are the bytes skipped between two of them. The
+ * runs follow each other, no two skipped ones touch, and together they cover the capture once.
+ *
+ * The list of runs is lent as numbers, three for each run: 1 if it is kept and 0 if it is skipped, its
+ * first offset, its length. nw_run_at reads a run out of it; an nw_run is laid out as its numbers are. */
+#define NW_MOST_CAPTURE 65536u /* bytes of the longest capture */
+
+typedef struct nw_run { uint32_t kept, first, length; } nw_run;
+
+static inline nw_run nw_run_at(const uint32_t *list, size_t i)
+{
+    nw_run r = {list[3 * i], list[3 * i + 1], list[3 * i + 2]};
+    return r;
+}
+
+/* Room that is enough for any capture of so many bytes: bytes for its sections, runs, and numbers for
+ * these. Proved; with so much of both nothing is refused with 21, and the capture is read once. */
+#define NW_SALVAGE_BYTES(bytes) ((size_t)(bytes))
+#define NW_SALVAGE_RUNS(bytes) ((2 * (size_t)(bytes) + 11) / 13)
+#define NW_SALVAGE_NUMBERS(bytes) (3 * NW_SALVAGE_RUNS(bytes))
+
+/* Writes the good sections of a capture, unchanged and back to back, at the start of out, and the
+ * numbers of its runs at the start of list; bytes and numbers after them stay. Value: how many runs,
+ * and how many bytes. A capture of good sections alone comes out as it was, with a kept run for each;
+ * one of no bytes has no run. A section that is not current is good.
+ * Refusals, in this order, with nothing written: 36, more than NW_MOST_CAPTURE bytes; 21, out or list
+ * is too small. Capture, out and list must not overlap.
+ *
+ * A longer capture is read in windows of NW_MOST_CAPTURE bytes: of each but the last take the runs that
+ * begin before its last NW_MOST_SECTION - 1 bytes, where a section may be cut off, and begin the next
+ * window where the last of them ends, but not past these bytes if it is skipped (examples/box.c).
+ *
+ * A capture of good sections is gone over once. The worst, in which each byte begins a section that
+ * only fails its check, costs a check of up to 4,096 bytes at each byte: no more than 2^28 steps, and
+ * twice that where out or list have less room than the macros above tell. */
+nw_salvaged nw_salvage(const uint8_t *capture, size_t n, uint8_t *out, size_t room, uint32_t *list,
+                       size_t numbers);
 
 /* ---- The gathering ----------------------------------------------------------------------------
  *

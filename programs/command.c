@@ -1,4 +1,4 @@
-// command.c: what the two commands share: the input read whole, the output written whole, what goes wrong said.
+// command.c: what the commands share: the input read whole, the output written whole, what goes wrong said.
 #include "command.h"
 #include <errno.h>
 #include <limits.h>

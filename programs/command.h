@@ -1,4 +1,4 @@
-/* command.h: what the two commands share: the input read whole, the output written whole, what goes wrong said. */
+/* command.h: what the commands share: the input read whole, the output written whole, what goes wrong said. */
 #ifndef COMMAND_H
 #define COMMAND_H
 

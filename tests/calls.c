@@ -190,6 +190,19 @@ static void call_section_cut_all(const struct argument *a) {
     put_bytes(a[4].bytes, a[4].length);
 }
 
+// A list of runs is lent and printed as its bytes.
+static void call_salvage(const struct argument *a) {
+    nw_salvaged got = nw_salvage(a[0].bytes, a[0].length, a[1].bytes, a[1].length, (uint32_t *)(void *)a[2].bytes,
+                                 a[2].length / sizeof(uint32_t));
+    put_answer(got);
+    if (NW_REFUSAL(got) == NW_TAKEN) {
+        put_number(nw_salvaged_runs(got));
+        put_number(nw_salvaged_bytes(got));
+    }
+    put_bytes(a[1].bytes, a[1].length);
+    put_bytes(a[2].bytes, a[2].length);
+}
+
 // ---- a gathering: its state and its store are lent once, and stay between requests
 
 static struct argument state, store;
@@ -690,6 +703,7 @@ static const struct call calls[] = {
     {"section_length", "b", call_section_length},
     {"section_count", "w", call_section_count},
     {"section_cut", "buuuuo", call_section_cut},
+    {"salvage", "boo", call_salvage},
     {"section_cut_all", "buuuo", call_section_cut_all},
     {"gathering_state", "o", call_gathering_state},
     {"gathering_store", "o", call_gathering_store},

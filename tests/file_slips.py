@@ -238,19 +238,24 @@ def refused_bodies():
 
 
 def long_files():
-    """More tables than the box holds; good sections in junk, and in junk of false headings."""
+    """More tables than the box holds; good sections in junk, and in junk of false headings; files of several windows."""
+    nowhere = 'no table has come: no good section begins anywhere in the file'
     many = b''.join(printed(CERTIFICATE, n, 0, 1, 0, 0, b'\0\0\0\0') for n in range(17))
     yield many, ['section at byte 256: left out, it belongs to one more table than the 16 that this box can hold',
                  'sections: 16 taken, 0 held already, 1 refused', faults(1)]
     junk = chance.randbytes(500000)
     found = re.compile(r'sections: 2 taken, 0 held already, \d+ refused')
     yield junk + DRILL, [found, *SHOWN]
-    # Each 0xFE but the last begins a heading of 3,841 bytes that fails its check. The purse of 64 times 200,000 and some bytes
-    # pays for 3,332 of them; then the search goes by 3,841 bytes at a time.
-    false = b'\xFE' * 200000
-    yield false, ['from byte 3332 on, sections inside false sections are not looked for: there are too many false headings']
-    yield (DRILL + false + DRILL, [
-        re.compile(r'from byte \d+ on, .*'), re.compile(r'sections: 2 taken, 2 held already, \d+ refused'), *SHOWN])
+    # Each 0xFE that 3,840 others follow begins a heading of 3,841 bytes that fails its check. What is left is cut off.
+    false = b'\xFE' * 100000
+    yield false, ['bytes 0 to 3840' + CHECK + UNKNOWN, 'bytes 96025 to 99865' + CHECK + UNKNOWN, 'bytes 99866 to 99999' + CUT_OFF + UNKNOWN,
+                  'sections: 0 taken, 0 held already, 27 refused', nowhere]
+    yield DRILL + false + DRILL, [re.compile(r'sections: 2 taken, 2 held already, \d+ refused'), *SHOWN]
+    # The library salvages 65,536 bytes at a time: good sections before and behind each place where it goes on, and over it.
+    for before in range(61300, 65700, 400):
+        yield bytes(before) + DRILL, ['bytes 0 to %d' % (before - 1) + KIND + UNKNOWN, 'sections: 2 taken, 0 held already, 1 refused', *SHOWN]
+    yield changed(TWO, 3) + bytes(130000) + DRILL * 700 + bytes(70000), [
+        'bytes %d to %d' % (len(TWO), len(TWO) + 129999) + KIND + UNKNOWN, 'sections: 2 taken, 1398 held already, 3 refused', *SHOWN]
 
 
 def streams():

@@ -12,7 +12,7 @@ HEADERS = {'neapwillow': 'include/neapwillow.h', 'c_commands': 'programs/c_comma
 
 # What the commands' header calls a constant of the source.
 CONSTANTS = {'NW_MOST_INPUT': 'program_printing::MOST_INPUT', 'NW_MOST_REPORT': 'program_date_lines::MOST_OUTPUT',
-             'NW_MOST_LINE': 'program_section_line::MOST_OUTPUT'}
+             'NW_MOST_LINE': 'program_section_line::MOST_OUTPUT', 'NW_MOST_LIST': 'program_salvage_lines::MOST_OUTPUT'}
 
 # What C lends as a struct: its name there, and where the source has it under which name.
 STRUCTS = [('nw_gathering', 'crates/gathering_state/src/lib.rt', 'Gathering'), ('nw_record', RECORDS, 'Record')]
@@ -23,17 +23,17 @@ IN_C = {
     '&[u8]': ['const uint8_t *', 'size_t'], '&mut [u8]': ['uint8_t *', 'size_t'],
     '&[u64]': ['const uint64_t *', 'size_t'], '&mut [u64]': ['uint64_t *', 'size_t'],
     '&Gathering': ['const nw_gathering *'], '&mut Gathering': ['nw_gathering *'],
-    '&mut [Record]': ['nw_record *', 'size_t'],
+    '&mut [Record]': ['nw_record *', 'size_t'], '&mut [u32]': ['uint32_t *', 'size_t'],
 }
 
 
 # The shape of an answer in C, by the definition that an export's contract cites; a number for every other one.
 SHAPES = {'partAnswer': 'nw_part', 'dateAnswer': 'nw_date', 'localAnswer': 'nw_time', 'localFieldAnswer': 'nw_time',
-          'sectionAnswer': 'nw_heading', 'contentAnswer': 'nw_written'}
+          'sectionAnswer': 'nw_heading', 'contentAnswer': 'nw_written', 'salvagedAnswer': 'nw_salvaged'}
 
 # The shape that each record of c_answers' Taking says the fields of; and how many bits a type has.
 RECORDS_OF = {'TellsDate': 'nw_date', 'TellsTime': 'nw_time', 'TellsHeading': 'nw_heading', 'TellsPart': 'nw_part',
-              'TellsContent': 'nw_written'}
+              'TellsContent': 'nw_written', 'TellsSalvaged': 'nw_salvaged'}
 BITS = {'unsigned': 32, 'size_t': 64, 'uint64_t': 64}
 
 
@@ -156,7 +156,7 @@ def source_fields_told():
     for record, shape in RECORDS_OF.items():
         body = re.search(r'pub record %s .*?(?=\npub |\Z)' % record, read('crates', 'c_answers', 'specs', 'Taking.antt'), re.S).group(0)
         for field, below, width in re.findall(r'pub (\S+) : fieldTold (\d+) (\d+) a', body):
-            found['%s_%s' % (shape, field.removesuffix('-is'))] = shape, 8 + int(below), int(width)
+            found['%s_%s' % (shape, re.sub('-(is|are)$', '', field))] = shape, 8 + int(below), int(width)
     return found
 
 

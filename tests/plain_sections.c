@@ -1,6 +1,8 @@
 // plain_sections: sections read and cut, and the gathering, in plain C, made from document 01 and the header alone.
 #include "plain_sections.h"
 
+#include <stdbool.h>
+
 #include "plain_fields.h"
 #include "plain_numbers.h"
 
@@ -25,6 +27,48 @@ plain_answer plain_section_length(const uint8_t *s, size_t n) {
     if (n < 3) return NW_SECTION_TOO_SHORT;
     size_t length = ((size_t)s[1] * 256 + s[2]) % 4096;
     return length >= 9 && length <= 4093 ? value(length + 3) : NW_SECTION_LENGTH_OUTSIDE;
+}
+
+// ---- a damaged capture
+
+// How many bytes the good section has that begins at s, or 0.
+static size_t good_length(const uint8_t *s, size_t n) {
+    plain_answer stated = plain_section_length(s, n);
+    size_t length = refusal_of(stated) ? 0 : (size_t)value_of(stated);
+    return length != 0 && length <= n && refusal_of(plain_section_read(s, length)) == 0 ? length : 0;
+}
+
+// Goes over a capture: counts, and where out is not NULL, writes.
+static void go_over(const uint8_t *s, size_t n, uint8_t *out, uint32_t *list, size_t *bytes, size_t *numbers) {
+    bool skipping = false;
+    *bytes = *numbers = 0;
+    for (size_t at = 0, length; at < n; at += length > 0 ? length : 1) {
+        length = good_length(s + at, n - at);
+        if (length == 0 && skipping) {
+            if (out) list[*numbers - 1]++;
+            continue;
+        }
+        if (out) {
+            list[*numbers] = length > 0;
+            list[*numbers + 1] = (uint32_t)at;
+            list[*numbers + 2] = length > 0 ? (uint32_t)length : 1;
+            if (length > 0) memcpy(out + *bytes, s + at, length);
+        }
+        skipping = length == 0;
+        *bytes += length;
+        *numbers += 3;
+    }
+}
+
+plain_answer plain_salvage(const uint8_t *capture, size_t n, uint8_t *out, size_t room, uint32_t *list, size_t numbers) {
+    size_t bytes, needed;
+    if (n > NW_MOST_CAPTURE) return NW_CAPTURE_TOO_LONG;
+    if (room < n || numbers < NW_SALVAGE_NUMBERS(n)) {
+        go_over(capture, n, NULL, NULL, &bytes, &needed);
+        if (room < bytes || numbers < needed) return NW_OUTPUT_TOO_SMALL;
+    }
+    go_over(capture, n, out, list, &bytes, &needed);
+    return value((uint64_t)(needed / 3) << 24 | bytes);
 }
 
 // ---- cutting

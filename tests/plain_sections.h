@@ -19,6 +19,8 @@ plain_answer plain_section_count(size_t length);
 plain_answer plain_section_cut(const uint8_t *body, size_t n, uint32_t kind, uint32_t extension, uint32_t version,
                                uint32_t number, uint8_t *out, size_t room);
 
+plain_answer plain_salvage(const uint8_t *capture, size_t n, uint8_t *out, size_t room, uint32_t *list, size_t numbers);
+
 plain_answer plain_gathering_feed(nw_gathering *g, uint8_t *store, size_t store_bytes, const uint8_t *s, size_t n);
 plain_answer plain_gathering_hand_out(const nw_gathering *g, const uint8_t *store, size_t store_bytes, uint8_t *out,
                                       size_t out_bytes);

@@ -10,7 +10,7 @@ HEADER = os.path.join(ROOT, 'include', 'neapwillow.h')
 # Some function that answers with each shape.
 CALLS = {'nw_answer': 'nw_section_count(1)', 'nw_part': 'nw_index_signature(0, 0)', 'nw_date': 'nw_date_of(60000)',
          'nw_time': 'nw_time_unpack(0, 0)', 'nw_heading': 'nw_section_read(0, 0)',
-         'nw_written': 'nw_content_write(NW_AUXILIARY_24, 0, 0, 0, 0, 0, 0)'}
+         'nw_written': 'nw_content_write(NW_AUXILIARY_24, 0, 0, 0, 0, 0, 0)', 'nw_salvaged': 'nw_salvage(0, 0, 0, 0, 0, 0)'}
 
 
 def accessors(header):

@@ -289,6 +289,48 @@ static void try_cutting(void) {
     for (size_t i = 0; i < 100; i++) try_cut(NW_MOST_BODY - 5 + i % 10);
 }
 
+// ---- damaged captures
+
+// Sections and junk, some of them damaged: a capture; answers its length.
+static size_t some_capture(uint8_t *s, size_t most) {
+    size_t n = 0;
+    while (n + NW_MOST_SECTION + 50 < most && !one_in(12)) {
+        if (one_in(5))
+            for (uint64_t left = below(30); left > 0; left--) s[n++] = (uint8_t)(one_in(3) ? 0xFB + below(4) : chance());
+        else n += some_section(s + n, some_heading((uint32_t)below(256)));
+        if (one_in(4)) damage(s, &n, most);
+    }
+    return n;
+}
+
+// A capture salvaged, with an output and a list of about the sizes that it needs, or of those that are always enough.
+static void try_capture(const uint8_t *bytes, size_t n) {
+    static uint8_t kept[NW_MOST_CAPTURE];
+    static uint32_t list[NW_SALVAGE_NUMBERS(NW_MOST_CAPTURE)];
+    const uint8_t *s = lend(&input, bytes, n);
+    plain_answer needs = plain_salvage(s, n, kept, sizeof kept, list, sizeof list / sizeof list[0]);
+    bool much = one_in(3);
+    size_t room = much ? NW_SALVAGE_BYTES(n) : (value_of(needs) & 0xFFFFFF) + (one_in(2) ? 0 : below(3));
+    size_t numbers = much ? NW_SALVAGE_NUMBERS(n) : 3 * (value_of(needs) >> 24) + (one_in(2) ? 0 : below(3));
+    if (room > 0 && one_in(6)) room--;
+    if (numbers > 0 && one_in(6)) numbers--;
+    lend_outputs(room);
+    lend(&state_library, noise(), numbers * sizeof(uint32_t));
+    lend(&state_plain, noise(), numbers * sizeof(uint32_t));
+    trying = F_salvage;
+    plain_answer got = same_outputs(
+        nw_salvage(s, n, output_library.at, room, (uint32_t *)(void *)state_library.at, numbers).packed,
+        plain_salvage(s, n, output_plain.at, room, (uint32_t *)(void *)state_plain.at, numbers));
+    unchanged(&state_library, refusal_of(got) ? noise() : state_plain.at);
+    unchanged(&input, bytes);
+}
+
+static void try_salvaging(void) {
+    static uint8_t bytes[NW_MOST_CAPTURE + 5000];
+    for (size_t i = 0; i < 20000; i++) try_capture(bytes, some_capture(bytes, one_in(50) ? sizeof bytes : 12000));
+    for (size_t i = 0; i < 10; i++) try_capture(noise(), NW_MOST_CAPTURE - 5 + i);
+}
+
 // ---- the gathering
 
 // What both gatherings have.
@@ -472,6 +514,7 @@ int main(int count, char **words) {
     try_times();
     try_sections();
     try_cutting();
+    try_salvaging();
     try_gathering();
     try_tables();
     uint64_t calls = 0;

@@ -17,7 +17,7 @@
     X(version, "") X(crc32, "") X(crc16, "") X(day_of, "20") X(date_of, "20") X(weekday, "20")                       \
     X(time_pack, "19 20") X(time_unpack, "18 19 20") X(time_read_text, "19 20 24") X(time_showing, "18 19 20")       \
     X(section_read, "1 2 3 4 5 6 7") X(section_length, "1 4") X(section_count, "14 22")                              \
-    X(section_cut, "2 6 14 19 21 22")                                                                                \
+    X(section_cut, "2 6 14 19 21 22") X(salvage, "21 36")                                                            \
     X(gathering_feed, "1 2 3 4 5 6 7 8 9 10 11 12") X(gathering_hand_out, "10 11 12 13 21")                          \
     X(gathering_pack, "10 11 12 13")                                                                                 \
     X(certificate_read, "2 14 16 22") X(certificate_authorization_count, "14") X(certificate_authorization, "14 19") \

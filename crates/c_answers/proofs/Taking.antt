@@ -16,9 +16,10 @@ use Rattle.time_local.proofs.Clocks.{ClockWithin}
 use Rattle.section_reader.specs.Section.{WellFormed}
 use Rattle.section_reader.specs.declared.Heading.{Heading}
 use Rattle.ground_numbers.specs.Sizes.{bodyMost}
+use Rattle.salvage.specs.Salvage.{captureMost}
 use Rattle.c_answers.specs.Packing.{widths, packed}
 use Rattle.c_answers.specs.Answers.{answerOf, refusedOf, dateFields, timeFields, headingFields}
-use Rattle.c_answers.specs.Taking.{aboveTold, fieldTold, TellsRefusal, TellsValue, TellsDate, TellsTime, TellsHeading, TellsPart, TellsContent}
+use Rattle.c_answers.specs.Taking.{aboveTold, fieldTold, TellsRefusal, TellsValue, TellsDate, TellsTime, TellsHeading, TellsPart, TellsContent, TellsSalvaged}
 use Rattle.c_answers.proofs.Packing.{packed-below, first-back, field-back}
 
 -- ---- numbers, places and values
@@ -118,4 +119,15 @@ content-told extension length e l =
       no-refusal = omega arith;
       extension-is = first-told 32 _ _ (omega arith) e (omega arith);
       length-is = field-told ((16, extension) ∷ (24, length) ∷ []) (omega arith) 1 (omega arith) (omega arith);
+    }
+
+-- a capture has at most 65,536 bytes, and no more runs
+pub salvaged-told : (runs bytes : ℕ) → runs ≤ captureMost → bytes ≤ captureMost
+    → TellsSalvaged (answerOf 0 (packed ((24, runs) ∷ (24, bytes) ∷ []))) runs bytes
+unfolding widths
+salvaged-told runs bytes n b =
+    record {
+      no-refusal = omega arith;
+      runs-are = first-told 64 _ _ (omega arith) (omega arith) (omega arith);
+      bytes-are = field-told ((24, runs) ∷ (24, bytes) ∷ []) (omega arith) 1 (omega arith) (omega arith);
     }

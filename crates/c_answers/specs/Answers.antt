@@ -32,6 +32,8 @@ use Rattle.section_cutter.specs.declared.Counted.{Counted}
 use Rattle.section_cutter.specs.declared.Counted.the-variants as counted
 use Rattle.section_cutter.specs.declared.Cut.{Cut}
 use Rattle.section_cutter.specs.declared.Cut.the-variants as cut
+use Rattle.salvage.specs.declared.Salvaged.{Salvaged}
+use Rattle.salvage.specs.declared.Salvaged.the-variants as salvaged
 use Rattle.body_formats.specs.declared.Step.{Step}
 use Rattle.body_formats.specs.declared.Step.the-variants as step
 use Rattle.body_formats.specs.declared.Number.{Number}
@@ -116,6 +118,11 @@ countAnswer (counted.Refused why) = refusedOf why
 abbrev pub lengthAnswer : Cut → ℕ
 lengthAnswer (cut.Written n) = answerOf 0 n
 lengthAnswer (cut.Refused why) = refusedOf why
+
+-- how many runs there are, and how many bytes the sections have: both are fewer than their fields allow
+abbrev pub salvagedAnswer : Salvaged → ℕ
+salvagedAnswer (salvaged.Of bytes runs) = answerOf 0 (packed ((24, runs) ∷ (24, bytes) ∷ []))
+salvagedAnswer (salvaged.Refused why) = refusedOf why
 
 -- ---- the gathering
 

@@ -67,3 +67,9 @@ pub record TellsContent (a extension length : ℕ) : Type 0 where
   pub no-refusal : refusalTold a ≡ 0
   pub extension-is : fieldTold 24 32 a ≡ extension
   pub length-is : fieldTold 0 24 a ≡ length
+
+-- nw_salvaged_runs, nw_salvaged_bytes
+pub record TellsSalvaged (a runs bytes : ℕ) : Type 0 where
+  pub no-refusal : refusalTold a ≡ 0
+  pub runs-are : fieldTold 24 64 a ≡ runs
+  pub bytes-are : fieldTold 0 24 a ≡ bytes

@@ -7,6 +7,7 @@ use content_writer::Written;
 use gathering_feed::Answer;
 use gathering_hand_out::Handed;
 use ground_refusal::Refusal;
+use salvage::Salvaged;
 use section_cutter::Counted;
 use section_cutter::Cut;
 use section_reader::Heading;
@@ -25,7 +26,7 @@ ghost use Prim.Native.Nat.{_≤_};
 ghost use Rattle.crc.specs.Crc.{digit};
 ghost use Rattle.c_answers.specs.Packing.{packed};
 ghost use Rattle.c_answers.specs.Version.{version};
-ghost use Rattle.c_answers.specs.Answers.{answerOf, refusedOf, dayAnswer, dateFields, dateAnswer, weekdayAnswer, fieldAnswer, timeFields, localAnswer, showingAnswer, headingFields, sectionAnswer, statedAnswer, countAnswer, lengthAnswer, feedAnswer, handAnswer, readAnswer, numberAnswer, partAnswer, writtenAnswer, contentAnswer, localFieldAnswer};
+ghost use Rattle.c_answers.specs.Answers.{answerOf, refusedOf, dayAnswer, dateFields, dateAnswer, weekdayAnswer, fieldAnswer, timeFields, localAnswer, showingAnswer, headingFields, sectionAnswer, statedAnswer, countAnswer, lengthAnswer, feedAnswer, handAnswer, readAnswer, numberAnswer, partAnswer, writtenAnswer, contentAnswer, localFieldAnswer, salvagedAnswer};
 
 // What an answer holds above its low byte: 56 bits.
 const ABOVE: u64 = 0x0100_0000_0000_0000;
@@ -183,6 +184,18 @@ pub fn length_answer(a: Cut) -> u64
     match a {
         Cut::Written(length) => answered(length as u64),
         Cut::Refused(why) => refused(why),
+    }
+}
+
+// What salvaging answers: the runs above the bytes.
+pub fn salvaged_answer(a: Salvaged) -> u64
+    ensures { λ r. ⌜ r ≡ salvagedAnswer a ⌝ }
+{
+    match a {
+        Salvaged::Of(bytes, runs) => {
+            answered((runs as u64) % 0x100_0000 * 0x100_0000 + (bytes as u64) % 0x100_0000)
+        }
+        Salvaged::Refused(why) => refused(why),
     }
 }
 

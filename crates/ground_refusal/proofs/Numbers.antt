@@ -7,7 +7,7 @@ use native.Mathlib.Omega.{arith}
 use lib.Dec.{eqb}
 use Rattle.ground_refusal.specs.Numbers.{refusalNumber, isNumber, refusalPlace, placeless}
 use Rattle.ground_refusal.specs.declared.Refusal.{Refusal}
-use Rattle.ground_refusal.specs.declared.Refusal.the-variants.{SectionTooShort, OtherKind, FixedBitZero, SectionLengthOutside, OtherLength, NumberAboveLast, CheckNotZero, NotCurrent, OtherHeading, StoreTooShort, Contradiction, ImpossibleState, Missing, PastBody, PastPart, LeftOver, ReservedBitZero, DigitAboveNine, OutsideSet, ImpossibleDay, OutputTooSmall, TooLarge, OtherChecksum, NotOfTheForm}
+use Rattle.ground_refusal.specs.declared.Refusal.the-variants.{SectionTooShort, OtherKind, FixedBitZero, SectionLengthOutside, OtherLength, NumberAboveLast, CheckNotZero, NotCurrent, OtherHeading, StoreTooShort, Contradiction, ImpossibleState, Missing, PastBody, PastPart, LeftOver, ReservedBitZero, DigitAboveNine, OutsideSet, ImpossibleDay, OutputTooSmall, TooLarge, OtherChecksum, NotOfTheForm, CaptureTooLong}
 
 -- each number beside its refusal, at a place
 abbrev beside : ℕ → List (ℕ × Refusal)
@@ -16,7 +16,8 @@ beside at =
     ∷ (6, NumberAboveLast) ∷ (7, CheckNotZero) ∷ (8, NotCurrent) ∷ (9, OtherHeading) ∷ (10, StoreTooShort) ∷ (11, Contradiction)
     ∷ (12, ImpossibleState) ∷ (13, Missing at) ∷ (14, PastBody at) ∷ (15, PastPart at) ∷ (16, LeftOver at)
     ∷ (17, ReservedBitZero at) ∷ (18, DigitAboveNine at) ∷ (19, OutsideSet at) ∷ (20, ImpossibleDay at) ∷ (21, OutputTooSmall)
-    ∷ (22, TooLarge) ∷ (23, OtherChecksum) ∷ (24, NotOfTheForm) ∷ []
+    ∷ (22, TooLarge) ∷ (23, OtherChecksum) ∷ (24, NotOfTheForm)
+    ∷ (36, CaptureTooLong) ∷ []
 
 -- what stands beside a number; any refusal where nothing does
 abbrev found : ℕ → List (ℕ × Refusal) → Refusal
@@ -58,6 +59,7 @@ known OutputTooSmall = record { listed = refl; most = omega arith; back = refl }
 known TooLarge = record { listed = refl; most = omega arith; back = refl }
 known OtherChecksum = record { listed = refl; most = omega arith; back = refl }
 known NotOfTheForm = record { listed = refl; most = omega arith; back = refl }
+known CaptureTooLong = record { listed = refl; most = omega arith; back = refl }
 
 pub number-listed : (r : Refusal) → isNumber (refusalNumber r) ≡ true
 number-listed r = known r .listed
@@ -96,3 +98,4 @@ placeless-is OutputTooSmall = (refl, refl)
 placeless-is TooLarge = (refl, refl)
 placeless-is OtherChecksum = (refl, refl)
 placeless-is NotOfTheForm = (refl, refl)
+placeless-is CaptureTooLong = (refl, refl)

@@ -1,9 +1,9 @@
 -- What a reader has to believe of refusals: document 01's number for each case, its place, and the case without its place.
 use Prim.Native.Nat.{ℕ}
-use mathlib.Core.Bool.{Bool, _&&_}
-use lib.Dec.{leb}
+use mathlib.Core.Bool.{Bool, _&&_, _||_}
+use lib.Dec.{eqb, leb}
 use Rattle.ground_refusal.specs.declared.Refusal.{Refusal}
-use Rattle.ground_refusal.specs.declared.Refusal.the-variants.{SectionTooShort, OtherKind, FixedBitZero, SectionLengthOutside, OtherLength, NumberAboveLast, CheckNotZero, NotCurrent, OtherHeading, StoreTooShort, Contradiction, ImpossibleState, Missing, PastBody, PastPart, LeftOver, ReservedBitZero, DigitAboveNine, OutsideSet, ImpossibleDay, OutputTooSmall, TooLarge, OtherChecksum, NotOfTheForm}
+use Rattle.ground_refusal.specs.declared.Refusal.the-variants.{SectionTooShort, OtherKind, FixedBitZero, SectionLengthOutside, OtherLength, NumberAboveLast, CheckNotZero, NotCurrent, OtherHeading, StoreTooShort, Contradiction, ImpossibleState, Missing, PastBody, PastPart, LeftOver, ReservedBitZero, DigitAboveNine, OutsideSet, ImpossibleDay, OutputTooSmall, TooLarge, OtherChecksum, NotOfTheForm, CaptureTooLong}
 
 -- the numbers of document 01's list
 abbrev pub refusalNumber : Refusal → ℕ
@@ -31,10 +31,11 @@ refusalNumber OutputTooSmall = 21
 refusalNumber TooLarge = 22
 refusalNumber OtherChecksum = 23
 refusalNumber NotOfTheForm = 24
+refusalNumber CaptureTooLong = 36
 
 -- the numbers that the list has; it may have gaps. 25 is gone, and not given again.
 abbrev pub isNumber : ℕ → Bool
-isNumber n = leb 1 n && leb n 24
+isNumber n = leb 1 n && leb n 24 || eqb n 36
 
 -- "A refusal returns its number and a place": the place is 0 where the list gives none
 abbrev pub refusalPlace : Refusal → ℕ
@@ -62,6 +63,7 @@ refusalPlace OutputTooSmall = 0
 refusalPlace TooLarge = 0
 refusalPlace OtherChecksum = 0
 refusalPlace NotOfTheForm = 0
+refusalPlace CaptureTooLong = 0
 
 -- a refusal without its place, as writers answer it: "and always 0 from writers"
 abbrev pub placeless : Refusal → Refusal
@@ -89,3 +91,4 @@ placeless OutputTooSmall = OutputTooSmall
 placeless TooLarge = TooLarge
 placeless OtherChecksum = OtherChecksum
 placeless NotOfTheForm = NotOfTheForm
+placeless CaptureTooLong = CaptureTooLong

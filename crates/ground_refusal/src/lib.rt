@@ -53,6 +53,8 @@ pub enum Refusal {
     // 24: date text not of the exact form.
     NotOfTheForm,
     // 25 was a joined body above 1,045,504 bytes. No possible state has one, so it is gone, and its number is not given again.
+    // 36: a capture above 65,536 bytes.
+    CaptureTooLong,
 }
 
 // The number of a refusal in document 01's list.
@@ -84,6 +86,7 @@ pub fn number(r: Refusal) -> u8
         Refusal::TooLarge => 22,
         Refusal::OtherChecksum => 23,
         Refusal::NotOfTheForm => 24,
+        Refusal::CaptureTooLong => 36,
     }
 }
 
@@ -116,6 +119,7 @@ pub fn place(r: Refusal) -> usize
         Refusal::TooLarge => 0,
         Refusal::OtherChecksum => 0,
         Refusal::NotOfTheForm => 0,
+        Refusal::CaptureTooLong => 0,
     }
 }
 
@@ -148,5 +152,6 @@ pub fn placeless(r: Refusal) -> Refusal
         Refusal::TooLarge => Refusal::TooLarge,
         Refusal::OtherChecksum => Refusal::OtherChecksum,
         Refusal::NotOfTheForm => Refusal::NotOfTheForm,
+        Refusal::CaptureTooLong => Refusal::CaptureTooLong,
     }
 }

@@ -3,7 +3,7 @@ ghost use mathlib.Core.Path.{_≡_};
 ghost use mathlib.Core.List.{_++_};
 ghost use Prim.Native.Nat.{_+_, _^_, _≤_, _<_};
 ghost use lib.ListN.{length, drop};
-ghost use Rattle.program_printing.specs.Put.{Put};
+ghost use Rattle.ground_placing.specs.Put.{Put};
 ghost use Rattle.program_date_lines.specs.Report.{linesOf, fieldText, timeAnswered, lineOf, numbered, reportOf};
 ghost use Rattle.program_date_lines.specs.Lines.{lineLength};
 use program_printing::MOST_INPUT;

@@ -1,3 +1,2 @@
 -- The laws that the functions' proofs and later crates cite.
 pub mod Digits
-pub mod Putting

@@ -1,4 +1,3 @@
 -- The definitions that the contracts cite.
 pub mod Characters
-pub mod Put
 pub mod Input

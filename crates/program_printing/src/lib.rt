@@ -4,7 +4,7 @@ ghost use mathlib.Core.Path.{_≡_};
 ghost use Prim.Native.Nat.{_+_, _≤_, _<_};
 ghost use lib.ListN.{length};
 ghost use Rattle.program_printing.specs.Characters.{digitCharacter, digitsOf, placesOf, decimalOf, refusedText};
-ghost use Rattle.program_printing.specs.Put.{Put};
+ghost use Rattle.ground_placing.specs.Put.{Put};
 use ground_refusal::Refusal;
 
 // The longest input that a program takes: 64 KiB.

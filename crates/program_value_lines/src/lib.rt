@@ -3,7 +3,7 @@ ghost use mathlib.Core.Path.{_≡_};
 ghost use mathlib.Core.List.{_++_};
 ghost use Prim.Native.Nat.{_+_, _≤_};
 ghost use lib.ListN.{length, drop};
-ghost use Rattle.program_printing.specs.Put.{Put};
+ghost use Rattle.ground_placing.specs.Put.{Put};
 ghost use Rattle.program_value_lines.specs.Report.{valueText, saidText, lineOf, ofDay, ofTime, ofIndex, ofVolume, timeLines, indexLines, volumeLines, reportOf};
 use body_formats::Step;
 use ground_numbers::CONFIGURATION_KIND;

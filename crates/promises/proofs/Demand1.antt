@@ -17,6 +17,7 @@ use Rattle.section_cutter.specs.declared.Cut.the-variants.{Refused as NotCut}
 use Rattle.section_reader.specs.declared.Heading.{Heading}
 use Rattle.section_reader.specs.declared.Sectioned.{Sectioned}
 use Rattle.section_reader.specs.declared.Sectioned.the-variants.{Good, Refused as NotGood}
+use Rattle.salvage.proofs.Calls.{writes-nothing as salvage-keeps}
 use Rattle.gathering_state.specs.State.{possibleOf, nothingBegun, spoiledState}
 use Rattle.gathering_state.specs.declared.Gathering.{Gathering}
 use Rattle.gathering_state.proofs.State.{possible-fresh, possible-begun}
@@ -113,6 +114,7 @@ unfolding feeding.fedOf feeding.storeAfter handedOf outAfter bodyWritten variant
 writes-nothing =
     record {
       cutter = λ body kind extension version number out. cut-keeps (cutter.cutting body kind extension version number (length out)) out;
+      salvage = salvage-keeps;
       feed = λ g store s. fed-keeps store (payloadOf s) (verdictOf g store s);
       hand-out = λ g store out. handed-keeps (bodyHeld g store) out (handedOf g store out);
       pack = λ g store. handed-keeps (bodyHeld g store) store (packing.packedOf g store);

@@ -14,6 +14,7 @@ offered =
       nw-time-read-text = λ text offset. one;
       nw-time-unpack = λ field offset. one;
       nw-time-showing = λ start end day second. one;
+      nw-salvage = λ capture out runs. three;
       nw-section-read = λ s. one;
       nw-section-length = λ s. one;
       nw-section-count = λ length. one;
@@ -116,4 +117,5 @@ offered =
       nw-version = one;
       nw-dates-report = λ input out. following _;
       nw-section-line = λ input out. following _;
+      nw-salvage-list = λ capture out. following _;
     }

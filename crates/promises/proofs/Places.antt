@@ -19,6 +19,7 @@ use Rattle.section_reader.specs.declared.Sectioned.{Sectioned}
 use Rattle.section_reader.specs.declared.Sectioned.the-variants.{Good, Refused as NotGood}
 use Rattle.section_cutter.specs.Cutting as cutter
 use Rattle.section_cutter.specs.declared.Cut.the-variants.{Refused as NotCut}
+use Rattle.salvage.proofs.Calls.{refused-place as salvaged-place}
 use Rattle.gathering_state.specs.Lists.{smallestMissing}
 use Rattle.gathering_state.specs.State.{possibleOf, nothingBegun, hasRoom, lengths}
 use Rattle.gathering_state.specs.declared.Gathering.{Gathering}
@@ -286,6 +287,7 @@ places =
       section = section-place;
       fed = verdict-nowhere;
       cut = cut-place;
+      salvaged = salvaged-place;
       handed = handed-place;
       packed = packed-place;
     }

@@ -65,9 +65,13 @@ use Rattle.content_variant.specs.declared.Width.the-variants.{Bytes, Refused as
 use Rattle.content.specs.Content.{Content, content}
 use Rattle.content_writer.specs.Written.{writtenOf, contentWritten, variantWritten}
 use Rattle.content_writer.specs.declared.Written.the-variants.{Of as WrittenOf, Refused as NotWritten}
-use Rattle.c_answers.specs.Answers.{answerOf, localAnswer, sectionAnswer, contentAnswer, localFieldAnswer}
-use Rattle.c_answers.specs.Taking.{TellsValue, TellsTime, TellsHeading, TellsContent}
-use Rattle.c_answers.proofs.Taking.{refusal-told, value-told, date-told, time-told, heading-told, part-told, content-told}
+use Rattle.salvage.specs.Salvage.{salvageOf}
+use Rattle.salvage.specs.declared.Salvaged.the-variants.{Of as SalvagedOf}
+use Rattle.salvage.proofs.Standing.{sections-most, runs-most}
+use Rattle.salvage.proofs.Calls.{answered}
+use Rattle.c_answers.specs.Answers.{answerOf, localAnswer, sectionAnswer, contentAnswer, localFieldAnswer, salvagedAnswer}
+use Rattle.c_answers.specs.Taking.{TellsValue, TellsTime, TellsHeading, TellsContent, TellsSalvaged}
+use Rattle.c_answers.proofs.Taking.{refusal-told, value-told, date-told, time-told, heading-told, part-told, content-told, salvaged-told}
 use Rattle.promises.specs.Told.{RefusalsTold, Told}
 
 no-field : {A : Type 0} (r : Refusal) (f : ℕ) → NotFielded r ≡ Field f → A
@@ -140,6 +144,12 @@ cut-told body kind extension version number out n e = go (cutting body kind exte
         let short = part-length body number in
         let z : length s ≡ n = cc in
         value-told n (omega arith)
+
+salvaged-back : (capture : List ℕ) (room entries bytes runs : ℕ) → salvageOf capture room entries ≡ SalvagedOf bytes runs
+    → TellsSalvaged (salvagedAnswer (SalvagedOf bytes runs)) runs bytes
+salvaged-back capture room entries bytes runs e =
+    let a = answered capture room entries bytes runs e in
+    salvaged-told runs bytes (omega (arith, runs-most capture, a .runs-are, a .short)) (omega (arith, sections-most capture, a .bytes-are, a .short))
 
 handed-told : (g : Gathering) (store out : List ℕ) (n : ℕ) → length (g .held) ≡ 256 → handedOf g store out ≡ Body n → TellsValue (answerOf 0 n) n
 handed-told g store out n l e =
@@ -231,6 +241,7 @@ refusals-told =
       section = refusal-told;
       section-count = refusal-told;
       cut = refusal-told;
+      salvaged = refusal-told;
       fed = refusal-told;
       handed-out = refusal-told;
       read = refusal-told;
@@ -264,6 +275,7 @@ told =
       heading = heading-back;
       section-count = count-told;
       cut = cut-told;
+      salvaged = salvaged-back;
       taken = value-told 0 (omega arith);
       held-already = value-told 1 (omega arith);
       handed-out = handed-told;

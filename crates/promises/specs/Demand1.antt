@@ -10,6 +10,8 @@ use Rattle.ground_refusal.specs.declared.Refusal.{Refusal}
 use Rattle.ground_refusal.specs.declared.Refusal.the-variants.{Contradiction}
 use Rattle.section_cutter.specs.Cutting.{cutAnswer, cutOutput}
 use Rattle.section_cutter.specs.declared.Cut.the-variants.{Refused as NotCut}
+use Rattle.salvage.specs.Salvage.{salvageOf, outputAfter, listAfter}
+use Rattle.salvage.specs.declared.Salvaged.the-variants.{Refused as NotSalvaged}
 use Rattle.gathering_state.specs.State.{possibleOf, spoiledState}
 use Rattle.gathering_state.specs.declared.Gathering.{Gathering}
 use Rattle.gathering_feed.specs.Feeding.{fedOf, storeAfter}
@@ -39,14 +41,16 @@ pub record Numbered : Type 0 where
   -- a number and a place say which refusal it is
   pub one-refusal : (r r′ : Refusal) → refusalNumber r ≡ refusalNumber r′ → refusalPlace r ≡ refusalPlace r′ → r ≡ r′
 
--- "[..] given exactly when the list says": for sections, the gathering, the cutter, local times and text `Lists` states it, list by list. For
+-- "[..] given exactly when the list says": for sections, the gathering, the cutter, salvaging, local times and text `Lists` states it, list by list. For
 -- bodies and writers the order is that of the fields, and the list is the definition that the answer is equal to (`Offered`): `reading` and the
 -- tables' formats, for content `variantRead`; `writing`, for content `variantWritten`. So it is for days and instants, which have 18 to 20 alone: `dayOf`, `dateOf`, `showing`.
 
--- "[..] and a refused call writes nothing": whatever the refusal r, the output, the store, the tape and the list of records are left as they were
+-- "[..] and a refused call writes nothing": whatever the refusal r, the output, the store, the tape and the list of records or runs are left as they were
 pub record WritesNothing : Type 1 where
   pub cutter : (body : List ℕ) (kind extension version number : ℕ) (out : List ℕ) (r : Refusal)
       → cutAnswer body kind extension version number out ≡ NotCut r → cutOutput body kind extension version number out ≡ out
+  pub salvage : (capture out list : List ℕ) (r : Refusal) → salvageOf capture (length out) (length list) ≡ NotSalvaged r
+      → (outputAfter capture out list ≡ out) × (listAfter capture out list ≡ list)
   pub feed : (g : Gathering) (store s : List ℕ) (r : Refusal) → fedOf g store s .answer ≡ NotFed r → storeAfter g store s ≡ store
   pub hand-out : (g : Gathering) (store out : List ℕ) (r : Refusal) → handedOf g store out ≡ NotHanded r → outAfter g store out ≡ out
   pub pack : (g : Gathering) (store : List ℕ) (r : Refusal) → packingOf g store .answer ≡ NotHanded r → storePacked g store ≡ store

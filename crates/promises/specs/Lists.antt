@@ -1,5 +1,5 @@
 -- "Given exactly when the list says": each answer is the first refusal of its list whose condition holds, or the value if none does. The lists
--- stand in orders' `Sections`, `Gathering`, `Cutter` and `Times`, each number beside 01's words, and `AsListed` in its `Order`.
+-- stand in orders' `Sections`, `Gathering`, `Cutter`, `Salvage` and `Times`, each number beside 01's words, and `AsListed` in its `Order`.
 use Prim.Native.Nat.{ℕ, _-_}
 use mathlib.Core.Path.{_≡_}
 use mathlib.Core.List.{List}
@@ -15,6 +15,9 @@ use Rattle.section_reader.specs.declared.Sectioned.the-variants.{Good, Refused 
 use Rattle.section_cutter.specs.Cutting.{sectionCount, countedOf, sectionOf, cutAnswer}
 use Rattle.section_cutter.specs.declared.Counted.the-variants.{Sections, Refused as NotCounted}
 use Rattle.section_cutter.specs.declared.Cut.the-variants.{Written, Refused as NotCut}
+use Rattle.salvage.specs.Runs.{runsOf}
+use Rattle.salvage.specs.Salvage.{sections, salvageOf}
+use Rattle.salvage.specs.declared.Salvaged.the-variants.{Of, Refused as NotSalvaged}
 use Rattle.gathering_state.specs.declared.Gathering.{Gathering}
 use Rattle.gathering_hand_out.specs.Handing.{bodyHeld, completeOf, handedOf}
 use Rattle.gathering_hand_out.specs.declared.Completeness.the-variants.{Complete, Refused as NotComplete}
@@ -24,6 +27,7 @@ use Rattle.promises_orders.specs.Order.{AsListed}
 use Rattle.promises_orders.specs.Sections.{sectionLines}
 use Rattle.promises_orders.specs.Gathering.{FedAsListed, completeLines, handingLines}
 use Rattle.promises_orders.specs.Cutter.{countLines, cutterLines}
+use Rattle.promises_orders.specs.Salvage.{salvageLines}
 use Rattle.promises_orders.specs.Times.{IsField, packingLines, IsLocalTime, unpackingLines, textLines}
 
 pub record GivenExactly : Type 0 where
@@ -43,6 +47,10 @@ pub record GivenExactly : Type 0 where
   pub cutter : (body : List ℕ) (kind extension version number : ℕ) (out : List ℕ)
       → AsListed NotCut (λ a. a ≡ Written (length (sectionOf body kind extension version number)))
       (cutterLines body kind extension version number out) (cutAnswer body kind extension version number out)
+  -- "Refusals: 36 capture too long, then 21"
+  pub salvage : (capture : List ℕ) (room entries : ℕ)
+      → AsListed NotSalvaged (λ a. a ≡ Of (length (sections capture)) (length (runsOf capture)))
+      (salvageLines capture room entries) (salvageOf capture room entries)
   -- "Local from UTC adds it (order 19, 18, 20)"; to UTC 19, 20
   pub packing : (t : LocalTime) (offset : ℤ) → AsListed NotFielded IsField (packingLines t offset) (packOf t offset)
   pub unpacking : (field : ℕ) (offset : ℤ) → AsListed NotUnpacked IsLocalTime (unpackingLines field offset) (unpackOf field offset)

@@ -11,12 +11,14 @@ use Rattle.time_fields.specs.Showing.{showing}
 use Rattle.time_local.specs.Clock.{packOf, unpackOf}
 use Rattle.time_local.specs.Text.{readText}
 use Rattle.section_reader.specs.Section.{readSection, statedLength}
+use Rattle.salvage.specs.Salvage.{salvageOf, outputAfter, listAfter}
 use Rattle.section_cutter.specs.Cutting.{countedOf, cutAnswer, cutOutput}
 use Rattle.gathering_state.specs.declared.Gathering.{Gathering}
 use Rattle.gathering_feed.specs.Feeding.{fedOf, storeAfter}
 use Rattle.gathering_hand_out.specs.Handing.{handedOf, outAfter}
 use Rattle.gathering_pack.specs.Packing.{packingOf, storePacked}
 use Rattle.program_date_lines.specs.Report.{reportOf}
+use Rattle.program_salvage_lines.specs.Report.{reportOf as runsText}
 use Rattle.program_section_line.specs.Line.{lineOf}
 use Rattle.body_formats.specs.Body.{bodyRead, measured, bodyWritten, outputWritten, bodyLaid, laidTape}
 use Rattle.certificate.specs.Certificate.{certificate, certificateKind}
@@ -38,10 +40,11 @@ use Rattle.configuration_fields.specs.Asked as configuration-fields
 use Rattle.configuration_fields.specs.Asked.{commandCount, commandPart, commandTag, commandContent, clockYear, clockMonth, clockDay, clockHour, clockMinute}
 use Rattle.configuration_fields.specs.Asked.{clockSecond, codeAddress, codeResource, codeDigit, frequency, symbolRate, mapping, returnKind, returnAddress}
 use Rattle.configuration_fields.specs.Asked.{period, volume, parameterCount, parameter, terminalCount, terminal, terminalDigit}
-use Rattle.c_answers.specs.Answers.{dayAnswer, dateAnswer, weekdayAnswer, fieldAnswer, localAnswer, showingAnswer, sectionAnswer, statedAnswer, countAnswer}
-use Rattle.c_answers.specs.Answers.{lengthAnswer, feedAnswer, handAnswer, readAnswer, numberAnswer, partAnswer, writtenAnswer, localFieldAnswer, contentAnswer}
+use Rattle.c_answers.specs.Answers.{dayAnswer, dateAnswer, weekdayAnswer, fieldAnswer, localAnswer, showingAnswer, salvagedAnswer, sectionAnswer, statedAnswer}
+use Rattle.c_answers.specs.Answers.{countAnswer, lengthAnswer, feedAnswer, handAnswer, readAnswer, numberAnswer, partAnswer, writtenAnswer, localFieldAnswer}
+use Rattle.c_answers.specs.Answers.{contentAnswer}
 use Rattle.c_answers.specs.Version.{version}
-use Rattle.promises.specs.Determined.{Determined, Determined₂, Determined₃}
+use Rattle.promises.specs.Determined.{Determined, Determined₃, Determined₂}
 
 pub record Offered : Type 0 where
   -- The two checksums for C.
@@ -57,6 +60,11 @@ pub record Offered : Type 0 where
   pub nw-time-read-text : (text : List ℕ) (offset : ℤ) → Determined (λ r. r ≡ fieldAnswer (readText text offset))
   pub nw-time-unpack : (field : ℕ) (offset : ℤ) → Determined (λ r. r ≡ localAnswer (unpackOf field offset))
   pub nw-time-showing : (start end day second : ℕ) → Determined (λ r. r ≡ showingAnswer (showing start end (record { day = day; second = second })))
+  -- A capture salvaged for C: its good sections, and the list of its runs.
+  pub nw-salvage : (capture out runs : List ℕ) →
+      Determined₃ (λ r out′ runs′. (r ≡ salvagedAnswer (salvageOf capture (length out) (length runs))) ×
+      (out′ ≡ outputAfter capture out runs) ×
+      (runs′ ≡ listAfter capture out runs))
   -- Sections for C: one read, its length looked up, and a body cut.
   pub nw-section-read : (s : List ℕ) → Determined (λ r. r ≡ sectionAnswer (readSection s))
   pub nw-section-length : (s : List ℕ) → Determined (λ r. r ≡ statedAnswer (statedLength s))
@@ -184,6 +192,7 @@ pub record Offered : Type 0 where
   pub nw-command-terminal-digit : (body : List ℕ) (at i j : ℕ) → Determined (λ r. r ≡ numberAnswer (terminalDigit body at i j))
   -- The library's version for C.
   pub nw-version : Determined (λ r. r ≡ version)
-  -- What the commands nw-dates and nw-section call from C: the report and the line of the programs `dates` and `section`.
+  -- What the commands nw-dates, nw-section and nw-salvage call from C: the report, the line and the list of runs that the programs write.
   pub nw-dates-report : (input out : List ℕ) → Determined₂ (λ r out′. (r ≡ length (reportOf input)) × (out′ ≡ reportOf input ++ drop r out))
   pub nw-section-line : (input out : List ℕ) → Determined₂ (λ r out′. (r ≡ length (lineOf input)) × (out′ ≡ lineOf input ++ drop r out))
+  pub nw-salvage-list : (capture out : List ℕ) → Determined₂ (λ r out′. (r ≡ length (runsText capture)) × (out′ ≡ runsText capture ++ drop r out))

@@ -12,6 +12,8 @@ use Rattle.section_reader.specs.Section.{readSection}
 use Rattle.section_reader.specs.declared.Sectioned.the-variants.{Refused as NotGood}
 use Rattle.section_cutter.specs.Cutting.{cutAnswer}
 use Rattle.section_cutter.specs.declared.Cut.the-variants.{Refused as NotCut}
+use Rattle.salvage.specs.Salvage.{salvageOf}
+use Rattle.salvage.specs.declared.Salvaged.the-variants.{Refused as NotSalvaged}
 use Rattle.gathering_state.specs.declared.Gathering.{Gathering}
 use Rattle.gathering_feed.specs.Feeding.{fedOf}
 use Rattle.gathering_feed.specs.declared.Answer.the-variants.{Refused as NotFed}
@@ -54,11 +56,12 @@ pub record Places : Type 0 where
   pub content-laid : (kind v : ℕ) (body : List ℕ) (room : ℕ) (r : Refusal) → variantLaid kind v body room ≡ NoStep r → refusalPlace r ≤ length body
   pub content-measured : (v : ℕ) (pool tape : List ℕ) (r : Refusal) → variantMeasured v pool tape ≡ NoStep r → refusalPlace r ≤ length tape
   pub content-written : (v : ℕ) (pool tape : List ℕ) (room : ℕ) (r : Refusal) → variantWritten v pool tape room ≡ NotWritten r → refusalPlace r ≡ 0
-  -- "else 0": of a section, of feeding and of the cutter
+  -- "else 0": of a section, of feeding, of the cutter and of salvaging
   pub section : (s : List ℕ) (r : Refusal) → readSection s ≡ NotGood r → refusalPlace r ≡ 0
   pub fed : (g : Gathering) (store s : List ℕ) (r : Refusal) → fedOf g store s .answer ≡ NotFed r → refusalPlace r ≡ 0
   pub cut : (body : List ℕ) (kind extension version number : ℕ) (out : List ℕ) (r : Refusal)
       → cutAnswer body kind extension version number out ≡ NotCut r → refusalPlace r ≡ 0
+  pub salvaged : (capture : List ℕ) (room entries : ℕ) (r : Refusal) → salvageOf capture room entries ≡ NotSalvaged r → refusalPlace r ≡ 0
   -- "The place is 13's missing number": a number of the table
   pub handed : (g : Gathering) (store out : List ℕ) (r : Refusal) → handedOf g store out ≡ NotHanded r → refusalPlace r ≤ g .last
   pub packed : (g : Gathering) (store : List ℕ) (r : Refusal) → packingOf g store .answer ≡ NotHanded r → refusalPlace r ≤ g .last

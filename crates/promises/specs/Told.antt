@@ -26,6 +26,8 @@ use Rattle.section_reader.specs.declared.Sectioned.the-variants.{Good, Refused 
 use Rattle.section_cutter.specs.Cutting.{countedOf, cutAnswer}
 use Rattle.section_cutter.specs.declared.Counted.the-variants.{Sections, Refused as NotCounted}
 use Rattle.section_cutter.specs.declared.Cut.the-variants.{Written, Refused as NotCut}
+use Rattle.salvage.specs.Salvage.{salvageOf}
+use Rattle.salvage.specs.declared.Salvaged.the-variants.{Of as SalvagedOf, Refused as NotSalvaged}
 use Rattle.gathering_state.specs.declared.Gathering.{Gathering}
 use Rattle.gathering_feed.specs.declared.Answer.the-variants as fed
 use Rattle.gathering_hand_out.specs.Handing.{handedOf}
@@ -42,8 +44,8 @@ use Rattle.body_formats.specs.declared.Part.the-variants.{Of, Refused as NoPart
 use Rattle.index_records.specs.Records.{bodyRecorded}
 use Rattle.content_writer.specs.Written.{variantWritten}
 use Rattle.content_writer.specs.declared.Written.the-variants.{Of as WrittenOf, Refused as NotWritten}
-use Rattle.c_answers.specs.Answers.{answerOf, dayAnswer, dateAnswer, weekdayAnswer, fieldAnswer, localAnswer, showingAnswer, sectionAnswer, countAnswer, lengthAnswer, feedAnswer, handAnswer, readAnswer, numberAnswer, partAnswer, writtenAnswer, contentAnswer, localFieldAnswer}
-use Rattle.c_answers.specs.Taking.{refusalTold, TellsRefusal, TellsValue, TellsDate, TellsTime, TellsHeading, TellsPart, TellsContent}
+use Rattle.c_answers.specs.Answers.{answerOf, dayAnswer, dateAnswer, weekdayAnswer, fieldAnswer, localAnswer, showingAnswer, sectionAnswer, countAnswer, lengthAnswer, salvagedAnswer, feedAnswer, handAnswer, readAnswer, numberAnswer, partAnswer, writtenAnswer, contentAnswer, localFieldAnswer}
+use Rattle.c_answers.specs.Taking.{refusalTold, TellsRefusal, TellsValue, TellsDate, TellsTime, TellsHeading, TellsPart, TellsContent, TellsSalvaged}
 
 -- "A refusal returns its number and a place": any refusal, as this kind of answer tells it
 abbrev pub Refuses : {A : Type 0} → (A → ℕ) → (Refusal → A) → Type 0
@@ -59,6 +61,7 @@ pub record RefusalsTold : Type 0 where
   pub section : Refuses sectionAnswer NotGood
   pub section-count : Refuses countAnswer NotCounted
   pub cut : Refuses lengthAnswer NotCut
+  pub salvaged : Refuses salvagedAnswer NotSalvaged
   pub fed : Refuses feedAnswer fed.Refused
   pub handed-out : Refuses handAnswer NotHanded
   pub read : Refuses readAnswer NoStep
@@ -92,6 +95,8 @@ pub record Told : Type 1 where
   pub section-count : (bytes n : ℕ) → countedOf bytes ≡ Sections n → TellsValue (countAnswer (Sections n)) n
   pub cut : (body : List ℕ) (kind extension version number : ℕ) (out : List ℕ) (n : ℕ) → cutAnswer body kind extension version number out ≡ Written n
       → TellsValue (lengthAnswer (Written n)) n
+  pub salvaged : (capture : List ℕ) (room entries bytes runs : ℕ) → salvageOf capture room entries ≡ SalvagedOf bytes runs
+      → TellsSalvaged (salvagedAnswer (SalvagedOf bytes runs)) runs bytes
   pub taken : TellsValue (feedAnswer fed.Taken) 0
   pub held-already : TellsValue (feedAnswer fed.HeldAlready) 1
   -- a state has 256 numbers

@@ -3,4 +3,5 @@ pub mod Order
 pub mod Sections
 pub mod Cutter
 pub mod Gathering
+pub mod Salvage
 pub mod Times

@@ -9,7 +9,7 @@ use lib.ListN.{length}
 use Rattle.program_printing.specs.Characters.{ascii, hexOf, decimalOf, refusedText}
 use Rattle.program_date_lines.specs.Report.{dayText, fieldText}
 use Rattle.program_printing.proofs.Digits.{digits-length}
-use Rattle.program_printing.proofs.Putting.{room-first, put-room, put-then}
+use Rattle.ground_placing.proofs.Putting.{room-first, put-room, put-then}
 use Rattle.program_date_lines.proofs.put_field.Statement.{statement}
 use Rattle.program_date_lines.proofs.put_field.Tie as tie
 

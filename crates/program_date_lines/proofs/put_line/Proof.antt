@@ -4,7 +4,7 @@ use borrow.Author.Needs.{needs}
 use denote.Ref.{now}
 use Rattle.program_printing.specs.Characters.{ascii, decimalOf}
 use Rattle.program_date_lines.specs.Report.{timeAnswered, lineOf}
-use Rattle.program_printing.proofs.Putting.{room-first, put-room, put-then}
+use Rattle.ground_placing.proofs.Putting.{room-first, put-room, put-then}
 use Rattle.program_date_lines.proofs.put_line.Statement.{statement}
 use Rattle.program_date_lines.proofs.put_line.Tie as tie
 

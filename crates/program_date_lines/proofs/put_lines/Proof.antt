@@ -7,8 +7,8 @@ use borrow.Author.Needs.{needs}
 use denote.Ref.{now}
 use lib.ListN.{length, take, drop}
 use Rattle.program_date_lines.specs.Report.{linesOf, lineOf, numbered}
-use Rattle.program_printing.specs.Put.{Put}
-use Rattle.program_printing.proofs.Putting.{room-first, put-length, put-room, put-none, put-then}
+use Rattle.ground_placing.specs.Put.{Put}
+use Rattle.ground_placing.proofs.Putting.{room-first, put-length, put-room, put-none, put-then}
 use Rattle.program_date_lines.proofs.Lines.{numbered-none, numbered-turn}
 use Rattle.program_date_lines.proofs.put_lines.Statement.{statement}
 use Rattle.program_date_lines.proofs.put_lines.Tie as tie

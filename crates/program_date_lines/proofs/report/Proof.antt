@@ -7,7 +7,7 @@ use lib.ListN.{length}
 use Rattle.program_date_lines.specs.Report.{linesOf, numbered}
 use Rattle.program_date_lines.proofs.Bounds.{report-most}
 use Rattle.program_date_lines.proofs.Lines.{report-lines, report-over}
-use Rattle.program_printing.proofs.Putting.{put-room, put-then, put-whole}
+use Rattle.ground_placing.proofs.Putting.{put-room, put-then, put-whole}
 use Rattle.program_date_lines.proofs.report.Statement.{statement}
 use Rattle.program_date_lines.proofs.report.Tie as tie
 

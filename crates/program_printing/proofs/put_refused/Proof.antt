@@ -2,7 +2,7 @@
 use borrow.Author.Needs.{needs}
 use Rattle.ground_refusal.specs.Numbers.{refusalNumber}
 use Rattle.program_printing.specs.Characters.{ascii, decimalOf, refusedText}
-use Rattle.program_printing.proofs.Putting.{room-first, put-room, put-then}
+use Rattle.ground_placing.proofs.Putting.{room-first, put-room, put-then}
 use Rattle.program_printing.proofs.put_refused.Statement.{statement}
 use Rattle.program_printing.proofs.put_refused.Tie as tie
 

@@ -5,7 +5,7 @@ use borrow.Author.Needs.{needs}
 use denote.Ref.{now}
 use lib.ListN.{length, length-append}
 use Rattle.program_printing.specs.Characters.{ascii}
-use Rattle.program_printing.proofs.Putting.{put-room, put-then, put-whole}
+use Rattle.ground_placing.proofs.Putting.{put-room, put-then, put-whole}
 use Rattle.program_section_line.specs.Line.{sectionAnswered, lineOf}
 use Rattle.program_section_line.proofs.Bounds.{answer-most}
 use Rattle.program_section_line.proofs.line.Statement.{statement}

@@ -7,7 +7,7 @@ use borrow.Author.Needs.{needs}
 use denote.Ref.{now}
 use lib.ListN.{length}
 use Rattle.program_printing.specs.Characters.{ascii, decimalOf, refusedText}
-use Rattle.program_printing.proofs.Putting.{room-first, put-room, put-then}
+use Rattle.ground_placing.proofs.Putting.{room-first, put-room, put-then}
 use Rattle.program_section_line.specs.Line.{headingText, sectionAnswered}
 use Rattle.program_section_line.proofs.put_answer.Statement.{statement}
 use Rattle.program_section_line.proofs.put_answer.Tie as tie

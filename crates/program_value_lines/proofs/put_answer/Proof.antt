@@ -9,7 +9,7 @@ use lib.ListN.{length}
 use Rattle.ground_refusal.specs.Numbers.{refusalPlace}
 use Rattle.program_printing.specs.Characters.{ascii, hexOf, decimalOf, refusedText}
 use Rattle.program_printing.proofs.Digits.{digits-length}
-use Rattle.program_printing.proofs.Putting.{room-first, put-room, put-then}
+use Rattle.ground_placing.proofs.Putting.{room-first, put-room, put-then}
 use Rattle.program_value_lines.specs.Report.{valueText}
 use Rattle.program_value_lines.proofs.put_answer.Statement.{statement}
 use Rattle.program_value_lines.proofs.put_answer.Tie as tie

@@ -3,7 +3,7 @@ use mathlib.Core.List.{_++_}
 use borrow.Author.Needs.{needs}
 use denote.Ref.{now}
 use Rattle.program_printing.specs.Characters.{ascii}
-use Rattle.program_printing.proofs.Putting.{room-first, put-room, put-then}
+use Rattle.ground_placing.proofs.Putting.{room-first, put-room, put-then}
 use Rattle.program_value_lines.specs.Report.{saidText}
 use Rattle.program_value_lines.proofs.put_said.Statement.{statement}
 use Rattle.program_value_lines.proofs.put_said.Tie as tie

@@ -1,7 +1,7 @@
 -- `program_value_lines::put_times` meets its contract: a line for the day and for each time, one after the other.
 use mathlib.Core.List.{_++_}
 use borrow.Author.Needs.{needs}
-use Rattle.program_printing.proofs.Putting.{room-first, put-room, put-then}
+use Rattle.ground_placing.proofs.Putting.{room-first, put-room, put-then}
 use Rattle.program_value_lines.specs.Report.{dayLine, novemberLine, marchLine, timeLines}
 use Rattle.program_value_lines.proofs.put_times.Statement.{statement}
 use Rattle.program_value_lines.proofs.put_times.Tie as tie

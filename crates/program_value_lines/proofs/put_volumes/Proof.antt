@@ -1,6 +1,6 @@
 -- `program_value_lines::put_volumes` meets its contract: a line for each volume, one after the other.
 use borrow.Author.Needs.{needs}
-use Rattle.program_printing.proofs.Putting.{room-first, put-room, put-then}
+use Rattle.ground_placing.proofs.Putting.{room-first, put-room, put-then}
 use Rattle.program_value_lines.specs.Report.{fullLine, aboveLine, volumeLines}
 use Rattle.program_value_lines.proofs.put_volumes.Statement.{statement}
 use Rattle.program_value_lines.proofs.put_volumes.Tie as tie

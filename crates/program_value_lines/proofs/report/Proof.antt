@@ -6,7 +6,7 @@ use native.Mathlib.Omega.{arith}
 use borrow.Author.Needs.{needs}
 use denote.Ref.{now}
 use lib.ListN.{length}
-use Rattle.program_printing.proofs.Putting.{room-first, put-room, put-then, put-whole}
+use Rattle.ground_placing.proofs.Putting.{room-first, put-room, put-then, put-whole}
 use Rattle.program_value_lines.specs.Report.{timeLines, indexLines, volumeLines, reportOf}
 use Rattle.program_value_lines.proofs.Values.{report-long}
 use Rattle.program_value_lines.proofs.report.Statement.{statement}

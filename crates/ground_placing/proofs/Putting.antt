@@ -5,8 +5,8 @@ use mathlib.Core.List.{List, [], _++_}
 use native.Mathlib.Omega.{arith}
 use native.Mathlib.Nat.{add-zero, zero-add, add-assoc}
 use lib.ListN.{length, drop, length-append}
 use Rattle.ground_placing.proofs.Placing.{placed-length, placed-next, placed-none, placed-whole}
-use Rattle.program_printing.specs.Put.{Put}
+use Rattle.ground_placing.specs.Put.{Put}
 
 pub room-first : (at : ℕ) (xs ys : List ℕ) {n : ℕ} → at + length (xs ++ ys) ≤ n → at + length xs ≤ n
 room-first at xs ys h = omega (arith, length-append xs ys)

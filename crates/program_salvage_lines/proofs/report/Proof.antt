@@ -1,0 +1,47 @@
+-- `program_salvage_lines::report` meets its contract: the header, and then the runs' lines or the refusal, from the start of the output on.
+use mathlib.Core.Path.{_≡_}
+use native.Mathlib.Omega.{arith}
+use borrow.Author.Needs.{needs}
+use denote.Ref.{now}
+use lib.ListN.{length}
+use Rattle.ground_placing.proofs.Putting.{put-room, put-then, put-whole}
+use Rattle.salvage.specs.Runs.{runsOf}
+use Rattle.program_salvage_lines.specs.Report.{linesOf}
+use Rattle.program_salvage_lines.proofs.Bounds.{lines-most}
+use Rattle.program_salvage_lines.proofs.Lines.{report-lines, report-over}
+use Rattle.program_salvage_lines.proofs.report.Statement.{statement}
+use Rattle.program_salvage_lines.proofs.report.Tie as tie
+
+returns : tie.Need-returns
+returns c =
+    let over = c .before .before .before in
+    let head = over .before in
+    rw (report-over (now (head .before .before .before .before .args .capture)) (over .if1 .taken))
+    (put-whole (put-then (head .put-bytes .ensures) (c .put-bytes2 .ensures)))
+
+put-lines-requires : tie.Need-put-lines-requires
+put-lines-requires c κs =
+    let head = c .before .before in
+    let start = head .before .before .before .before in
+    let s = now (start .args .capture) in
+    let room : length (now (start .args .out)) ≡ 201677 = search needs in
+    (c .before .if1 .left, put-room (linesOf (runsOf s)) (head .put-bytes .ensures) (omega (arith, lines-most s (c .before .if1 .left))))
+
+returns-2 : tie.Need-returns-2
+returns-2 c =
+    let lines = c .before .before in
+    let head = lines .before in
+    rw (report-lines (now (head .before .before .before .before .args .capture)) (lines .if1 .left))
+    (put-whole (put-then (head .put-bytes .ensures) (c .put-lines .ensures)))
+
+pub report-spec : {M : Type 1} → statement M
+report-spec =
+    tie.close
+    (tie.spec
+    (λ c. search needs)
+    (λ c κs. search needs)
+    (λ c. search needs)
+    (λ c κs. search needs)
+    returns
+    put-lines-requires
+    returns-2)
