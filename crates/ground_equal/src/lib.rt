@@ -1,0 +1,21 @@
+// Byte strings compared, for every crate that asks whether two are the same.
+ghost use mathlib.Core.Path.{_≡_};
+ghost use Rattle.ground_equal.specs.Same.{sameBytes};
+
+// Are they the same bytes? The loop has no early end and runs on many bytes at once.
+pub fn same_bytes(a: &[u8], b: &[u8]) -> bool
+    ensures { λ r. ⌜ r ≡ sameBytes (now (a .entry)) (now (b .entry)) ⌝ }
+{
+    if a.len() != b.len() {
+        return false;
+    }
+    let mut same = true;
+    let mut i = 0;
+    while i < a.len() {
+        if a[i] != b[i] {
+            same = false;
+        }
+        i += 1;
+    }
+    same
+}
