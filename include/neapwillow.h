@@ -128,6 +128,12 @@ enum nw_refusal {
     NW_OTHER_CHECKSUM = 23,         /* the extension is not the CRC-16 of the identifier */
     NW_NOT_OF_THE_FORM = 24,        /* date text not of the exact form */
     /* 25 was a joined body above 1,045,504 bytes, which no possible state has; it is not given again */
+    /* 30 to 34 are those of transport packets: proved, and not offered to C yet */
+    NW_NOT_A_PACKET = 30,           /* not 188 bytes */
+    NW_NO_SYNC_BYTE = 31,           /* a packet without the sync byte 0x47 */
+    NW_OTHER_PID = 32,              /* a packet of another PID than 0x0021 */
+    NW_SCRAMBLED = 33,              /* a scrambled packet */
+    NW_PAST_PACKET = 34,            /* pointer or adaptation field past the packet's end; control 00 */
     NW_CAPTURE_TOO_LONG = 36        /* a capture above 65,536 bytes */
 };
 
@@ -161,6 +167,11 @@ static inline const char *nw_refusal_text(unsigned number)
     case NW_TOO_LARGE: return "a length, a count or a body is too large";
     case NW_OTHER_CHECKSUM: return "the extension is not the CRC-16 of the identifier";
     case NW_NOT_OF_THE_FORM: return "the text is not dd/mm/yyyy hh:mm:ss";
+    case NW_NOT_A_PACKET: return "the packet has not 188 bytes";
+    case NW_NO_SYNC_BYTE: return "the packet does not begin with the sync byte 0x47";
+    case NW_OTHER_PID: return "the packet is of another PID than 0x0021";
+    case NW_SCRAMBLED: return "the packet is scrambled";
+    case NW_PAST_PACKET: return "a pointer or an adaptation field passes the packet's end";
     case NW_CAPTURE_TOO_LONG: return "the capture has more than 65,536 bytes";
     default: return "no such refusal";
     }

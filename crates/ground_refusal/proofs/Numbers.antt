@@ -7,7 +7,7 @@ use native.Mathlib.Omega.{arith}
 use lib.Dec.{eqb}
 use Rattle.ground_refusal.specs.Numbers.{refusalNumber, isNumber, refusalPlace, placeless}
 use Rattle.ground_refusal.specs.declared.Refusal.{Refusal}
-use Rattle.ground_refusal.specs.declared.Refusal.the-variants.{SectionTooShort, OtherKind, FixedBitZero, SectionLengthOutside, OtherLength, NumberAboveLast, CheckNotZero, NotCurrent, OtherHeading, StoreTooShort, Contradiction, ImpossibleState, Missing, PastBody, PastPart, LeftOver, ReservedBitZero, DigitAboveNine, OutsideSet, ImpossibleDay, OutputTooSmall, TooLarge, OtherChecksum, NotOfTheForm, CaptureTooLong}
+use Rattle.ground_refusal.specs.declared.Refusal.the-variants.{SectionTooShort, OtherKind, FixedBitZero, SectionLengthOutside, OtherLength, NumberAboveLast, CheckNotZero, NotCurrent, OtherHeading, StoreTooShort, Contradiction, ImpossibleState, Missing, PastBody, PastPart, LeftOver, ReservedBitZero, DigitAboveNine, OutsideSet, ImpossibleDay, OutputTooSmall, TooLarge, OtherChecksum, NotOfTheForm, NotAPacket, NoSyncByte, OtherPid, Scrambled, PastPacket, CaptureTooLong}
 
 -- each number beside its refusal, at a place
 abbrev beside : ℕ → List (ℕ × Refusal)
@@ -17,6 +17,7 @@ beside at =
     ∷ (12, ImpossibleState) ∷ (13, Missing at) ∷ (14, PastBody at) ∷ (15, PastPart at) ∷ (16, LeftOver at)
     ∷ (17, ReservedBitZero at) ∷ (18, DigitAboveNine at) ∷ (19, OutsideSet at) ∷ (20, ImpossibleDay at) ∷ (21, OutputTooSmall)
     ∷ (22, TooLarge) ∷ (23, OtherChecksum) ∷ (24, NotOfTheForm)
+    ∷ (30, NotAPacket) ∷ (31, NoSyncByte) ∷ (32, OtherPid) ∷ (33, Scrambled) ∷ (34, PastPacket)
     ∷ (36, CaptureTooLong) ∷ []
 
 -- what stands beside a number; any refusal where nothing does
@@ -59,6 +60,11 @@ known OutputTooSmall = record { listed = refl; most = omega arith; back = refl }
 known TooLarge = record { listed = refl; most = omega arith; back = refl }
 known OtherChecksum = record { listed = refl; most = omega arith; back = refl }
 known NotOfTheForm = record { listed = refl; most = omega arith; back = refl }
+known NotAPacket = record { listed = refl; most = omega arith; back = refl }
+known NoSyncByte = record { listed = refl; most = omega arith; back = refl }
+known OtherPid = record { listed = refl; most = omega arith; back = refl }
+known Scrambled = record { listed = refl; most = omega arith; back = refl }
+known PastPacket = record { listed = refl; most = omega arith; back = refl }
 known CaptureTooLong = record { listed = refl; most = omega arith; back = refl }
 
 pub number-listed : (r : Refusal) → isNumber (refusalNumber r) ≡ true
@@ -98,4 +104,9 @@ placeless-is OutputTooSmall = (refl, refl)
 placeless-is TooLarge = (refl, refl)
 placeless-is OtherChecksum = (refl, refl)
 placeless-is NotOfTheForm = (refl, refl)
+placeless-is NotAPacket = (refl, refl)
+placeless-is NoSyncByte = (refl, refl)
+placeless-is OtherPid = (refl, refl)
+placeless-is Scrambled = (refl, refl)
+placeless-is PastPacket = (refl, refl)
 placeless-is CaptureTooLong = (refl, refl)

@@ -1,11 +1,11 @@
--- What a reader has to believe of refusals: document 01's number for each case, its place, and the case without its place.
+-- What a reader has to believe of refusals: the number that documents 01 and 02 give each case, its place, and the case without its place.
 use Prim.Native.Nat.{ℕ}
 use mathlib.Core.Bool.{Bool, _&&_, _||_}
 use lib.Dec.{eqb, leb}
 use Rattle.ground_refusal.specs.declared.Refusal.{Refusal}
-use Rattle.ground_refusal.specs.declared.Refusal.the-variants.{SectionTooShort, OtherKind, FixedBitZero, SectionLengthOutside, OtherLength, NumberAboveLast, CheckNotZero, NotCurrent, OtherHeading, StoreTooShort, Contradiction, ImpossibleState, Missing, PastBody, PastPart, LeftOver, ReservedBitZero, DigitAboveNine, OutsideSet, ImpossibleDay, OutputTooSmall, TooLarge, OtherChecksum, NotOfTheForm, CaptureTooLong}
+use Rattle.ground_refusal.specs.declared.Refusal.the-variants.{SectionTooShort, OtherKind, FixedBitZero, SectionLengthOutside, OtherLength, NumberAboveLast, CheckNotZero, NotCurrent, OtherHeading, StoreTooShort, Contradiction, ImpossibleState, Missing, PastBody, PastPart, LeftOver, ReservedBitZero, DigitAboveNine, OutsideSet, ImpossibleDay, OutputTooSmall, TooLarge, OtherChecksum, NotOfTheForm, NotAPacket, NoSyncByte, OtherPid, Scrambled, PastPacket, CaptureTooLong}
 
--- the numbers of document 01's list
+-- the numbers of document 01's list, and of the requests of document 02
 abbrev pub refusalNumber : Refusal → ℕ
 refusalNumber SectionTooShort = 1
 refusalNumber OtherKind = 2
@@ -31,11 +31,16 @@ refusalNumber OutputTooSmall = 21
 refusalNumber TooLarge = 22
 refusalNumber OtherChecksum = 23
 refusalNumber NotOfTheForm = 24
+refusalNumber NotAPacket = 30
+refusalNumber NoSyncByte = 31
+refusalNumber OtherPid = 32
+refusalNumber Scrambled = 33
+refusalNumber PastPacket = 34
 refusalNumber CaptureTooLong = 36
 
 -- the numbers that the list has; it may have gaps. 25 is gone, and not given again.
 abbrev pub isNumber : ℕ → Bool
-isNumber n = leb 1 n && leb n 24 || eqb n 36
+isNumber n = (leb 1 n && leb n 24) || (leb 30 n && leb n 34) || eqb n 36
 
 -- "A refusal returns its number and a place": the place is 0 where the list gives none
 abbrev pub refusalPlace : Refusal → ℕ
@@ -63,6 +68,11 @@ refusalPlace OutputTooSmall = 0
 refusalPlace TooLarge = 0
 refusalPlace OtherChecksum = 0
 refusalPlace NotOfTheForm = 0
+refusalPlace NotAPacket = 0
+refusalPlace NoSyncByte = 0
+refusalPlace OtherPid = 0
+refusalPlace Scrambled = 0
+refusalPlace PastPacket = 0
 refusalPlace CaptureTooLong = 0
 
 -- a refusal without its place, as writers answer it: "and always 0 from writers"
@@ -91,4 +101,9 @@ placeless OutputTooSmall = OutputTooSmall
 placeless TooLarge = TooLarge
 placeless OtherChecksum = OtherChecksum
 placeless NotOfTheForm = NotOfTheForm
+placeless NotAPacket = NotAPacket
+placeless NoSyncByte = NoSyncByte
+placeless OtherPid = OtherPid
+placeless Scrambled = Scrambled
+placeless PastPacket = PastPacket
 placeless CaptureTooLong = CaptureTooLong

@@ -1,4 +1,4 @@
-// The refusals of document 01: a named case for each of its numbers, the number and place that each is told by, and each without its place.
+// The refusals of documents 01 and 02: a named case for each of their numbers, the number and place that each is told by, and each without its place.
 ghost use mathlib.Core.Path.{_≡_};
 ghost use Rattle.ground_refusal.specs.Numbers.{refusalNumber, refusalPlace, placeless};
 
@@ -53,11 +53,21 @@ pub enum Refusal {
     // 24: date text not of the exact form.
     NotOfTheForm,
     // 25 was a joined body above 1,045,504 bytes. No possible state has one, so it is gone, and its number is not given again.
+    // 30: a packet that is not 188 bytes.
+    NotAPacket,
+    // 31: no sync byte.
+    NoSyncByte,
+    // 32: other PID.
+    OtherPid,
+    // 33: scrambled.
+    Scrambled,
+    // 34: pointer or adaptation field past the packet's end, or adaptation control 00.
+    PastPacket,
     // 36: a capture above 65,536 bytes.
     CaptureTooLong,
 }
 
-// The number of a refusal in document 01's list.
+// The number of a refusal in the list.
 pub fn number(r: Refusal) -> u8
     ensures { λ n. ⌜ n ≡ refusalNumber r ⌝ }
 {
@@ -86,6 +96,11 @@ pub fn number(r: Refusal) -> u8
         Refusal::TooLarge => 22,
         Refusal::OtherChecksum => 23,
         Refusal::NotOfTheForm => 24,
+        Refusal::NotAPacket => 30,
+        Refusal::NoSyncByte => 31,
+        Refusal::OtherPid => 32,
+        Refusal::Scrambled => 33,
+        Refusal::PastPacket => 34,
         Refusal::CaptureTooLong => 36,
     }
 }
@@ -119,6 +134,11 @@ pub fn place(r: Refusal) -> usize
         Refusal::TooLarge => 0,
         Refusal::OtherChecksum => 0,
         Refusal::NotOfTheForm => 0,
+        Refusal::NotAPacket => 0,
+        Refusal::NoSyncByte => 0,
+        Refusal::OtherPid => 0,
+        Refusal::Scrambled => 0,
+        Refusal::PastPacket => 0,
         Refusal::CaptureTooLong => 0,
     }
 }
@@ -152,6 +172,11 @@ pub fn placeless(r: Refusal) -> Refusal
         Refusal::TooLarge => Refusal::TooLarge,
         Refusal::OtherChecksum => Refusal::OtherChecksum,
         Refusal::NotOfTheForm => Refusal::NotOfTheForm,
+        Refusal::NotAPacket => Refusal::NotAPacket,
+        Refusal::NoSyncByte => Refusal::NoSyncByte,
+        Refusal::OtherPid => Refusal::OtherPid,
+        Refusal::Scrambled => Refusal::Scrambled,
+        Refusal::PastPacket => Refusal::PastPacket,
         Refusal::CaptureTooLong => Refusal::CaptureTooLong,
     }
 }
