@@ -1,0 +1,4 @@
+-- The laws that other crates cite.
+pub mod Frames
+pub mod Scans
+pub mod Growing
