@@ -1,0 +1,4 @@
+-- The laws that other crates cite.
+pub mod Leaving
+pub mod States
+pub mod Keeping

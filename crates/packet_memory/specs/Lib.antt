@@ -1,0 +1,4 @@
+-- The definitions that other crates cite.
+pub mod Memory
+pub mod State
+pub mod Keeping
