@@ -1,0 +1,4 @@
+-- The laws that other crates cite.
+pub mod Laying
+pub mod Packets
+pub mod Calls

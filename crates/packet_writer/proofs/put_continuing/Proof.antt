@@ -1,0 +1,25 @@
+-- `packet_writer::put_continuing` meets its contract: header, bytes and stuffing, one after the other.
+use mathlib.Core.Path.{refl}
+use Rattle.packet_writer.proofs.Laying.{laid-packet}
+use borrow.Author.Needs.{needs}
+use Rattle.packet_writer.proofs.put_continuing.Statement.{statement}
+use Rattle.packet_writer.proofs.put_continuing.Tie as tie
+
+pub put-continuing-spec : {M : Type 1} → statement M
+put-continuing-spec =
+    tie.close
+    (tie.spec
+    (λ c κs. search needs)
+    (λ c. search needs)
+    (λ c κs. search needs)
+    (λ c. search needs)
+    (λ c. search needs)
+    (λ c. search needs)
+    (λ c κs. search needs)
+    (λ c. search needs)
+    (λ c.
+    let third = c .before .before in
+    let second = third .before .before .before .before in
+    let one = second .before .before .before .before in
+    let q = one .before .before .before .before .pre in
+    laid-packet _ _ _ _ _ _ _ _ _ (one .put-header .ensures) (second .copy-at .ensures) (third .put-stuffing .ensures) refl refl (q .2) (q .0)))

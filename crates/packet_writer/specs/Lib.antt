@@ -1,0 +1,3 @@
+-- The definitions that other crates cite.
+pub mod Packing
+pub mod Answers
