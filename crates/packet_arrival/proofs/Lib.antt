@@ -1,0 +1,9 @@
+-- The theorems.
+pub mod Bytes
+pub mod Packets
+pub mod Runs
+pub mod Arrival
+pub mod Drops
+pub mod Unmixed
+pub mod Served
+pub mod Readings

@@ -1,0 +1,4 @@
+-- The definitions that the theorems are stated by.
+pub mod Packed
+pub mod Unmixed
+pub mod Served
