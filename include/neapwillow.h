@@ -12,6 +12,10 @@
  * reads may overlap. A refused call writes nothing, but that a contradiction spoils a gathering. Where
  * an output is too small (21), the comment above the function says what tells the room it needs.
  *
+ * Stack: the most that a call takes of it, the return address included, stands with each function, or
+ * with the first of those that share it; what memcpy, memmove and memset of the C library take comes
+ * on top. A test finds it in the archive's code, along every way. No function calls itself.
+ *
  * Link with libneapwillow.a (x86-64 Linux). */
 #ifndef NEAPWILLOW_H
 #define NEAPWILLOW_H
@@ -31,7 +35,8 @@ extern "C" {
 #define NW_VERSION_PATCH 0
 #define NW_VERSION_NUMBER (NW_VERSION_MAJOR * 10000 + NW_VERSION_MINOR * 100 + NW_VERSION_PATCH)
 
-/* The version of the library that is linked, as NW_VERSION_NUMBER has that of the header. */
+/* The version of the library that is linked, as NW_VERSION_NUMBER has that of the header.
+ * Stack: 16 bytes. */
 uint32_t nw_version(void);
 
 /* What changed for C programs in version 0.2.0:
@@ -47,7 +52,8 @@ uint32_t nw_version(void);
  *   before: nw_content_read and nw_content_lay after the kind; nw_content_write, nw_content_measure,
  *   nw_language_auxiliary_type and nw_language_auxiliary first. A call without it does not compile.
  * - Refusal 25 is gone, and its number is not given again.
- * - nw_salvage is new, the good sections of a damaged capture, and with it refusal 36. */
+ * - nw_salvage is new, the good sections of a damaged capture, and with it refusal 36.
+ * - The stack that each function takes is stated. */
 
 /* ---- Answers ----------------------------------------------------------------------------------
  *
@@ -182,12 +188,13 @@ static inline const char *nw_refusal_text(unsigned number)
  * High bit first, no final change. Neither refuses anything. */
 
 /* CRC_32 of the n bytes at s: polynomial 0x04C11DB7, register of all ones at the start. Over a whole
- * section, its last four bytes included, it is 0 exactly if the section's check is right. */
+ * section, its last four bytes included, it is 0 exactly if the section's check is right.
+ * Stack: 64 bytes. */
 uint32_t nw_crc32(const uint8_t *s, size_t n);
 
 /* CRC-16 of the n bytes at s: polynomial 0x1021, register of all ones at the start. Of an identifier's
  * 18 bytes it is NOT the extension of the content table, which leaves out the four reserved bits:
- * nw_message_extension, nw_content_extension and nw_content_write tell that one. */
+ * nw_message_extension, nw_content_extension and nw_content_write tell that one. Stack: 16 bytes. */
 uint16_t nw_crc16(const uint8_t *s, size_t n);
 
 /* ---- Days -------------------------------------------------------------------------------------
@@ -195,14 +202,16 @@ uint16_t nw_crc16(const uint8_t *s, size_t n);
  * A day is its Modified Julian Day number (MJD), from 15079, 1 March 1900, to 65535, 22 April 2038. */
 
 /* The day of a date of the Gregorian calendar.
- * Value: the MJD. Refusal 20: no such day in the calendar, or one outside the range. */
+ * Value: the MJD. Refusal 20: no such day in the calendar, or one outside the range.
+ * Stack: 3,360 bytes. */
 nw_answer nw_day_of(uint32_t year, uint32_t month, uint32_t day);
 
 /* The date of a day: what nw_day_of turns back into it.
- * Value: the date. Refusal 20: a day outside the range. */
+ * Value: the date. Refusal 20: a day outside the range. Stack: 3,360 bytes. */
 nw_date nw_date_of(uint32_t day);
 
-/* The weekday of a day. Value: 1 for Monday to 7 for Sunday. Refusal 20: a day outside the range. */
+/* The weekday of a day. Value: 1 for Monday to 7 for Sunday. Refusal 20: a day outside the range.
+ * Stack: 16 bytes. */
 nw_answer nw_weekday(uint32_t day);
 
 /* ---- Times ------------------------------------------------------------------------------------
@@ -214,24 +223,25 @@ nw_answer nw_weekday(uint32_t day);
 
 /* The UTC field of a local date and time. Value: the field.
  * Refusals, in this order: 19, the offset is outside its range; 20, the date or the time is
- * impossible, or the local or the UTC day lies outside the range of days. */
+ * impossible, or the local or the UTC day lies outside the range of days. Stack: 3,456 bytes. */
 nw_answer nw_time_pack(uint32_t year, uint32_t month, uint32_t day, uint32_t hour, uint32_t minute,
                        uint32_t second, int32_t offset);
 
 /* The local date and time of a UTC field. Value: these.
  * Refusals, in this order: 19, the offset is outside its range, or the field has more than 40 bits;
- * 18, a digit is above 9; 20, as for nw_time_pack. */
+ * 18, a digit is above 9; 20, as for nw_time_pack. Stack: 3,456 bytes. */
 nw_time nw_time_unpack(uint64_t field, int32_t offset);
 
 /* The UTC field of a local time in text: exactly dd/mm/yyyy hh:mm:ss, 19 bytes, day first.
  * Value: the field. Refusals, in this order: 19, the offset; 24, not of this form; 20, as for
- * nw_time_pack. 11/13/2024 is 20: it has no thirteenth month. */
+ * nw_time_pack. 11/13/2024 is 20: it has no thirteenth month. Stack: 3,504 bytes. */
 nw_answer nw_time_read_text(const uint8_t *text, size_t n, int32_t offset);
 
 /* How a message with these start and end fields stands at a second of a day, both UTC.
  * Value: one of enum nw_showing; a live message never ends. Refusals, in this order: 20, the day is
  * outside its range or the second above 86,399; then those of the start field, then of the end field
- * (19, more than 40 bits; 18, a digit above 9; 20, impossible). The start may not be live (18). */
+ * (19, more than 40 bits; 18, a digit above 9; 20, impossible). The start may not be live (18).
+ * Stack: 64 bytes. */
 nw_answer nw_time_showing(uint64_t start, uint64_t end, uint32_t day, uint32_t second);
 enum nw_showing { NW_BEFORE = 0, NW_ON = 1, NW_ENDED = 2 };
 
@@ -249,17 +259,17 @@ enum nw_showing { NW_BEFORE = 0, NW_ON = 1, NW_ENDED = 2 };
 enum nw_kind { NW_CONFIGURATION = 0xFB, NW_CERTIFICATE = 0xFC, NW_INDEX = 0xFD, NW_CONTENT = 0xFE };
 
 /* Judges any byte string. Value: the heading; the payload is the n - 12 bytes from s + 8 on. Refusals 1
- * to 7, in this order. A section that is not current is good all the same. */
+ * to 7, in this order. A section that is not current is good all the same. Stack: 112 bytes. */
 nw_heading nw_section_read(const uint8_t *s, size_t n);
 
 /* The stated length of the section that begins at s, where n bytes are at hand: so many are
  * nw_section_read's to judge, and the next section of a stream begins after them. Value:
  * section_length + 3, 12 to 4,096, which may be more than n. Refusals, in this order: 1, fewer than 3
- * bytes; 4, section_length below 9 or above 4,093. Nothing else is looked at. */
+ * bytes; 4, section_length below 9 or above 4,093. Nothing else is looked at. Stack: 16 bytes. */
 nw_answer nw_section_length(const uint8_t *s, size_t n);
 
 /* How many sections a body of so many bytes makes: the ceiling of length / 4,084, 1 to 256.
- * Refusals, in this order: 14, no bytes; 22, more than NW_MOST_BODY. */
+ * Refusals, in this order: 14, no bytes; 22, more than NW_MOST_BODY. Stack: 32 bytes. */
 nw_answer nw_section_count(size_t length);
 
 /* Writes section `number` of a body at the start of out: every section but the last carries 4,084
@@ -267,7 +277,7 @@ nw_answer nw_section_count(size_t length);
  * bytes of out after them stay. Refusals, in this order, with nothing written: 2, no such kind; 19,
  * a version above 31 or an extension above 65,535; 14, an empty body; 22, more than NW_MOST_BODY
  * bytes; 6, a number past the last; 21, out is too small for the section: NW_MOST_SECTION bytes are
- * enough for any. The body must not overlap out. */
+ * enough for any. The body must not overlap out. Stack: 128 bytes. */
 nw_answer nw_section_cut(const uint8_t *body, size_t n, uint32_t kind, uint32_t extension,
                          uint32_t version, uint32_t number, uint8_t *out, size_t room);
 
@@ -309,7 +319,8 @@ static inline nw_run nw_run_at(const uint32_t *list, size_t i)
  *
  * A capture of good sections is gone over once. The worst, in which each byte begins a section that
  * only fails its check, costs a check of up to 4,096 bytes at each byte: no more than 2^28 steps, and
- * twice that where out or list have less room than the macros above tell. */
+ * twice that where out or list have less room than the macros above tell.
+ * Stack: 176 bytes. */
 nw_salvaged nw_salvage(const uint8_t *capture, size_t n, uint8_t *out, size_t room, uint32_t *list,
                        size_t numbers);
 
@@ -359,7 +370,7 @@ typedef struct nw_gathering {
  * its number, or the gathering is spoiled already. A refused call changes nothing, 8 and 10 for a newer
  * version neither, but that 11 for a contradiction spoils the gathering, which keeps its counts: make the
  * state fresh to begin again, or wait for a newer version. While nothing is begun, and for a newer
- * version's section, there is no 9 and no 11. */
+ * version's section, there is no 9 and no 11. Stack: 752 bytes. */
 nw_answer nw_gathering_feed(nw_gathering *g, uint8_t *store, size_t store_bytes, const uint8_t *s,
                             size_t n);
 enum nw_fed { NW_FED_TAKEN = 0, NW_FED_HELD_ALREADY = 1 };
@@ -369,7 +380,7 @@ enum nw_fed { NW_FED_TAKEN = 0, NW_FED_HELD_ALREADY = 1 };
  * held and no contradiction was fed. Refusals, in this order, with nothing written: 12, not a
  * possible state; 13, nothing is begun (place 0); 10, the store is too short; 11, spoiled; 13, with
  * the smallest missing number as its place; 21, out is too small: g->bytes are enough, and no body is
- * longer than NW_MOST_BODY bytes. */
+ * longer than NW_MOST_BODY bytes. Stack: 656 bytes. */
 nw_answer nw_gathering_hand_out(const nw_gathering *g, const uint8_t *store, size_t store_bytes,
                                 uint8_t *out, size_t out_bytes);
 
@@ -379,7 +390,7 @@ nw_answer nw_gathering_hand_out(const nw_gathering *g, const uint8_t *store, siz
  * what it wants to know of the table. Bytes of the store after the body stay, old payloads too. Packed
  * exactly when every number is held and no contradiction was fed. Refusals, in this order, with nothing
  * changed: 12, not a possible state; 13, nothing is begun (place 0); 10, the store is too short; 11,
- * spoiled; 13, with the smallest missing number as its place. There is no 21.
+ * spoiled; 13, with the smallest missing number as its place. There is no 21. Stack: 688 bytes.
  *
  * All that a box with one store needs; the body stands in the store until the next feed:
  *
@@ -543,13 +554,13 @@ static inline int nw_resource_bytes(const char *text, uint8_t bytes[12])
 
 /* Judges a body. Value: 0. Refusals, in this order: 2, the kind is not NW_CERTIFICATE; 22, more than
  * NW_MOST_BODY bytes; 14, the first field that passes the body's end, at its place; 16, bytes after
- * the signature, at the first of them. */
+ * the signature, at the first of them. Stack: 336 bytes. */
 nw_answer nw_certificate_read(uint32_t kind, const uint8_t *body, size_t n);
 
 /* The fields of an accepted body, asked for without reading what stands after them. Value: a count;
  * or the part of the body that the bytes fill. Refusal 19: there is no i-th, counted from 0. Of a
  * body that nw_certificate_read refuses they tell the field all the same, where what stands before it
- * can be read, and else the refusal of what can't. */
+ * can be read, and else the refusal of what can't. Stack: 16 bytes. */
 nw_answer nw_certificate_authorization_count(const uint8_t *body, size_t n);
 nw_part nw_certificate_authorization(const uint8_t *body, size_t n, uint64_t i);
 nw_answer nw_certificate_certificate_count(const uint8_t *body, size_t n);
@@ -561,21 +572,24 @@ nw_part nw_certificate_signature(const uint8_t *body, size_t n);
  * of certificates, for each the same, and the signature's start and length. Refusals, in this order,
  * with nothing written and place 0: 19, the tape is too short, has entries left over, or a span that is
  * not in the pool; 22, a count or length too large for its field, or more than NW_MOST_BODY bytes; 21,
- * out is too small: nw_certificate_measure tells the room. Out must overlap neither pool nor tape. */
+ * out is too small: nw_certificate_measure tells the room. Out must overlap neither pool nor tape.
+ * Stack: 544 bytes. */
 nw_answer nw_certificate_write(const uint8_t *pool, size_t pool_bytes, const uint64_t *tape,
                                size_t entries, uint8_t *out, size_t room);
 
 /* Judges and measures a form, as nw_certificate_write does before it writes, and writes nothing. Value:
  * the length of its body, the room that nw_certificate_write needs. Refusals: those of
  * nw_certificate_write but 21, each but 22 with a place: the entry of the tape, from 0, where the field
- * that is wrong begins, bytes at the entry of their start; the first of entries left over. */
+ * that is wrong begins, bytes at the entry of their start; the first of entries left over.
+ * Stack: 448 bytes. */
 nw_answer nw_certificate_measure(const uint8_t *pool, size_t pool_bytes, const uint64_t *tape,
                                  size_t entries);
 
 /* Lays an accepted body onto a tape: the form from which, with the body itself as the pool,
  * nw_certificate_write writes it again. Value: the entries laid, two for each part and one for each
  * count; entries after them stay. Refusals, with nothing laid: those of nw_certificate_read, then 21,
- * the tape is too short: NW_CERTIFICATE_ENTRIES(n) are enough. The tape must not overlap the body. */
+ * the tape is too short: NW_CERTIFICATE_ENTRIES(n) are enough. The tape must not overlap the body.
+ * Stack: 432 bytes. */
 nw_answer nw_certificate_lay(uint32_t kind, const uint8_t *body, size_t n, uint64_t *tape,
                              size_t entries);
 
@@ -645,20 +659,22 @@ typedef struct nw_record {
  * identifier without a real day. A length is 14 or 15 too if what it counts passes an end; one of
  * descriptors counts by its low ten bits, and is then 17 if one of the two bits above them is 1. Bytes
  * left in a message are 15, at the first of them. Reserved bits are a field before the one whose byte
- * they share. NW_LIVE is a good end, and 18 as a start. An end before its start is accepted. */
+ * they share. NW_LIVE is a good end, and 18 as a start. An end before its start is accepted.
+ * Stack: 592 bytes. */
 nw_answer nw_index_read(uint32_t kind, const uint8_t *body, size_t n);
 
 /* Judges a body and writes a record for each message at the start of list, which has room for so many;
  * records after them stay. Value: the count of messages. Refusals, with no record written: those of
  * nw_index_read, then 21, the list has less room than there are messages: nw_index_message_count tells
- * how many, and NW_MOST_MESSAGES are always enough. The list must not overlap the body. */
+ * how many, and NW_MOST_MESSAGES are always enough. The list must not overlap the body.
+ * Stack: 656 bytes. */
 nw_answer nw_index_records(uint32_t kind, const uint8_t *body, size_t n, nw_record *list, size_t room);
 
 /* The messages and the signature, asked for without reading inside a message, whatever else is wrong
  * with the body. Value: a count; or a part of the body: for a message the two numbers of its record.
  * Refusals, in this order: 14, the body is empty (place 0); 19, there is no i-th, counted from 0
  * (place 0); 14, a length before the part, or its own, is cut off or passes the body's end, at its
- * place. */
+ * place. Stack: 16 bytes. */
 nw_answer nw_index_message_count(const uint8_t *body, size_t n);
 nw_part nw_index_message(const uint8_t *body, size_t n, uint64_t i);
 nw_part nw_index_signature(const uint8_t *body, size_t n);
@@ -677,10 +693,12 @@ nw_part nw_index_signature(const uint8_t *body, size_t n);
  * that they fill. A digit of the identifier is refused as the identifier is, also for its day (20). The
  * extension is that of the sections of the message's content table, the CRC-16 of the identifier's 140
  * bits, and is refused so too. Two identifiers may have the same one, so the table that is found by it
- * must have the identifier too (nw_content_identifier). */
+ * must have the identifier too (nw_content_identifier). Stack: 128 bytes. */
 nw_part nw_message_identifier(const uint8_t *body, size_t n, size_t at, size_t length);
+/* Stack: 160 bytes. */
 nw_answer nw_message_identifier_digit(const uint8_t *body, size_t n, size_t at, size_t length,
                                       uint64_t i);
+/* Stack: 192 bytes. */
 nw_answer nw_message_extension(const uint8_t *body, size_t n, size_t at, size_t length);
 nw_answer nw_message_network(const uint8_t *body, size_t n, size_t at, size_t length);
 nw_answer nw_message_start(const uint8_t *body, size_t n, size_t at, size_t length);
@@ -703,7 +721,7 @@ nw_part nw_message_streams(const uint8_t *body, size_t n, size_t at, size_t leng
 /* The local date and time of a message's start or end. Value: as of nw_time_unpack. Refusals, in this
  * order: 19, the offset is outside its range (place 0); those of nw_message_start or nw_message_end,
  * with their places; 18, a live end, which has no local time, or 20, the local day lies outside the
- * range of days (place 0). */
+ * range of days (place 0). Stack: 3,520 bytes. */
 nw_time nw_message_local_start(const uint8_t *body, size_t n, size_t at, size_t length, int32_t offset);
 nw_time nw_message_local_end(const uint8_t *body, size_t n, size_t at, size_t length, int32_t offset);
 
@@ -714,7 +732,7 @@ nw_time nw_message_local_end(const uint8_t *body, size_t n, size_t at, size_t le
  * was not accepted, look at the refusal before going on.
  * Value: the number, or the part that the bytes or the descriptors fill. Refusals, in this order: 19,
  * length is 0, or at + length lies after the body's end (place 0); 14, 15 or 17 of the field, as
- * nw_index_read judges it, at its place, which may lie after the body's end. */
+ * nw_index_read judges it, at its place, which may lie after the body's end. Stack: 16 bytes. */
 nw_answer nw_descriptor_tag(const uint8_t *body, size_t n, size_t at, size_t length);
 nw_part nw_descriptor_bytes(const uint8_t *body, size_t n, size_t at, size_t length);
 nw_answer nw_stream_type(const uint8_t *body, size_t n, size_t at, size_t length);
@@ -725,7 +743,7 @@ nw_part nw_stream_descriptors(const uint8_t *body, size_t n, size_t at, size_t l
  * nw_stream_descriptors or nw_message_streams answer it; 0 for no bytes. Each is judged as nw_index_read
  * judges it, a stream with its descriptors, in one way over the part. Refusals, in this order: 19, the
  * part does not lie in the body (place 0); 14, 15 or 17 of the first field that is wrong, at its
- * place. */
+ * place. Stack: 32 bytes. */
 nw_answer nw_descriptor_count(const uint8_t *body, size_t n, size_t at, size_t length);
 nw_answer nw_stream_count(const uint8_t *body, size_t n, size_t at, size_t length);
 
@@ -744,20 +762,21 @@ nw_answer nw_stream_count(const uint8_t *body, size_t n, size_t at, size_t lengt
  * 20, an impossible day or time, or an identifier without a real day); 19, the tape has entries left
  * over; 22, a count or length too large for its field (descriptors: more than 1,023 bytes together), or
  * more than NW_MOST_BODY bytes; 21, out is too small: nw_index_measure tells the room. Out must overlap
- * neither pool nor tape. */
+ * neither pool nor tape.
+ * Stack: 736 bytes. */
 nw_answer nw_index_write(const uint8_t *pool, size_t pool_bytes, const uint64_t *tape, size_t entries,
                          uint8_t *out, size_t room);
 
 /* Judges and measures a form, as nw_index_write does before it writes, and writes nothing. Value: the
  * length of its body, the room that nw_index_write needs. Refusals: those of nw_index_write but 21, each
  * but 22 with a place: the entry of the tape, from 0, where the field that is wrong begins, bytes at the
- * entry of their start; the first of entries left over. */
+ * entry of their start; the first of entries left over. Stack: 640 bytes. */
 nw_answer nw_index_measure(const uint8_t *pool, size_t pool_bytes, const uint64_t *tape, size_t entries);
 
 /* Lays an accepted body onto a tape: the form from which, with the body itself as the pool,
  * nw_index_write writes it again. Value: the entries laid; entries after them stay. Refusals, with
  * nothing laid: those of nw_index_read, then 21, the tape is too short: NW_INDEX_ENTRIES(n) are enough.
- * The tape must not overlap the body. */
+ * The tape must not overlap the body. Stack: 688 bytes. */
 nw_answer nw_index_lay(uint32_t kind, const uint8_t *body, size_t n, uint64_t *tape, size_t entries);
 
 /* ---- The content table ------------------------------------------------------------------------
@@ -816,7 +835,8 @@ static inline const char *nw_character_set_text(uint64_t number)
  * 17, a reserved bit is 0; 18, a digit above 9; 19, a letter that is not a to z, a character set above
  * 4, a language count that is not 1 to 5, an auxiliary count above 2; 20, the identifier has no real
  * day. A length is 14 or 15 too if what it counts passes an end. Bytes left in a language are 15, at the
- * first of them. Reserved bits are a field before the one whose byte they share. */
+ * first of them. Reserved bits are a field before the one whose byte they share.
+ * Stack: 416 bytes. */
 nw_answer nw_content_read(uint32_t kind, uint32_t variant, uint32_t extension, const uint8_t *body,
                           size_t n);
 
@@ -829,10 +849,13 @@ nw_answer nw_content_read(uint32_t kind, uint32_t variant, uint32_t extension, c
  * extension, 14, 17, 18 or 20 of the identifier (place 0), and for the language count 14, 17 or 19 of it
  * (place 18); last, for a digit, 19, there is no such digit (place 0). For the identifier, its digits
  * and the extension only the first 18 bytes are looked at, so these alone are enough: after
- * nw_identifier_bytes(text, bytes), nw_content_extension(bytes, 18) is the extension of those digits. */
+ * nw_identifier_bytes(text, bytes), nw_content_extension(bytes, 18) is the extension of those digits.
+ * Stack: 144 bytes. */
 nw_part nw_content_identifier(const uint8_t *body, size_t n);
 nw_answer nw_content_identifier_digit(const uint8_t *body, size_t n, uint64_t i);
+/* Stack: 192 bytes. */
 nw_answer nw_content_extension(const uint8_t *body, size_t n);
+/* Stack: 16 bytes. */
 nw_answer nw_content_language_count(const uint8_t *body, size_t n);
 nw_part nw_content_language(const uint8_t *body, size_t n, uint64_t i);
 nw_part nw_content_signature(const uint8_t *body, size_t n);
@@ -845,7 +868,8 @@ nw_part nw_content_signature(const uint8_t *body, size_t n);
  * language does not lie in the body (place 0); for what stands after the text, those of its length; for
  * what stands after the agency, those of its length; for a file, those of the auxiliary count, then 19,
  * there is no i-th (place 0), then 14 or 15 of a type or a length before it; last 14 to 19 of the field
- * itself, at its place, which may lie after the body's end. */
+ * itself, at its place, which may lie after the body's end.
+ * Stack: 208 bytes. */
 nw_part nw_language_letters(const uint8_t *body, size_t n, size_t at, size_t length);
 nw_answer nw_language_character_set(const uint8_t *body, size_t n, size_t at, size_t length);
 nw_part nw_language_text(const uint8_t *body, size_t n, size_t at, size_t length);
@@ -869,7 +893,7 @@ nw_part nw_language_auxiliary(uint32_t variant, const uint8_t *body, size_t n, s
  * outside its set, the two counts too; 18, a digit above 9; 20, the identifier has no real day);
  * 19, the tape has entries left over; 22, a length too large for its field, or more than NW_MOST_BODY
  * bytes; 21, out is too small: nw_content_measure tells the room. Out must overlap neither pool nor
- * tape. */
+ * tape. Stack: 640 bytes. */
 nw_written nw_content_write(uint32_t variant, const uint8_t *pool, size_t pool_bytes,
                             const uint64_t *tape, size_t entries, uint8_t *out, size_t room);
 
@@ -877,7 +901,7 @@ nw_written nw_content_write(uint32_t variant, const uint8_t *pool, size_t pool_b
  * length of its body alone, the room that nw_content_write needs. Refusals: those of nw_content_write
  * but 21, the variant's 19 and 22 at place 0 and each other with a place: the entry of the tape, from 0,
  * where the field that is wrong begins, bytes at the entry of their start; the first of entries left
- * over. */
+ * over. Stack: 528 bytes. */
 nw_answer nw_content_measure(uint32_t variant, const uint8_t *pool, size_t pool_bytes,
                              const uint64_t *tape, size_t entries);
 
@@ -885,7 +909,7 @@ nw_answer nw_content_measure(uint32_t variant, const uint8_t *pool, size_t pool_
  * the body itself as the pool, nw_content_write writes it again, in this variant or as the same table in
  * the other. Value: the entries laid; entries after them stay. Refusals, with nothing laid: those of
  * nw_content_read but 23, then 21, the tape is too short: NW_CONTENT_ENTRIES are enough for any body.
- * The tape must not overlap the body. */
+ * The tape must not overlap the body. Stack: 496 bytes. */
 nw_answer nw_content_lay(uint32_t kind, uint32_t variant, const uint8_t *body, size_t n, uint64_t *tape,
                          size_t entries);
 
@@ -931,7 +955,7 @@ enum nw_command {
  * A content shorter than its least, 7, 13, 10, 3, 5, 2, 2 bytes for tags 1 to 7, is 15 at its length;
  * bytes left in it are 15, at the first of them. An address of kind 1 or 2 of another length is 15 at
  * its length, any other wrong return address 19 where it begins. Reserved bits are a field before the
- * digits whose byte they share. */
+ * digits whose byte they share. Stack: 480 bytes. */
 nw_answer nw_configuration_read(uint32_t kind, const uint8_t *body, size_t n);
 
 /* How many commands there are, the part that the i-th command fills, from its tag to the end of its
@@ -939,7 +963,7 @@ nw_answer nw_configuration_read(uint32_t kind, const uint8_t *body, size_t n);
  * else is wrong with the body. Commands are counted from 0. Value: the number, or the part.
  * Refusals, in this order: 14, the body is empty (place 0); for a command, 19, there is no i-th
  * (place 0); for a command and the signature, 14, a tag or a length before it, or its own, is cut off
- * or passes the body's end, at its place. Least lengths are not looked at. */
+ * or passes the body's end, at its place. Least lengths are not looked at. Stack: 16 bytes. */
 nw_answer nw_configuration_command_count(const uint8_t *body, size_t n);
 nw_part nw_configuration_command(const uint8_t *body, size_t n, uint64_t i);
 nw_part nw_configuration_signature(const uint8_t *body, size_t n);
@@ -952,7 +976,7 @@ nw_part nw_configuration_signature(const uint8_t *body, size_t n);
  * was not accepted, look at the refusal before going on to the next. Value: the tag; or the part that
  * the content fills. Refusals, in this order: 19, the body has no byte there (place 0); for the content,
  * 14, its length is cut off or passes the body's end, or 15, is below the least of the tag, at the
- * length. */
+ * length. Stack: 80 bytes. */
 nw_answer nw_command_tag(const uint8_t *body, size_t n, size_t at);
 nw_part nw_command_content(const uint8_t *body, size_t n, size_t at);
 
@@ -967,10 +991,11 @@ nw_part nw_command_content(const uint8_t *body, size_t n, size_t at);
  * the terminal count; for a parameter or a terminal, 19, there is no i-th (place 0); then 14 to 20 of
  * the field itself, at its place, which may lie after the body's end; last, for a digit, 19, there is
  * no such digit (place 0). Year, month and day are judged together, and so are hour, minute and
- * second, whether or not the day is good. */
+ * second, whether or not the day is good. Stack: 112 bytes. */
 nw_answer nw_command_clock_year(const uint8_t *body, size_t n, size_t at);
 nw_answer nw_command_clock_month(const uint8_t *body, size_t n, size_t at);
 nw_answer nw_command_clock_day(const uint8_t *body, size_t n, size_t at);
+/* Stack: 240 bytes. */
 nw_answer nw_command_clock_hour(const uint8_t *body, size_t n, size_t at);
 nw_answer nw_command_clock_minute(const uint8_t *body, size_t n, size_t at);
 nw_answer nw_command_clock_second(const uint8_t *body, size_t n, size_t at);
@@ -1011,7 +1036,7 @@ nw_answer nw_command_terminal_digit(const uint8_t *body, size_t n, size_t at, ui
  * 18, a digit above 9; 20, an impossible day, once its three numbers are taken, or time, once its
  * three are, however large they are); 19, the tape has entries left over; 22, a count or length too
  * large for its field, or more than NW_MOST_BODY bytes; 21, out is too small: nw_configuration_measure
- * tells the room. Out must overlap neither pool nor tape. */
+ * tells the room. Out must overlap neither pool nor tape. Stack: 672 bytes. */
 nw_answer nw_configuration_write(const uint8_t *pool, size_t pool_bytes, const uint64_t *tape,
                                  size_t entries, uint8_t *out, size_t room);
 
@@ -1019,14 +1044,14 @@ nw_answer nw_configuration_write(const uint8_t *pool, size_t pool_bytes, const u
  * Value: the length of its body, the room that nw_configuration_write needs. Refusals: those of
  * nw_configuration_write but 21, each but 22 with a place: the entry of the tape, from 0, where the field
  * that is wrong begins, bytes at the entry of their start, a day at its year, a time at its hour; the
- * first of entries left over. */
+ * first of entries left over. Stack: 576 bytes. */
 nw_answer nw_configuration_measure(const uint8_t *pool, size_t pool_bytes, const uint64_t *tape,
                                    size_t entries);
 
 /* Lays an accepted body onto a tape: the form from which, with the body itself as the pool,
  * nw_configuration_write writes it again. Value: the entries laid; entries after them stay. Refusals,
  * with nothing laid: those of nw_configuration_read, then 21, the tape is too short:
- * NW_CONFIGURATION_ENTRIES(n) are enough. The tape must not overlap the body. */
+ * NW_CONFIGURATION_ENTRIES(n) are enough. The tape must not overlap the body. Stack: 576 bytes. */
 nw_answer nw_configuration_lay(uint32_t kind, const uint8_t *body, size_t n, uint64_t *tape,
                                size_t entries);
 

@@ -1,11 +1,11 @@
 // The clock that command 1 sets: whether its day and its time are possible.
-use time_days::DayAnswer;
 ghost use mathlib.Core.Path.{_≡_};
 ghost use mathlib.Core.Bool.{_&&_};
 ghost use lib.Dec.{leb};
 ghost use Rattle.time_days.specs.Calendar.{hasDay};
 
-// Whether a date is one of the calendar whose day is in the range: one that is too large for its fields is none.
+// Whether a date is one of the calendar whose day is in the range: one that is too large for its fields is none. By the lengths of the months,
+// so that no table of month starts is laid out for it.
 pub fn is_day(year: u64, month: u64, day: u64) -> bool
     ensures { λ r. ⌜ r ≡ hasDay year month day ⌝ }
 {
@@ -18,10 +18,7 @@ pub fn is_day(year: u64, month: u64, day: u64) -> bool
     if 0xFF < day {
         return false;
     }
-    match time_days::day_of(year as u32, month as u32, day as u32) {
-        DayAnswer::Day(n) => true,
-        DayAnswer::Refused(r) => false,
-    }
+    time_dates::is_date(year as u32, month as u32, day as u32)
 }
 
 // Whether a time is at most 23:59:59.

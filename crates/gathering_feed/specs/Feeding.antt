@@ -5,7 +5,7 @@ use lib.ListN.{length}
 use Rattle.ground_refusal.specs.declared.Refusal.the-variants.{Contradiction}
 use Rattle.section_reader.specs.Section.{payloadOf}
 use Rattle.ground_placing.specs.Placed.{placed}
-use Rattle.ground_numbers.specs.Sizes.{payloadMost, bodyMost}
+use Rattle.ground_numbers.specs.Sizes.{payloadMost}
 use Rattle.gathering_state.specs.State.{place, opened, withSection, spoiledState}
 use Rattle.gathering_state.specs.declared.Gathering.{Gathering}
 use Rattle.gathering_verdict.specs.Deciding.{verdictOf}
@@ -47,11 +47,9 @@ fedOf g store s = record { answer = answerBy (verdictOf g store s); state = stat
 unfoldable pub storeAfter : Gathering → List ℕ → List ℕ → List ℕ
 storeAfter g store s = storeBy store (payloadOf s) (verdictOf g store s)
 
--- ---- what taking a section asks for: its payload lies in the byte string and has a place in the store, and the state counts it among the missing
+-- ---- what taking a section asks for: its payload lies in the byte string and has a place in the store
 
-pub record Takes (g : Gathering) (k : ℕ) (store s : List ℕ) : Type 0 where
+pub record Fits (k : ℕ) (store s : List ℕ) : Type 0 where
   pub long : 12 ≤ length s
   pub short : length s ≤ payloadMost + 12
   pub within : place k + payloadMost ≤ length store
-  pub missing : 1 ≤ g .missing
-  pub bytes : g .bytes ≤ bodyMost

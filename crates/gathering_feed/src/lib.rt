@@ -3,11 +3,13 @@ use gathering_state::Gathering;
 use gathering_verdict::Verdict;
 use ground_refusal::Refusal;
 ghost use mathlib.Core.Path.{_≡_};
+ghost use Prim.Native.Nat.{_≤_};
 ghost use lib.ListN.{length};
-ghost use Rattle.gathering_state.specs.State.{place, withSection};
+ghost use Rattle.ground_numbers.specs.Sizes.{payloadMost};
+ghost use Rattle.gathering_state.specs.State.{place};
 ghost use Rattle.ground_placing.specs.Placed.{placed};
 ghost use Rattle.section_reader.specs.Section.{payloadOf};
-ghost use Rattle.gathering_feed.specs.Feeding.{fedOf, storeAfter, Takes};
+ghost use Rattle.gathering_feed.specs.Feeding.{fedOf, storeAfter, Fits};
 
 // What the caller is told.
 pub enum Answer {
@@ -22,52 +24,50 @@ pub struct Fed {
     pub state: Gathering,
 }
 
-// The section s of number k is taken: its payload goes to its place in the store, and the state g has it.
-fn take_section(g: Gathering, k: u8, store: &mut [u8], s: &[u8]) -> Gathering
-    requires { ⌜ Takes g k (now store) (now s) ⌝ }
-    ensures kept { λ r. ⌜ r ≡ withSection g k (length (payloadOf (now (s .entry)))) ⌝ }
+// The section s of number k is taken: its payload goes to its place in the store. How many bytes it has.
+fn put_payload(k: u8, store: &mut [u8], s: &[u8]) -> usize
+    requires { ⌜ Fits k (now store) (now s) ⌝ }
+    ensures counted { λ n. ⌜ (n ≡ length (payloadOf (now (s .entry)))) × (n ≤ payloadMost) ⌝ }
     ensures stored { λ _. ⌜ now (store .exit) ≡ placed (now (store .entry)) (place k) (payloadOf (now (s .entry))) ⌝ }
 {
     let end = s.len() - 4;
     let at = gathering_state::place_of(k);
     ground_placing::copy_at(&s[8..end], store, at);
-    gathering_state::with_section(g, k, end - 8)
+    end - 8
 }
 
-// One byte string is fed. A taken payload goes to its place in the store, and nothing else of the store changes.
+// One byte string is fed. A taken payload goes to its place in the store, and nothing else of the store changes. The state is changed where it
+// stands, in one copy: a step that made the next state of it would hold both.
 pub fn feed_step(g: Gathering, store: &mut [u8], s: &[u8]) -> Fed
     ensures { λ r. ⌜ (r ≡ fedOf g (now (store .entry)) (now (s .entry))) × (now (store .exit) ≡ storeAfter g (now (store .entry)) (now (s .entry))) ⌝ }
 {
-    match gathering_verdict::decide(g, store, s) {
-        Verdict::Refuse(r) => Fed {
-            answer: Answer::Refused(r),
-            state: g,
-        },
-        Verdict::Repeat => Fed {
-            answer: Answer::HeldAlready,
-            state: g,
-        },
+    let numbers = gathering_state::numbers_of(g);
+    let mut state = g;
+    let answer = match gathering_verdict::decide(numbers, &state.held, store, s) {
+        Verdict::Refuse(r) => Answer::Refused(r),
+        Verdict::Repeat => Answer::HeldAlready,
         Verdict::Contradict => {
-            let state = gathering_state::spoil(g);
-            Fed {
-                answer: Answer::Refused(Refusal::Contradiction),
-                state: state,
-            }
+            state.spoiled = 1;
+            Answer::Refused(Refusal::Contradiction)
         }
         Verdict::Begin(h) => {
-            let opened = gathering_state::open_table(h);
-            let state = take_section(opened, h.number, store, s);
-            Fed {
-                answer: Answer::Taken,
-                state: state,
-            }
+            state = gathering_state::open_table(h);
+            let n = put_payload(h.number, store, s);
+            state.bytes += n as u32;
+            state.missing -= 1;
+            state.held[h.number as usize] = n as u16 + 1;
+            Answer::Taken
         }
         Verdict::Take(h) => {
-            let state = take_section(g, h.number, store, s);
-            Fed {
-                answer: Answer::Taken,
-                state: state,
-            }
+            let n = put_payload(h.number, store, s);
+            state.bytes += n as u32;
+            state.missing -= 1;
+            state.held[h.number as usize] = n as u16 + 1;
+            Answer::Taken
         }
+    };
+    Fed {
+        answer: answer,
+        state: state,
     }
 }

@@ -12,10 +12,11 @@ use Rattle.ground_refusal.specs.declared.Refusal.{Refusal}
 use Rattle.ground_refusal.specs.declared.Refusal.the-variants.{StoreTooShort, Contradiction, ImpossibleState, Missing, OutputTooSmall}
 use Rattle.ground_placing.specs.Placed.{placed}
 use Rattle.gathering_state.specs.Lists.{smallestMissing, total}
-use Rattle.gathering_state.specs.State.{possibleOf, nothingBegun, place, hasRoom, lengths}
+use Rattle.gathering_state.specs.State.{numbersOf, stateOf, possibleOf, nothingBegun, place, hasRoom, lengths}
 use Rattle.gathering_state.specs.declared.Gathering.{Gathering}
+use Rattle.gathering_state.specs.declared.Numbers.{Numbers}
 use Rattle.gathering_state.proofs.Lists.{greatest-at, greatest-take, total-most}
-use Rattle.gathering_state.proofs.State.{place-within, possible-short}
+use Rattle.gathering_state.proofs.State.{parts-make, place-within, possible-short}
 use Rattle.ground_choices.proofs.Tests.{past}
 use Rattle.gathering_hand_out.specs.Handing.{joined, bodyHeld, missingOf, completeOf, handedIfRoom, handedBy, handedOf, outBy, outAfter, InStore}
 use Rattle.gathering_hand_out.specs.declared.Completeness.{Completeness}
@@ -34,6 +35,11 @@ module _ (ls : List ℕ) (k : ℕ) (e : k ≡ smallestMissing ls) where
   pub missing-none : length ls ≤ k → Complete ≡ missingOf ls
   unfolding missingOf
   missing-none h = simp (← e, le-ltb k (length ls) h)
+
+-- what was found of a state's numbers and held lengths was found of the state
+pub completes : (g : Gathering) (bytes : ℕ) (m : Numbers) → m ≡ numbersOf g → (c : Completeness) → c ≡ completeOf (stateOf m (g .held)) bytes
+    → completeOf g bytes ≡ c
+completes g bytes m e c f = sym (f ∙ ap (λ (t : Gathering). completeOf t bytes) (parts-make g m e))
 
 -- a table that is all there, in a store of `bytes` bytes
 pub record Whole (g : Gathering) (bytes : ℕ) : Type 0 where

@@ -90,15 +90,31 @@ module _ (held store : List ℕ) (i : InStore held store) (k o : ℕ) (d : List 
 -- ---- the answer, the state and the store
 
 module _ (g : Gathering) (store : List ℕ) where
+  pub answers-refused : (r : Refusal) → completeOf g (length store) ≡ NotComplete r → (Refused r ≡ packedOf g store) × (store ≡ storePacked g store)
+  unfolding storePacked packedOf packedBy outBy
+  answers-refused r e = (rw e, rw e)
+
+  answers-complete : completeOf g (length store) ≡ Complete
+      → (Body (length (bodyHeld g store)) ≡ packedOf g store) × (placed store 0 (bodyHeld g store) ≡ storePacked g store)
+  unfolding storePacked packedOf packedBy outBy
+  answers-complete e = (rw e, rw e)
+
+  -- the state follows from the answer
+  pub state-refused : (r : Refusal) → Refused r ≡ packedOf g store → record { answer = Refused r; state = g } ≡ packingOf g store
+  unfolding packingOf stateBy
+  state-refused r e = rw (← e)
+
+  pub state-packed : (n : ℕ) → Body n ≡ packedOf g store → (f : Gathering) → f ≡ freshState → record { answer = Body n; state = f } ≡ packingOf g store
+  unfolding packingOf stateBy
+  state-packed n e f q = rw (← e, q)
+
   pub packs-refused : (r : Refusal) → completeOf g (length store) ≡ NotComplete r
       → (record { answer = Refused r; state = g } ≡ packingOf g store) × (store ≡ storePacked g store)
-  unfolding packingOf storePacked packedOf packedBy stateBy outBy
-  packs-refused r e = (rw e, rw e)
+  packs-refused r e = let a = answers-refused r e in (state-refused r (a .0), a .1)
 
   pub packs-complete : completeOf g (length store) ≡ Complete
       → (record { answer = Body (length (bodyHeld g store)); state = freshState } ≡ packingOf g store) × (placed store 0 (bodyHeld g store) ≡ storePacked g store)
-  unfolding packingOf storePacked packedOf packedBy stateBy outBy
-  packs-complete e = (rw e, rw e)
+  packs-complete e = let a = answers-complete e in (state-packed _ (a .0) freshState refl, a .1)
 
   -- whatever is packed is the body of a whole table
   pub packed-whole : (n : ℕ) → packingOf g store .answer ≡ Body n → Whole g (length store) × (n ≡ length (bodyHeld g store))
@@ -136,9 +152,9 @@ module _ (g : Gathering) (store : List ℕ) where
     unfolding bodyHeld
     body-long e = in-store-length (lengths g) store (packs-in-store e)
 
-    pub packs-body : completeOf g (length store) ≡ Complete → (n : ℕ) → n ≡ total (lengths g) → (f : Gathering) → f ≡ freshState
-        → (d : List ℕ) → d ≡ placed store 0 (bodyHeld g store) → (record { answer = Body n; state = f } ≡ packingOf g store) × (d ≡ storePacked g store)
-    packs-body e n t f s d q = let p = packs-complete e in (rw (t, ← body-long e, s) (p .0), q ∙ p .1)
+    pub answers-body : completeOf g (length store) ≡ Complete → (n : ℕ) → n ≡ total (lengths g) → (d : List ℕ) → d ≡ placed store 0 (bodyHeld g store)
+        → (Body n ≡ packedOf g store) × (d ≡ storePacked g store)
+    answers-body e n t d q = let p = answers-complete e in (rw (t, ← body-long e) (p .0), q ∙ p .1)
 
     -- "The total of held bytes before equals the body length after"
     pub packs-counted : (n : ℕ) → packingOf g store .answer ≡ Body n → g .bytes ≡ n

@@ -10,10 +10,17 @@ use lib.Seq.{drop-set-lt, take-set-lt, getD-take, getD-set-same}
 use Rattle.section_reader.specs.Section.{isKind}
 use Rattle.section_reader.specs.declared.Heading.{Heading}
 use Rattle.gathering_state.specs.Lists.{greatest, total, heldCount, Surveyed}
-use Rattle.gathering_state.specs.State.{freshState, isFresh, lengths, isBegun, possibleOf, nothingBegun, missingAfresh, bytesAfresh, CountsRight, place, hasRoom, opened, withSection, spoiledState}
+use Rattle.gathering_state.specs.State.{numbersOf, stateOf, freshState, isFresh, lengths, isBegun, possibleOf, nothingBegun, missingAfresh, bytesAfresh, CountsRight, place, hasRoom, opened, withSection, spoiledState}
 use Rattle.gathering_state.specs.declared.Gathering.{Gathering}
+use Rattle.gathering_state.specs.declared.Numbers.{Numbers}
 use Rattle.ground_choices.proofs.Tests.{both, refuted}
 use Rattle.gathering_state.proofs.Lists.{greatest-at, greatest-parts, greatest-take, greatest-set, greatest-zeros, zeros-greatest, total-set, total-none, total-most, held-most, held-set, held-none, held-fewer}
+
+-- ---- a state and its parts
+
+-- its numbers and its held lengths make the state
+pub parts-make : (g : Gathering) (m : Numbers) → m ≡ numbersOf g → stateOf m (g .held) ≡ g
+parts-make g m e = ap (λ (t : Numbers). stateOf t (g .held)) e
 
 -- ---- places
 

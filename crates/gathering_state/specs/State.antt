@@ -11,6 +11,36 @@ use Rattle.section_reader.specs.Section.{isKind}
 use Rattle.section_reader.specs.declared.Heading.{Heading}
 use Rattle.gathering_state.specs.Lists.{greatest, total, heldCount, part}
 use Rattle.gathering_state.specs.declared.Gathering.{Gathering}
+use Rattle.gathering_state.specs.declared.Numbers.{Numbers}
+
+-- ---- a state and its parts
+
+-- the numbers of a state
+abbrev pub numbersOf : Gathering → Numbers
+numbersOf g =
+    record {
+      bytes = g .bytes;
+      missing = g .missing;
+      extension = g .extension;
+      kind = g .kind;
+      version = g .version;
+      last = g .last;
+      spoiled = g .spoiled;
+    }
+
+-- the state of these numbers and held lengths
+abbrev pub stateOf : Numbers → List ℕ → Gathering
+stateOf m held =
+    record {
+      bytes = m .bytes;
+      missing = m .missing;
+      extension = m .extension;
+      kind = m .kind;
+      version = m .version;
+      last = m .last;
+      spoiled = m .spoiled;
+      held = held;
+    }
 
 -- ---- possible states
 

@@ -5,9 +5,9 @@ use section_reader::Heading;
 ghost use mathlib.Core.Path.{_≡_};
 ghost use Prim.Native.Nat.{_-_, _<_, _≤_, min, max};
 ghost use lib.ListN.{length, drop};
-ghost use Rattle.ground_numbers.specs.Sizes.{payloadMost, bodyMost, versionMost};
+ghost use Rattle.ground_numbers.specs.Sizes.{versionMost};
 ghost use Rattle.gathering_state.specs.Lists.{greatest, smallestMissing, total, heldCount, sameBytes, Surveyed};
-ghost use Rattle.gathering_state.specs.State.{freshState, isFresh, isBegun, possibleOf, place, hasRoom, opened, withSection, spoiledState};
+ghost use Rattle.gathering_state.specs.State.{freshState, numbersOf, stateOf, isFresh, isBegun, possibleOf, place, hasRoom, opened};
 
 // What a gathering knows of its table. All zeros is the fresh state. Laid out so that C sees no padding.
 #[repr(C)]
@@ -173,47 +173,74 @@ pub fn fresh() -> Gathering
     }
 }
 
-fn is_fresh(g: Gathering) -> bool
-    ensures { λ r. ⌜ r ≡ isFresh g ⌝ }
-{
-    if g.kind != 0 {
-        return false;
-    }
-    if g.extension != 0 {
-        return false;
-    }
-    if g.version != 0 {
-        return false;
-    }
-    if g.last != 0 {
-        return false;
-    }
-    if g.spoiled != 0 {
-        return false;
-    }
-    if greatest_from(&g.held, 0) != 0 {
-        return false;
-    }
-    if g.missing != 0 {
-        return false;
-    }
-    g.bytes == 0
+// The numbers of a state, all but its held lengths. A state that is handed on whole is copied, 524 bytes of stack each time, so that the
+// functions below take its numbers and borrow its lengths.
+pub struct Numbers {
+    pub bytes: u32,
+    pub missing: u16,
+    pub extension: u16,
+    pub kind: u8,
+    pub version: u8,
+    pub last: u8,
+    pub spoiled: u8,
 }
 
-fn is_begun(g: Gathering) -> bool
-    ensures { λ r. ⌜ r ≡ isBegun g ⌝ }
+// For feeding, handing out and packing.
+pub fn numbers_of(g: Gathering) -> Numbers
+    ensures { λ r. ⌜ r ≡ numbersOf g ⌝ }
 {
-    if !section_reader::is_kind(g.kind as u32) {
+    Numbers {
+        bytes: g.bytes,
+        missing: g.missing,
+        extension: g.extension,
+        kind: g.kind,
+        version: g.version,
+        last: g.last,
+        spoiled: g.spoiled,
+    }
+}
+
+fn is_fresh(m: Numbers, held: &[u16; 256]) -> bool
+    ensures { λ r. ⌜ r ≡ isFresh (stateOf m (now (held .entry))) ⌝ }
+{
+    if m.kind != 0 {
         return false;
     }
-    if VERSION_MOST < g.version as u32 {
+    if m.extension != 0 {
         return false;
     }
-    if 1 < g.spoiled {
+    if m.version != 0 {
         return false;
     }
-    let count = g.last as usize + 1;
-    let seen = survey_of(&g.held, count);
+    if m.last != 0 {
+        return false;
+    }
+    if m.spoiled != 0 {
+        return false;
+    }
+    if greatest_from(held, 0) != 0 {
+        return false;
+    }
+    if m.missing != 0 {
+        return false;
+    }
+    m.bytes == 0
+}
+
+fn is_begun(m: Numbers, held: &[u16; 256]) -> bool
+    ensures { λ r. ⌜ r ≡ isBegun (stateOf m (now (held .entry))) ⌝ }
+{
+    if !section_reader::is_kind(m.kind as u32) {
+        return false;
+    }
+    if VERSION_MOST < m.version as u32 {
+        return false;
+    }
+    if 1 < m.spoiled {
+        return false;
+    }
+    let count = m.last as usize + 1;
+    let seen = survey_of(held, count);
     if seen.above != 0 {
         return false;
     }
@@ -223,20 +250,20 @@ fn is_begun(g: Gathering) -> bool
     if PAYLOAD_MOST + 1 < seen.table.most as usize {
         return false;
     }
-    if g.missing as usize + seen.table.held as usize != count {
+    if m.missing as usize + seen.table.held as usize != count {
         return false;
     }
-    g.bytes == seen.table.bytes
+    m.bytes == seen.table.bytes
 }
 
 // Is it a state that a gathering can be in?
-pub fn possible(g: Gathering) -> bool
-    ensures { λ r. ⌜ r ≡ possibleOf g ⌝ }
+pub fn possible(m: Numbers, held: &[u16; 256]) -> bool
+    ensures { λ r. ⌜ r ≡ possibleOf (stateOf m (now (held .entry))) ⌝ }
 {
-    if g.kind == 0 {
-        is_fresh(g)
+    if m.kind == 0 {
+        is_fresh(m, held)
     } else {
-        is_begun(g)
+        is_begun(m, held)
     }
 }
 
@@ -256,7 +283,7 @@ pub fn has_room(bytes: usize, last: u8) -> bool
     (last as usize + 1) * PAYLOAD_MOST <= bytes
 }
 
-// ---- how a state changes: for feeding
+// ---- for feeding
 
 // The state of the heading's table while nothing of it is held.
 pub fn open_table(h: Heading) -> Gathering
@@ -273,25 +300,4 @@ pub fn open_table(h: Heading) -> Gathering
         spoiled: 0,
         held: [0u16; 256],
     }
-}
-
-// The state with number k taken, whose payload has n bytes.
-pub fn with_section(g: Gathering, k: u8, n: usize) -> Gathering
-    requires { ⌜ (n ≤ payloadMost) × (1 ≤ g .missing) × (g .bytes ≤ bodyMost) ⌝ }
-    ensures { λ r. ⌜ r ≡ withSection g k n ⌝ }
-{
-    let mut next = g;
-    next.bytes += n as u32;
-    next.missing -= 1;
-    next.held[k as usize] = n as u16 + 1;
-    next
-}
-
-// The state after a contradiction.
-pub fn spoil(g: Gathering) -> Gathering
-    ensures { λ r. ⌜ r ≡ spoiledState g ⌝ }
-{
-    let mut next = g;
-    next.spoiled = 1;
-    next
 }

@@ -1,15 +1,17 @@
 // The verdict on a byte string that is fed: what the gathering, its store and the string make of it, before anything changes.
-use gathering_state::Gathering;
+use gathering_state::Numbers;
 use ground_refusal::Refusal;
 use section_reader::Heading;
 use section_reader::Sectioned;
 ghost use mathlib.Core.Path.{_≡_};
-ghost use Prim.Native.Nat.{_+_, _≤_, _<_};
+ghost use Prim.Native.Nat.{ℕ, _+_, _≤_, _<_};
+ghost use mathlib.Core.List.{List};
 ghost use lib.ListN.{length};
 ghost use mathlib.Core.Bool.{true};
 ghost use Rattle.ground_numbers.specs.Sizes.{payloadMost, versionMost};
 ghost use Rattle.gathering_state.specs.Lists.{greatest};
-ghost use Rattle.gathering_state.specs.State.{hasRoom};
+ghost use Rattle.gathering_state.specs.State.{stateOf, hasRoom};
+ghost use Rattle.gathering_state.specs.declared.Numbers.{Numbers as StateNumbers};
 ghost use Rattle.gathering_verdict.specs.Deciding.{fixedHeading, agrees, begins, numberVerdict, goodVerdict, verdictOf};
 
 // What a feed decides: answer, state and store follow from it.
@@ -26,44 +28,44 @@ pub enum Verdict {
     Take(Heading),
 }
 
-// The heading that the gathering has fixed.
-fn fixed_heading(g: Gathering) -> Heading
-    ensures { λ r. ⌜ (r ≡ fixedHeading g) × (r .version < 256) ⌝ }
+// The heading that the gathering has fixed, whatever it holds.
+fn fixed_heading(m: Numbers) -> Heading
+    ensures { λ r. ⌜ ((held : List ℕ) → r ≡ fixedHeading (stateOf m held)) × (r .version < 256) ⌝ }
 {
     Heading {
-        kind: g.kind,
-        extension: g.extension,
-        version: g.version as u16,
+        kind: m.kind,
+        extension: m.extension,
+        version: m.version as u16,
         current: true,
         number: 0,
-        last: g.last,
+        last: m.last,
     }
 }
 
 // Is the heading the gathering's?
-fn heading_agrees(g: Gathering, h: Heading) -> bool
-    ensures { λ r. ⌜ r ≡ agrees g h ⌝ }
+fn heading_agrees(m: Numbers, h: Heading) -> bool
+    ensures { λ r. ⌜ ((held : List ℕ) → r ≡ agrees (stateOf m held) h) ⌝ }
 {
-    gathering_tables::same_table(fixed_heading(g), h)
+    gathering_tables::same_table(fixed_heading(m), h)
 }
 
 // Does the section begin a gathering: is nothing begun, or is its table newer?
-fn begins_gathering(g: Gathering, h: Heading) -> bool
+fn begins_gathering(m: Numbers, h: Heading) -> bool
     requires { ⌜ h .version ≤ versionMost ⌝ }
-    ensures { λ r. ⌜ r ≡ begins g h ⌝ }
+    ensures { λ r. ⌜ ((held : List ℕ) → r ≡ begins (stateOf m held) h) ⌝ }
 {
-    if g.kind == 0 {
+    if m.kind == 0 {
         return true;
     }
-    gathering_tables::is_newer(fixed_heading(g), h)
+    gathering_tables::is_newer(fixed_heading(m), h)
 }
 
 // A section of the gathering's table: is its number held, and with the same payload?
-fn decide_number(g: Gathering, store: &[u8], h: Heading, payload: &[u8]) -> Verdict
-    requires { ⌜ (hasRoom (length (now store)) (h .last) ≡ true) × (h .number ≤ h .last) × (greatest (g .held) ≤ payloadMost + 1) ⌝ }
-    ensures { λ r. ⌜ r ≡ numberVerdict g (now (store .entry)) h (now (payload .entry)) ⌝ }
+fn decide_number(held: &[u16; 256], store: &[u8], h: Heading, payload: &[u8]) -> Verdict
+    requires { ⌜ (hasRoom (length (now store)) (h .last) ≡ true) × (h .number ≤ h .last) × (greatest (now held) ≤ payloadMost + 1) ⌝ }
+    ensures { λ r. ⌜ ((m : StateNumbers) → r ≡ numberVerdict (stateOf m (now (held .entry))) (now (store .entry)) h (now (payload .entry))) ⌝ }
 {
-    let n = g.held[h.number as usize];
+    let n = held[h.number as usize];
     if n == 0 {
         return Verdict::Take(h);
     }
@@ -77,15 +79,15 @@ fn decide_number(g: Gathering, store: &[u8], h: Heading, payload: &[u8]) -> Verd
 }
 
 // A good section: refusals 8, 9, 10, 11, in this order.
-fn decide_good(g: Gathering, store: &[u8], h: Heading, payload: &[u8]) -> Verdict
-    requires { ⌜ (h .number ≤ h .last) × (h .version ≤ versionMost) × (greatest (g .held) ≤ payloadMost + 1) ⌝ }
-    ensures { λ r. ⌜ r ≡ goodVerdict g (now (store .entry)) h (now (payload .entry)) ⌝ }
+fn decide_good(m: Numbers, held: &[u16; 256], store: &[u8], h: Heading, payload: &[u8]) -> Verdict
+    requires { ⌜ (h .number ≤ h .last) × (h .version ≤ versionMost) × (greatest (now held) ≤ payloadMost + 1) ⌝ }
+    ensures { λ r. ⌜ r ≡ goodVerdict (stateOf m (now (held .entry))) (now (store .entry)) h (now (payload .entry)) ⌝ }
 {
     if !h.current {
         return Verdict::Refuse(Refusal::NotCurrent);
     }
-    let begins = begins_gathering(g, h);
-    let agrees = heading_agrees(g, h);
+    let begins = begins_gathering(m, h);
+    let agrees = heading_agrees(m, h);
     if !(begins | agrees) {
         return Verdict::Refuse(Refusal::OtherHeading);
     }
@@ -95,24 +97,24 @@ fn decide_good(g: Gathering, store: &[u8], h: Heading, payload: &[u8]) -> Verdic
     if begins {
         return Verdict::Begin(h);
     }
-    if g.spoiled != 0 {
+    if m.spoiled != 0 {
         return Verdict::Refuse(Refusal::Contradiction);
     }
-    decide_number(g, store, h, payload)
+    decide_number(held, store, h, payload)
 }
 
 // Any byte string: refusals 12, 1 to 7, 8, 9, 10, 11, in this order. For feeding.
-pub fn decide(g: Gathering, store: &[u8], s: &[u8]) -> Verdict
-    ensures { λ r. ⌜ r ≡ verdictOf g (now (store .entry)) (now (s .entry)) ⌝ }
+pub fn decide(m: Numbers, held: &[u16; 256], store: &[u8], s: &[u8]) -> Verdict
+    ensures { λ r. ⌜ r ≡ verdictOf (stateOf m (now (held .entry))) (now (store .entry)) (now (s .entry)) ⌝ }
 {
-    if !gathering_state::possible(g) {
+    if !gathering_state::possible(m, held) {
         return Verdict::Refuse(Refusal::ImpossibleState);
     }
     match section_reader::read_section(s) {
         Sectioned::Refused(r) => Verdict::Refuse(r),
         Sectioned::Good(h, n) => {
             let end = 8 + n;
-            decide_good(g, store, h, &s[8..end])
+            decide_good(m, held, store, h, &s[8..end])
         }
     }
 }

@@ -5,33 +5,31 @@ use mathlib.Core.Path.{_≡_, sym, _∙_}
 use native.Mathlib.Omega.{arith}
 use borrow.Author.Needs.{needs}
 use borrow.Author.Tests.{eq-eqb, ne-eqb}
-use lib.ListN.{length, length-take}
+use denote.Ref.{now}
+use lib.ListN.{length}
 use mir.Syntax.{w8}
 use mir.Val.{Fits}
-use Rattle.gathering_state.specs.State.{possibleOf, nothingBegun, hasRoom, lengths}
+use Rattle.gathering_state.specs.State.{stateOf, possibleOf, nothingBegun, hasRoom, lengths}
+use Rattle.gathering_state.specs.declared.Gathering.{Gathering}
 use Rattle.ground_choices.proofs.Tests.{unmet, met}
 use Rattle.gathering_hand_out.proofs.Handing.{complete-impossible, complete-fresh, complete-short, complete-spoiled, complete-calm}
 use Rattle.gathering_hand_out.proofs.complete.Statement.{statement}
 use Rattle.gathering_hand_out.proofs.complete.Tie as tie
 
+abbrev given : tie.Start → Gathering
+given c = stateOf (c .args .m) (now (c .args .held))
+
 -- past each refusal
 
-possible : (c : tie.Else1) → possibleOf (c .before .before .args .g) ≡ true
+possible : (c : tie.Else1) → possibleOf (given (c .before .before)) ≡ true
 possible c = met _ (c .before .possible .ensures) (c .if1 .left)
 
-begun : (c : tie.Else2) → nothingBegun (c .before .before .before .before .args .g) ≡ false
+begun : (c : tie.Else2) → nothingBegun (given (c .before .before .before .before)) ≡ false
 unfolding nothingBegun
 begun c = ne-eqb _ _ (c .if2 .left)
 
-roomy : (c : tie.Else3) → hasRoom (c .before .before .before .before .before .before .args .bytes) (c .before .before .before .before .before .before .args .g .last) ≡ true
+roomy : (c : tie.Else3) → let start = c .before .before .before .before .before .before in hasRoom (start .args .bytes) (start .args .m .last) ≡ true
 roomy c = met _ (c .before .has-room .ensures) (c .if3 .left)
-
--- the numbers up to the last are in the array
-in-array : (c : tie.After-struct-known3) → c .before .before .before .before .before .before .before .before .before .before .args .g .last + 1 ≤ length (c .before .before .before .before .before .before .before .before .before .before .args .g .held)
-in-array c =
-    let n : length (c .before .before .before .before .before .before .before .before .before .before .args .g .held) ≡ 256 = search needs in
-    let f : Fits w8 (c .before .before .before .before .before .before .before .before .before .before .args .g .last) = search needs in
-    omega arith
 
 pub complete-spec : {M : Type 1} → statement M
 unfolding nothingBegun lengths
@@ -43,10 +41,19 @@ complete-spec =
     (λ c. sym (complete-fresh _ _ (possible (c .before .before)) (eq-eqb _ _ (c .if2 .taken))))
     (λ c κs. search needs)
     (λ c. sym (complete-short _ _ (possible (c .before .before .before .before)) (begun (c .before .before)) (unmet _ (c .before .has-room .ensures) (c .if3 .taken))))
-    (λ c. sym (complete-spoiled _ _ (possible (c .before .before .before .before .before .before)) (begun (c .before .before .before .before)) (roomy (c .before .before)) (c .if4 .taken)))
+    (λ c.
+    let room = c .before .before in
+    let some = room .before .before in
+    sym (complete-spoiled _ _ (possible (some .before .before)) (begun some) (roomy room) (c .if4 .taken)))
     (λ c. search needs)
     (λ c. search needs)
-    in-array
-    (λ c. let h = in-array (c .before) in simp length-take (omega arith))
-    (λ c κs. search needs)
-    (λ c. c .missing .ensures ∙ sym (complete-calm _ _ (possible (c .before .before .before .before .before .before .before .before .before .before)) (begun (c .before .before .before .before .before .before .before .before)) (roomy (c .before .before .before .before .before .before)) (c .before .before .before .before .if4 .left))))
+    (λ c κs.
+    let start = c .before .before .before .before .before .before .before .before .before .before in
+    let n : length (now (start .args .held)) ≡ 256 = search needs in
+    let f : Fits w8 (start .args .m .last) = search needs in
+    omega arith)
+    (λ c.
+    let calm = c .before .before .before in
+    let room = calm .before .before in
+    let some = room .before .before in
+    c .missing .ensures ∙ sym (complete-calm _ _ (possible (some .before .before)) (begun some) (roomy room) (calm .if4 .left))))

@@ -9,7 +9,7 @@ use Rattle.ground_choices.proofs.Tests.{unmet, met}
 use Rattle.gathering_state.proofs.is_begun.Statement.{statement}
 use Rattle.gathering_state.proofs.is_begun.Tie as tie
 
-kind-at : (c : tie.Else1) → isKind (c .before .before .args .t1 .kind) ≡ true
+kind-at : (c : tie.Else1) → isKind (c .before .before .before .args .m .kind) ≡ true
 kind-at c = met _ (c .before .is-kind .ensures) (c .if1 .left)
 
 pub is-begun-spec : {M : Type 1} → statement M
@@ -33,8 +33,20 @@ is-begun-spec =
     (λ c. search needs)
     (λ c. search needs)
     (λ c. search needs)
-    (λ c. let passed = c .before .before .before .before .before .before .before .before in not-begun-seen _ (passed .survey-of .ensures) (λ s b. omega arith))
+    (λ c. let passed = c .before .before .before .before .before .before .before .before .before in not-begun-seen _ (passed .survey-of .ensures) (λ s b. omega arith))
     (λ c.
-    let passed = c .before .before .before .before .before .before .before .before .before in
-    let known = passed .before .before .before .before .before .before in
+    let counted = c .before .before in
+    let short = counted .before .before .before in
+    let some = short .before .before in
+    let below = some .before .before in
+    let passed = below .before .before in
+    let calm = passed .before .before .before in
+    let old = calm .before .before in
+    let known = old .before .before in
+    let version = old .if2 .left in
+    let spoiled = calm .if3 .left in
+    let above = below .if4 .left in
+    let least = some .if5 .left in
+    let most = short .if6 .left in
+    let missing = counted .if7 .left in
     begun-seen _ (passed .survey-of .ensures) (kind-at known) (omega arith) (omega arith) (omega arith) (omega arith) (omega arith) (omega arith)))

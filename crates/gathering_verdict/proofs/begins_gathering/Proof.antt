@@ -1,5 +1,6 @@
 -- `gathering_verdict::begins_gathering` meets its contract: nothing is begun, or the fixed heading's table is compared.
 use borrow.Author.Needs.{needs}
+use Rattle.gathering_state.specs.State.{stateOf}
 use Rattle.gathering_verdict.proofs.Verdicts.{begins-none, begins-newer}
 use Rattle.gathering_verdict.proofs.begins_gathering.Statement.{statement}
 use Rattle.gathering_verdict.proofs.begins_gathering.Tie as tie
@@ -8,7 +9,11 @@ pub begins-gathering-spec : {M : Type 1} → statement M
 begins-gathering-spec =
     tie.close
     (tie.spec
-    (λ c. begins-none _ _ (c .if1 .taken))
+    (λ c held. begins-none _ _ (c .if1 .taken))
     (λ c κs. search needs)
     (λ c κs. search needs)
-    (λ c. let begun = c .before .before in let start = begun .before .before .args in cc (begins-newer (start .g) (start .h) (begun .if1 .left))))
+    (λ c held.
+    let fixed = c .before .fixed-heading .ensures .0 held in
+    let begun = c .before .before in
+    let start = begun .before .before .args in
+    cc (begins-newer (stateOf (start .m) held) (start .h) (begun .if1 .left))))

@@ -8,7 +8,7 @@ use denote.Ref.{now}
 use lib.ListN.{length}
 use Rattle.section_reader.specs.Section.{readSection}
 use Rattle.section_reader.specs.declared.Sectioned.the-variants.{Good}
-use Rattle.gathering_state.specs.State.{possibleOf}
+use Rattle.gathering_state.specs.State.{stateOf, possibleOf}
 use Rattle.gathering_state.proofs.State.{possible-short}
 use Rattle.ground_choices.proofs.Tests.{unmet, met}
 use Rattle.gathering_verdict.specs.Deciding.{goodVerdict}
@@ -16,7 +16,7 @@ use Rattle.gathering_verdict.proofs.Verdicts.{verdict-impossible, verdi
 use Rattle.gathering_verdict.proofs.decide.Statement.{statement}
 use Rattle.gathering_verdict.proofs.decide.Tie as tie
 
-possible-at : (c : tie.Else1) → possibleOf (c .before .before .before .before .args .g) ≡ true
+possible-at : (c : tie.Else1) → let start = c .before .before .before .before .args in possibleOf (stateOf (start .m) (now (start .held))) ≡ true
 possible-at c = met _ (c .before .possible .ensures) (c .if1 .left)
 
 read-at : (c : tie.After-h) → readSection (now (c .before .before .before .before .before .before .before .args .s)) ≡ Good (c .h .given .0 .0) (c .h .given .0 .1 .0)

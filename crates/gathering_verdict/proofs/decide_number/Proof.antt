@@ -16,7 +16,7 @@ within : (c : tie.After-less-one) → c .before .place-of .result + c .less-one 
 within c =
     let a = c .before .before .before .before .before .before .before in
     let p = place-within _ _ (a .args .h .number) (a .pre .0) (a .pre .1) in
-    let n = greatest-at (a .args .t1 .held) (a .args .h .number) in
+    let n = greatest-at (now (a .args .held)) (a .args .h .number) in
     let m = a .pre .2 in
     let e = c .before .place-of .ensures in
     omega arith
@@ -28,7 +28,7 @@ decide-number-spec =
     (λ c. search needs)
     (λ c. search needs)
     (λ c. search needs)
-    (λ c. sym (number-new _ _ _ _ (c .if1 .taken)))
+    (λ c m. sym (number-new _ _ _ _ (c .if1 .taken)))
     (λ c κs. search needs)
     (λ c κs. search needs)
     (λ c. let w = within c in omega arith)
@@ -36,5 +36,5 @@ decide-number-spec =
     (λ c. search needs)
     within
     (λ c κs. search needs)
-    (λ c. sym (number-same _ _ _ _ (omega arith) (compared _ _ _ _ _ _ (c .before .before .before .before .place-of .ensures) (c .before .before .before .less-one .ensures .0) _ (c .before .same-bytes .ensures) ∙ c .if2 .taken)))
-    (λ c. sym (number-other _ _ _ _ (omega arith) (compared _ _ _ _ _ _ (c .before .before .before .before .place-of .ensures) (c .before .before .before .less-one .ensures .0) _ (c .before .same-bytes .ensures) ∙ c .if2 .left))))
+    (λ c m. sym (number-same _ _ _ _ (omega arith) (compared _ _ _ _ _ _ (c .before .before .before .before .place-of .ensures) (c .before .before .before .less-one .ensures .0) _ (c .before .same-bytes .ensures) ∙ c .if2 .taken)))
+    (λ c m. sym (number-other _ _ _ _ (omega arith) (compared _ _ _ _ _ _ (c .before .before .before .before .place-of .ensures) (c .before .before .before .less-one .ensures .0) _ (c .before .same-bytes .ensures) ∙ c .if2 .left))))

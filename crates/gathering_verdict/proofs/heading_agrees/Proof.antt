@@ -11,4 +11,4 @@ heading-agrees-spec =
     (tie.spec
     (λ c κs. search needs)
     (λ c κs. search needs)
-    (λ c. cc))
+    (λ c held. let fixed = c .before .fixed-heading .ensures .0 held in cc))

@@ -1,7 +1,6 @@
--- `configuration_rules::clocks::is_day` meets its contract: a date that fits its fields has a day exactly where crate days answers one, and no other has.
-use mathlib.Core.Path.{sym, _∙_}
+-- `configuration_rules::clocks::is_day` meets its contract: of a date that fits its fields `time_dates` says it, and no other has a day.
 use borrow.Author.Needs.{needs}
-use Rattle.configuration_rules.proofs.Dated.{is-day, no-day, year-too-large, month-too-large, day-too-large}
+use Rattle.configuration_rules.proofs.Dated.{year-too-large, month-too-large, day-too-large}
 use Rattle.configuration_rules.proofs.clocks.is_day.Statement.{statement}
 use Rattle.configuration_rules.proofs.clocks.is_day.Tie as tie
 
@@ -16,7 +15,4 @@ is-day-spec =
     (λ c. search needs)
     (λ c. search needs)
     (λ c κs. search needs)
-    (λ c. search needs)
-    (λ c. search needs)
-    (λ c. is-day _ _ _ (sym (c .before .n .given .1) ∙ c .before .before .before .day-of .ensures))
-    (λ c. no-day _ _ _ (sym (c .before .r .given .1) ∙ c .before .before .before .day-of .ensures)))
+    (λ c. c .is-date .ensures))

@@ -1,0 +1,15 @@
+-- `gathering_hand_out::hand_first` meets its contract: the first numbers are handed on.
+use mathlib.Core.Path.{sym}
+use borrow.Author.Needs.{needs}
+use lib.Seq.{length-take-le}
+use Rattle.gathering_hand_out.proofs.hand_first.Statement.{statement}
+use Rattle.gathering_hand_out.proofs.hand_first.Tie as tie
+
+pub hand-first-spec : {M : Type 1} → statement M
+hand-first-spec =
+    tie.close
+    (tie.spec
+    (λ c. sym (length-take-le _ _ (search needs)))
+    (λ c κs. c .before .before .before .before .before .pre .1)
+    (λ c. search needs)
+    (λ c. c .before .before .hand-held .ensures))
