@@ -12,7 +12,7 @@ INSTALL ?= install
 # The archives of the crates that tools/kit lists; the library's alone is installed.
 ARCHIVE = target/staticlib/libneapwillow.a
 ARCHIVES := $(patsubst %,target/staticlib/lib%.a,$(shell sed -n 's/^exporting=(\(.*\))/\1/p' tools/kit))
-PROGRAMS = nw-dates nw-salvage nw-section
+PROGRAMS = nw nw-dates nw-salvage nw-section
 COMMANDS = $(PROGRAMS:%=target/bin/%)
 SOURCES := crates.txt $(shell find crates -type f)
 
@@ -29,7 +29,7 @@ all: $(ARCHIVES) $(COMMANDS)
 $(ARCHIVES) &: $(SOURCES)
 	tools/build
 
-$(COMMANDS) &: $(ARCHIVES) $(wildcard programs/* include/*)
+$(COMMANDS) &: $(ARCHIVES) $(wildcard programs/* programs/nw/* include/*)
 	tools/build
 
 help:

@@ -77,14 +77,33 @@ bool read_input(const struct command *c, const char *name, struct input *in) {
 }
 
 // A reader that has gone is a fault that is said, and no signal that ends the command without a word.
-int write_output(const struct command *c, const void *s, size_t n, int status) {
-    signal(SIGPIPE, SIG_IGN);
-    bool written = fwrite(s, 1, n, stdout) == n && fflush(stdout) == 0;
-    int why = errno;
-    if (fclose(stdout) != 0 && written) {
-        why = errno;
-        written = false;
+void guard_output(void) { signal(SIGPIPE, SIG_IGN); }
+
+int finish_output(const struct command *c, int status) {
+    int why = 0;
+    if (ferror(stdout)) { // a write has failed: the next one tells why
+        clearerr(stdout);
+        putchar('\n');
+        why = EIO;
     }
-    if (!written) say(c, "the output can't be written: %s", strerror(why));
-    return written ? status : UNUSABLE;
+    if (fflush(stdout) != 0) why = errno;
+    if (fclose(stdout) != 0 && why == 0) why = errno;
+    if (why != 0) say(c, "the output can't be written: %s", strerror(why));
+    return why == 0 ? status : UNUSABLE;
+}
+
+int write_output(const struct command *c, const void *s, size_t n, int status) {
+    guard_output();
+    fwrite(s, 1, n, stdout);
+    return finish_output(c, status);
+}
+
+bool read_minutes(const char *s, int *out) {
+    bool negative = *s == '-';
+    if (*s == '-' || *s == '+') s++;
+    size_t digits = strspn(s, "0123456789");
+    int x = 0;
+    for (size_t i = 0; i < digits && i < 3; i++) x = 10 * x + (s[i] - '0');
+    *out = negative ? -x : x;
+    return digits >= 1 && digits <= 3 && s[digits] == '\0' && -720 <= *out && *out <= 840; // +0800 is meant as hours
 }

@@ -37,4 +37,11 @@ bool read_input(const struct command *c, const char *name, struct input *in);
 /* Writes all of the output and closes it. Answers the status, or UNUSABLE and says why it can't be written. */
 int write_output(const struct command *c, const void *s, size_t n, int status);
 
+/* The same for output that is written bit by bit: to be called before the first, and after the last. */
+void guard_output(void);
+int finish_output(const struct command *c, int status);
+
+/* A whole decimal number from -720 to 840, of at most three digits, and nothing else. */
+bool read_minutes(const char *s, int *out);
+
 #endif

@@ -142,17 +142,6 @@ static int run(const struct work *w) {
 
 // ---- the words of the command
 
-// A whole decimal number from -720 to 840 and nothing else.
-static bool read_minutes(const char *s, int *out) {
-    bool negative = *s == '-';
-    if (*s == '-' || *s == '+') s++;
-    size_t digits = strspn(s, "0123456789");
-    int x = 0;
-    for (size_t i = 0; i < digits && x <= 1000; i++) x = 10 * x + (s[i] - '0'); // a larger one is out of the range
-    *out = negative ? -x : x;
-    return digits != 0 && s[digits] == '\0' && -720 <= *out && *out <= 840;
-}
-
 // The word after --offset, which may be missing.
 static int take_offset(struct work *w, const char *minutes) {
     if (w->given) return misused(&me, "--offset", ": it is given already");

@@ -138,7 +138,7 @@ MISUSED = {
         *(([word], NO_WORD % word) for word in ('--field', '--Fields', '--offset=480', '--helpme', '-h', '-x', '---', '-480')),
         *((['--offset', minutes], MINUTES % minutes) for minutes in (
             '841', '-721', '4x', 'x', '480 ', ' 480', '4 8', '1e2', '+', '-', '--1', '+-1', '0x10', '8.5', '−480', '9' * 40,
-            '4294967296', '18446744073709552096', '--fields', 'times')),
+            '4294967296', '18446744073709552096', '+0800', '0000', '--fields', 'times')),
         (['--offset', ''], MINUTES % '(an empty word)'), (['--offset'], WANTED), (['times', '--offset'], WANTED),
         (['--offset', '480', '--offset', '480'], TWICE), (['times', 'other'], ANOTHER % 'other'), (['times', '480'], ANOTHER % '480'),
         (['-', '-'], ANOTHER % '-'), (['--', 'times', '--fields'], ANOTHER % '--fields'), (['--bad', '--help'], NO_WORD % '--bad'),

@@ -6,7 +6,7 @@ import sys
 
 ROOT = os.path.join(os.path.dirname(os.path.abspath(__file__)), os.pardir)
 FOLDER = sys.argv[1]
-DRILL, DATES = './run drill', './run dates'
+DRILL, DATES, SHOW = './run drill', './run dates', 'nw show --offset +08:00 received'
 faults = []
 
 
@@ -60,6 +60,8 @@ def main():
     expect('other refusals', ''.join(others), 'no such refusal\n' * len(others))
     expect("the README's drill", shown_after(readme, DRILL), read(FOLDER, 'shown'))
     expect("the README's dates", shown_after(readme, DATES), read(FOLDER, 'dates'))
+    begin = shown_after(readme, SHOW)  # the README shows how the output begins
+    expect("the README's nw show", begin or 'nothing', read(FOLDER, 'told')[:len(begin)])
     missing, functions = unnamed(page, header)
     faults.extend('the man page does not name %s' % name for name in missing)
     tried = ' '.join(read(path) for path in glob.glob(os.path.join(ROOT, 'fuzz', '*.[ch]')))

@@ -1,0 +1,50 @@
+// nw COMMAND ..: the bench volunteer's program: captures of emergency tables shown.
+#include "show.h"
+#include <locale.h>
+#include <stdio.h>
+#include <string.h>
+
+static const struct command me = {
+    "nw", "nw COMMAND ..",
+    "The emergency tables of GD/J 086-2018 on the bench.\n"
+    "  nw show CAPTURE  tells every table in a capture: sections, versions, refusals, fields\n"
+    "  nw help COMMAND  says how a command is used; so does nw COMMAND --help\n"
+    "  nw --help        says this\n"
+    "  nw --version     says the version\n"
+    "Exit status: 0, all is well; 1, something is refused, missing or skipped; 2, wrong usage, a\n"
+    "file that can't be read, or output that can't be written.\n"};
+
+// The commands by their names.
+static const struct {
+    const char *name;
+    const struct command *about;
+    int (*run)(int words, char **word);
+} commands[] = {{"show", &show_command, show}};
+
+enum { COMMANDS = sizeof commands / sizeof *commands };
+
+// Which command has a name; COMMANDS for none.
+static size_t named(const char *name) {
+    size_t i = 0;
+    while (i < COMMANDS && strcmp(commands[i].name, name) != 0) i++;
+    return i;
+}
+
+// nw help, and what a word after it asks for.
+static int help_on(int words, char **word) {
+    if (words == 0) return help(&me);
+    if (words > 1) return misused(&me, word[1], ": one COMMAND is told of at a time");
+    size_t i = named(word[0]);
+    return i < COMMANDS ? help(commands[i].about) : misused(&me, word[0], ": there is no such command to tell of");
+}
+
+int main(int words, char **word) {
+    setlocale(LC_CTYPE, "");
+    guard_output();
+    if (words < 2) return misused(&me, "COMMAND", " is wanted");
+    if (strcmp(word[1], "--help") == 0) return help(&me);
+    if (strcmp(word[1], "--version") == 0) return version(&me);
+    if (strcmp(word[1], "help") == 0) return help_on(words - 2, word + 2);
+    size_t i = named(word[1]);
+    return i < COMMANDS ? commands[i].run(words - 2, word + 2) : misused(&me, word[1], ": there is no such command");
+}

@@ -1,0 +1,32 @@
+/* report.h: what `nw show` tells of a capture, in the order in which it becomes known, to one of several reporters. */
+#ifndef REPORT_H
+#define REPORT_H
+
+#include "capture.h"
+#include "tables.h"
+
+/* What came of a capture, all in all. */
+struct sum {
+    uint64_t bytes, taken, held, refused;                       /* refused: good sections that are not taken */
+    uint64_t stretches, skipped;                                /* stretches of skipped bytes, and how many bytes these are */
+    uint64_t whole, accepted;                                   /* tables */
+    uint64_t messages_without_content, contents_without_message; /* of whole tables */
+};
+
+struct report {
+    void (*begin)(const char *name); /* of the capture */
+    void (*skipped)(const struct stretch *bad);
+    void (*arrival)(const struct arrival *a);
+    void (*tables)(void); /* the capture is read, and the tables follow */
+    void (*table)(const struct tables *all, const struct table *t, struct clock clock);
+    void (*end)(const struct tables *all, const struct sum *sum, bool faultless);
+};
+
+extern const struct report plain_report, bytes_report, json_report;
+
+/* Which of its sections a table lacks, in words: numbers and ranges of them. Answers the text. */
+char *missing_words(const nw_gathering *g, char *text, size_t room);
+
+enum { MISSING_ROOM = 2048 };
+
+#endif

@@ -1,0 +1,151 @@
+// show.c: `nw show [--bytes | --json] [--offset OFFSET] CAPTURE`: every table of a capture told to a person.
+#include "show.h"
+#include "report.h"
+#include <errno.h>
+#include <stdlib.h>
+#include <string.h>
+
+const struct command show_command = {
+    "nw show", "nw show [--bytes | --json] [--offset OFFSET] CAPTURE",
+    "Reads the sections of GD/J 086-2018 in CAPTURE, or in standard input where it is -, damage\n"
+    "among them or not, gathers them into tables, and tells all that came: what was skipped or\n"
+    "refused and why, which sections are missing, and each field of every table.\n"
+    "  --bytes          tells the bodies byte by byte, with each field's name in the standard\n"
+    "  --json           tells the same for scripts; nw(1) says how\n"
+    "  --offset OFFSET  times are also local, so far east of UTC: minutes, -720 to 840, or hours\n"
+    "                   and minutes with their sign, as +08:00; without it they are UTC alone\n"
+    "  --help           says this\n"
+    "Exit status: 0, every table is whole and accepted, nothing was skipped or refused, and\n"
+    "messages and contents belong together; 1, something of that is not so, or no table came;\n"
+    "2, wrong usage, a CAPTURE that can't be read or is a transport stream, or output that\n"
+    "can't be written.\n"};
+
+struct work {
+    const char *name; // the CAPTURE's, or NULL
+    struct clock clock;
+    const struct report *report;
+    struct tables tables;
+    struct sum sum;
+};
+
+// ---- what came
+
+static void note_begin(void *own) {
+    const struct work *w = own;
+    w->report->begin(strcmp(w->name, "-") == 0 ? "standard input" : shown(w->name));
+}
+
+static void note_section(void *own, uint64_t at, const uint8_t *s, size_t n, nw_heading heading) {
+    struct work *w = own;
+    struct arrival a = tables_feed(&w->tables, at, s, n, heading);
+    if (a.outcome == TOOK || a.outcome == TOOK_OVER) w->sum.taken++;
+    else if (a.outcome == HELD) w->sum.held++;
+    else w->sum.refused++;
+    w->report->arrival(&a);
+}
+
+static void note_skipped(void *own, const struct stretch *bad) {
+    struct work *w = own;
+    w->sum.stretches++;
+    w->sum.skipped += bad->bytes;
+    w->report->skipped(bad);
+}
+
+// What a table adds to the sum.
+static void count_table(struct work *w, const struct table *t) {
+    if (t->body.s == NULL) return;
+    uint64_t message;
+    w->sum.whole++;
+    w->sum.accepted += NW_REFUSAL(t->verdict) == NW_TAKEN;
+    if (t->state.kind == NW_CONTENT) w->sum.contents_without_message += index_of(&w->tables, t, &message) == NULL;
+    for (uint64_t i = 0; t->state.kind == NW_INDEX && i < message_count(t); i++)
+        w->sum.messages_without_content += content_of(&w->tables, t, i) == NULL;
+}
+
+static bool is_faultless(const struct work *w) {
+    const struct sum *s = &w->sum;
+    return w->tables.count != 0 && s->accepted == w->tables.count && s->refused == 0 && s->skipped == 0 &&
+           s->messages_without_content == 0 && s->contents_without_message == 0;
+}
+
+static int tell(struct work *w) {
+    tables_finish(&w->tables);
+    w->report->tables();
+    for (size_t i = 0; i < w->tables.count; i++) {
+        count_table(w, &w->tables.list[i]);
+        w->report->table(&w->tables, &w->tables.list[i], w->clock);
+    }
+    bool faultless = is_faultless(w);
+    w->report->end(&w->tables, &w->sum, faultless);
+    return finish_output(&show_command, faultless ? TAKEN : REFUSED);
+}
+
+static int run(struct work *w) {
+    bool standard = strcmp(w->name, "-") == 0;
+    const char *what = standard ? "standard input" : shown(w->name);
+    FILE *in = standard ? stdin : fopen(w->name, "rb");
+    if (in == NULL) return say(&show_command, "%s can't be opened: %s", what, strerror(errno)), UNUSABLE;
+    enum capture came = capture_read(in, (struct finder){note_begin, note_section, note_skipped, w}, &w->sum.bytes);
+    int why = errno, status = UNUSABLE;
+    if (came == CAPTURE_READ) status = tell(w);
+    else if (came == CAPTURE_FAULT) say(&show_command, "%s can't be read: %s", what, strerror(why));
+    else say(&show_command, "%s is a transport stream (0x47 every 188 bytes): nw reads bare sections", what);
+    if (!standard) fclose(in);
+    tables_free(&w->tables);
+    return status;
+}
+
+// ---- the words of the command
+
+// Hours and minutes with their sign, as +08:00.
+static bool read_hours(const char *s, int *out) {
+    static const char form[] = "+99:99";
+    for (size_t i = 0; i < sizeof form - 1; i++)
+        if (form[i] == '9' ? s[i] < '0' || s[i] > '9' : form[i] == '+' ? s[i] != '+' && s[i] != '-' : s[i] != form[i]) return false;
+    int minutes = (s[4] - '0') * 10 + (s[5] - '0'), all = ((s[1] - '0') * 10 + (s[2] - '0')) * 60 + minutes;
+    *out = s[0] == '-' ? -all : all;
+    return s[6] == '\0' && minutes < 60 && -720 <= *out && *out <= 840;
+}
+
+// The word after --offset, which may be missing.
+static int take_offset(struct work *w, const char *offset) {
+    if (w->clock.local) return misused(&show_command, "--offset", ": it is given already"), 0;
+    if (offset == NULL) return misused(&show_command, "--offset", ": an OFFSET has to follow"), 0;
+    if (!read_minutes(offset, &w->clock.offset) && !read_hours(offset, &w->clock.offset))
+        return misused(&show_command, offset, ": an OFFSET has to be a whole number of minutes from -720 to 840, or as +08:00"), 0;
+    w->clock.local = true;
+    return 2;
+}
+
+static int take_report(struct work *w, const char *word, const struct report *report) {
+    if (w->report != NULL) return misused(&show_command, word, ": one of --bytes and --json is given already"), 0;
+    w->report = report;
+    return 1;
+}
+
+// Takes a word, and perhaps the one after it. Answers how many were taken, or 0 where they are wrong, which is said; so do
+// the two above.
+static int take(struct work *w, char **word, bool *options) {
+    bool option = *options && word[0][0] == '-' && word[0][1] != '\0';
+    if (*options && strcmp(word[0], "--") == 0) return *options = false, 1;
+    if (option && strcmp(word[0], "--bytes") == 0) return take_report(w, word[0], &bytes_report);
+    if (option && strcmp(word[0], "--json") == 0) return take_report(w, word[0], &json_report);
+    if (option && strcmp(word[0], "--offset") == 0) return take_offset(w, word[1]);
+    if (option) return misused(&show_command, word[0], ": there is no such word"), 0;
+    if (w->name != NULL) return misused(&show_command, word[0], ": there is a CAPTURE already, and one is read"), 0;
+    w->name = word[0];
+    return 1;
+}
+
+int show(int words, char **word) {
+    struct work w = {0};
+    bool options = true;
+    for (int i = 0, taken; i < words; i += taken) {
+        if (options && strcmp(word[i], "--help") == 0) return help(&show_command);
+        taken = take(&w, word + i, &options);
+        if (taken == 0) return UNUSABLE;
+    }
+    if (w.name == NULL) return misused(&show_command, "CAPTURE", " is wanted: a file's name, or - for standard input");
+    if (w.report == NULL) w.report = &plain_report;
+    return run(&w);
+}

@@ -1,0 +1,12 @@
+/* show.h: `nw show`. */
+#ifndef SHOW_H
+#define SHOW_H
+
+#include "../command.h"
+
+extern const struct command show_command;
+
+/* The words after `show`. Answers the exit status. */
+int show(int words, char **word);
+
+#endif

@@ -1,0 +1,168 @@
+// tables.c: the sections of a capture gathered into tables, each by the library's gathering; what came of them is kept.
+#include "tables.h"
+#include "content.h"
+#include <stdlib.h>
+#include <string.h>
+
+// ---- feeding
+
+// The table of a kind and an extension, or else a new one; NULL where there is no room for it.
+static struct table *table_of(struct tables *all, nw_heading heading, bool *full) {
+    for (size_t i = 0; i < all->count; i++) {
+        struct table *t = &all->list[i];
+        if (t->state.kind == nw_heading_kind(heading) && t->state.extension == nw_heading_extension(heading)) return t;
+    }
+    *full = all->count == MOST_TABLES;
+    if (*full) return NULL;
+    if (all->count == all->room) {
+        size_t room = all->room + 16;
+        struct table *more = realloc(all->list, room * sizeof *more);
+        if (more == NULL) return NULL;
+        all->list = more;
+        all->room = room;
+    }
+    all->list[all->count] = (struct table){0};
+    return &all->list[all->count];
+}
+
+// Room in the store for the table of a section, which may be newer and longer than what is held.
+static bool make_room(struct table *t, nw_heading heading) {
+    size_t bytes = NW_STORE_BYTES(nw_heading_last(heading));
+    if (bytes <= t->store_bytes) return true;
+    uint8_t *more = realloc(t->store, bytes);
+    if (more == NULL) return false;
+    t->store = more;
+    t->store_bytes = bytes;
+    return true;
+}
+
+static void note_given_up(struct table *t, const nw_gathering *old) {
+    if (t->given_up >= MOST_VERSIONS) memmove(t->versions, t->versions + 1, (MOST_VERSIONS - 1) * sizeof *t->versions);
+    size_t at = t->given_up < MOST_VERSIONS ? t->given_up : MOST_VERSIONS - 1;
+    t->versions[at] = (struct version){old->version, old->last + 1u - old->missing, old->last + 1u, old->spoiled != 0};
+    t->given_up++;
+}
+
+// What becomes of a section that a table is fed.
+static enum outcome feed(struct table *t, const uint8_t *s, size_t n, nw_heading heading, unsigned *refusal) {
+    nw_gathering before = t->state;
+    nw_answer fed = make_room(t, heading) ? nw_gathering_feed(&t->state, t->store, t->store_bytes, s, n)
+                                          : (nw_answer){NW_STORE_TOO_SHORT};
+    *refusal = NW_REFUSAL(fed);
+    if (*refusal != NW_TAKEN) {
+        t->refused++;
+        return NOT_TAKEN;
+    }
+    if (nw_value(fed) == NW_FED_HELD_ALREADY) {
+        t->repeats++;
+        return HELD;
+    }
+    if (before.kind == 0 || before.version == t->state.version) return TOOK;
+    note_given_up(t, &before);
+    return TOOK_OVER;
+}
+
+struct arrival tables_feed(struct tables *all, uint64_t at, const uint8_t *s, size_t n, nw_heading heading) {
+    bool full = false;
+    struct arrival a = {at, heading, ONE_TABLE_TOO_MANY, NW_STORE_TOO_SHORT, NULL};
+    struct table *t = table_of(all, heading, &full);
+    if (t == NULL) {
+        if (!full) a.outcome = NOT_TAKEN;
+        return a;
+    }
+    a.outcome = feed(t, s, n, heading, &a.refusal);
+    bool begins = t == all->list + all->count;
+    if (begins && t->state.kind == 0) { // its first section is not taken: there is no table yet
+        free(t->store);
+        t->store = NULL;
+        return a;
+    }
+    if (begins) all->count++;
+    a.table = t;
+    return a;
+}
+
+// ---- bodies
+
+// A whole table's body stands at the front of its store; what its state was is kept.
+static void pack(struct table *t) {
+    nw_gathering state = t->state;
+    t->packed = nw_gathering_pack(&state, t->store, t->store_bytes);
+    if (NW_REFUSAL(t->packed) != NW_TAKEN) return;
+    t->body = (struct body){t->state.kind, t->state.extension, t->store, (size_t)nw_value(t->packed)};
+    t->verdict = body_read(&t->body);
+}
+
+// By kind, index and content first; tables of one kind as they came, which their places in the list tell.
+static unsigned rank(const struct table *t) {
+    static const unsigned ranks[] = {3, 2, 0, 1};
+    return ranks[t->state.kind - NW_CONFIGURATION];
+}
+
+static bool put_in_order(struct tables *all) {
+    struct table *sorted = malloc((all->count + 1) * sizeof *sorted);
+    size_t n = 0;
+    if (sorted == NULL) return false;
+    for (unsigned r = 0; r < 4; r++)
+        for (size_t i = 0; i < all->count; i++)
+            if (rank(&all->list[i]) == r) sorted[n++] = all->list[i];
+    free(all->list);
+    all->list = sorted;
+    return true;
+}
+
+void tables_finish(struct tables *all) {
+    for (size_t i = 0; i < all->count; i++) pack(&all->list[i]);
+    put_in_order(all); // where there is no memory, they stay as they came
+}
+
+void tables_free(struct tables *all) {
+    for (size_t i = 0; i < all->count; i++) free(all->list[i].store);
+    free(all->list);
+}
+
+// ---- which message a content table belongs to
+
+uint64_t message_count(const struct table *index) {
+    nw_answer count = nw_index_message_count(index->body.s, index->body.n);
+    return index->body.s != NULL && NW_REFUSAL(count) == NW_TAKEN ? nw_value(count) : 0;
+}
+
+static bool message_part(const struct table *index, uint64_t i, nw_part *part) {
+    *part = nw_index_message(index->body.s, index->body.n, i);
+    return NW_REFUSAL(*part) == NW_TAKEN;
+}
+
+bool message_extension(const struct table *index, uint64_t i, unsigned *extension) {
+    nw_part part;
+    if (!message_part(index, i, &part)) return false;
+    nw_answer own = nw_message_extension(index->body.s, index->body.n, nw_part_start(part), nw_part_length(part));
+    *extension = (unsigned)nw_value(own);
+    return NW_REFUSAL(own) == NW_TAKEN;
+}
+
+static bool belongs(const struct table *index, uint64_t i, const struct table *content) {
+    unsigned extension;
+    nw_part part;
+    const uint8_t *its = content->body.s == NULL ? NULL : content_identifier(&content->body);
+    if (its == NULL || !message_extension(index, i, &extension) || extension != content->state.extension) return false;
+    if (!message_part(index, i, &part)) return false;
+    nw_part own = nw_message_identifier(index->body.s, index->body.n, nw_part_start(part), nw_part_length(part));
+    return memcmp(index->body.s + nw_part_start(own), its, NW_IDENTIFIER_BYTES) == 0;
+}
+
+const struct table *content_of(const struct tables *all, const struct table *index, uint64_t message) {
+    for (size_t i = 0; i < all->count; i++)
+        if (all->list[i].state.kind == NW_CONTENT && belongs(index, message, &all->list[i])) return &all->list[i];
+    return NULL;
+}
+
+const struct table *index_of(const struct tables *all, const struct table *content, uint64_t *message) {
+    for (size_t i = 0; i < all->count; i++) {
+        const struct table *t = &all->list[i];
+        uint64_t count = t->state.kind == NW_INDEX ? message_count(t) : 0;
+        for (*message = 0; *message < count; ++*message)
+            if (belongs(t, *message, content)) return t;
+    }
+    return NULL;
+}

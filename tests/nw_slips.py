@@ -1,0 +1,225 @@
+"""What `nw` says, writes and ends with, slip by slip, and on captures of two head ends: nw_slips.py HOW PROGRAM.."""
+import json
+import os
+import subprocess
+import sys
+import tempfile
+
+import make_captures as make
+from make_captures import line
+
+HOW, PROGRAM = sys.argv[1], sys.argv[2:]
+SECONDS = 300
+wrong, tried = [], 0
+USAGE = 'usage: nw COMMAND ..; nw --help says more'
+SHOW_USAGE = 'usage: nw show [--bytes | --json] [--offset OFFSET] CAPTURE; nw show --help says more'
+OFFSETS = 'nw show: %s: an OFFSET has to be a whole number of minutes from -720 to 840, or as +08:00'
+NOT_WRITTEN = "the output can't be written: "
+
+
+def run(words, data=b'', where='C.UTF-8', **more):
+    """Status, output and standard error, as bytes."""
+    given = {'input': data} if 'stdin' not in more else {}
+    more.setdefault('stdout', subprocess.PIPE)
+    done = subprocess.run([*PROGRAM, *words], stderr=subprocess.PIPE, timeout=SECONDS, check=False, env={**os.environ, 'LC_ALL': where},
+                          **given, **more)
+    return done.returncode, done.stdout or b'', done.stderr
+
+
+def expect(what, got, status, output, said):
+    """Notes a fault unless status, output (None for any) and the lines on standard error are these."""
+    global tried
+    tried += 1
+    wanted = status, output, ''.join(part + '\n' for part in said).encode()
+    for name, here, there in zip(('status', 'output', 'standard error'), got, wanted):
+        if there is not None and here != there:
+            wrong.append('%.200s: %s %.300r and not %.300r' % (what, name, here, there))
+
+
+def expect_lines(what, words, data, status, lines, **more):
+    """Notes a fault unless the output has these lines, in this order, and nothing in it steers a terminal."""
+    got = run(words, data, **more)
+    expect(what, got, status, None, [])
+    told = got[1].decode('utf-8').split('\n')
+    at = 0
+    for wanted in lines:
+        if wanted not in told[at:]:
+            wrong.append('%s: it does not say %r after %r' % (what, wanted, told[at - 1] if at else 'its begin'))
+            return told
+        at = told.index(wanted, at) + 1
+    if any(ord(c) < 0x20 and c != '\n' or 0x7F <= ord(c) < 0xA0 or c in '\u202A\u202E\u2066\u2028' for c in got[1].decode('utf-8')):
+        wrong.append('%s: something in it steers a terminal' % what)
+    return told
+
+
+# ---- wrong usage: nothing is read, and nothing written
+
+
+def try_usage():
+    command = 'nw: %s: there is no such command'
+    for words, said in [([], ['nw: COMMAND is wanted', USAGE]), (['shwo'], [command % 'shwo', USAGE]), ([''], [command % '(an empty word)', USAGE]),
+                        (['--halp'], [command % '--halp', USAGE]), (['\x1B[2J'], [command % '\\x1B[2J', USAGE]),
+                        (['help', 'shwo'], ['nw: shwo: there is no such command to tell of', USAGE]),
+                        (['help', 'show', 'more'], ['nw: more: one COMMAND is told of at a time', USAGE]),
+                        (['show'], ['nw show: CAPTURE is wanted: a file\'s name, or - for standard input', SHOW_USAGE]),
+                        (['show', '--byte', 'good'], ['nw show: --byte: there is no such word', SHOW_USAGE]),
+                        (['show', '-x'], ['nw show: -x: there is no such word', SHOW_USAGE]),
+                        (['show', 'good', 'more'], ['nw show: more: there is a CAPTURE already, and one is read', SHOW_USAGE]),
+                        (['show', '--', 'good', '--bytes'], ['nw show: --bytes: there is a CAPTURE already, and one is read', SHOW_USAGE]),
+                        (['show', '--bytes', '--json', 'good'], ['nw show: --json: one of --bytes and --json is given already', SHOW_USAGE]),
+                        (['show', '--bytes', '--bytes', 'good'], ['nw show: --bytes: one of --bytes and --json is given already', SHOW_USAGE]),
+                        (['show', 'good', '--offset'], ['nw show: --offset: an OFFSET has to follow', SHOW_USAGE]),
+                        (['show', '--offset', '1', '--offset', '2', 'good'], ['nw show: --offset: it is given already', SHOW_USAGE])]:
+        expect('nw %r' % words, run(words), 2, b'', said)
+    for offset in ('841', '-721', '+14:01', '-12:01', '08:00', '+8:00', '+08:60', '+0800', '+08:0', '+08:000', 'x', '480 ', ' 480', '1e2', '--1',
+                   '0x10', '8.5', '9' * 40, '18446744073709552096', '+', '+99:99', 'good', '--json'):
+        expect('offset ' + offset, run(['show', '--offset', offset, 'good']), 2, b'', [OFFSETS % offset, SHOW_USAGE])
+    expect('an empty offset', run(['show', '--offset', '', 'good']), 2, b'', [OFFSETS % '(an empty word)', SHOW_USAGE])
+
+
+def try_files():
+    os.mkdir('folder')
+    packets = b''.join(b'\x47\x40\x21' + bytes([0x10 | n % 16]) + bytes(184) for n in range(20))
+    for name, said in (('none', "none can't be opened: No such file or directory"), ('folder', "folder can't be read: Is a directory"),
+                       ('x' * 4000, "%s.. can't be opened: File name too long" % ('x' * 1004)), ('', "(an empty word) can't be opened: No such file or directory"),
+                       ('\x1B[2J\u202E', "\\x1B[2J\\xE2\\x80\\xAE can't be opened: No such file or directory")):
+        for way in [], ['--json'], ['--bytes']:
+            expect('%r %r' % (name, way), run(['show', *way, name]), 2, b'', ['nw show: ' + said])
+    expect('a transport stream', run(['show', '-'], packets), 2, b'',
+           ['nw show: standard input is a transport stream (0x47 every 188 bytes): nw reads bare sections'])
+    expect('input closed', run(['show', '-'], stdin=None, preexec_fn=lambda: os.close(0)), 2, b'',
+           ["nw show: standard input can't be read: Bad file descriptor"])
+    empty = ['all in all: 0 bytes; sections: 0 taken, 0 held already, 0 refused; 0 bytes skipped', 'the capture is empty']
+    expect_lines('an empty capture', ['show', '-'], b'', 1, ['capture standard input', *empty])
+    expect_lines('junk', ['show', '-'], b'x' * 5000, 1, ['bytes 0 to 4999 are skipped: the table is of another kind (refusal 2)', 'no table has come'])
+    expect_lines('a byte', ['show', '-'], b'\xFD', 1, ['bytes 0 to 0 are skipped: the section is shorter than 12 bytes (refusal 1)'])
+    expect_lines('a name with signs', ['show', 'a "quoted"\x1B name'], b'', 0, ['capture a "quoted"\\x1B name', make.ALL_WELL])
+    told = json.loads(run(['show', '--json', 'a "quoted"\x1B name'])[1])
+    expect('a name in JSON', (0, told['capture'].encode(), b''), 0, b'a "quoted"\\x1B name', [])
+
+
+def try_streams():
+    """Output that is full, closed, or a pipe that nobody reads."""
+    for words in ['show', 'good'], ['show', '--bytes', 'good'], ['show', '--json', 'good'], ['show', '--help'], ['--help'], ['--version'], ['show', '-']:
+        name = 'nw: ' if words[0] != 'show' else 'nw show: '
+        with open('/dev/full', 'wb') as full:
+            expect('%r on a full disk' % words, run(words, stdout=full), 2, b'', [name + NOT_WRITTEN + 'No space left on device'])
+        expect('%r, output closed' % words, run(words, preexec_fn=lambda: os.close(1)), 2, b'', [name + NOT_WRITTEN + 'Bad file descriptor'])
+        unread, written = os.pipe()
+        os.close(unread)
+        expect('%r, output not read' % words, run(words, stdout=written), 2, b'', [name + NOT_WRITTEN + 'Broken pipe'])
+        os.close(written)
+
+
+def try_help():
+    expect('version', run(['--version']), 0, b'nw 0.2.0\n', [])
+    expect('help show', run(['help', 'show']), 0, run(['show', '--help'])[1], [])
+    expect('help', run(['help']), 0, run(['--help'])[1], [])
+    for words, needed in ((['--help'], ['nw show CAPTURE', 'nw help COMMAND', '--version']),
+                          (['show', '--help'], ['CAPTURE', '--bytes', '--json', '--offset OFFSET', '-720 to 840', '+08:00'])):
+        output = ' '.join(run(words)[1].decode().split())
+        for word in [*needed, 'Exit status: 0, ', '; 1, ', '2, wrong usage']:
+            if word not in output:
+                wrong.append('%r does not say %s' % (words, word))
+
+
+# ---- captures
+
+
+def try_captures():
+    for name, made in make.CAPTURES.items():
+        data, words, status, lines = made()
+        if HOW == 'as shipped':
+            lines = [fact for fact in lines if '|' not in fact]  # the emulator's C library may have no conversions
+        expect_lines(name, ['show', *words, '-'], data, status, lines)
+        bytes_told = run(['show', '--bytes', *words, '-'], data)
+        expect(name + ' in bytes', bytes_told, status, None, [])
+        told = run(['show', '--json', *words, '-'], data)
+        expect(name + ' in JSON', told, status, None, [])
+        summed = json.loads(told[1].decode('ascii'))['sum']
+        expect(name + ' summed', (0, str((summed['bytes'], summed['status'])).encode(), b''), 0, str((len(data), status)).encode(), [])
+
+
+REFUSED = '      ^ refused: %s (refusal %d, %s at byte %d of the body)'
+
+
+def try_refused():
+    """Bodies that are refused: the field, why, where, and what is left unread; the fields before it are told."""
+    index = make.Index([make.DRILL, make.DRILL], 0)
+    body = index.body()
+    at = 3 + 18 + 2  # the start of the first message
+    for place, new, label, name, number, why in (
+            (at, 'ECC8245500', 'start', 'EBM_start_time', 20, 'the day or the time is impossible or out of range'),
+            (at, 'FFFFFFFFFF', 'start', 'EBM_start_time', 18, 'a decimal digit is above 9'),
+            (at + 15, '39', 'level', 'EBM_level', 19, 'a value is outside its set'),
+            (at + 15, '04', 'class', 'EBM_class', 19, 'a value is outside its set'),
+            (3, '73', 'reserved bits', 'reserved', 17, 'a reserved bit is wrong')):
+        data = bytes.fromhex(new)
+        changed = body[:place] + data + body[place + len(data):]
+        lines = ['  message 1 of 2', line(1, label, data.hex(' ').upper()), REFUSED.replace('      ', '      ', 1) % (why, number, name, place)]
+        lines += [line(0, 'verdict', 'refused: %s (refusal %d at byte %d of the body)' % (why, number, place))]
+        expect_lines('%s at %d' % (new, place), ['show', '-'], b''.join(make.cut(make.INDEX, 0, 0, changed)), 1, lines)
+        told = run(['show', '--bytes', '-'], b''.join(make.cut(make.INDEX, 0, 0, changed)))[1].decode()
+        if '  %7d  ^ refused here: %s (refusal %d, %s)\n' % (place, why, number, name) not in told:
+            wrong.append('%s at %d is not marked among the bytes' % (new, place))
+    content = make.Content(make.DRILL, [('eng', 0, 'x', '', [])], 0)
+    sections = b''.join(make.cut(make.CONTENT, 0x1234, 0, content.body()))
+    expect_lines('another extension', ['show', '-'], sections, 1, [line(0, 'verdict', 'refused: the extension is not the CRC-16 of the identifier '
+                 '(refusal 23); its identifier\'s is %04X' % content.extension)])
+    expect_lines('bytes left over', ['show', '-'], make.section(make.INDEX, 0, 0, 0, 0, b'\0\0\0\1\2'), 1,
+                 [line(0, 'left over', '01 02'), '    ^ refused: bytes are left after the signature (refusal 16, (left over) at byte 3 of the body)'])
+    expect_lines('an empty body', ['show', '-'], make.section(make.INDEX, 0, 0, 0, 0, b''), 1,
+                 [line(0, 'messages', 'no byte'), '    ^ refused: the body ends too early (refusal 14, EBM_number at byte 0 of the body)'])
+
+
+def try_gathering():
+    """Contradictions, more tables than are held, versions without end."""
+    one, other = (make.section(make.INDEX, 0, 0, 0, 0, data) for data in (b'\0\0\0', b'\0\0\1'))
+    expect_lines('a contradiction', ['show', '-'], one + other, 1, [
+        'section at byte 15, number 0 of index table 0000, version 0 is refused: two payloads contradict each other under one section number (refusal 11)',
+        line(0, 'verdict', "not whole, so its body can't be read: two payloads contradict each other under one section number (refusal 11)")])
+    many = b''.join(make.section(make.CERTIFICATE, n, 0, 0, 0, b'\0\0\0\0') for n in range(513))
+    expect_lines('513 tables', ['show', '-'], many, 1, [
+        'section at byte 8192, number 0 of certificate table 0200, version 0 is left out: it belongs to one more table than the 512 that are held',
+        'tables: 512, of which 512 whole and 512 accepted', make.NOT_WELL])
+    turns = b''.join(make.section(make.INDEX, 0, n % 32, 0, 0, b'\0\0\0') for n in range(40))
+    expect_lines('40 versions', ['show', '-'], turns, 0, [
+        line(0, 'versions seen', '7 before these, %s, then 7' % ', '.join('%d (whole)' % (n % 32) for n in range(7, 39)))])
+
+
+def try_texts():
+    """Texts that would steer a terminal, that are no characters, and a terminal that hasn't them."""
+    nasty = 'a\x1B[31m\x07\x9B\u202Eb\r\nc\td'
+    content = make.Content(make.DRILL, [('eng', 2, nasty, '演练', [])], 0)
+    index = make.Index([make.DRILL], 0)
+    data = b''.join(index.sections() + content.sections())
+    steer = "      (characters that steer a terminal, or that its set, %s, has not, are written as \\u{..})"
+    expect_lines('a nasty text', ['show', '-'], data, 0, ['      | a\\u{1B}[31m\\u{7}\\u{9B}\\u{202E}b', '      | c\\u{9}d', steer % 'UTF-8', '      | 演练'])
+    expect_lines('a plain terminal', ['show', '-'], data, 0, ['      | \\u{6F14}\\u{7EC3}', steer % 'ANSI_X3.4-1968'], where='C')
+    bad = content.body().replace('演练'.encode(), b'\xFF\xC0\x80abc'[:6])
+    expect_lines('no characters', ['show', '-'], b''.join(index.sections() + make.cut(make.CONTENT, content.extension, 0, bad)), 0,
+                 ['      | \\xFF\\xC0\\x80abc', '      (bytes that are no character of the set: 3, written as \\xNN)'])
+    strange = content.body().replace(b'eng\xFA', b'bod\xFC')
+    expect_lines('a set without conversion', ['show', '-'], b''.join(index.sections() + make.cut(make.CONTENT, content.extension, 0, strange)), 0,
+                 [line(1, 'character set', 'GB 16959-1997'), '      | \\xE6\\xBC\\x94\\xE7\\xBB\\x83',
+                  '      (the C library has no conversion from this set: ASCII is shown, other bytes as \\xNN)'])
+
+
+def try_long():
+    """A capture of more than the window, with a section across each of its ends."""
+    one = make.section(make.CERTIFICATE, 0, 0, 0, 0, b'\0\0' + make.counted(bytes(4000), 2))
+    expect_lines('a long capture', ['show', '-'], one * 500, 0, [make.summed(one * 500, 1, 499, 0, 0)])
+    expect_lines('a long one with damage', ['show', '-'], (one + b'x' * 7) * 300, 1, [make.summed((one + b'x' * 7) * 300, 1, 299, 0, 2100)])
+
+
+with tempfile.TemporaryDirectory() as scratch:
+    os.chdir(scratch)
+    for file_name in ('good', 'a "quoted"\x1B name'):
+        with open(file_name, 'wb') as file:
+            file.write(make.section(make.INDEX, 0, 0, 0, 0, b'\0\0\0'))
+    for part in try_usage, try_files, try_streams, try_help, try_captures, try_refused, try_gathering, try_texts, try_long:
+        part()
+    os.chdir('/')
+if wrong or tried < 90:
+    sys.exit('%s\n%s: %d faults in %d answers' % ('\n'.join(wrong), HOW, len(wrong), tried))
+print('%s: %d answers, each with its words and its status' % (HOW, tried))
