@@ -354,7 +354,7 @@ def birch():
              *content.whole(len(pieces)), *content.said(None), belongs(1, index), verdict(), lost.title(),
              line(0, 'sections', '2 of %d, 1400 bytes; 0 repeats, 0 refused' % len(unfinished)), line(0, 'versions seen', '3'),
              line(0, 'missing', '0, %s' % ('3' if len(unfinished) == 4 else '3, 4' if len(unfinished) == 5 else '3 to %d' % (len(unfinished) - 1))),
-             line(0, 'verdict', "not whole, so its body can't be read: a section is missing (refusal 13, number 0)"),
+             line(0, 'verdict', "not whole: a section is missing (refusal 13, number 0)"),
              summed(data, len(old.sections(50)) + first + len(pieces) + 2, 1, 2, sum(len(r) for r, what in runs if what in ('skipped', 'spoiled', 'cut'))),
              'tables: 3, of which 2 whole and 2 accepted', 'messages without their content table: 1', NOT_WELL]
     return data, [], 1, said

@@ -177,7 +177,17 @@ def try_gathering():
     one, other = (make.section(make.INDEX, 0, 0, 0, 0, data) for data in (b'\0\0\0', b'\0\0\1'))
     expect_lines('a contradiction', ['show', '-'], one + other, 1, [
         'section at byte 15, number 0 of index table 0000, version 0 is refused: two payloads contradict each other under one section number (refusal 11)',
-        line(0, 'verdict', "not whole, so its body can't be read: two payloads contradict each other under one section number (refusal 11)")])
+        line(0, 'verdict', "not whole: two payloads contradict each other under one section number (refusal 11)")])
+    content = make.Content(make.DRILL, [('eng', 0, 'x' * 90, '', []), ('zho', 0, 'y', '', [])], 0)
+    first, second, third = content.sections(60)
+    front = [line(0, 'missing', '1'), line(0, 'front of the body', '60 bytes, those before section 1, as far as they can be read:'),
+             line(0, 'identifier', make.DRILL.identifier), line(1, 'length', '00 00 00 62'),
+             '      ^ refused: the body ends too early (refusal 14, multilingual_content_length at byte 19 of the body)',
+             line(0, 'not read', '37 bytes after it, from byte 23 of the body on'),
+             line(0, 'verdict', 'not whole: a section is missing (refusal 13, number 1)'), 'tables: 1, of which 0 whole and 0 accepted']
+    expect_lines('a front', ['show', '-'], first + third, 1, front)
+    expect_lines('no front', ['show', '-'], second + third, 1, [line(0, 'missing', '0'), line(0, 'verdict', 'not whole: a section is missing '
+                                                                '(refusal 13, number 0)')])
     many = b''.join(make.section(make.CERTIFICATE, n, 0, 0, 0, b'\0\0\0\0') for n in range(513))
     expect_lines('513 tables', ['show', '-'], many, 1, [
         'section at byte 8192, number 0 of certificate table 0200, version 0 is left out: it belongs to one more table than the 512 that are held',

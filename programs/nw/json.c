@@ -187,12 +187,12 @@ static void put_relations(const struct tables *all, const struct table *t) {
 
 static void put_body(const struct table *t, struct clock clock) {
     unsigned number = NW_REFUSAL(t->verdict);
-    printf(",\n \"accepted\": %s, \"refusal\": %u, \"place\": %" PRIu64 ", \"words\": ", truth(number == NW_TAKEN), number,
+    printf(",\n \"accepted\": %s, \"refusal\": %u, \"place\": %" PRIu64 ", \"words\": ", truth(t->whole && number == NW_TAKEN), number,
            number == NW_TAKEN ? 0 : NW_PLACE(t->verdict));
     put_ascii(nw_refusal_text(number));
     fputs(",\n \"fields\": [", stdout);
     first = true;
-    body_walk(&t->body, clock, (struct visitor){enter, leave, field, NULL});
+    if (t->whole || t->body.n != 0) body_walk(&t->body, clock, (struct visitor){enter, leave, field, NULL});
     putchar(']');
     first = false;
 }
@@ -206,9 +206,9 @@ static void table(const struct tables *all, const struct table *t, struct clock 
     put_missing(g);
     printf(", \"repeats\": %" PRIu64 ", \"refused\": %" PRIu64 ", \"spoiled\": %s", t->repeats, t->refused, truth(g->spoiled != 0));
     put_versions(t);
-    printf(", \"whole\": %s", truth(t->body.s != NULL));
+    printf(", \"whole\": %s", truth(t->whole));
     put_relations(all, t);
-    if (t->body.s != NULL) put_body(t, clock);
+    put_body(t, clock);
     putchar('}');
 }
 

@@ -95,7 +95,7 @@ static void verdict(const struct table *t) {
 static void put_not_whole(const struct table *t) {
     unsigned number = NW_REFUSAL(t->packed);
     put_label(0, "verdict");
-    printf("not whole, so its body can't be read: %s (refusal %u", nw_refusal_text(number), number);
+    printf("not whole: %s (refusal %u", nw_refusal_text(number), number);
     if (number == NW_MISSING) printf(", number %" PRIu64, NW_PLACE(t->packed));
     puts(")");
 }
@@ -129,11 +129,15 @@ static void relations(const struct tables *all, const struct table *t) {
 static void tell_table(const struct tables *all, const struct table *t, struct clock clock,
                        void (*tell_body)(const struct body *, struct clock)) {
     title(t);
-    if (t->body.s == NULL) {
+    if (!t->whole && t->body.n != 0) {
+        put_label(0, "front of the body");
+        printf("%zu bytes, those before section %" PRIu64 ", as far as they can be read:\n", t->body.n, NW_PLACE(t->packed));
+    }
+    if (t->whole || t->body.n != 0) tell_body(&t->body, clock);
+    if (!t->whole) {
         put_not_whole(t);
         return;
     }
-    tell_body(&t->body, clock);
     relations(all, t);
     verdict(t);
 }

@@ -53,7 +53,7 @@ static void note_skipped(void *own, const struct stretch *bad) {
 
 // What a table adds to the sum.
 static void count_table(struct work *w, const struct table *t) {
-    if (t->body.s == NULL) return;
+    if (!t->whole) return;
     uint64_t message;
     w->sum.whole++;
     w->sum.accepted += NW_REFUSAL(t->verdict) == NW_TAKEN;

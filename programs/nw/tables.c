@@ -84,12 +84,25 @@ struct arrival tables_feed(struct tables *all, uint64_t at, const uint8_t *s, si
 
 // ---- bodies
 
-// A whole table's body stands at the front of its store; what its state was is kept.
+// Moves the payloads before a number together at the front of the store. Answers how many bytes they are. Of a whole table the
+// library does it; it offers nothing for a part of one.
+static size_t join_front(const nw_gathering *g, uint8_t *store, size_t number) {
+    size_t to = 0;
+    for (size_t i = 0; i < number; i++) {
+        size_t n = g->held[i] - 1u;
+        memmove(store + to, store + i * NW_MOST_PAYLOAD, n);
+        to += n;
+    }
+    return to;
+}
+
+// The body stands at the front of the store; what the state was is kept.
 static void pack(struct table *t) {
     nw_gathering state = t->state;
     t->packed = nw_gathering_pack(&state, t->store, t->store_bytes);
-    if (NW_REFUSAL(t->packed) != NW_TAKEN) return;
+    t->whole = NW_REFUSAL(t->packed) == NW_TAKEN;
     t->body = (struct body){t->state.kind, t->state.extension, t->store, (size_t)nw_value(t->packed)};
+    if (!t->whole) t->body.n = t->state.spoiled ? 0 : join_front(&t->state, t->store, (size_t)NW_PLACE(t->packed));
     t->verdict = body_read(&t->body);
 }
 
@@ -125,7 +138,7 @@ void tables_free(struct tables *all) {
 
 uint64_t message_count(const struct table *index) {
     nw_answer count = nw_index_message_count(index->body.s, index->body.n);
-    return index->body.s != NULL && NW_REFUSAL(count) == NW_TAKEN ? nw_value(count) : 0;
+    return index->whole && NW_REFUSAL(count) == NW_TAKEN ? nw_value(count) : 0;
 }
 
 static bool message_part(const struct table *index, uint64_t i, nw_part *part) {
@@ -144,7 +157,7 @@ bool message_extension(const struct table *index, uint64_t i, unsigned *extensio
 static bool belongs(const struct table *index, uint64_t i, const struct table *content) {
     unsigned extension;
     nw_part part;
-    const uint8_t *its = content->body.s == NULL ? NULL : content_identifier(&content->body);
+    const uint8_t *its = content->whole ? content_identifier(&content->body) : NULL;
     if (its == NULL || !message_extension(index, i, &extension) || extension != content->state.extension) return false;
     if (!message_part(index, i, &part)) return false;
     nw_part own = nw_message_identifier(index->body.s, index->body.n, nw_part_start(part), nw_part_length(part));

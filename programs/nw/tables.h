@@ -19,8 +19,9 @@ struct table {
     struct version versions[MOST_VERSIONS]; /* the latest of those given up, from the oldest on */
     size_t given_up;                        /* how many versions were, all in all */
     uint64_t repeats, refused;              /* sections that were held already, and that were not taken */
-    struct body body;                       /* its bytes are NULL unless the table is whole */
-    nw_answer packed, verdict;              /* why it is not whole; and what its reader says, where it is */
+    bool whole;
+    struct body body;         /* of a table that is not whole the front, up to the first section that is missing */
+    nw_answer packed, verdict; /* why it is not whole; and what its reader says of the body */
 };
 
 struct tables {
