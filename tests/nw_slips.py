@@ -1,6 +1,7 @@
 """What `nw` says, writes and ends with, slip by slip, and on captures of two head ends: nw_slips.py HOW PROGRAM.."""
 import json
 import os
+import re
 import subprocess
 import sys
 import tempfile
@@ -59,8 +60,8 @@ def try_usage():
     command = 'nw: %s: there is no such command'
     for words, said in [([], ['nw: COMMAND is wanted', USAGE]), (['shwo'], [command % 'shwo', USAGE]), ([''], [command % '(an empty word)', USAGE]),
                         (['--halp'], [command % '--halp', USAGE]), (['\x1B[2J'], [command % '\\x1B[2J', USAGE]),
-                        (['help', 'shwo'], ['nw: shwo: there is no such command to tell of', USAGE]),
-                        (['help', 'show', 'more'], ['nw: more: one COMMAND is told of at a time', USAGE]),
+                        (['help', 'shwo'], ['nw: shwo: there is no such topic; there are show, dates, section and refusals', USAGE]),
+                        (['help', 'show', 'more'], ['nw: more: one TOPIC is told of at a time', USAGE]),
                         (['show'], ['nw show: CAPTURE is wanted: a file\'s name, or - for standard input', SHOW_USAGE]),
                         (['show', '--byte', 'good'], ['nw show: --byte: there is no such word', SHOW_USAGE]),
                         (['show', '-x'], ['nw show: -x: there is no such word', SHOW_USAGE]),
@@ -100,7 +101,7 @@ def try_files():
 
 def try_streams():
     """Output that is full, closed, or a pipe that nobody reads."""
-    for words in ['show', 'good'], ['show', '--bytes', 'good'], ['show', '--json', 'good'], ['show', '--help'], ['--help'], ['--version'], ['show', '-']:
+    for words in ['show', 'good'], ['show', '--bytes', 'good'], ['show', '--json', 'good'], ['show', '--help'], ['--help'], ['--version'], ['show', '-'], ['help', 'refusals']:
         name = 'nw: ' if words[0] != 'show' else 'nw show: '
         with open('/dev/full', 'wb') as full:
             expect('%r on a full disk' % words, run(words, stdout=full), 2, b'', [name + NOT_WRITTEN + 'No space left on device'])
@@ -115,12 +116,44 @@ def try_help():
     expect('version', run(['--version']), 0, b'nw 0.2.0\n', [])
     expect('help show', run(['help', 'show']), 0, run(['show', '--help'])[1], [])
     expect('help', run(['help']), 0, run(['--help'])[1], [])
-    for words, needed in ((['--help'], ['nw show CAPTURE', 'nw help COMMAND', '--version']),
+    for words, needed in ((['--help'], ['nw show CAPTURE', 'nw dates', 'nw section', 'nw help TOPIC', 'refusals', '--version']),
                           (['show', '--help'], ['CAPTURE', '--bytes', '--json', '--offset OFFSET', '-720 to 840', '+08:00'])):
         output = ' '.join(run(words)[1].decode().split())
         for word in [*needed, 'Exit status: 0, ', '; 1, ', '2, wrong usage']:
             if word not in output:
                 wrong.append('%r does not say %s' % (words, word))
+
+
+def try_small():
+    """The small programs under one roof: tests/check-commands has their whole tables."""
+    line_in = b'03/11/2024 07:45:00\n'
+    dates = 'usage: nw dates [--fields] [--offset MINUTES] [FILE]; nw dates --help says more'
+    for words, data, status, output, said in (
+            (['dates'], line_in, 0, b'line field weekday\n1 ECC9074500 7\n', []),
+            (['dates', '--offset', '480'], line_in, 0, b'line field weekday\n1 ECC8234500 7\n', []),
+            (['dates', '--fields'], b'ECC9074500\n', 0, b'line time weekday\n1 03/11/2024 07:45:00 7\n', []),
+            (['dates'], b'11/13/2024 00:00:00\n', 1, b'line field weekday\n1 refused 20\n', []),
+            (['dates', '--offset', '+0800'], b'', 2, b'', ['nw dates: +0800: MINUTES have to be a whole number from -720 to 840', dates]),
+            (['dates', 'none'], b'', 2, b'', ["nw dates: none can't be opened: No such file or directory"]),
+            (['section', 'good'], b'', 0, b'0 3\n', []),
+            (['section'], b'x', 1, b'refused 1\n', ['nw section: the section is shorter than 12 bytes']),
+            (['section', '-x'], b'', 2, b'', ['nw section: -x: there is no such word', 'usage: nw section [FILE]; nw section --help says more']),
+            (['section', '--version'], b'', 0, b'nw section 0.2.0\n', [])):
+        expect('%r' % words, run(words, data), status, output, said)
+    for name in 'dates', 'section':
+        expect('help ' + name, run(['help', name]), 0, run([name, '--help'])[1], [])
+
+
+def try_refusals():
+    """`nw help refusals` has each refusal of the header, with the header's words."""
+    header = open(os.path.join(os.path.dirname(os.path.abspath(__file__)), os.pardir, 'include', 'neapwillow.h'), encoding='ascii').read()
+    numbers = dict(re.findall(r'\b(NW_\w+) = (\d+)', re.search(r'enum nw_refusal \{(.*?)\};', header, re.S)[1]))
+    words = re.findall(r'case (NW_\w+): return "(.*)";', header)
+    wanted = ['%3d  %s' % (int(numbers[name]), text) for name, text in words if name != 'NW_TAKEN']
+    output = run(['help', 'refusals'])
+    expect('help refusals', output, 0, None, [])
+    told = [part for part in output[1].decode('ascii').split('\n') if re.match(r' *\d+  ', part)]
+    expect('the refusals', (0, '\n'.join(told).encode(), b''), 0, '\n'.join(wanted).encode(), [])
 
 
 # ---- captures
@@ -227,7 +260,7 @@ with tempfile.TemporaryDirectory() as scratch:
     for file_name in ('good', 'a "quoted"\x1B name'):
         with open(file_name, 'wb') as file:
             file.write(make.section(make.INDEX, 0, 0, 0, 0, b'\0\0\0'))
-    for part in try_usage, try_files, try_streams, try_help, try_captures, try_refused, try_gathering, try_texts, try_long:
+    for part in try_usage, try_files, try_streams, try_help, try_small, try_refusals, try_captures, try_refused, try_gathering, try_texts, try_long:
         part()
     os.chdir('/')
 if wrong or tried < 90:

@@ -1,25 +1,35 @@
-// nw COMMAND ..: the bench volunteer's program: captures of emergency tables shown.
+// nw COMMAND ..: the bench volunteer's program: captures of emergency tables shown, and the small programs under one roof.
+#include "../dates.h"
+#include "../section.h"
 #include "show.h"
+#include "topics.h"
 #include <locale.h>
-#include <stdio.h>
 #include <string.h>
 
 static const struct command me = {
     "nw", "nw COMMAND ..",
     "The emergency tables of GD/J 086-2018 on the bench.\n"
     "  nw show CAPTURE  tells every table in a capture: sections, versions, refusals, fields\n"
-    "  nw help COMMAND  says how a command is used; so does nw COMMAND --help\n"
+    "  nw dates [FILE]  turns day-first times into time fields with their weekdays, and back\n"
+    "  nw section FILE  judges one section\n"
+    "  nw help TOPIC    says how a command is used, as nw COMMAND --help does; or what each\n"
+    "                   refusal's number means: nw help refusals\n"
     "  nw --help        says this\n"
     "  nw --version     says the version\n"
     "Exit status: 0, all is well; 1, something is refused, missing or skipped; 2, wrong usage, a\n"
     "file that can't be read, or output that can't be written.\n"};
 
+static int show_words(const struct command *name, int words, char **word) {
+    (void)name;
+    return show(words, word);
+}
+
 // The commands by their names.
 static const struct {
     const char *name;
     const struct command *about;
-    int (*run)(int words, char **word);
-} commands[] = {{"show", &show_command, show}};
+    int (*run)(const struct command *about, int words, char **word);
+} commands[] = {{"show", &show_command, show_words}, {"dates", &nw_dates, dates}, {"section", &nw_section, section}};
 
 enum { COMMANDS = sizeof commands / sizeof *commands };
 
@@ -33,9 +43,11 @@ static size_t named(const char *name) {
 // nw help, and what a word after it asks for.
 static int help_on(int words, char **word) {
     if (words == 0) return help(&me);
-    if (words > 1) return misused(&me, word[1], ": one COMMAND is told of at a time");
+    if (words > 1) return misused(&me, word[1], ": one TOPIC is told of at a time");
+    if (strcmp(word[0], "refusals") == 0) return tell_refusals(&me);
     size_t i = named(word[0]);
-    return i < COMMANDS ? help(commands[i].about) : misused(&me, word[0], ": there is no such command to tell of");
+    return i < COMMANDS ? help(commands[i].about)
+                        : misused(&me, word[0], ": there is no such topic; there are show, dates, section and refusals");
 }
 
 int main(int words, char **word) {
@@ -46,5 +58,5 @@ int main(int words, char **word) {
     if (strcmp(word[1], "--version") == 0) return version(&me);
     if (strcmp(word[1], "help") == 0) return help_on(words - 2, word + 2);
     size_t i = named(word[1]);
-    return i < COMMANDS ? commands[i].run(words - 2, word + 2) : misused(&me, word[1], ": there is no such command");
+    return i < COMMANDS ? commands[i].run(commands[i].about, words - 2, word + 2) : misused(&me, word[1], ": there is no such command");
 }

@@ -1,0 +1,10 @@
+/* topics.h: what `nw help` tells beside how the commands are used. */
+#ifndef TOPICS_H
+#define TOPICS_H
+
+#include "../command.h"
+
+/* Each refusal: its number, what it means, and what to look at. */
+int tell_refusals(const struct command *c);
+
+#endif
