@@ -6,7 +6,9 @@ What has to be said is worked out here from the same values that the bytes are m
 """
 import datetime
 import hashlib
+import os
 import random
+import sys
 
 INDEX, CONTENT, CERTIFICATE, CONFIGURATION = 0xFD, 0xFE, 0xFC, 0xFB
 KINDS = {INDEX: 'index', CONTENT: 'content', CERTIFICATE: 'certificate', CONFIGURATION: 'configuration'}
@@ -361,3 +363,16 @@ def birch():
 
 
 CAPTURES = {'alder': alder, 'birch': birch}
+
+
+def main():
+    """make_captures.py FOLDER: writes the captures as files."""
+    folder = sys.argv[1]
+    os.makedirs(folder, exist_ok=True)
+    for name, made in CAPTURES.items():
+        with open(os.path.join(folder, name + '.sec'), 'wb') as file:
+            file.write(made()[0])
+
+
+if __name__ == '__main__':
+    main()

@@ -12,6 +12,9 @@ from make_captures import line
 HOW, PROGRAM = sys.argv[1], sys.argv[2:]
 SECONDS = 300
 wrong, tried = [], 0
+ROOT = os.path.join(os.path.dirname(os.path.abspath(__file__)), os.pardir)
+with open(os.path.join(ROOT, 'VERSION'), encoding='ascii') as version:
+    VERSION = version.read()
 USAGE = 'usage: nw COMMAND ..; nw --help says more'
 SHOW_USAGE = 'usage: nw show [--bytes | --json] [--offset OFFSET] CAPTURE; nw show --help says more'
 OFFSETS = 'nw show: %s: an OFFSET has to be a whole number of minutes from -720 to 840, or as +08:00'
@@ -113,7 +116,7 @@ def try_streams():
 
 
 def try_help():
-    expect('version', run(['--version']), 0, b'nw 0.2.0\n', [])
+    expect('version', run(['--version']), 0, b'nw ' + VERSION.encode(), [])
     expect('help show', run(['help', 'show']), 0, run(['show', '--help'])[1], [])
     expect('help', run(['help']), 0, run(['--help'])[1], [])
     for words, needed in ((['--help'], ['nw show CAPTURE', 'nw dates', 'nw section', 'nw help TOPIC', 'refusals', '--version']),
@@ -138,7 +141,7 @@ def try_small():
             (['section', 'good'], b'', 0, b'0 3\n', []),
             (['section'], b'x', 1, b'refused 1\n', ['nw section: the section is shorter than 12 bytes']),
             (['section', '-x'], b'', 2, b'', ['nw section: -x: there is no such word', 'usage: nw section [FILE]; nw section --help says more']),
-            (['section', '--version'], b'', 0, b'nw section 0.2.0\n', [])):
+            (['section', '--version'], b'', 0, b'nw section ' + VERSION.encode(), [])):
         expect('%r' % words, run(words, data), status, output, said)
     for name in 'dates', 'section':
         expect('help ' + name, run(['help', name]), 0, run([name, '--help'])[1], [])
@@ -146,10 +149,11 @@ def try_small():
 
 def try_refusals():
     """`nw help refusals` has each refusal of the header, with the header's words."""
-    header = open(os.path.join(os.path.dirname(os.path.abspath(__file__)), os.pardir, 'include', 'neapwillow.h'), encoding='ascii').read()
+    with open(os.path.join(ROOT, 'include', 'neapwillow.h'), encoding='ascii') as file:
+        header = file.read()
     numbers = dict(re.findall(r'\b(NW_\w+) = (\d+)', re.search(r'enum nw_refusal \{(.*?)\};', header, re.S)[1]))
     words = re.findall(r'case (NW_\w+): return "(.*)";', header)
-    wanted = ['%3d  %s' % (int(numbers[name]), text) for name, text in words if name != 'NW_TAKEN']
+    wanted = ['%3d  %s' % pair for pair in sorted((int(numbers[name]), text) for name, text in words) if pair[0] != 0]
     output = run(['help', 'refusals'])
     expect('help refusals', output, 0, None, [])
     told = [part for part in output[1].decode('ascii').split('\n') if re.match(r' *\d+  ', part)]
@@ -171,6 +175,20 @@ def try_captures():
         expect(name + ' in JSON', told, status, None, [])
         summed = json.loads(told[1].decode('ascii'))['sum']
         expect(name + ' summed', (0, str((summed['bytes'], summed['status'])).encode(), b''), 0, str((len(data), status)).encode(), [])
+
+
+def try_bench():
+    """docs/BENCH.md: each block of output is what the command in the block before it writes, or lines of that in a row."""
+    with open(os.path.join(ROOT, 'docs', 'BENCH.md'), encoding='utf-8') as file:
+        blocks = [re.sub('^    ', '', block, flags=re.M) for block in re.findall(r'(?:^    .*\n)+', file.read(), flags=re.M)]
+    subprocess.run([sys.executable, '-B', os.path.join(ROOT, 'tests', 'make_captures.py'), 'samples'], check=True)
+    shown = [(before.split()[1:], block) for before, block in zip(blocks, blocks[1:]) if before.startswith('nw ')]
+    for words, block in shown:
+        output = run(words)[1].decode()
+        if '\n' + block not in '\n' + output:
+            wrong.append('docs/BENCH.md: nw %s does not write %.300r' % (' '.join(words), block))
+    if len(shown) < 7:
+        wrong.append('docs/BENCH.md shows few commands')
 
 
 REFUSED = '      ^ refused: %s (refusal %d, %s at byte %d of the body)'
@@ -260,7 +278,7 @@ with tempfile.TemporaryDirectory() as scratch:
     for file_name in ('good', 'a "quoted"\x1B name'):
         with open(file_name, 'wb') as file:
             file.write(make.section(make.INDEX, 0, 0, 0, 0, b'\0\0\0'))
-    for part in try_usage, try_files, try_streams, try_help, try_small, try_refusals, try_captures, try_refused, try_gathering, try_texts, try_long:
+    for part in try_usage, try_files, try_streams, try_help, try_small, try_refusals, try_captures, try_bench, try_refused, try_gathering, try_texts, try_long:
         part()
     os.chdir('/')
 if wrong or tried < 90:

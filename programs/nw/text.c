@@ -49,9 +49,3 @@ bool text_show(uint32_t c) {
     fwrite(bytes, 1, n, stdout);
     return false;
 }
-
-void text_show_ascii(const uint8_t *s, size_t n) {
-    for (size_t i = 0; i < n; i++)
-        if (s[i] >= 0x20 && s[i] < 0x7F) putchar(s[i]);
-        else printf("\\x%02X", (unsigned)s[i]);
-}

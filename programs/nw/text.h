@@ -22,7 +22,4 @@ bool text_decode(struct text *t, unsigned set, const uint8_t *s, size_t n);
  * terminal's set hasn't. Answers whether it was \u{..}. */
 bool text_show(uint32_t c);
 
-/* Shows ASCII bytes, and \xNN for each that is none or steers a terminal. */
-void text_show_ascii(const uint8_t *s, size_t n);
-
 #endif
