@@ -78,7 +78,7 @@ def in_words(when, offset):
 
 
 def opaque(data):
-    return '%d bytes, SHA-256 %s' % (len(data), hashlib.sha256(data).hexdigest()) if data else 'none'
+    return '%d byte%s, SHA-256 %s' % (len(data), '' if len(data) == 1 else 's', hashlib.sha256(data).hexdigest()) if data else 'none'
 
 
 class Message:

@@ -188,7 +188,7 @@ def check_value(body, field):
     if role == 'time':
         expect(field['path'], (field['utc'], field['local'], field['words']), time_told(value(body, at, width)))
     if role == 'opaque':
-        digest = '%d bytes, SHA-256 %s' % (len(data), hashlib.sha256(data).hexdigest())
+        digest = '%d byte%s, SHA-256 %s' % (len(data), '' if len(data) == 1 else 's', hashlib.sha256(data).hexdigest())
         expect(field['path'], field['words'], digest if data else 'none')
     if field['name'] in ('EBM_id', 'EBM_resource_code', 'resource_code', 'resource_address'):
         expect(field['path'], field['words'], data.hex()[1:])

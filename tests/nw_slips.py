@@ -1,4 +1,5 @@
 """What `nw` says, writes and ends with, slip by slip, and on captures of two head ends: nw_slips.py HOW PROGRAM.."""
+import copy
 import json
 import os
 import re
@@ -63,7 +64,7 @@ def try_usage():
     command = 'nw: %s: there is no such command'
     for words, said in [([], ['nw: COMMAND is wanted', USAGE]), (['shwo'], [command % 'shwo', USAGE]), ([''], [command % '(an empty word)', USAGE]),
                         (['--halp'], [command % '--halp', USAGE]), (['\x1B[2J'], [command % '\\x1B[2J', USAGE]),
-                        (['help', 'shwo'], ['nw: shwo: there is no such topic; there are show, dates, section and refusals', USAGE]),
+                        (['help', 'shwo'], ['nw: shwo: there is no such topic; there are show, compare, dates, section and refusals', USAGE]),
                         (['help', 'show', 'more'], ['nw: more: one TOPIC is told of at a time', USAGE]),
                         (['show'], ['nw show: CAPTURE is wanted: a file\'s name, or - for standard input', SHOW_USAGE]),
                         (['show', '--byte', 'good'], ['nw show: --byte: there is no such word', SHOW_USAGE]),
@@ -119,7 +120,7 @@ def try_help():
     expect('version', run(['--version']), 0, b'nw ' + VERSION.encode(), [])
     expect('help show', run(['help', 'show']), 0, run(['show', '--help'])[1], [])
     expect('help', run(['help']), 0, run(['--help'])[1], [])
-    for words, needed in ((['--help'], ['nw show CAPTURE', 'nw dates', 'nw section', 'nw help TOPIC', 'refusals', '--version']),
+    for words, needed in ((['--help'], ['nw show CAPTURE', 'nw compare A B', 'nw dates', 'nw section', 'nw help TOPIC', 'refusals', '--version']),
                           (['show', '--help'], ['CAPTURE', '--bytes', '--json', '--offset OFFSET', '-720 to 840', '+08:00'])):
         output = ' '.join(run(words)[1].decode().split())
         for word in [*needed, 'Exit status: 0, ', '; 1, ', '2, wrong usage']:
@@ -143,7 +144,7 @@ def try_small():
             (['section', '-x'], b'', 2, b'', ['nw section: -x: there is no such word', 'usage: nw section [FILE]; nw section --help says more']),
             (['section', '--version'], b'', 0, b'nw section ' + VERSION.encode(), [])):
         expect('%r' % words, run(words, data), status, output, said)
-    for name in 'dates', 'section':
+    for name in 'dates', 'section', 'compare':
         expect('help ' + name, run(['help', name]), 0, run([name, '--help'])[1], [])
 
 
@@ -266,6 +267,87 @@ def try_texts():
                   '      (the C library has no conversion from this set: ASCII is shown, other bytes as \\xNN)'])
 
 
+# ---- two captures
+
+
+def write(name, *sections):
+    with open(name, 'wb') as file:
+        file.write(b''.join(sections))
+
+
+def changed(thing, **fields):
+    """A copy of a message or a table with other fields."""
+    other = copy.copy(thing)
+    other.__dict__.update(fields)
+    return other
+
+
+def expect_compared(what, a, b, status, lines, words=()):
+    """Notes a fault unless just these lines are said of two captures."""
+    write('a', *a)
+    write('b', *b)
+    begins = lines[-1] is None  # how the output begins
+    said = ''.join(part + '\n' for part in ['A is a', 'B is b', *lines] if part is not None).encode()
+    got = run(['compare', *words, 'a', 'b'])
+    output = re.sub(rb', in \d+ fields\n', b'\n', got[1])
+    expect(what, (got[0], output[:len(said)] if begins else output, got[2]), status, said, [])
+
+
+COMPARE_USAGE = 'usage: nw compare [--offset OFFSET] A B; nw compare --help says more'
+
+
+def try_compare():
+    drill, flood = make.DRILL, make.FLOOD
+    index = make.Index([drill, flood], 3, signature=b'sig')
+    content = make.Content(drill, [('eng', 2, 'One.\nTwo.\nThree.', 'County', [(9, b'picture')])], 1)
+    whole = index.sections() + content.sections()
+    none = ['differences: 0']
+    expect_compared('the same', whole, whole, 0, none)
+    expect_compared('cut, ordered and repeated otherwise, with junk', whole, [*content.sections(30)[::-1], b'junk', *index.sections(99) * 2], 0, none)
+    expect_compared('messages in another order', whole, changed(index, messages=[flood, drill]).sections() + content.sections(), 0, none)
+    one = 'index table 0000, message %s, ' % drill.identifier
+    start = make.in_words(drill.start, -330), make.in_words(drill.start.replace(month=11, day=11), -330)
+    other = changed(drill, start=drill.start.replace(month=11, day=11), level=2, resources=drill.resources[:1])
+    expect_compared('another drill', whole, changed(index, messages=[flood, other]).sections() + content.sections(), 1, [
+        one + 'start: A has %s; B has %s' % start, one + 'level: A has 4, ordinary; B has 2, grave',
+        one + 'resource 2: only A has it, ' + drill.resources[1], 'differences: 3'], ['--offset', '-05:30'])
+    channel = make.Channel(10, 20, 30, 0x1FFF, [], [(0x1B, 0x101, [(5, b'\1')])])
+    two = 'index table 0000, message %s, channel, ' % flood.identifier
+    expect_compared('another channel', index.sections(), changed(index, messages=[drill, changed(flood, channel=channel)]).sections(), 1, [
+        two + 'descriptor 1, tag: only A has it, 0x44', two + 'descriptor 1: only A has it, 11 bytes ' + bytes(range(11)).hex(' ').upper(),
+        *(two + 'stream 2, %s: only A has it, %s' % pair for pair in (
+            ('type', '0x03'), ('PID', '0x0102'), ('descriptor 1, tag', '0x0A'), ('descriptor 1', '4 bytes 7A 68 6F 00'),
+            ('descriptor 2, tag', '0x52'), ('descriptor 2', '1 byte 01'))),
+        two + 'stream 1, descriptor 1, tag: only B has it, 0x05', two + 'stream 1, descriptor 1: only B has it, 1 byte 01', 'differences: 10'])
+    moved = changed(index, extension=7, version=4)
+    expect_compared('another extension and version', whole, moved.sections() + content.sections(), 1, [
+        'index table 0000: A has extension 0000; B has extension 0007', 'index table 0000: A has version 3; B has version 4', 'differences: 2'])
+    text = changed(content, languages=[('eng', 0, 'One.\nTwo!\nThree.\n\x1B[mFour.', 'County', [(9, b'')])])
+    first = 'content table %04X, language 1, ' % content.extension
+    expect_compared('another text', whole, index.sections() + text.sections(), 1, [
+        first + 'character set: A has %s; B has %s' % (make.SETS[2], make.SETS[0]), first + 'text, line 2: A has Two.; B has Two!',
+        first + 'file 1: A has %s; B has none' % make.opaque(b'picture'), first + 'text, line 4: only B has it, \\u{1B}[mFour.', 'differences: 4'])
+    expect_compared('a table less', whole, index.sections(), 1, ['content table %04X: only A has it' % content.extension, 'differences: 1'])
+    expect_compared('a section less', whole, index.sections() + content.sections(30)[1:], 1, [
+        'content table %04X: of B it is not whole, a section is missing (refusal 13)' % content.extension, 'differences: 1'])
+    body = index.body()
+    expect_compared('a refused body', index.sections(), make.cut(make.INDEX, 0, 3, body[:23] + b'\0' * 5 + body[28:]), 1, [
+        one + 'start: A has %s; B has refused, the day or the time is impossible or out of range (refusal 20)' % make.in_words(drill.start, None)]
+        + [None])
+    expect_compared('nothing', [], [b'junk'], 1, ['no table has come in either'])
+    for words, said in (([], ['nw compare: A and B are wanted: two captures\' names, of which one may be - for standard input', COMPARE_USAGE]),
+                        (['a'], ['nw compare: A and B are wanted: two captures\' names, of which one may be - for standard input', COMPARE_USAGE]),
+                        (['a', 'b', 'c'], ['nw compare: c: there are two captures already', COMPARE_USAGE]),
+                        (['-', '-'], ['nw compare: -: standard input can be one of the two', COMPARE_USAGE]),
+                        (['--json', 'a', 'b'], ['nw compare: --json: there is no such word', COMPARE_USAGE]),
+                        (['--offset', '+0800', 'a', 'b'], [(OFFSETS % '+0800').replace('nw show', 'nw compare'), COMPARE_USAGE]),
+                        (['a', 'none'], ["nw compare: none can't be opened: No such file or directory"]),
+                        (['folder', 'a'], ["nw compare: folder can't be read: Is a directory"])):
+        expect('compare %r' % words, run(['compare', *words]), 2, b'', said)
+    expect('compare with standard input', run(['compare', '-', 'good'], open('good', 'rb').read()), 0,
+           b'A is standard input\nB is good\ndifferences: 0, in 1 fields\n', [])
+
+
 def try_long():
     """A capture of more than the window, with a section across each of its ends."""
     one = make.section(make.CERTIFICATE, 0, 0, 0, 0, b'\0\0' + make.counted(bytes(4000), 2))
@@ -278,7 +360,7 @@ with tempfile.TemporaryDirectory() as scratch:
     for file_name in ('good', 'a "quoted"\x1B name'):
         with open(file_name, 'wb') as file:
             file.write(make.section(make.INDEX, 0, 0, 0, 0, b'\0\0\0'))
-    for part in try_usage, try_files, try_streams, try_help, try_small, try_refusals, try_captures, try_bench, try_refused, try_gathering, try_texts, try_long:
+    for part in try_usage, try_files, try_streams, try_help, try_small, try_refusals, try_captures, try_bench, try_refused, try_gathering, try_texts, try_compare, try_long:
         part()
     os.chdir('/')
 if wrong or tried < 90:

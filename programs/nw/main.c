@@ -1,6 +1,7 @@
 // nw COMMAND ..: the bench volunteer's program: captures of emergency tables shown, and the small programs under one roof.
 #include "../dates.h"
 #include "../section.h"
+#include "compare.h"
 #include "show.h"
 #include "topics.h"
 #include <locale.h>
@@ -10,6 +11,7 @@ static const struct command me = {
     "nw", "nw COMMAND ..",
     "The emergency tables of GD/J 086-2018 on the bench.\n"
     "  nw show CAPTURE  tells every table in a capture: sections, versions, refusals, fields\n"
+    "  nw compare A B   tells in which tables and fields two captures differ\n"
     "  nw dates [FILE]  turns day-first times into time fields with their weekdays, and back\n"
     "  nw section FILE  judges one section\n"
     "  nw help TOPIC    says how a command is used, as nw COMMAND --help does; or what each\n"
@@ -29,7 +31,9 @@ static const struct {
     const char *name;
     const struct command *about;
     int (*run)(const struct command *about, int words, char **word);
-} commands[] = {{"show", &show_command, show_words}, {"dates", &nw_dates, dates}, {"section", &nw_section, section}};
+} commands[] = {
+    {"show", &show_command, show_words}, {"compare", &compare_command, compare}, {"dates", &nw_dates, dates}, {"section", &nw_section, section},
+};
 
 enum { COMMANDS = sizeof commands / sizeof *commands };
 
@@ -47,7 +51,7 @@ static int help_on(int words, char **word) {
     if (strcmp(word[0], "refusals") == 0) return tell_refusals(&me);
     size_t i = named(word[0]);
     return i < COMMANDS ? help(commands[i].about)
-                        : misused(&me, word[0], ": there is no such topic; there are show, dates, section and refusals");
+                        : misused(&me, word[0], ": there is no such topic; there are show, compare, dates, section and refusals");
 }
 
 int main(int words, char **word) {

@@ -1,8 +1,7 @@
 // show.c: `nw show [--bytes | --json] [--offset OFFSET] CAPTURE`: every table of a capture told to a person.
 #include "show.h"
+#include "load.h"
 #include "report.h"
-#include <errno.h>
-#include <stdlib.h>
 #include <string.h>
 
 const struct command show_command = {
@@ -32,7 +31,7 @@ struct work {
 
 static void note_begin(void *own) {
     const struct work *w = own;
-    w->report->begin(strcmp(w->name, "-") == 0 ? "standard input" : shown(w->name));
+    w->report->begin(called(w->name));
 }
 
 static void note_section(void *own, uint64_t at, const uint8_t *s, size_t n, nw_heading heading) {
@@ -81,41 +80,13 @@ static int tell(struct work *w) {
 }
 
 static int run(struct work *w) {
-    bool standard = strcmp(w->name, "-") == 0;
-    const char *what = standard ? "standard input" : shown(w->name);
-    FILE *in = standard ? stdin : fopen(w->name, "rb");
-    if (in == NULL) return say(&show_command, "%s can't be opened: %s", what, strerror(errno)), UNUSABLE;
-    enum capture came = capture_read(in, (struct finder){note_begin, note_section, note_skipped, w}, &w->sum.bytes);
-    int why = errno, status = UNUSABLE;
-    if (came == CAPTURE_READ) status = tell(w);
-    else if (came == CAPTURE_FAULT) say(&show_command, "%s can't be read: %s", what, strerror(why));
-    else say(&show_command, "%s is a transport stream (0x47 every 188 bytes): nw reads bare sections", what);
-    if (!standard) fclose(in);
+    struct finder finder = {note_begin, note_section, note_skipped, w};
+    int status = load(&show_command, w->name, finder, &w->sum.bytes) ? tell(w) : UNUSABLE;
     tables_free(&w->tables);
     return status;
 }
 
 // ---- the words of the command
-
-// Hours and minutes with their sign, as +08:00.
-static bool read_hours(const char *s, int *out) {
-    static const char form[] = "+99:99";
-    for (size_t i = 0; i < sizeof form - 1; i++)
-        if (form[i] == '9' ? s[i] < '0' || s[i] > '9' : form[i] == '+' ? s[i] != '+' && s[i] != '-' : s[i] != form[i]) return false;
-    int minutes = (s[4] - '0') * 10 + (s[5] - '0'), all = ((s[1] - '0') * 10 + (s[2] - '0')) * 60 + minutes;
-    *out = s[0] == '-' ? -all : all;
-    return s[6] == '\0' && minutes < 60 && -720 <= *out && *out <= 840;
-}
-
-// The word after --offset, which may be missing.
-static int take_offset(struct work *w, const char *offset) {
-    if (w->clock.local) return misused(&show_command, "--offset", ": it is given already"), 0;
-    if (offset == NULL) return misused(&show_command, "--offset", ": an OFFSET has to follow"), 0;
-    if (!read_minutes(offset, &w->clock.offset) && !read_hours(offset, &w->clock.offset))
-        return misused(&show_command, offset, ": an OFFSET has to be a whole number of minutes from -720 to 840, or as +08:00"), 0;
-    w->clock.local = true;
-    return 2;
-}
 
 static int take_report(struct work *w, const char *word, const struct report *report) {
     if (w->report != NULL) return misused(&show_command, word, ": one of --bytes and --json is given already"), 0;
@@ -123,14 +94,14 @@ static int take_report(struct work *w, const char *word, const struct report *re
     return 1;
 }
 
-// Takes a word, and perhaps the one after it. Answers how many were taken, or 0 where they are wrong, which is said; so do
-// the two above.
+// Takes a word, and perhaps the one after it. Answers how many were taken, or 0 where they are wrong, which is said; so does
+// the one above.
 static int take(struct work *w, char **word, bool *options) {
     bool option = *options && word[0][0] == '-' && word[0][1] != '\0';
     if (*options && strcmp(word[0], "--") == 0) return *options = false, 1;
     if (option && strcmp(word[0], "--bytes") == 0) return take_report(w, word[0], &bytes_report);
     if (option && strcmp(word[0], "--json") == 0) return take_report(w, word[0], &json_report);
-    if (option && strcmp(word[0], "--offset") == 0) return take_offset(w, word[1]);
+    if (option && strcmp(word[0], "--offset") == 0) return take_offset(&show_command, &w->clock, word[1]) ? 2 : 0;
     if (option) return misused(&show_command, word[0], ": there is no such word"), 0;
     if (w->name != NULL) return misused(&show_command, word[0], ": there is a CAPTURE already, and one is read"), 0;
     w->name = word[0];

@@ -26,26 +26,33 @@ static size_t next(iconv_t way, const uint8_t *s, size_t n, uint32_t *c) {
 bool text_decode(struct text *t, unsigned set, const uint8_t *s, size_t n) {
     iconv_t none = (iconv_t)-1, way = set <= NW_SET_GB_13000 ? iconv_open("WCHAR_T", conversions[set]) : none;
     *t = (struct text){malloc((n + 1) * sizeof *t->c), 0, 0, way != none};
-    if (t->c == NULL) return false;
-    for (size_t at = 0; at < n; t->n++) {
+    for (size_t at = 0; t->c != NULL && at < n; t->n++) {
         uint32_t c = s[at] < 0x80 ? s[at] : BARE_BYTE | s[at];
         at += t->known ? next(way, s + at, n - at, &c) : 1;
         t->bare += (c & BARE_BYTE) != 0;
         t->c[t->n] = c;
     }
     if (way != none) iconv_close(way);
-    return true;
+    return t->c != NULL;
 }
 
 // Characters that turn the direction of writing round, or part lines.
 static bool steers(uint32_t c) { return (c >= 0x2028 && c <= 0x202E) || (c >= 0x2066 && c <= 0x2069); }
 
-bool text_show(uint32_t c) {
-    char bytes[MB_LEN_MAX];
+bool text_put(uint32_t c, char out[CHARACTER_ROOM]) {
     mbstate_t fresh = {0};
-    if ((c & BARE_BYTE) != 0) return printf("\\x%02X", (unsigned)(c & 0xFF)), false;
-    size_t n = steers(c) || !iswprint((wint_t)c) ? (size_t)-1 : wcrtomb(bytes, (wchar_t)c, &fresh);
-    if (n == (size_t)-1) return printf("\\u{%X}", (unsigned)c), true;
-    fwrite(bytes, 1, n, stdout);
+    if ((c & BARE_BYTE) != 0) return sprintf(out, "\\x%02X", (unsigned)(c & 0xFF)), false;
+    size_t n = steers(c) || !iswprint((wint_t)c) ? (size_t)-1 : wcrtomb(out, (wchar_t)c, &fresh);
+    if (n == (size_t)-1) return sprintf(out, "\\u{%X}", (unsigned)c), true;
+    out[n] = '\0';
     return false;
 }
+
+bool text_show(uint32_t c) {
+    char out[CHARACTER_ROOM];
+    bool hidden = text_put(c, out);
+    fputs(out, stdout);
+    return hidden;
+}
+
+_Static_assert(MB_LEN_MAX < CHARACTER_ROOM, "a character finds room");

@@ -18,8 +18,10 @@ struct text {
 /* Decodes n bytes of one of the standard's character sets. False where there is no memory; else c is to be freed. */
 bool text_decode(struct text *t, unsigned set, const uint8_t *s, size_t n);
 
-/* Shows a character as it is, or how it is written: \xNN for a bare byte; \u{..} for one that steers a terminal, or that the
- * terminal's set hasn't. Answers whether it was \u{..}. */
+/* A character as it is, or how it is written: \xNN for a bare byte; \u{..} for one that steers a terminal, or that the
+ * terminal's set hasn't. Answers whether it was \u{..}; showing it prints what putting writes. */
+enum { CHARACTER_ROOM = 32 };
+bool text_put(uint32_t c, char out[CHARACTER_ROOM]);
 bool text_show(uint32_t c);
 
 #endif

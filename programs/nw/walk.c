@@ -99,7 +99,7 @@ bool step_opaque(struct walk *w, const char *name, const char *label, nw_part pa
     size_t n = nw_part_length(part);
     struct field f = {.name = name, .label = label, .role = OPAQUE, .bits = 8 * n, .words = "none"};
     if (NW_REFUSAL(part) == NW_TAKEN && n != 0)
-        f.words = tell(w, "%zu bytes, SHA-256 %s", n, sha256_text(w->body.s + nw_part_start(part), n, digest));
+        f.words = tell(w, "%zu byte%s, SHA-256 %s", n, n == 1 ? "" : "s", sha256_text(w->body.s + nw_part_start(part), n, digest));
     return step(w, NW_REFUSAL(part), f);
 }
 

@@ -1,0 +1,39 @@
+// load.c: the words that commands over captures have in common: a capture by its name, and an offset.
+#include "load.h"
+#include <errno.h>
+#include <string.h>
+
+const char *called(const char *name) { return strcmp(name, "-") == 0 ? "standard input" : shown(name); }
+
+bool load(const struct command *c, const char *name, struct finder finder, uint64_t *bytes) {
+    bool standard = strcmp(name, "-") == 0;
+    FILE *in = standard ? stdin : fopen(name, "rb");
+    int why = errno; // which to call it by its name may change
+    if (in == NULL) return say(c, "%s can't be opened: %s", called(name), strerror(why)), false;
+    enum capture came = capture_read(in, finder, bytes);
+    why = errno;
+    if (came == CAPTURE_FAULT) say(c, "%s can't be read: %s", called(name), strerror(why));
+    if (came == CAPTURE_PACKETS)
+        say(c, "%s is a transport stream (0x47 every 188 bytes): nw reads bare sections", called(name));
+    if (!standard) fclose(in);
+    return came == CAPTURE_READ;
+}
+
+// Hours and minutes with their sign, as +08:00.
+static bool read_hours(const char *s, int *out) {
+    static const char form[] = "+99:99";
+    for (size_t i = 0; i < sizeof form - 1; i++)
+        if (form[i] == '9' ? s[i] < '0' || s[i] > '9' : form[i] == '+' ? s[i] != '+' && s[i] != '-' : s[i] != form[i]) return false;
+    int minutes = (s[4] - '0') * 10 + (s[5] - '0'), all = ((s[1] - '0') * 10 + (s[2] - '0')) * 60 + minutes;
+    *out = s[0] == '-' ? -all : all;
+    return s[6] == '\0' && minutes < 60 && -720 <= *out && *out <= 840;
+}
+
+bool take_offset(const struct command *c, struct clock *clock, const char *offset) {
+    const char *wanted = ": an OFFSET has to be a whole number of minutes from -720 to 840, or as +08:00";
+    if (clock->local) return misused(c, "--offset", ": it is given already"), false;
+    if (offset == NULL) return misused(c, "--offset", ": an OFFSET has to follow"), false;
+    if (!read_minutes(offset, &clock->offset) && !read_hours(offset, &clock->offset)) return misused(c, offset, wanted), false;
+    clock->local = true;
+    return true;
+}
