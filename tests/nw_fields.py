@@ -22,20 +22,19 @@ import second_configuration
 import second_content
 import second_index
 from calls import Refused
-from make_fields import END, SHORT
+from make_fields import END
 from second_sections import printed
 
 HOW, SECONDS, PROGRAM = sys.argv[1], float(sys.argv[2]), sys.argv[3:]
 INDEX, CONTENT, CERTIFICATE, CONFIGURATION = 0xFD, 0xFE, 0xFC, 0xFB
-WEEKDAYS = ('Monday', 'Tuesday', 'Wednesday', 'Thursday', 'Friday', 'Saturday', 'Sunday')
 OFFSET = 480
 chance = random.Random(86)
 wrong = []
 
 # The standard's names, from its tables, of what the generators call something: names and widths in bits, None for all bytes.
-DIGITS = {18: [('reserved', 4), ('EBM_id', 140)]}
+IDENTIFIER = [('reserved', 4), ('EBM_id', 140)]
 INDEX_NAMES = {
-    'message count': [('EBM_number', 8)], 'EBM_length': [('EBM_length', 16)], 'identifier': DIGITS[18],
+    'message count': [('EBM_number', 8)], 'EBM_length': [('EBM_length', 16)], 'identifier': IDENTIFIER,
     'network': [('EBM_original_network_id', 16)], 'start': [('EBM_start_time', 40)], 'end': [('EBM_end_time', 40)],
     'type': [('EBM_type', 40)], 'class and level': [('EBM_class', 4), ('EBM_level', 4)],
     'resource count': [('EBM_resource_number', 8)], 'resource': [('reserved', 4), ('EBM_resource_code', 92)],
@@ -49,7 +48,7 @@ INDEX_NAMES = {
     **{whose + ' descriptor length': [('descriptor_length', 8)] for whose in ('program', 'ES')},
     **{whose + ' descriptor data': [('data', None)] for whose in ('program', 'ES')}}
 CONTENT_NAMES = {
-    'identifier': DIGITS[18], 'language count': [('reserved', 4), ('multilingual_content_number', 4)],
+    'identifier': IDENTIFIER, 'language count': [('reserved', 4), ('multilingual_content_number', 4)],
     'language length': [('multilingual_content_length', 32)], 'letters': [('language_code', 24)],
     'character set': [('reserved', 5), ('code_character_set', 3)], 'text length': [('message_text_length', 16)],
     'text': [('message_text', None)], 'agency length': [('agency_name_length', 8)], 'agency': [('agency_name', None)],
@@ -203,7 +202,8 @@ def check_fields(what, body, told, case):
     for field in told:
         expect(what + ' begins', 8 * field['at'] + field['bit'], at)
         at += min(field['bits'], 8 * len(field['bytes']) // 2 - field['bit'])
-        check_value(body, field) if field['refusal'] == 0 else None
+        if field['refusal'] == 0:
+            check_value(body, field)
     expect(what + ' ends', at, 8 * len(body))
     refused = [(field['refusal'], field['at']) for field in told if field['refusal'] != 0]
     expect(what + ' marks', refused, [(marked, place)] if marked else [])
@@ -213,8 +213,8 @@ def check_fields(what, body, told, case):
         expect(what + ' has', [(field['name'], 8 * field['at'] + field['bit'], field['bits']) for field in told], fields)
 
 
-def show(capture, words=()):
-    """What the program tells of a capture, its status and how."""
+def show(capture):
+    """What the program tells of a capture, and its status."""
     with tempfile.NamedTemporaryFile() as file:
         file.write(capture)
         file.flush()

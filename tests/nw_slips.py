@@ -208,7 +208,7 @@ def try_refused():
             (3, '73', 'reserved bits', 'reserved', 17, 'a reserved bit is wrong')):
         data = bytes.fromhex(new)
         changed = body[:place] + data + body[place + len(data):]
-        lines = ['  message 1 of 2', line(1, label, data.hex(' ').upper()), REFUSED.replace('      ', '      ', 1) % (why, number, name, place)]
+        lines = ['  message 1 of 2', line(1, label, data.hex(' ').upper()), REFUSED % (why, number, name, place)]
         lines += [line(0, 'verdict', 'refused: %s (refusal %d at byte %d of the body)' % (why, number, place))]
         expect_lines('%s at %d' % (new, place), ['show', '-'], b''.join(make.cut(make.INDEX, 0, 0, changed)), 1, lines)
         told = run(['show', '--bytes', '-'], b''.join(make.cut(make.INDEX, 0, 0, changed)))[1].decode()
@@ -322,11 +322,12 @@ def try_compare():
     moved = changed(index, extension=7, version=4)
     expect_compared('another extension and version', whole, moved.sections() + content.sections(), 1, [
         'index table 0000: A has extension 0000; B has extension 0007', 'index table 0000: A has version 3; B has version 4', 'differences: 2'])
-    text = changed(content, languages=[('eng', 0, 'One.\nTwo!\nThree.\n\x1B[mFour.', 'County', [(9, b'')])])
+    text = changed(content, languages=[('eng', 0, 'One.\nTwo!\n\n\x1B[mFour.', 'County', [(9, b'')])])
     first = 'content table %04X, language 1, ' % content.extension
     expect_compared('another text', whole, index.sections() + text.sections(), 1, [
         first + 'character set: A has %s; B has %s' % (make.SETS[2], make.SETS[0]), first + 'text, line 2: A has Two.; B has Two!',
-        first + 'file 1: A has %s; B has none' % make.opaque(b'picture'), first + 'text, line 4: only B has it, \\u{1B}[mFour.', 'differences: 4'])
+        first + 'text, line 3: A has Three.; B has an empty line',
+        first + 'file 1: A has %s; B has none' % make.opaque(b'picture'), first + 'text, line 4: only B has it, \\u{1B}[mFour.', 'differences: 5'])
     expect_compared('a table less', whole, index.sections(), 1, ['content table %04X: only A has it' % content.extension, 'differences: 1'])
     expect_compared('a section less', whole, index.sections() + content.sections(30)[1:], 1, [
         'content table %04X: of B it is not whole, a section is missing (refusal 13)' % content.extension, 'differences: 1'])
@@ -344,7 +345,7 @@ def try_compare():
                         (['a', 'none'], ["nw compare: none can't be opened: No such file or directory"]),
                         (['folder', 'a'], ["nw compare: folder can't be read: Is a directory"])):
         expect('compare %r' % words, run(['compare', *words]), 2, b'', said)
-    expect('compare with standard input', run(['compare', '-', 'good'], open('good', 'rb').read()), 0,
+    expect('compare with standard input', run(['compare', '-', 'good'], make.section(make.INDEX, 0, 0, 0, 0, b'\0\0\0')), 0,
            b'A is standard input\nB is good\ndifferences: 0, in 1 fields\n', [])
 
 

@@ -73,7 +73,7 @@ static void note_text(struct notes *n, const struct walk *w, const struct field 
         if (to + CHARACTER_ROOM >= LINE_ROOM)
             snprintf(value + to, VALUE_ROOM - to, " (SHA-256 %s)", sha256_text((const uint8_t *)(t.c + at), (end - at) * sizeof *t.c, digest));
         snprintf(line_key, sizeof line_key, "%s, line %zu", key, number);
-        add(n, line_key, value);
+        add(n, line_key, value[0] == '\0' ? "an empty line" : value);
         at = end + 1;
     }
     if (t.n == 0) add(n, key, "none");
