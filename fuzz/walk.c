@@ -45,9 +45,11 @@ int LLVMFuzzerTestOneInput(const uint8_t *data, size_t size) {
     struct input in = {data, size};
     unsigned kind = NW_CONFIGURATION + (unsigned)take(&in, 1) % 4, extension = (unsigned)take(&in, 2);
     struct clock clock = {now_and_then(&in, 2), (int)upto(&in, 1560) - 720};
+    struct body body = {kind, extension, now_and_then(&in, 2) ? NW_AUXILIARY_24 : NW_AUXILIARY_32, NULL, 0};
     uint8_t *s = block_of(in.n);
     if (in.n != 0) memcpy(s, in.s, in.n);
-    struct body body = {kind, extension, s, in.n};
+    body.s = s;
+    body.n = in.n;
     struct told told = {0};
     nw_answer verdict = body_read(&body);
     unsigned refusal = NW_REFUSAL(verdict) == NW_OTHER_CHECKSUM ? NW_TAKEN : NW_REFUSAL(verdict); // which is no field's

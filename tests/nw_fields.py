@@ -28,6 +28,7 @@ from second_sections import printed
 HOW, SECONDS, PROGRAM = sys.argv[1], float(sys.argv[2]), sys.argv[3:]
 INDEX, CONTENT, CERTIFICATE, CONFIGURATION = 0xFD, 0xFE, 0xFC, 0xFB
 OFFSET = 480
+variant = 24  # of the round
 chance = random.Random(86)
 wrong = []
 
@@ -53,7 +54,7 @@ CONTENT_NAMES = {
     'character set': [('reserved', 5), ('code_character_set', 3)], 'text length': [('message_text_length', 16)],
     'text': [('message_text', None)], 'agency length': [('agency_name_length', 8)], 'agency': [('agency_name', None)],
     'auxiliary count': [('reserved', 4), ('auxiliary_data_number', 4)], 'auxiliary type': [('auxiliary_data_type', 8)],
-    'auxiliary length': [('auxiliary_data_length', 24)], 'auxiliary data': [('auxiliary_data', None)]}
+    'auxiliary length': [('auxiliary_data_length', None)], 'auxiliary data': [('auxiliary_data', None)]}
 CERTIFICATE_NAMES = {
     'list count': [('CertAuth_number', 8)], 'list length': [('CertAuth_length', 16)], 'list': [('CertAuth_data', None)],
     'certificate count': [('cert_number', 8)], 'certificate length': [('cert_length', 8)], 'certificate': [('cert_data', None)]}
@@ -90,7 +91,8 @@ def certificate_table():
 
 KINDS = {
     INDEX: (INDEX_NAMES, lambda: make_index.items(make_index.table(chance)), make_index.BAD, second_index.read),
-    CONTENT: (CONTENT_NAMES, lambda: make_content.items(make_content.table(chance)), make_content.BAD, second_content.read),
+    CONTENT: (CONTENT_NAMES, lambda: make_content.items(make_content.table(chance), variant), make_content.BAD,
+              lambda kind, body: second_content.read(kind, variant, body)),
     CERTIFICATE: (CERTIFICATE_NAMES, lambda: certificate_items(certificate_table()),
                   {'list count': [make.count_changed], 'certificate count': [make.count_changed]}, second_certificate.fields),
     CONFIGURATION: (CONFIGURATION_NAMES, lambda: make_configuration.items(make_configuration.table(chance)), make_configuration.BAD,
@@ -218,7 +220,7 @@ def show(capture):
     with tempfile.NamedTemporaryFile() as file:
         file.write(capture)
         file.flush()
-        done = subprocess.run([*PROGRAM, 'show', '--json', '--offset', str(OFFSET), file.name], capture_output=True, check=False,
+        done = subprocess.run([*PROGRAM, 'show', '--json', '--auxiliary', str(variant), '--offset', str(OFFSET), file.name], capture_output=True, check=False,
                               timeout=300, env={**os.environ, 'LC_ALL': 'C.UTF-8'})
     if done.returncode not in (0, 1) or done.stderr:
         sys.exit('status %d, %.2000s' % (done.returncode, done.stderr.decode()))
@@ -248,7 +250,9 @@ def round_of(count, good):
 
 def main():
     began, fields, tables, rounds = time.monotonic(), 0, 0, 0
+    global variant
     while rounds < 4 or time.monotonic() - began < SECONDS:
+        variant = (24, 32)[rounds % 2]
         fields += round_of(60, rounds % 3 == 0)
         tables += 60
         rounds += 1

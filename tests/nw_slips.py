@@ -17,7 +17,7 @@ ROOT = os.path.join(os.path.dirname(os.path.abspath(__file__)), os.pardir)
 with open(os.path.join(ROOT, 'VERSION'), encoding='ascii') as version:
     VERSION = version.read()
 USAGE = 'usage: nw COMMAND ..; nw --help says more'
-SHOW_USAGE = 'usage: nw show [--bytes | --json] [--offset OFFSET] CAPTURE; nw show --help says more'
+SHOW_USAGE = 'usage: nw show [--bytes | --json] [--auxiliary BITS] [--offset OFFSET] CAPTURE; nw show --help says more'
 OFFSETS = 'nw show: %s: an OFFSET has to be a whole number of minutes from -720 to 840, or as +08:00'
 NOT_WRITTEN = "the output can't be written: "
 
@@ -218,6 +218,16 @@ def try_refused():
     sections = b''.join(make.cut(make.CONTENT, 0x1234, 0, content.body()))
     expect_lines('another extension', ['show', '-'], sections, 1, [line(0, 'verdict', 'refused: the extension is not the CRC-16 of the identifier '
                  '(refusal 23); its identifier\'s is %04X' % content.extension)])
+    data = make.counted(b'eng\xF8' + make.counted(b'x', 2) + b'\0\xF1\x09' + make.counted(b'picture', 4), 4)
+    wide = make.digits(content.identifier) + b'\xF1' + data + b'\0\0'
+    sections = b''.join(make.cut(make.CONTENT, content.extension, 0, wide))
+    expect_lines('lengths of 32 bits', ['show', '-'], sections, 1, [line(0, '', 'with auxiliary lengths of 32 bits it is accepted: nw show --auxiliary 32')])
+    expect_lines('lengths of 32 bits, told', ['show', '--auxiliary', '32', '-'], sections, 1, [
+        line(1, 'file 1', 'type 9, ' + make.opaque(b'picture')), line(0, 'verdict', 'accepted')])
+    for bits in '16', '33', '024', '', '32x':
+        expect('auxiliary ' + bits, run(['show', '--auxiliary', bits, 'good']), 2, b'', ['nw show: %s: BITS have to be 24 or 32' % (bits or '(an empty word)'), SHOW_USAGE])
+    expect('auxiliary twice', run(['show', '--auxiliary', '24', '--auxiliary', '24', 'good']), 2, b'', ['nw show: --auxiliary: it is given already', SHOW_USAGE])
+    expect('auxiliary alone', run(['show', '--auxiliary']), 2, b'', ['nw show: --auxiliary: BITS have to follow, 24 or 32', SHOW_USAGE])
     expect_lines('bytes left over', ['show', '-'], make.section(make.INDEX, 0, 0, 0, 0, b'\0\0\0\1\2'), 1,
                  [line(0, 'left over', '01 02'), '    ^ refused: bytes are left after the signature (refusal 16, (left over) at byte 3 of the body)'])
     expect_lines('an empty body', ['show', '-'], make.section(make.INDEX, 0, 0, 0, 0, b''), 1,
@@ -293,7 +303,7 @@ def expect_compared(what, a, b, status, lines, words=()):
     expect(what, (got[0], output[:len(said)] if begins else output, got[2]), status, said, [])
 
 
-COMPARE_USAGE = 'usage: nw compare [--offset OFFSET] A B; nw compare --help says more'
+COMPARE_USAGE = 'usage: nw compare [--auxiliary BITS] [--offset OFFSET] A B; nw compare --help says more'
 
 
 def try_compare():

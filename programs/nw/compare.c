@@ -1,4 +1,4 @@
-// compare.c: `nw compare [--offset OFFSET] A B`: which field of which message of two captures differs, in words.
+// compare.c: `nw compare [--auxiliary BITS] [--offset OFFSET] A B`: which field of which message of two captures differs, in words.
 #include "compare.h"
 #include "load.h"
 #include "notes.h"
@@ -7,13 +7,14 @@
 #include <string.h>
 
 const struct command compare_command = {
-    "nw compare", "nw compare [--offset OFFSET] A B",
+    "nw compare", "nw compare [--auxiliary BITS] [--offset OFFSET] A B",
     "Reads two captures as nw show does, - for standard input, and tells in which tables and fields\n"
     "they differ. A table of one is held against the table of the other with the same kind and\n"
     "extension, in their newest versions, or but for content tables with the only one of its kind;\n"
     "a message against the one with the same identifier, a text line by line.\n"
     "How the tables were cut, repeated and ordered makes no difference, nor do damaged bytes\n"
     "whose section came whole elsewhere.\n"
+    "  --auxiliary BITS the length of an auxiliary file has 24 bits, as without it, or 32\n"
     "  --offset OFFSET  times are also local, so far east of UTC: minutes, -720 to 840, or hours\n"
     "                   and minutes with their sign, as +08:00; without it they are UTC alone\n"
     "  --help           says this\n"
@@ -25,6 +26,7 @@ struct work {
     const char *names[2];
     unsigned given;
     struct clock clock;
+    unsigned variant; // 0 while it is not given
     struct tables tables[2];
     uint64_t fields, differences;
 };
@@ -123,7 +125,7 @@ static void tell_only(struct work *w, const struct table *t, char which) {
 }
 
 static int tell(struct work *w) {
-    for (unsigned i = 0; i < 2; i++) tables_finish(&w->tables[i]);
+    for (unsigned i = 0; i < 2; i++) tables_finish(&w->tables[i], w->variant);
     printf("A is %s\n", called(w->names[0]));
     printf("B is %s\n", called(w->names[1]));
     for (size_t i = 0; i < w->tables[0].count; i++) {
@@ -159,6 +161,7 @@ static int take(struct work *w, char **word, bool *options) {
     bool option = *options && word[0][0] == '-' && word[0][1] != '\0';
     if (*options && strcmp(word[0], "--") == 0) return *options = false, 1;
     if (option && strcmp(word[0], "--offset") == 0) return take_offset(&compare_command, &w->clock, word[1]) ? 2 : 0;
+    if (option && strcmp(word[0], "--auxiliary") == 0) return take_variant(&compare_command, &w->variant, word[1]) ? 2 : 0;
     if (option) return misused(&compare_command, word[0], ": there is no such word"), 0;
     if (w->given == 2) return misused(&compare_command, word[0], ": there are two captures already"), 0;
     if (w->given == 1 && strcmp(w->names[0], "-") == 0 && strcmp(word[0], "-") == 0)
@@ -176,5 +179,6 @@ int compare(const struct command *name, int words, char **word) {
         if (taken == 0) return UNUSABLE;
     }
     if (w.given < 2) return misused(name, "A and B", " are wanted: two captures' names, of which one may be - for standard input");
+    if (w.variant == 0) w.variant = NW_AUXILIARY_24;
     return run(&w);
 }

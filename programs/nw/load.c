@@ -37,3 +37,11 @@ bool take_offset(const struct command *c, struct clock *clock, const char *offse
     clock->local = true;
     return true;
 }
+
+bool take_variant(const struct command *c, unsigned *variant, const char *bits) {
+    if (*variant != 0) return misused(c, "--auxiliary", ": it is given already"), false;
+    if (bits == NULL) return misused(c, "--auxiliary", ": BITS have to follow, 24 or 32"), false;
+    *variant = strcmp(bits, "24") == 0 ? NW_AUXILIARY_24 : strcmp(bits, "32") == 0 ? NW_AUXILIARY_32 : 0;
+    if (*variant == 0) return misused(c, bits, ": BITS have to be 24 or 32"), false;
+    return true;
+}

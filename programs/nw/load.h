@@ -15,4 +15,7 @@ const char *called(const char *name);
 /* Takes the word after --offset, which may be missing. False where it is wrong, which is said. */
 bool take_offset(const struct command *c, struct clock *clock, const char *offset);
 
+/* Takes the word after --auxiliary, which may be missing. False where it is wrong, which is said. */
+bool take_variant(const struct command *c, unsigned *variant, const char *bits);
+
 #endif

@@ -80,6 +80,15 @@ static void title(const struct table *t) {
     puts(missing_words(&t->state, missing, sizeof missing));
 }
 
+// Tells where a content table that is refused would be accepted with auxiliary lengths of the other width.
+static void put_other_variant(const struct body *b) {
+    struct body other = *b;
+    other.variant = b->variant == NW_AUXILIARY_24 ? NW_AUXILIARY_32 : NW_AUXILIARY_24;
+    if (b->kind != NW_CONTENT || NW_REFUSAL(body_read(&other)) != NW_TAKEN) return;
+    put_label(0, "");
+    printf("with auxiliary lengths of %u bits it is accepted: nw show --auxiliary %u\n", other.variant, other.variant);
+}
+
 // The verdict of a table's reader.
 static void verdict(const struct table *t) {
     unsigned number = NW_REFUSAL(t->verdict), own;
@@ -89,6 +98,7 @@ static void verdict(const struct table *t) {
         printf("refused: %s (refusal 23); its identifier's is %04X\n", nw_refusal_text(number), own);
     else
         printf("refused: %s (refusal %u at byte %" PRIu64 " of the body)\n", nw_refusal_text(number), number, NW_PLACE(t->verdict));
+    if (number != NW_TAKEN) put_other_variant(&t->body);
 }
 
 // Why a table has no body.

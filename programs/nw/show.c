@@ -1,16 +1,17 @@
-// show.c: `nw show [--bytes | --json] [--offset OFFSET] CAPTURE`: every table of a capture told to a person.
+// show.c: `nw show [--bytes | --json] [--auxiliary BITS] [--offset OFFSET] CAPTURE`: every table of a capture told to a person.
 #include "show.h"
 #include "load.h"
 #include "report.h"
 #include <string.h>
 
 const struct command show_command = {
-    "nw show", "nw show [--bytes | --json] [--offset OFFSET] CAPTURE",
+    "nw show", "nw show [--bytes | --json] [--auxiliary BITS] [--offset OFFSET] CAPTURE",
     "Reads the sections of GD/J 086-2018 in CAPTURE, or in standard input where it is -, damage\n"
     "among them or not, gathers them into tables, and tells all that came: what was skipped or\n"
     "refused and why, which sections are missing, and each field of every table.\n"
     "  --bytes          tells the bodies byte by byte, with each field's name in the standard\n"
     "  --json           tells the same for scripts; nw(1) says how\n"
+    "  --auxiliary BITS the length of an auxiliary file has 24 bits, as without it, or 32\n"
     "  --offset OFFSET  times are also local, so far east of UTC: minutes, -720 to 840, or hours\n"
     "                   and minutes with their sign, as +08:00; without it they are UTC alone\n"
     "  --help           says this\n"
@@ -22,6 +23,7 @@ const struct command show_command = {
 struct work {
     const char *name; // the CAPTURE's, or NULL
     struct clock clock;
+    unsigned variant; // 0 while it is not given
     const struct report *report;
     struct tables tables;
     struct sum sum;
@@ -68,7 +70,7 @@ static bool is_faultless(const struct work *w) {
 }
 
 static int tell(struct work *w) {
-    tables_finish(&w->tables);
+    tables_finish(&w->tables, w->variant);
     w->report->tables();
     for (size_t i = 0; i < w->tables.count; i++) {
         count_table(w, &w->tables.list[i]);
@@ -102,6 +104,7 @@ static int take(struct work *w, char **word, bool *options) {
     if (option && strcmp(word[0], "--bytes") == 0) return take_report(w, word[0], &bytes_report);
     if (option && strcmp(word[0], "--json") == 0) return take_report(w, word[0], &json_report);
     if (option && strcmp(word[0], "--offset") == 0) return take_offset(&show_command, &w->clock, word[1]) ? 2 : 0;
+    if (option && strcmp(word[0], "--auxiliary") == 0) return take_variant(&show_command, &w->variant, word[1]) ? 2 : 0;
     if (option) return misused(&show_command, word[0], ": there is no such word"), 0;
     if (w->name != NULL) return misused(&show_command, word[0], ": there is a CAPTURE already, and one is read"), 0;
     w->name = word[0];
@@ -118,5 +121,6 @@ int show(int words, char **word) {
     }
     if (w.name == NULL) return misused(&show_command, "CAPTURE", " is wanted: a file's name, or - for standard input");
     if (w.report == NULL) w.report = &plain_report;
+    if (w.variant == 0) w.variant = NW_AUXILIARY_24;
     return run(&w);
 }

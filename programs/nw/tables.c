@@ -97,11 +97,11 @@ static size_t join_front(const nw_gathering *g, uint8_t *store, size_t number) {
 }
 
 // The body stands at the front of the store; what the state was is kept.
-static void pack(struct table *t) {
+static void pack(struct table *t, unsigned variant) {
     nw_gathering state = t->state;
     t->packed = nw_gathering_pack(&state, t->store, t->store_bytes);
     t->whole = NW_REFUSAL(t->packed) == NW_TAKEN;
-    t->body = (struct body){t->state.kind, t->state.extension, t->store, (size_t)nw_value(t->packed)};
+    t->body = (struct body){t->state.kind, t->state.extension, variant, t->store, (size_t)nw_value(t->packed)};
     if (!t->whole) t->body.n = t->state.spoiled ? 0 : join_front(&t->state, t->store, (size_t)NW_PLACE(t->packed));
     t->verdict = body_read(&t->body);
 }
@@ -124,8 +124,8 @@ static bool put_in_order(struct tables *all) {
     return true;
 }
 
-void tables_finish(struct tables *all) {
-    for (size_t i = 0; i < all->count; i++) pack(&all->list[i]);
+void tables_finish(struct tables *all, unsigned variant) {
+    for (size_t i = 0; i < all->count; i++) pack(&all->list[i], variant);
     put_in_order(all); // where there is no memory, they stay as they came
 }
 

@@ -43,8 +43,8 @@ struct arrival {
 /* Feeds a good section to the table it belongs to: of a kind and an extension one is held, in its newest version. */
 struct arrival tables_feed(struct tables *all, uint64_t at, const uint8_t *s, size_t n, nw_heading heading);
 
-/* Makes each table that is whole a body, judges it, and puts the tables in order: index, content, certificate, configuration. */
-void tables_finish(struct tables *all);
+/* Makes each table that is whole a body, a content table of a variant, judges it, and puts the tables in order: index, content, certificate, configuration. */
+void tables_finish(struct tables *all, unsigned variant);
 
 void tables_free(struct tables *all);
 

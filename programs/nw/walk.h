@@ -18,6 +18,7 @@ struct clock {
 /* A table that is whole: what its sections' headings say, and its body. */
 struct body {
     unsigned kind, extension;
+    unsigned variant; /* of a content table: how many bits the length of an auxiliary file has */
     const uint8_t *s;
     size_t n;
 };

@@ -2,7 +2,7 @@
 #include "content.h"
 #include "steps.h"
 
-nw_answer content_read(const struct body *b) { return nw_content_read(b->kind, NW_AUXILIARY_24, b->extension, b->s, b->n); }
+nw_answer content_read(const struct body *b) { return nw_content_read(b->kind, b->variant, b->extension, b->s, b->n); }
 
 const uint8_t *content_identifier(const struct body *b) {
     nw_part part = nw_content_identifier(b->s, b->n);
@@ -27,10 +27,11 @@ static bool files(struct walk *w, size_t at, size_t length) {
     f.words = f.number == 0 ? "none" : f.number == 1 ? "1" : "2";
     bool on = step_after(w, 4, NW_REFUSAL(count), f);
     for (uint64_t i = 0; on && i < nw_value(count); i++) {
-        nw_part file = nw_language_auxiliary(NW_AUXILIARY_24, BODY(w), at, length, i);
+        nw_part file = nw_language_auxiliary(w->body.variant, BODY(w), at, length, i);
         enter(w, (struct group){.name = "auxiliary_data", .label = "file", .number = i, .count = nw_value(count), .row = true});
-        on = leave(w, step_number(w, "auxiliary_data_type", "type", 8, nw_language_auxiliary_type(NW_AUXILIARY_24, BODY(w), at, length, i)) &&
-                          step_length(w, "auxiliary_data_length", 24, file) && step_opaque(w, "auxiliary_data", "", file));
+        nw_answer type = nw_language_auxiliary_type(w->body.variant, BODY(w), at, length, i);
+        on = leave(w, step_number(w, "auxiliary_data_type", "type", 8, type) &&
+                          step_length(w, "auxiliary_data_length", w->body.variant, file) && step_opaque(w, "auxiliary_data", "", file));
     }
     return on;
 }
