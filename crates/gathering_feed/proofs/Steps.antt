@@ -56,7 +56,8 @@ unfolding opened
 first-counts h b o = rw o (omega arith, omega arith)
 
 -- the part of the byte string that is copied is its payload
-pub puts : (k : ℕ) (store s : List ℕ) → Fits k store s → (at : ℕ) → at ≡ place k → (store′ : List ℕ) → store′ ≡ placed store at (take (length s - 4 - 8) (drop 8 s))
+pub puts : (k : ℕ) (store s : List ℕ) → Fits k store s → (at : ℕ) → at ≡ place k
+    → (store′ : List ℕ) → store′ ≡ placed store at (take (length s - 4 - 8) (drop 8 s))
     → ((length s - 4 - 8 ≡ length (payloadOf s)) × (length s - 4 - 8 ≤ 4084)) × (store′ ≡ placed store (place k) (payloadOf s))
 unfolding payloadOf
 puts k store s fits at e store′ q =

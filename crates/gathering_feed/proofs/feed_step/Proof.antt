@@ -24,7 +24,9 @@ taken-at : (c : tie.After-h2)
 taken-at c = decides _ _ _ _ (c .before .before .before .before .before .before .numbers-of .ensures) _ (c .before .before .decide .ensures) ∙ c .h2 .given .1
 
 -- the further section is among the missing, and there is room to count its bytes
-counted-at : (c : tie.After-known-told3) → let start = c .before .before .before .before .before .before .before .before .before .before .args in (1 ≤ start .g .missing) × (start .g .bytes ≤ 1045504)
+counted-at : (c : tie.After-known-told3)
+    → let start = c .before .before .before .before .before .before .before .before .before .before .args in
+    (1 ≤ start .g .missing) × (start .g .bytes ≤ 1045504)
 counted-at c = further-counts _ _ _ _ (taken-at (c .before)) (search needs) (search needs)
 
 pub feed-step-spec : {M : Type 1} → statement M
@@ -69,16 +71,22 @@ feed-step-spec =
     (λ c. search needs)
     (λ c.
     let told = c .before in
-    feeds _ _ _ _ (decides _ _ _ _ (told .before .before .before .before .before .before .numbers-of .ensures) _ (told .before .before .decide .ensures) ∙ told .r .given .1))
+    let decided = told .before .before in
+    feeds _ _ _ _ (decides _ _ _ _ (decided .before .before .before .before .numbers-of .ensures) _ (decided .decide .ensures) ∙ told .r .given .1))
     (λ c. search needs)
-    (λ c. feeds _ _ _ _ (decides _ _ _ _ (c .before .before .before .before .before .before .numbers-of .ensures) _ (c .before .before .decide .ensures) ∙ c .enum-told .given .1))
+    (λ c.
+    let decided = c .before .before in
+    feeds _ _ _ _ (decides _ _ _ _ (decided .before .before .before .before .numbers-of .ensures) _ (decided .decide .ensures) ∙ c .enum-told .given .1))
     (λ c. search needs)
-    (λ c. feeds _ _ _ _ (decides _ _ _ _ (c .before .before .before .before .before .before .numbers-of .ensures) _ (c .before .before .decide .ensures) ∙ c .enum-told2 .given .1))
+    (λ c.
+    let decided = c .before .before in
+    feeds _ _ _ _ (decides _ _ _ _ (decided .before .before .before .before .numbers-of .ensures) _ (decided .decide .ensures) ∙ c .enum-told2 .given .1))
     (λ c. search needs)
     (λ c.
     let put = c .before .before .before in
     let opened = put .before .before in
-    feeds-begin _ _ _ _ _ (put .put-payload .ensures .0 .0) _ (put .put-payload .ensures .1) (begun-at (opened .before .before)) _ (opened .open-table .ensures))
+    feeds-begin _ _ _ _ _ (put .put-payload .ensures .0 .0) _ (put .put-payload .ensures .1)
+    (begun-at (opened .before .before)) _ (opened .open-table .ensures))
     (λ c. search needs)
     (λ c.
     let put = c .before .before .before in

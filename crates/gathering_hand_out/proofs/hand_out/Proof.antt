@@ -1,4 +1,5 @@
--- `gathering_hand_out::hand_out` meets its contract: a table that is not complete is refused as its completeness says, and of a whole one the payloads lie in the store.
+-- `gathering_hand_out::hand_out` meets its contract: a table that is not complete is refused as its completeness says, and of a whole one the
+-- payloads lie in the store.
 use Prim.Native.Nat.{_+_, _≤_}
 use mathlib.Core.Path.{_≡_, _∙_}
 use native.Mathlib.Omega.{arith}
@@ -21,8 +22,12 @@ among c =
     let f : Fits w8 (c .args .t1 .last) = search needs in
     (omega arith, omega arith)
 
-complete-at : (c : tie.After-enum-told) → let start = c .before .before .before .before .before .before .before .before .args in completeOf (start .t1) (length (now (start .store))) ≡ Complete
-complete-at c = completes _ _ _ (c .before .before .before .before .before .numbers-of .ensures) _ (c .before .before .complete .ensures) ∙ c .enum-told .given .1
+complete-at : (c : tie.After-enum-told)
+    → let start = c .before .before .before .before .before .before .before .before .args in
+    completeOf (start .t1) (length (now (start .store))) ≡ Complete
+complete-at c =
+    let found = c .before .before in
+    completes _ _ _ (found .before .before .before .numbers-of .ensures) _ (found .complete .ensures) ∙ c .enum-told .given .1
 
 pub hand-out-spec : {M : Type 1} → statement M
 unfolding lengths bodyHeld
@@ -41,7 +46,8 @@ hand-out-spec =
     (few .0, whole-in-store _ _ (few .1) (complete-whole _ _ (complete-at told))))
     (λ c.
     let told = c .before in
-    hands-refused _ _ _ _ (completes _ _ _ (told .before .before .before .before .before .numbers-of .ensures) _ (told .before .before .complete .ensures) ∙ told .r .given .1))
+    let found = told .before .before in
+    hands-refused _ _ _ _ (completes _ _ _ (found .before .before .before .numbers-of .ensures) _ (found .complete .ensures) ∙ told .r .given .1))
     (λ c. search needs)
     (λ c.
     let handed = c .before .before in

@@ -33,7 +33,9 @@ is-begun-spec =
     (λ c. search needs)
     (λ c. search needs)
     (λ c. search needs)
-    (λ c. let passed = c .before .before .before .before .before .before .before .before .before in not-begun-seen _ (passed .survey-of .ensures) (λ s b. omega arith))
+    (λ c.
+    let passed = c .before .before .before .before .before .before .before .before .before in
+    not-begun-seen _ (passed .survey-of .ensures) (λ s b. omega arith))
     (λ c.
     let counted = c .before .before in
     let short = counted .before .before .before in

@@ -13,7 +13,8 @@ use Rattle.gathering_verdict.proofs.decide_good.Tie as tie
 
 -- past 10
 past : (c : tie.Else3)
-    → let start = c .before .before .before .before .before .before .before .before .before .args in Past (stateOf (start .m) (now (start .held))) (now (start .store)) (start .h)
+    → let start = c .before .before .before .before .before .before .before .before .before .args in
+    Past (stateOf (start .m) (now (start .held))) (now (start .store)) (start .h)
 past c =
     let room = c .before in
     let known = room .before in
@@ -28,7 +29,8 @@ past c =
 
 -- and where nothing begins
 further : (c : tie.Else4)
-    → let start = c .before .before .before .before .before .before .before .before .before .before .args in begins (stateOf (start .m) (now (start .held))) (start .h) ≡ false
+    → let start = c .before .before .before .before .before .before .before .before .before .before .args in
+    begins (stateOf (start .m) (now (start .held))) (start .h) ≡ false
 further c =
     let beginning = c .before .before .before .before .before in
     sym (beginning .begins-gathering .ensures (now (beginning .before .before .before .before .before .args .held))) ∙ c .if4 .left
@@ -66,4 +68,5 @@ decide-good-spec =
     (not-false _ (past room .roomy), start .pre .0, start .pre .2))
     (λ c.
     let here = c .before .before .before in
-    c .decide-number .ensures (here .before .before .before .before .before .before .before .before .before .before .args .m) ∙ sym (good-further _ _ _ _ (past (here .before)) (further here) (c .before .if5 .left))))
+    let start = here .before .before .before .before .before .before .before .before .before .before .args in
+    c .decide-number .ensures (start .m) ∙ sym (good-further _ _ _ _ (past (here .before)) (further here) (c .before .if5 .left))))
