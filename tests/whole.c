@@ -327,7 +327,7 @@ static void try_capture(const uint8_t *bytes, size_t n) {
 
 static void try_salvaging(void) {
     static uint8_t bytes[NW_MOST_CAPTURE + 5000];
-    for (size_t i = 0; i < 20000; i++) try_capture(bytes, some_capture(bytes, one_in(50) ? sizeof bytes : 12000));
+    for (size_t i = 0; i < 8000; i++) try_capture(bytes, some_capture(bytes, one_in(50) ? sizeof bytes : 12000));
     for (size_t i = 0; i < 10; i++) try_capture(noise(), NW_MOST_CAPTURE - 5 + i);
 }
 
