@@ -29,7 +29,7 @@ all: $(ARCHIVES) $(COMMANDS)
 $(ARCHIVES) &: $(SOURCES)
 	tools/build
 
-$(COMMANDS) &: $(ARCHIVES) $(wildcard programs/* programs/nw/* include/*)
+$(COMMANDS) &: $(ARCHIVES) $(wildcard programs/* programs/nw/* include/*) examples/stream.h
 	tools/build
 
 help:

@@ -15,6 +15,7 @@
 #include "plain_content.h"
 #include "plain_index.h"
 #include "plain_numbers.h"
+#include "plain_packets.h"
 #include "plain_sections.h"
 #include "real_day.h"
 
@@ -145,6 +146,39 @@ static uint64_t gather_library(const uint8_t *s, size_t n) {
 static uint64_t gather_slicing(const uint8_t *s, size_t n) {
     return gather(plain_gathering_feed, plain_gathering_hand_out, s, n);
 }
+
+// ---- full sections packed one after the other, and the packets unpacked
+
+typedef plain_answer packet_packer(const uint8_t *s, size_t n, uint32_t counter, uint8_t *out, size_t room);
+typedef plain_answer packet_unpacker(uint8_t *state, const uint8_t *p, size_t n, uint8_t *out, size_t room);
+
+PACKED(packet_pack, (const uint8_t *s, size_t n, uint32_t counter, uint8_t *out, size_t room), s, n, counter, out, room)
+PACKED(packet_unpack, (uint8_t *state, const uint8_t *p, size_t n, uint8_t *out, size_t room), state, p, n, out, room)
+
+static uint8_t packets[256 * NW_MOST_PACKED];
+
+// The bytes of all packets.
+static uint64_t packets_of(packet_packer *pack, const uint8_t *s, size_t n) {
+    uint64_t used = 0;
+    for (size_t at = 0; at < n; at += NW_MOST_SECTION)
+        used += value_of(pack(s + at, NW_MOST_SECTION, (uint32_t)(used / NW_PACKET_BYTES % 16), packets + used, sizeof packets - used));
+    return used;
+}
+
+// The bytes of all sections, which stand in the output.
+static uint64_t sections_of(packet_unpacker *unpack, const uint8_t *s, size_t n) {
+    static uint8_t state[NW_UNPACKER_BYTES];
+    uint64_t used = 0;
+    memset(state, 0, sizeof state);
+    for (size_t at = 0; at < n; at += NW_PACKET_BYTES)
+        used += value_of(unpack(state, s + at, NW_PACKET_BYTES, output + used, sizeof output - used));
+    return used;
+}
+
+static uint64_t pack_packets_library(const uint8_t *s, size_t n) { return packets_of(packed_packet_pack, s, n); }
+static uint64_t pack_packets_plain(const uint8_t *s, size_t n) { return packets_of(plain_packet_pack, s, n); }
+static uint64_t unpack_packets_library(const uint8_t *s, size_t n) { return sections_of(packed_packet_unpack, s, n); }
+static uint64_t unpack_packets_plain(const uint8_t *s, size_t n) { return sections_of(plain_packet_unpack, s, n); }
 
 // ---- one section fed: it is taken into a table of two, of which the other one is held
 
@@ -536,6 +570,12 @@ static void fill_in_order(size_t n) {
     for (size_t i = 0; i < sections; i++) put_full_section(i, i, sections);
 }
 
+static void fill_packets(size_t n) {
+    fill_in_order(n / NW_MOST_PACKED * NW_MOST_SECTION);
+    packets_of(plain_packet_pack, input, n / NW_MOST_PACKED * NW_MOST_SECTION);
+    memcpy(input, packets, n);
+}
+
 static void fill_reversed(size_t n) {
     size_t sections = n / NW_MOST_SECTION;
     for (size_t i = 0; i < sections; i++) put_full_section(i, sections - 1 - i, sections);
@@ -761,6 +801,14 @@ static const struct operation operations[] = {
      fill_false,
      {{"neapwillow", salvage_library}, {"C, slicing by 8", salvage_slicing}},
      {NW_MOST_CAPTURE}},
+    {"packets from sections",
+     fill_in_order,
+     {{"neapwillow", pack_packets_library}, {"C, memcpy", pack_packets_plain}},
+     {4096, 256 * 4096}},
+    {"sections from packets",
+     fill_packets,
+     {{"neapwillow", unpack_packets_library}, {"C, memcpy", unpack_packets_plain}},
+     {NW_MOST_PACKED, 256 * NW_MOST_PACKED}},
     {"feeding",
      fill_feeding,
      {{"neapwillow", feed_library}, {"C, slicing by 8", feed_slicing}},

@@ -1,6 +1,7 @@
 // adapter [--auxiliary BITS] FILE: a drill, typed day first in lines on standard input, becomes an index table and a
-// content table, cut into sections in FILE. drill.txt is such a form. The content table is of the variant of BITS, 24 or 32,
-// or without them 24: the bits of an auxiliary file's length. A form has no such files, so that its sections are the same
+// content table, cut into sections, which stand in FILE one right after the other; or, if its name ends with .ts, in transport
+// packets on PID 0x0021, as an output card takes them. drill.txt is such a form. The content table is of the variant of BITS, 24
+// or 32, or without them 24: the bits of an auxiliary file's length. A form has no such files, so that its sections are the same
 // for both kinds of boxes; an adapter that sends pictures to donated boxes is told 32, as they are.
 //
 // A line is a word, a space or tab, and its value; a line that begins with # is a remark. The words are
@@ -74,6 +75,8 @@ struct desk {
     uint8_t body[NW_MOST_BODY];
     uint8_t sections[2 * NW_MOST_BODY];
     size_t bytes;
+    uint8_t packets[2 * 256 * NW_MOST_PACKED]; // two tables, each of 256 sections at most
+    size_t packet_bytes;
     unsigned extension; // of the message's content table
     uint32_t variant;   // of that table
 };
@@ -468,10 +471,34 @@ static bool write_content(const struct drill *d, struct desk *k) {
         && cut(k, nw_written_length(made), NW_CONTENT, k->extension, d->version);
 }
 
-static int write_file(const struct desk *k, const char *name) {
+// Packs all sections, each from the counter after the last packet's.
+static bool pack(struct desk *k) {
+    for (size_t at = 0; at < k->bytes;) {
+        size_t n = (size_t)nw_value(nw_section_length(k->sections + at, k->bytes - at));
+        uint32_t counter = (uint32_t)(k->packet_bytes / NW_PACKET_BYTES % 16);
+        size_t room = sizeof k->packets - k->packet_bytes;
+        nw_answer made = nw_packet_pack(k->sections + at, n, counter, k->packets + k->packet_bytes, room);
+        if (refused("a section's packets", NW_REFUSAL(made))) return false;
+        k->packet_bytes += nw_value(made);
+        at += n;
+    }
+    return true;
+}
+
+// Whether a file's name asks for a transport stream.
+static bool is_stream(const char *name) {
+    size_t n = strlen(name);
+    return n >= 3 && strcmp(name + n - 3, ".ts") == 0;
+}
+
+static int write_file(struct desk *k, const char *name) {
+    bool stream = is_stream(name);
+    if (stream && !pack(k)) return REFUSED;
+    const uint8_t *bytes = stream ? k->packets : k->sections;
+    size_t n = stream ? k->packet_bytes : k->bytes;
     FILE *out = fopen(name, "wb");
     if (out == NULL) return complain("%s can't be opened: %s", name, strerror(errno)), UNUSABLE;
-    bool good = fwrite(k->sections, 1, k->bytes, out) == k->bytes;
+    bool good = fwrite(bytes, 1, n, out) == n;
     if (fclose(out) == 0 && good) return MADE;
     return complain("%s is not whole, it can't be written: %s", name, strerror(errno)), UNUSABLE;
 }
@@ -496,7 +523,8 @@ static int read_option(char **word, int *bits) {
 
 int main(int words, char **word) {
     if (words == 2 && strcmp(word[1], "--help") == 0) {
-        printf("%s\nExit status: 0, FILE is written; 1, the form is refused and nothing is written;\n"
+        printf("%s\nIf its name ends with .ts, FILE is a transport stream, else it has the sections alone.\n"
+               "Exit status: 0, FILE is written; 1, the form is refused and nothing is written;\n"
                "2, wrong usage, a form that can't be read or a FILE that can't be written.\n", usage);
         return fflush(stdout) == 0 ? MADE : UNUSABLE;
     }

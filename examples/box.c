@@ -1,26 +1,31 @@
 // box [--whole] [--auxiliary BITS] FILE [MINUTES]: the sections in a file, one after the other in any order, repeats and damage
-// among them, are gathered into tables, and the messages are shown with their texts: times day first and local, at MINUTES east
-// of UTC, -720 to 840, or without them in UTC. Of a text the first lines are shown, with --whole all. The length of an auxiliary
-// file has BITS bits, 24 or 32, or without them 24: a donated box that follows the standard's text, and not its Table 4, is 32.
-// As a table comes in, it is said how many of its sections have come and how many bytes are held.
+// among them, or those that the transport packets on PID 0x0021 of a transport stream carry, are gathered into tables, and the
+// messages are shown with their texts: times day first and local, at MINUTES east of UTC, -720 to 840, or without them in UTC. Of
+// a text the first lines are shown, with --whole all. The length of an auxiliary file has BITS bits, 24 or 32, or without them 24:
+// a donated box that follows the standard's text, and not its Table 4, is 32. As a table comes in, it is said how many of its
+// sections have come and how many bytes are held.
 //
 // Of a table the newest version is held: one that is 1 to 15 steps ahead, round the ring of 32, takes over from the one before,
 // and sections of other versions are left out.
 //
 // Exit status: 0, every table that was begun is whole and accepted, no section of another table or version was left out, each
-// message has its text and each text its message, and where bytes were damaged, the section they were came whole elsewhere or
-// was of an older version. 1, something of that is not so, and it is said what, or no table came at all. 2, wrong usage, a
-// file that can't be read or is a transport stream, or output that can't be written. The status says nothing about a text's
-// characters.
+// message has its text and each text its message, and where bytes were damaged or packets lost, the section they were of came
+// whole elsewhere or was of an older version. 1, something of that is not so, and it is said what, or no table came at all. 2,
+// wrong usage, a file that can't be read, or output that can't be written. The status says nothing about a text's characters.
 //
-// The library salvages the good sections of the file, window by window: where none begins, it looks a byte further on. Few bytes
-// look like a heading. Where one does, its check is computed over up to 4 KiB; junk in which each byte looks like one, inside
+// A file in which 0x47 stands every 188 bytes is a transport stream (stream.h says when exactly). Packets of other PIDs are passed
+// over and counted; a packet that is refused or lost, and bytes that are no packet, are named. A section's byte is then that of
+// the packet that completes it. Lost packets are told by the counters, which show nothing where 16 in a row are lost.
+//
+// The library salvages the good sections of a file of them, window by window: where none begins, it looks a byte further on. Few
+// bytes look like a heading. Where one does, its check is computed over up to 4 KiB; junk in which each byte looks like one, inside
 // a false section, is gone over some 4,000 times, which takes seconds for each MiB.
 //
 // Limits: 16 tables, files of 64 MiB, no signature is checked, of certificate and configuration tables nothing is shown, and
 // sections that are not current are left out, which is said.
 #include <errno.h>
 #include <iconv.h>
+#include <inttypes.h>
 #include <langinfo.h>
 #include <limits.h>
 #include <locale.h>
@@ -33,7 +38,9 @@
 #include <wchar.h>
 #include <wctype.h>
 
-enum { TABLES = 16, MOST_FILE = 1 << 26, LINES = 4, PACKET = 188, SYNC = 0x47 };
+#include "stream.h"
+
+enum { TABLES = 16, MOST_FILE = 1 << 26, LINES = 4 };
 enum { WHOLE = 0, FAULTY = 1, UNUSABLE = 2 }; // exit statuses
 
 // A table that is being gathered. A whole one is packed: its body then stands in its store, and its state is fresh.
@@ -45,10 +52,13 @@ struct table {
     bool accepted, named; // named: a message has it as its text
 };
 
-// Bytes that are no good section, and the refusal of what begins where they do.
-struct stretch {
-    size_t at, end;
+// What could not be read: bytes of the file and why they are refused, or what a stream lost.
+enum gone_kind { NO_SECTION, NO_PACKET, BAD_IN_PACKETS, LOST };
+struct gone {
+    enum gone_kind kind;
+    size_t at, end; // in packets, at is where the last of them begins
     unsigned refusal;
+    struct stream_loss loss; // where one is told, and else what its heading says was lost, if that is known
 };
 
 struct box {
@@ -56,9 +66,10 @@ struct box {
     size_t n;
     struct table tables[TABLES];
     size_t count;
-    struct stretch *stretches;
-    size_t stretch_count, stretch_room;
-    unsigned taken, held, refused, faults;
+    struct gone *gone;
+    size_t gone_count, gone_room;
+    struct stream *stream; // NULL for a file of sections
+    unsigned taken, held, refused, bad, faults; // bad: those of the refused that are no good section
     int offset;
     uint32_t variant; // of content tables
     bool whole;
@@ -95,16 +106,13 @@ static void name_table(const nw_gathering *g) {
     printf("%s table, extension %04X, version %u: ", kind_name(g->kind), g->extension, g->version);
 }
 
-// The length of the section that begins at s, as it states: 12 bytes where it states none, so that its kind is looked at
-// first, but no more than the n that there are.
-static size_t length_of(const uint8_t *s, size_t n) {
-    nw_answer stated = nw_section_length(s, n);
-    size_t length = NW_REFUSAL(stated) == NW_TAKEN ? (size_t)nw_value(stated) : 12;
-    return length < n ? length : n;
-}
-
+// Judges the section that begins at s, as long as it states: 12 bytes where it states nothing, so that its kind is looked at first,
+// but no more than the n that there are.
 static nw_heading judge(const uint8_t *s, size_t n, size_t *length) {
-    return nw_section_read(s, *length = length_of(s, n));
+    nw_answer stated = nw_section_length(s, n);
+    *length = NW_REFUSAL(stated) == NW_TAKEN ? (size_t)nw_value(stated) : 12;
+    if (*length > n) *length = n;
+    return nw_section_read(s, *length);
 }
 
 // The gathering that sections of this kind and extension are fed to: of such tables the box holds one, in its newest version.
@@ -148,8 +156,8 @@ static void tell_progress(const struct table *t) {
     printf("%u of %u sections, %lu bytes\n", count - t->state.missing, count, (unsigned long)t->state.bytes);
 }
 
-// Feeds the good section at a byte of the file to the table it belongs to. A newer version starts the table over.
-static void feed(struct box *b, size_t at, size_t n, nw_heading heading) {
+// Feeds a good section, which is told of by a byte of the file, to the table it belongs to. A newer version starts the table over.
+static void feed(struct box *b, size_t at, const uint8_t *s, size_t n, nw_heading heading) {
     struct table *t = table_of(b, heading);
     if (t == NULL) {
         b->refused++;
@@ -158,7 +166,7 @@ static void feed(struct box *b, size_t at, size_t n, nw_heading heading) {
     }
     bool begun = t < b->tables + b->count;
     unsigned before = t->state.version;
-    nw_answer fed = feed_table(t, b->s + at, n, heading);
+    nw_answer fed = feed_table(t, s, n, heading);
     if (NW_REFUSAL(fed) != NW_TAKEN) {
         tell_refused(b, at, NW_REFUSAL(fed), t, heading);
         return;
@@ -175,16 +183,28 @@ static void feed(struct box *b, size_t at, size_t n, nw_heading heading) {
     tell_progress(t);
 }
 
-static bool note_stretch(struct box *b, struct stretch bad) {
-    if (b->stretch_count == b->stretch_room) {
-        size_t room = 2 * b->stretch_room + 16;
-        struct stretch *more = realloc(b->stretches, room * sizeof *more);
-        if (more == NULL) return false;
-        b->stretches = more;
-        b->stretch_room = room;
+// Notes what could not be read. Where there is no memory for it, that is a fault by itself.
+static void note(struct box *b, const struct gone *gone) {
+    if (b->gone_count == b->gone_room) {
+        size_t room = 2 * b->gone_room + 16;
+        struct gone *more = realloc(b->gone, room * sizeof *more);
+        if (more == NULL) {
+            fault(b, "at byte %zu something can't be read, and there is no memory to note what", gone->at);
+            return;
+        }
+        b->gone = more;
+        b->gone_room = room;
     }
-    b->stretches[b->stretch_count++] = bad;
-    return true;
+    b->gone[b->gone_count++] = *gone;
+}
+
+// What begins with these bytes and is no good section. It is known by its heading, if only its check is wrong or it is cut off.
+static void note_bad(struct box *b, struct gone gone, const uint8_t *s, bool known) {
+    gone.loss.known = known && (gone.refusal == NW_CHECK_NOT_ZERO || gone.refusal == NW_OTHER_LENGTH);
+    if (gone.loss.known) memcpy(gone.loss.heading, s, STREAM_HEADING);
+    b->refused++;
+    b->bad++;
+    note(b, &gone);
 }
 
 // Notes bytes in which no good section begins: a section that only fails its check by itself, others together.
@@ -193,9 +213,7 @@ static void pass_over(struct box *b, size_t at, size_t end) {
         size_t length, left = end - at;
         unsigned number = NW_REFUSAL(judge(b->s + at, b->n - at, &length));
         size_t next = number == NW_CHECK_NOT_ZERO && length < left ? at + length : end;
-        b->refused++;
-        if (!note_stretch(b, (struct stretch){at, next, number}))
-            fault(b, "bytes %zu to %zu are no good section, and there is no memory to note them", at, next - 1);
+        note_bad(b, (struct gone){.kind = NO_SECTION, .at = at, .end = next, .refusal = number}, b->s + at, at + length == next);
         at = next;
     }
 }
@@ -212,7 +230,7 @@ static size_t take_runs(struct box *b, size_t window, size_t sure, const uint32_
             continue;
         }
         pass_over(b, *passed, at);
-        feed(b, at, run.length, nw_section_read(b->s + at, run.length));
+        feed(b, at, b->s + at, run.length, nw_section_read(b->s + at, run.length));
         *passed = next = end;
     }
     return next;
@@ -229,6 +247,46 @@ static void gather(struct box *b) {
         at = take_runs(b, at, sure, list, nw_salvaged_runs(got), &passed);
     }
     pass_over(b, passed, b->n);
+}
+
+// ---- a transport stream
+
+static void note_loss(void *own, const struct stream_loss *loss) {
+    note(own, &(struct gone){.kind = LOST, .at = (size_t)loss->at, .loss = *loss});
+}
+
+// Feeds the sections that a packet completes, one right after the other.
+static void feed_sections(struct box *b, size_t at, const uint8_t *s, size_t n) {
+    for (size_t length; n > 0; s += length, n -= length) {
+        length = 3 + ((size_t)(s[1] & 0x0F) << 8 | s[2]);
+        nw_heading heading = nw_section_read(s, length);
+        unsigned number = NW_REFUSAL(heading);
+        if (number == NW_TAKEN) feed(b, at, s, length, heading);
+        else note_bad(b, (struct gone){.kind = BAD_IN_PACKETS, .at = at, .refusal = number}, s, true);
+    }
+}
+
+// Bytes that are no packet, or a packet that is refused.
+static void note_no_packet(struct box *b, size_t at, size_t end, unsigned number) {
+    if (at < end) note(b, &(struct gone){.kind = NO_PACKET, .at = at, .end = end, .refusal = number});
+}
+
+static void gather_packets(struct box *b, struct stream *x) {
+    uint8_t out[NW_MOST_COMPLETED_BYTES];
+    x->lost = note_loss;
+    x->own = b;
+    for (size_t at = 0, n; at < b->n; at += n) {
+        size_t before = at > 0 && b->s[at] == STREAM_SYNC ? 0 : stream_next(b->s + at, b->n - at, b->n - at);
+        note_no_packet(b, at, at + before, NW_NO_SYNC_BYTE);
+        at += before;
+        n = b->n - at < NW_PACKET_BYTES ? b->n - at : NW_PACKET_BYTES;
+        if (n == 0) break;
+        nw_answer got = stream_take(x, at, b->s + at, n, out);
+        unsigned number = NW_REFUSAL(got);
+        if (number == NW_TAKEN) feed_sections(b, at, out, nw_value(got));
+        else if (number != NW_OTHER_PID) note_no_packet(b, at, at + n, number);
+    }
+    stream_end(x);
 }
 
 // ---- what is whole, and what is not
@@ -280,28 +338,35 @@ static void pack(struct box *b, struct table *t) {
     if (!t->accepted) tell_not_accepted(b, t, got);
 }
 
-// Why nothing is lost with the section that bytes were before their damage, by what their heading says, or NULL: the bytes are
-// as many as it says, or the file ends among them, and it came whole elsewhere, or its table has been taken over.
-static const char *made_good(const struct box *b, const struct stretch *bad) {
-    const uint8_t *s = b->s + bad->at;
-    if (bad->refusal != NW_CHECK_NOT_ZERO && bad->refusal != NW_OTHER_LENGTH) return NULL;
-    if (bad->at + length_of(s, b->n - bad->at) != bad->end) return NULL;
+// Why nothing is lost with a section that did not come whole, by what its heading says, or NULL.
+static const char *made_good(const struct box *b, const struct stream_loss *loss) {
+    const uint8_t *s = loss->heading;
+    if (!loss->known) return NULL;
     for (const struct table *t = b->tables; t < b->tables + b->count; t++) {
         const nw_gathering *g = &t->was;
         if (g->kind != s[0] || g->extension != (s[3] << 8 | s[4])) continue;
         unsigned steps = (g->version + 32u - (s[5] >> 1 & 0x1Fu)) % 32;
-        if (steps >= 1 && steps <= 15) return "it was of an older version than is held";
-        if (steps == 0 && g->last == s[7] && g->held[s[6]] != 0) return "it came whole elsewhere";
+        if (steps >= 1 && steps <= 15) return "was of an older version than is held";
+        if (steps == 0 && g->last == s[7] && g->held[s[6]] != 0) return "came whole elsewhere";
     }
     return NULL;
 }
 
-static void show_stretch(struct box *b, const struct stretch *bad) {
-    printf("bytes %zu to %zu are no good section: %s (refusal %u)", bad->at, bad->end - 1, nw_refusal_text(bad->refusal),
-           bad->refusal);
-    const char *good = made_good(b, bad);
-    if (good != NULL) printf("; %s\n", good);
+static void show_gone(struct box *b, const struct gone *gone) {
+    if (gone->kind == LOST) printf("packet at byte %zu: %s", gone->at, stream_words(gone->loss.kind));
+    else if (gone->kind == BAD_IN_PACKETS) printf("section that the packet at byte %zu completes is not good", gone->at);
+    else printf("bytes %zu to %zu are no good %s", gone->at, gone->end - 1, gone->kind == NO_PACKET ? "packet" : "section");
+    if (gone->kind != LOST) printf(": %s (refusal %u)", nw_refusal_text(gone->refusal), gone->refusal);
+    else if (gone->loss.kind == STREAM_GAP) printf(", %u by the counters", gone->loss.packets);
+    const char *good = made_good(b, &gone->loss);
+    if (good != NULL) printf("; %s %s\n", gone->kind == LOST ? "the section" : "it", good);
     else fault(b, "; what was lost there is not known");
+}
+
+static void show_packets(const struct stream *x) {
+    printf("packets: %" PRIu64 " on PID 0x0021, of which %" PRIu64 " repeated, %" PRIu64 " of other PIDs, %" PRIu64
+           " with the error bit, %" PRIu64 " refused\n",
+           x->ours, x->repeats, x->others, x->errors, x->refused);
 }
 
 // ---- text
@@ -499,13 +564,15 @@ static void show_rest(struct box *b, const struct table *t) {
 
 static void tell_nothing(struct box *b) {
     if (b->n == 0) fault(b, "no table has come: the file is empty");
-    else if (b->refused == b->stretch_count) fault(b, "no table has come: no good section begins anywhere in the file");
+    else if (b->stream != NULL && b->refused == 0) fault(b, "no table has come: no packet completes a section");
+    else if (b->refused == b->bad) fault(b, "no table has come: no good section begins anywhere in the file");
     else fault(b, "no table has come: no section in the file is taken");
 }
 
 static void show(struct box *b) {
     for (struct table *t = b->tables; t < b->tables + b->count; t++) pack(b, t);
-    for (size_t i = 0; i < b->stretch_count; i++) show_stretch(b, &b->stretches[i]);
+    for (size_t i = 0; i < b->gone_count; i++) show_gone(b, &b->gone[i]);
+    if (b->stream != NULL) show_packets(b->stream);
     printf("sections: %u taken, %u held already, %u refused\n", b->taken, b->held, b->refused);
     if (b->count == 0) tell_nothing(b);
     for (struct table *t = b->tables; t < b->tables + b->count; t++)
@@ -532,28 +599,15 @@ static int read_file(struct box *b, FILE *in, const char *name) {
     return b->n > MOST_FILE ? unusable("%s has more than %d bytes, the most that this box takes", name, MOST_FILE) : WHOLE;
 }
 
-// Whether nine packets in ten have the sync byte at one place, or all of less than five packets at their beginning; never
-// where the file begins with a good section.
-static bool is_transport_stream(const uint8_t *s, size_t n) {
-    size_t length;
-    if (NW_REFUSAL(judge(s, n, &length)) == NW_TAKEN) return false;
-    for (size_t start = 0; start < PACKET && start < n; start++) {
-        size_t packets = 0, synced = 0;
-        for (size_t p = start; p < n; p += PACKET, packets++) synced += s[p] == SYNC;
-        if (packets >= 5 ? synced * 10 >= packets * 9 : start == 0 && n % PACKET == 0 && synced == packets) return true;
-    }
-    return false;
-}
-
 static int run(struct box *b, const char *name) {
     FILE *in = fopen(name, "rb");
     if (in == NULL) return unusable("%s can't be opened: %s", name, strerror(errno));
     int status = read_file(b, in, name);
     fclose(in);
     if (status != WHOLE) return status;
-    if (is_transport_stream(b->s, b->n))
-        return unusable("%s is a transport stream (0x47 every 188 bytes): this box reads the sections alone", name);
-    gather(b);
+    static struct stream stream;
+    if (stream_is(b->s, b->n)) gather_packets(b, b->stream = &stream);
+    else gather(b);
     show(b);
     if (fflush(stdout) != 0 || ferror(stdout)) return unusable("what is shown can't be written: %s", strerror(errno));
     return b->faults == 0 ? WHOLE : FAULTY;
@@ -561,7 +615,7 @@ static int run(struct box *b, const char *name) {
 
 static void clear(struct box *b) {
     for (struct table *t = b->tables; t < b->tables + TABLES; t++) free(t->store);
-    free(b->stretches);
+    free(b->gone);
     free(b->s);
     free(b);
 }
@@ -600,8 +654,8 @@ static int help(void) {
          "Shows the messages of the sections in FILE, in local time at MINUTES east of UTC, -720 to 840, or else in UTC.\n"
          "The length of an auxiliary file has BITS bits, 24 or 32, or else 24.\n"
          "Exit status: 0, every table is whole and accepted, and messages and texts belong together; 1, something is damaged,\n"
-         "missing or refused, or no table came; 2, wrong usage, a FILE that can't be read or is a transport stream, or output\n"
-         "that can't be written. Of a text the first lines are shown, with --whole all.");
+         "missing or refused, or no table came; 2, wrong usage, a FILE that can't be read, or output that can't be written.\n"
+         "FILE may be a transport stream. Of a text the first lines are shown, with --whole all.");
     return fflush(stdout) == 0 ? WHOLE : UNUSABLE;
 }
 

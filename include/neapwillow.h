@@ -53,6 +53,8 @@ uint32_t nw_version(void);
  *   nw_language_auxiliary_type and nw_language_auxiliary first. A call without it does not compile.
  * - Refusal 25 is gone, and its number is not given again.
  * - nw_salvage is new, the good sections of a damaged capture, and with it refusal 36.
+ * - nw_packet_pack and nw_packet_unpack are new, transport packets on PID 0x0021, and with them refusals
+ *   30 to 34.
  * - The stack that each function takes is stated. */
 
 /* ---- Answers ----------------------------------------------------------------------------------
@@ -134,13 +136,14 @@ enum nw_refusal {
     NW_OTHER_CHECKSUM = 23,         /* the extension is not the CRC-16 of the identifier */
     NW_NOT_OF_THE_FORM = 24,        /* date text not of the exact form */
     /* 25 was a joined body above 1,045,504 bytes, which no possible state has; it is not given again */
-    /* 30 to 34 are those of transport packets: proved, and not offered to C yet */
     NW_NOT_A_PACKET = 30,           /* not 188 bytes */
     NW_NO_SYNC_BYTE = 31,           /* a packet without the sync byte 0x47 */
     NW_OTHER_PID = 32,              /* a packet of another PID than 0x0021 */
     NW_SCRAMBLED = 33,              /* a scrambled packet */
     NW_PAST_PACKET = 34,            /* pointer or adaptation field past the packet's end; control 00 */
-    NW_CAPTURE_TOO_LONG = 36        /* a capture above 65,536 bytes */
+    NW_NO_FREE_ROOM = 35,           /* every room of the store is held; nothing gives it yet */
+    NW_CAPTURE_TOO_LONG = 36,       /* a capture above 65,536 bytes */
+    NW_TEACHING_BUFFER_FULL = 37    /* the teaching buffer has no room for what is fed; nothing gives it yet */
 };
 
 /* What a refusal's number means, in words for a person; any other number is no such refusal. Plain C in
@@ -178,7 +181,9 @@ static inline const char *nw_refusal_text(unsigned number)
     case NW_OTHER_PID: return "the packet is of another PID than 0x0021";
     case NW_SCRAMBLED: return "the packet is scrambled";
     case NW_PAST_PACKET: return "a pointer or an adaptation field passes the packet's end";
+    case NW_NO_FREE_ROOM: return "every room of the store is held";
     case NW_CAPTURE_TOO_LONG: return "the capture has more than 65,536 bytes";
+    case NW_TEACHING_BUFFER_FULL: return "the teaching buffer has no room for what is fed";
     default: return "no such refusal";
     }
 }
@@ -323,6 +328,51 @@ static inline nw_run nw_run_at(const uint32_t *list, size_t i)
  * Stack: 176 bytes. */
 nw_salvaged nw_salvage(const uint8_t *capture, size_t n, uint8_t *out, size_t room, uint32_t *list,
                        size_t numbers);
+
+/* ---- Transport packets ------------------------------------------------------------------------
+ *
+ * Sections travel in transport packets (ISO/IEC 13818-1): 188 bytes, the sync byte 0x47, PID 0x0021, a
+ * start indicator with a pointer field, a continuity counter of four bits, stuffing of 0xFF after a
+ * section. For the unpacker the caller lends a state of NW_UNPACKER_BYTES bytes, at first all zeros. Any
+ * bytes are a state; such as no call can have left are read as one that holds nothing. What is in it is
+ * the library's, and it is never NULL. */
+#define NW_PACKET_BYTES 188u
+#define NW_UNPACKER_BYTES 4286u /* of an unpacker's state */
+
+/* The bytes of the packets of a section of n bytes, and of the longest one's: 23 packets. */
+#define NW_PACKED_BYTES(n) ((size_t)NW_PACKET_BYTES * (1 + (size_t)(n) / 184))
+#define NW_MOST_PACKED NW_PACKED_BYTES(NW_MOST_SECTION)
+
+/* The most sections that one packet can complete, and the most bytes that they have together. */
+#define NW_MOST_COMPLETED 61u
+#define NW_MOST_COMPLETED_BYTES 4278u
+
+/* Writes a good section's packets at the start of out: the section begins in a fresh packet with pointer
+ * 0, the first packet has the counter given, and each has the next after the one before it, round the
+ * ring of 16. Value: the bytes written, NW_PACKED_BYTES(n); bytes of out after them stay. The next
+ * section's counter is (counter + value / NW_PACKET_BYTES) % 16. Refusals, in this order, with nothing
+ * written: 1 to 7, as nw_section_read; 19, a counter above 15; 21, out is too small.
+ * Stack: 208 bytes. */
+nw_answer nw_packet_pack(const uint8_t *section, size_t n, uint32_t counter, uint8_t *out, size_t room);
+
+/* Takes one packet, and writes the sections that it completes at the start of out, one right after the
+ * other, each as long as its section_length says, 3 to 4,096 bytes, whatever its table_id and its check:
+ * nw_section_read judges it. Value: their bytes together, often 0; bytes of out after them stay.
+ * NW_MOST_COMPLETED_BYTES of room are always enough. Several sections in one packet, any pointer and
+ * adaptation fields are taken.
+ * - A packet equal to the last one taken in all 188 bytes is ignored once; the next such is a gap.
+ * - A packet without a payload is skipped, its counter unread.
+ * - The unfinished section is dropped by a counter that does not follow the last packet's, by the error
+ *   bit (of a packet of any PID; the next counter is then free), by a section_length above 4,093, and by
+ *   a pointer that comes before its end. Reading goes on at the next pointer, a gap packet's own included.
+ * - FF where a section would begin is stuffing to the packet's end. Without a pointer, bytes after a
+ *   section's end are skipped.
+ * Refusals, in this order, and a refused packet changes nothing, not even the counter: 30, n is not 188;
+ * 31, no sync byte; 32, another PID: pass it over; 33, scrambled; 34, a pointer or an adaptation field
+ * past the packet's end, or adaptation control 00; 21, out is too small for the sections together.
+ * Stack: 112 bytes. */
+nw_answer nw_packet_unpack(uint8_t state[NW_UNPACKER_BYTES], const uint8_t *packet, size_t n, uint8_t *out,
+                           size_t room);
 
 /* ---- The gathering ----------------------------------------------------------------------------
  *

@@ -6,7 +6,7 @@ import sys
 
 ROOT = os.path.join(os.path.dirname(os.path.abspath(__file__)), os.pardir)
 FOLDER = sys.argv[1]
-DRILL, DATES, SHOW = './run drill', './run dates', 'nw show --offset +08:00 received'
+DRILL, DATES, SHOW = './run drill', './run dates', 'nw show --offset +08:00 received.ts'
 faults = []
 
 

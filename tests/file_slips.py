@@ -32,6 +32,14 @@ def table(kind, body, its_extension=0, version=0):
     return [cut(body, kind, its_extension, version, number, 4096) for number in range(-(-len(body) // 4084))]
 
 
+def apart(data):
+    """The sections that stand one right after the other in good bytes."""
+    while data:
+        length = 3 + ((data[1] & 0x0F) << 8 | data[2])
+        yield data[:length]
+        data = data[length:]
+
+
 def index(*messages, version=0):
     return table(INDEX, bytes([len(messages)]) + b''.join(messages) + b'\0\0', version=version)
 
@@ -62,7 +70,6 @@ CHECK = ' are no good section: the section\'s CRC_32 is wrong (refusal 7)'
 KIND = ' are no good section: the table is of another kind (refusal 2)'
 SHORT = ' are no good section: the section is shorter than 12 bytes (refusal 1)'
 CUT_OFF = ' are no good section: the section is not as long as its section_length says (refusal 5)'
-BAD_STREAM = 'box: received is a transport stream (0x47 every 188 bytes): this box reads the sections alone'
 NO_CONVERSION = '    (the C library has no conversion from this character set: of its bytes ASCII is shown, others as \\xNN)'
 NO_CHARACTER = '    (bytes that are no character of this set: %d, written as \\xNN)'
 STEERS = "    (characters that steer a terminal, or that this one's set, UTF-8, has not, are written as \\u{..})"
@@ -86,12 +93,6 @@ def progress(name, its_extension, version, last, *sections):
 def changed(section, at):
     """A section with a bit changed at a byte."""
     return section[:at] + bytes([section[at] ^ 1]) + section[at + 1:]
-
-
-def packets(data, count):
-    """A transport stream: what there is of the data in each packet, and stuffing."""
-    return b''.join(b'\x47\x40\x21' + bytes([0x10 | n % 16]) + (b'\0' + data[n * 183:][:183]).ljust(184, b'\xFF')
-                    for n in range(count))
 
 
 def whole():
@@ -256,15 +257,6 @@ def long_files():
         yield bytes(before) + DRILL, ['bytes 0 to %d' % (before - 1) + KIND + UNKNOWN, 'sections: 2 taken, 0 held already, 1 refused', *SHOWN]
     yield changed(TWO, 3) + bytes(130000) + DRILL * 700 + bytes(70000), [
         'bytes %d to %d' % (len(TWO), len(TWO) + 129999) + KIND + UNKNOWN, 'sections: 2 taken, 1398 held already, 3 refused', *SHOWN]
-
-
-def streams():
-    """Transport streams: status 2, and what is said."""
-    yield from (packets(DRILL, count) for count in (1, 2, 5, 100))
-    yield packets(b''.join(LONG), 70)[100:]
-    yield packets(DRILL, 20)[:-100]
-    yield packets(DRILL, 20).replace(b'\x47\x40\x21\x13', b'\x00\x40\x21\x13', 1)
-    yield b''.join(b'\x47\x40\x21\x10\0' + TWO.ljust(183, b'\xFF') for _ in range(9))  # a section in each packet
 
 
 # The words of a call, and what is said: status 2.

@@ -13,6 +13,8 @@ HEADERS = {'neapwillow': 'include/neapwillow.h', 'c_commands': 'programs/c_comma
 # What the commands' header calls a constant of the source.
 CONSTANTS = {'NW_MOST_INPUT': 'program_printing::MOST_INPUT', 'NW_MOST_REPORT': 'program_date_lines::MOST_OUTPUT',
              'NW_MOST_LINE': 'program_section_line::MOST_OUTPUT', 'NW_MOST_LIST': 'program_salvage_lines::MOST_OUTPUT'}
+# The library's header has one too, for what C lends as an array.
+LENT = {'NW_UNPACKER_BYTES': 'packet_memory::STATE_BYTES'}
 
 # What C lends as a struct: its name there, and where the source has it under which name.
 STRUCTS = [('nw_gathering', 'crates/gathering_state/src/lib.rt', 'Gathering'), ('nw_record', RECORDS, 'Record')]
@@ -73,7 +75,7 @@ def in_c(declared):
     """A parameter's type without its name, one space before a star; an array with the source's name for its length."""
     array = re.fullmatch(r'(\w+) \w+\[(\w+)\]', declared.strip())
     if array:
-        return '%s [%s]' % (array[1], CONSTANTS.get(array[2]))
+        return '%s [%s]' % (array[1], {**CONSTANTS, **LENT}.get(array[2]))
     kind = re.sub(r'\s*\*\s*', ' * ', declared.strip())
     kind = kind if kind.endswith('* ') else re.sub(r'\w+$', '', kind)
     return kind.strip()
@@ -100,9 +102,9 @@ def header_version(header):
     return {'text': re.search(r'^#define NW_VERSION "(.*)"$', header, re.M)[1], **found, 'defined': list(found.values())}
 
 
-def source_constants():
+def source_constants(names):
     found = {}
-    for name, constant in CONSTANTS.items():
+    for name, constant in names.items():
         crate, _, word = constant.partition('::')
         value = re.search(r'pub const %s: \w+ = ([\d_]+);' % word, read('crates', crate, 'src', 'lib.rt'))[1]
         found[name] = int(value.replace('_', ''))
@@ -191,7 +193,8 @@ def main():
              ('shape', dict.fromkeys(['nw_answer', *SHAPES.values()], 'uint64_t packed;'), shapes(header)),
              ('field told', source_fields_told(), header_fields_told(header)), ('macro', MACROS, header_macros(header)),
              ('variant', source_variants(), header_variants(header)), functions[1],
-             ('constant', source_constants(), header_constants(commands))]
+             ('constant', source_constants(CONSTANTS), header_constants(commands)),
+             ('length of what is lent', source_constants(LENT), {name: header_constants(header).get(name) for name in LENT})]
     wrong = 0
     for what, source, declared in pairs:
         for name in sorted(source.keys() | declared.keys()):

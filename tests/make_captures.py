@@ -1,7 +1,8 @@
-"""Captures of two invented head ends with different habits, and what `nw show` has to say of them; no code is shared with the library.
+"""Captures of three invented head ends with different habits, and what `nw show` has to say of them; no code is shared with the library.
 
 Alder fills its sections, sends each table several times in order, and numbers its index tables with extension 0. Birch cuts wherever it
-likes, turns the order round, mixes tables, announces versions before they are current, and its line loses and spoils bytes.
+likes, turns the order round, mixes tables, announces versions before they are current, and its line loses and spoils bytes. Cedar's capture is a
+transport stream, from which packets are missing.
 What has to be said is worked out here from the same values that the bytes are made of.
 """
 import datetime
@@ -9,6 +10,8 @@ import hashlib
 import os
 import random
 import sys
+
+from second_packets import packed
 
 INDEX, CONTENT, CERTIFICATE, CONFIGURATION = 0xFD, 0xFE, 0xFC, 0xFB
 KINDS = {INDEX: 'index', CONTENT: 'content', CERTIFICATE: 'certificate', CONFIGURATION: 'configuration'}
@@ -362,7 +365,28 @@ def birch():
     return data, [], 1, said
 
 
-CAPTURES = {'alder': alder, 'birch': birch}
+def cedar():
+    """A transport stream, each table twice over: the first time a packet is lost and one marked with the error bit. Another PID's packets stand between."""
+    index = Index([DRILL], 5)
+    content = Content(DRILL, [('eng', 0, LONG_TEXT, 'County office', [])], 5)
+    sections = index.sections() + content.sections()
+    packets, null = [], b'\x47\x1F\xFF\x10' + bytes(184)
+    for section in sections * 2:
+        packets += packed(section, len(packets) % 16)
+    packets[30] = packets[30][:1] + bytes([packets[30][1] | 0x80]) + packets[30][2:]
+    came = [packet for number, packet in enumerate(packets) if number != 5]
+    data = b''.join(packet + null * (number % 10 == 9) for number, packet in enumerate(came))
+    gap = ('packet at byte %d: packets before it are lost, 1 by the counters; by its heading the section was number %d, the last being %d, of '
+           'content table ' + '%04X' % content.extension + ', version 5')
+    last, count = len(content.sections()) - 1, len(sections)
+    said = [gap % (5 * 188, 0, last), gap % (33 * 188, 1, last), *index.whole(1, 1), *index.said(None), *index.contents(5), verdict(),
+            *content.whole(last + 1, last - 1), *content.said(None), belongs(1, index), verdict(), summed(data, count, count - 2, 0, 0),
+            'packets: %d on PID 0x0021, of which 0 repeated, %d of other PIDs, 1 with the error bit, 0 refused; losses: 2' % (len(came) - 1, len(came) // 10),
+            'tables: 2, of which 2 whole and 2 accepted', NOT_WELL]
+    return data, [], 1, said
+
+
+CAPTURES = {'alder.sec': alder, 'birch.sec': birch, 'cedar.ts': cedar}
 
 
 def main():
@@ -370,7 +394,7 @@ def main():
     folder = sys.argv[1]
     os.makedirs(folder, exist_ok=True)
     for name, made in CAPTURES.items():
-        with open(os.path.join(folder, name + '.sec'), 'wb') as file:
+        with open(os.path.join(folder, name), 'wb') as file:
             file.write(made()[0])
 
 

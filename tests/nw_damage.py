@@ -1,7 +1,8 @@
 """What `nw show --json` tells of captures that are damaged by chance, beside a model of its own: nw_damage.py HOW SECONDS PROGRAM..
 
 Sections of some tables in several versions, repeated, out of order, not current, contradicting each other, with bytes changed, lost and
-added between and inside them. The model finds the sections, gathers them and says which bytes were skipped and which sections refused.
+added between and inside them; or in transport packets, of which some are lost, repeated, marked with the error bit or of another PID. The model
+finds the sections, gathers them and says which bytes were skipped, which sections refused, and where the counters show a gap.
 """
 import json
 import random
@@ -9,7 +10,9 @@ import subprocess
 import sys
 import time
 
+import packets
 from calls import Refused
+from second_packets import PACKET, Unpacker, judged as judged_packet, packed
 from second_sections import printed, section_length, section_read
 
 HOW, SECONDS, PROGRAM = sys.argv[1], float(sys.argv[2]), sys.argv[3:]
@@ -55,7 +58,46 @@ def capture():
     return b''.join(sent)
 
 
+NULL = b'\x47\x1F\xFF\x10' + bytes(184)
+
+
+def stream():
+    """A transport stream of some sections, with bits changed behind their lengths, and damaged packet by packet."""
+    made, counter = [], chance.randrange(16)
+    for section in some_sections() * 2:
+        if chance.random() < 0.1:
+            at = chance.randrange(3, len(section))
+            section = section[:at] + bytes([section[at] ^ 1 << chance.randrange(8)]) + section[at + 1:]
+        more = packed(section, counter) if chance.random() < 0.5 else packets.close([section, section], counter)[0]
+        counter = (counter + len(more)) % 16
+        made += more
+    loss = chance.choice((0, 0.01, 0.1))
+    came = [chance.choices(([], [p, p], [p[:1] + bytes([p[1] | 0x80]) + p[2:]], [NULL, p], [p]), (loss, 0.1, loss, 0.1, 1))[0] for p in made]
+    return b''.join(map(b''.join, came))
+
+
 # ---- the model
+
+
+def found_in(data):
+    """As found, in a transport stream; and each gap as its place and how many packets are lost."""
+    unpacker, counter = Unpacker(), None
+    for at in range(0, len(data), PACKET):
+        packet = data[at:at + PACKET]
+        try:
+            kind = judged_packet(packet)
+        except Refused:
+            continue
+        if kind not in ('error', 'skipped') and not (packet == unpacker.last and not unpacker.repeated):
+            if counter is not None and kind[0] != (counter + 1) % 16:
+                yield at, (kind[0] - counter - 1) % 16, 'gap'
+            counter = kind[0]
+        for section in unpacker.unpack(packet, 65535):
+            try:
+                section_read(section)
+                yield at, section, None
+            except Refused as refusal:
+                yield at, len(section), refusal.args[0]
 
 
 def judged(data):
@@ -117,10 +159,13 @@ class Gathered:
         return 0
 
 
-def modelled(data):
-    """Events, tables and sums."""
+def modelled(data, find):
+    """Events, tables and sums, of what a finder finds."""
     tables, events, taken, held, refused, skipped = {}, [], 0, 0, 0, 0
-    for at, what, refusal in found(data):
+    for at, what, refusal in find(data):
+        if refusal == 'gap':
+            events.append(('lost', at, what))
+            continue
         if refusal is not None:
             events.append(('skipped', at, what, refusal))
             skipped += what
@@ -146,6 +191,8 @@ def modelled(data):
 
 
 def event_told(event):
+    if event['event'] == 'lost':
+        return 'lost', event['at'], event['packets']
     if event['event'] == 'skipped':
         return 'skipped', event['at'], event['bytes'], event['refusal']
     heading = tuple(event[name] for name in ('table_id', 'extension', 'version', 'number', 'last'))
@@ -164,13 +211,14 @@ def table_modelled(t):
 
 
 def try_one():
-    data = capture()
+    data, find = (capture(), found) if chance.random() < 0.6 else (stream(), found_in)
     done = subprocess.run([*PROGRAM, 'show', '--json', '-'], input=data, capture_output=True, check=False, timeout=100)
     if done.returncode not in (0, 1) or done.stderr:
         sys.exit('status %d on %s: %.2000s' % (done.returncode, data.hex(), done.stderr.decode()))
     told = json.loads(done.stdout.decode('ascii'))
-    events, tables, sums = modelled(data)
-    pairs = [(list(map(event_told, told['events'])), events),
+    events, tables, sums = modelled(data, find)
+    counted = [event for event in map(event_told, told['events']) if event[0] != 'lost' or event[2] != 0]  # other losses have no packets
+    pairs = [(counted, events),
              ({(t['table_id'], t['extension']): table_told(t) for t in told['tables']}, {key: table_modelled(t) for key, t in tables.items()}),
              (tuple(told['sum'][name] for name in ('bytes', 'taken', 'held', 'refused', 'skipped')), sums)]
     for here, there in pairs:

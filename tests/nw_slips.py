@@ -8,6 +8,7 @@ import sys
 import tempfile
 
 import make_captures as make
+import stream_slips as streams
 from make_captures import line
 
 HOW, PROGRAM = sys.argv[1], sys.argv[2:]
@@ -84,14 +85,11 @@ def try_usage():
 
 def try_files():
     os.mkdir('folder')
-    packets = b''.join(b'\x47\x40\x21' + bytes([0x10 | n % 16]) + bytes(184) for n in range(20))
     for name, said in (('none', "none can't be opened: No such file or directory"), ('folder', "folder can't be read: Is a directory"),
                        ('x' * 4000, "%s.. can't be opened: File name too long" % ('x' * 1004)), ('', "(an empty word) can't be opened: No such file or directory"),
                        ('\x1B[2J\u202E', "\\x1B[2J\\xE2\\x80\\xAE can't be opened: No such file or directory")):
         for way in [], ['--json'], ['--bytes']:
             expect('%r %r' % (name, way), run(['show', *way, name]), 2, b'', ['nw show: ' + said])
-    expect('a transport stream', run(['show', '-'], packets), 2, b'',
-           ['nw show: standard input is a transport stream (0x47 every 188 bytes): nw reads bare sections'])
     expect('input closed', run(['show', '-'], stdin=None, preexec_fn=lambda: os.close(0)), 2, b'',
            ["nw show: standard input can't be read: Bad file descriptor"])
     empty = ['all in all: 0 bytes; sections: 0 taken, 0 held already, 0 refused; 0 bytes skipped', 'the capture is empty']
@@ -193,6 +191,22 @@ def try_bench():
 
 
 REFUSED = '      ^ refused: %s (refusal %d, %s at byte %d of the body)'
+
+
+def try_packets():
+    """Transport streams: each loss is told, and counted; the status is 0 only where nothing is lost, skipped or missing."""
+    for number, (data, status, events, counted, _) in enumerate(streams.streams()):
+        losses = sum(told.startswith('packet at byte') for _, told in events)
+        lines = [*(told for _, told in events), counted + '; losses: %d' % losses]
+        expect_lines('stream %d' % number, ['show', '-'], data, 1 if events else status, lines)
+        told = run(['show', '--json', '-'], data)
+        summed = json.loads(told[1].decode('ascii'))
+        here = [(event['event'], event['at']) for event in summed['events'] if event['event'] in ('lost', 'skipped')]
+        there = [(('lost' if told.startswith('packet') else 'skipped'), int(re.search(r'(?:at byte|^bytes) (\d+)', told)[1])) for _, told in events]
+        expect('stream %d in JSON' % number, (told[0], str(here).encode(), b''), 1 if events else status, str(there).encode(), [])
+        numbers = tuple(summed['sum']['packets'][name] for name in ('ours', 'repeats', 'others', 'errors', 'refused'))
+        expect('stream %d counted' % number, (0, streams.counted(*numbers).encode(), b''), 0, counted.encode(), [])
+    expect_compared('a stream and its sections', streams.sent(streams.ONE, streams.TWO), [streams.ONE, streams.TWO], 0, ['differences: 0'])
 
 
 def try_refused():
@@ -371,7 +385,7 @@ with tempfile.TemporaryDirectory() as scratch:
     for file_name in ('good', 'a "quoted"\x1B name'):
         with open(file_name, 'wb') as file:
             file.write(make.section(make.INDEX, 0, 0, 0, 0, b'\0\0\0'))
-    for part in try_usage, try_files, try_streams, try_help, try_small, try_refusals, try_captures, try_bench, try_refused, try_gathering, try_texts, try_compare, try_long:
+    for part in try_usage, try_files, try_streams, try_help, try_small, try_refusals, try_captures, try_packets, try_bench, try_refused, try_gathering, try_texts, try_compare, try_long:
         part()
     os.chdir('/')
 if wrong or tried < 90:

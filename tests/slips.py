@@ -7,6 +7,7 @@ import unicodedata
 
 import file_slips as files
 import form_slips as forms
+import stream_slips as streams
 
 CABLE, HOW, FOLDER = sys.argv[1:4]
 RUNNER = sys.argv[4:]
@@ -130,8 +131,8 @@ def try_files():
         try_file(data, 0, shown)
     for data, shown in files.faulty():
         try_file(data, 1, shown)
-    for data in files.streams():
-        try_file(data, 2, [files.BAD_STREAM])
+    for data, status, events, counted, shown in streams.streams():
+        try_file(data, status, [*(box for box, _ in events), counted, *shown])
     for text, number, shown in files.texts():
         try_file(files.ONE + files.content(files.language(text, number=number))[0], 0, shown)
         in_agency = ['  agency', *shown] if text else []
@@ -193,15 +194,34 @@ def try_cable():
         write('received', got[1])
         expect('the box after the cable on %.60r' % data, run('box', ['received']), status)
     for name, shown in (('drill.txt', '  class       3, actual drill'), ('short.txt', '  end         live, until it is called off')):
-        expect(name, run('adapter', ['sent'], read(os.path.join(os.path.dirname(CABLE), name))), 0, exactly=[])
-        write('received', run('cable', [], read('sent'))[1])
-        expect('the box on ' + name, run('box', ['received']), 0, [shown])
+        form = read(os.path.join(os.path.dirname(CABLE), name))
+        for sent in 'sent', 'sent.ts':
+            expect(name, run('adapter', [sent], form), 0, exactly=[])
+            write('received', run('cable', [], read(sent))[1])
+            expect('the box on %s in %s' % (name, sent), run('box', ['received']), 0, [shown])
+        if read('sent.ts') != b''.join(streams.sent(*files.apart(read('sent')))):
+            wrong.append('%s: the packets are not those of its sections' % name)
+
+
+def try_cable_of_packets():
+    """One packet of a section is damaged, of the next that are longer one is lost and one marked, by turns; all come again, with counters that go on."""
+    short, long = files.ONE, files.content(files.language(b'Go.\n' * 160))[0]
+    first, second, third, fourth = (streams.sent(long, first=number) for number in (2, 6, 10, 14))
+    passed = [streams.byte(streams.sent(short)[0], 16, short[11] ^ 1), streams.NULL, *streams.sent(short, first=1)]
+    passed += [first[0], streams.NULL, first[2], first[2], first[3], streams.NULL, *second]
+    passed += [third[0], streams.marked(third[1]), third[2], third[2], third[3], streams.NULL, *fourth]
+    got = run('cable', [], b''.join(streams.sent(short, long, long)))
+    expect('the cable on packets', (got[0], b'', got[2]), 0, exactly=[])
+    if got[1] != b''.join(passed) or len(first) != 4:
+        wrong.append('the cable on packets passes on %.2000r' % got[1])
+    write('received', got[1])
+    expect('the box after the cable on packets', run('box', ['received']), 0, ['    | Go.'])
 
 
 with tempfile.TemporaryDirectory() as scratch:
     os.chdir(scratch)
     os.mkdir('folder')
-    for part in try_forms, try_adapter_calls, try_files, try_box_calls, try_cable:
+    for part in try_forms, try_adapter_calls, try_files, try_box_calls, try_cable, try_cable_of_packets:
         part()
     os.chdir('/')
 if wrong or tried < 200:

@@ -515,6 +515,7 @@ int main(int count, char **words) {
     try_sections();
     try_cutting();
     try_salvaging();
+    try_packets();
     try_gathering();
     try_tables();
     uint64_t calls = 0;

@@ -10,6 +10,7 @@
 #include "plain_content.h"
 #include "plain_index.h"
 #include "plain_numbers.h"
+#include "plain_packets.h"
 #include "plain_sections.h"
 
 // Every function of the header, and the refusals that it can give: each must be met, and no other.
@@ -18,6 +19,7 @@
     X(time_pack, "19 20") X(time_unpack, "18 19 20") X(time_read_text, "19 20 24") X(time_showing, "18 19 20")       \
     X(section_read, "1 2 3 4 5 6 7") X(section_length, "1 4") X(section_count, "14 22")                              \
     X(section_cut, "2 6 14 19 21 22") X(salvage, "21 36")                                                            \
+    X(packet_pack, "1 2 3 4 5 6 7 19 21") X(packet_unpack, "21 30 31 32 33 34")                                      \
     X(gathering_feed, "1 2 3 4 5 6 7 8 9 10 11 12") X(gathering_hand_out, "10 11 12 13 21")                          \
     X(gathering_pack, "10 11 12 13")                                                                                 \
     X(certificate_read, "2 14 16 22") X(certificate_authorization_count, "14") X(certificate_authorization, "14 19") \
@@ -106,6 +108,7 @@ void wrong(const char *what);                               // says it and ends
      same_outputs(nw_##name(__VA_ARGS__, (void *)output_library.at, size).packed,                                    \
                   plain_##name(__VA_ARGS__, (void *)output_plain.at, size)))
 
-void try_tables(void); // in whole_tables.c
+void try_packets(void); // in whole_packets.c
+void try_tables(void);  // in whole_tables.c
 
 #endif

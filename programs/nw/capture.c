@@ -1,8 +1,8 @@
-// capture.c: a capture read through a window of bounded size, and the sections in it found, damage among them or not.
+// capture.c: a capture of sections or of transport packets read through a window of bounded size, and the sections in it found.
 #include "capture.h"
 #include <string.h>
 
-enum { WINDOW = 1 << 16, PACKET = 188, SYNC = 0x47, LEAST = 12 };
+enum { WINDOW = 1 << 16, LEAST = 12 };
 
 struct window {
     FILE *in;
@@ -51,35 +51,75 @@ static void skip(struct window *w, struct finder finder, nw_heading got, size_t 
     finder.skipped(finder.own, &bad);
 }
 
-// Whether nine packets in ten of what is at hand have the sync byte at one place, or all of less than five packets at their
-// beginning; never where a good section begins the capture.
-static bool is_transport_stream(const uint8_t *s, size_t n) {
-    size_t length;
-    if (NW_REFUSAL(judge(s, n, &length)) == NW_TAKEN) return false;
-    for (size_t start = 0; start < PACKET && start < n; start++) {
-        size_t packets = 0, synced = 0;
-        for (size_t p = start; p < n; p += PACKET, packets++) synced += s[p] == SYNC;
-        if (packets >= 5 ? synced * 10 >= packets * 9 : start == 0 && n % PACKET == 0 && synced == packets) return true;
+// ---- a file of sections
+
+static void read_sections(struct window *w, struct finder finder) {
+    while (w->start < w->end) {
+        size_t length;
+        nw_heading got = judge(w->s + w->start, w->end - w->start, &length);
+        if (NW_REFUSAL(got) == NW_TAKEN) {
+            finder.section(finder.own, w->at, w->s + w->start, length, got);
+            pass(w, length);
+        } else skip(w, finder, got, length);
+        fill(w);
     }
-    return false;
 }
 
-enum capture capture_read(FILE *in, struct finder finder, uint64_t *bytes) {
-    static struct window w;
-    w = (struct window){.in = in};
-    fill(&w);
-    if (ferror(in)) return CAPTURE_FAULT;
-    if (is_transport_stream(w.s, w.end)) return CAPTURE_PACKETS;
-    finder.begin(finder.own);
-    while (w.start < w.end) {
-        size_t length;
-        nw_heading got = judge(w.s + w.start, w.end - w.start, &length);
-        if (NW_REFUSAL(got) == NW_TAKEN) {
-            finder.section(finder.own, w.at, w.s + w.start, length, got);
-            pass(&w, length);
-        } else skip(&w, finder, got, length);
-        fill(&w);
+// ---- a transport stream
+
+// Tells the sections that the packet at hand completes.
+static void take_completed(struct window *w, struct finder finder, const uint8_t *s, size_t n) {
+    for (size_t length; n > 0; s += length, n -= length) {
+        length = 3 + ((size_t)(s[1] & 0x0F) << 8 | s[2]);
+        nw_heading got = nw_section_read(s, length);
+        struct stretch bad = {.at = w->at, .bytes = length, .refusal = NW_REFUSAL(got), .in_packets = true};
+        if (bad.refusal == NW_CHECK_NOT_ZERO) memcpy(bad.heading, s, HEADING);
+        if (bad.refusal == NW_TAKEN) finder.section(finder.own, w->at, s, length, got);
+        else finder.skipped(finder.own, &bad);
     }
-    *bytes = w.at;
-    return ferror(in) ? CAPTURE_FAULT : CAPTURE_READ;
+}
+
+// Passes over what is no packet, up to the next one, and tells it.
+static void find_packet(struct window *w, struct finder finder) {
+    struct stretch bad = {.at = w->at, .refusal = NW_NO_SYNC_BYTE};
+    size_t before, sure;
+    do {
+        fill(w);
+        size_t n = w->end - w->start;
+        sure = w->over ? n : n - 2 * NW_PACKET_BYTES;
+        before = stream_next(w->s + w->start, n, sure);
+        pass(w, before);
+    } while (before == sure && w->start < w->end);
+    bad.bytes = w->at - bad.at;
+    if (bad.bytes != 0) finder.skipped(finder.own, &bad);
+}
+
+static void read_packets(struct window *w, struct finder finder, struct stream *x) {
+    uint8_t out[NW_MOST_COMPLETED_BYTES];
+    for (; w->start < w->end; fill(w)) {
+        if (w->at == 0 || w->s[w->start] != STREAM_SYNC) find_packet(w, finder);
+        size_t left = w->end - w->start, n = left < NW_PACKET_BYTES ? left : NW_PACKET_BYTES;
+        if (n == 0) break;
+        nw_answer got = stream_take(x, w->at, w->s + w->start, n, out);
+        unsigned number = NW_REFUSAL(got);
+        if (number == NW_TAKEN) take_completed(w, finder, out, nw_value(got));
+        else if (number != NW_OTHER_PID) finder.skipped(finder.own, &(struct stretch){.at = w->at, .bytes = n, .refusal = number});
+        pass(w, n);
+    }
+    stream_end(x);
+}
+
+bool capture_read(FILE *in, struct finder finder, struct captured *got) {
+    static struct window w;
+    static struct stream x;
+    w = (struct window){.in = in};
+    x = (struct stream){.lost = finder.lost, .own = finder.own};
+    fill(&w);
+    if (ferror(in)) return false;
+    bool is_stream = stream_is(w.s, w.end);
+    finder.begin(finder.own);
+    if (is_stream) read_packets(&w, finder, &x);
+    else read_sections(&w, finder);
+    *got = (struct captured){w.at, is_stream, x.ours, x.others, x.errors, x.repeats, x.refused};
+    return !ferror(in);
 }

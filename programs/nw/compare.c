@@ -13,14 +13,13 @@ const struct command compare_command = {
     "extension, in their newest versions, or but for content tables with the only one of its kind;\n"
     "a message against the one with the same identifier, a text line by line.\n"
     "How the tables were cut, repeated and ordered makes no difference, nor do damaged bytes\n"
-    "whose section came whole elsewhere.\n"
+    "or lost packets whose section came whole elsewhere.\n"
     "  --auxiliary BITS the length of an auxiliary file has 24 bits, as without it, or 32\n"
     "  --offset OFFSET  times are also local, so far east of UTC: minutes, -720 to 840, or hours\n"
     "                   and minutes with their sign, as +08:00; without it they are UTC alone\n"
     "  --help           says this\n"
     "Exit status: 0, every table of both is whole, and nothing differs; 1, something does, or\n"
-    "can't be told; 2, wrong usage, a capture that can't be read or is a transport stream, or\n"
-    "output that can't be written.\n"};
+    "can't be told; 2, wrong usage, a capture that can't be read, or output that can't be written.\n"};
 
 struct work {
     const char *names[2];
@@ -38,6 +37,8 @@ static void note_section(void *own, uint64_t at, const uint8_t *s, size_t n, nw_
 }
 
 static void note_skipped(void *own, const struct stretch *bad) { (void)own, (void)bad; }
+
+static void note_lost(void *own, const struct stream_loss *loss) { (void)own, (void)loss; }
 
 // ---- differences
 
@@ -146,8 +147,9 @@ static int tell(struct work *w) {
 static int run(struct work *w) {
     bool read = true;
     for (unsigned i = 0; i < 2 && read; i++) {
-        uint64_t bytes;
-        read = load(&compare_command, w->names[i], (struct finder){note_begin, note_section, note_skipped, &w->tables[i]}, &bytes);
+        struct captured got;
+        struct finder finder = {note_begin, note_section, note_skipped, note_lost, &w->tables[i]};
+        read = load(&compare_command, w->names[i], finder, &got);
     }
     int status = read ? tell(w) : UNUSABLE;
     for (unsigned i = 0; i < 2; i++) tables_free(&w->tables[i]);

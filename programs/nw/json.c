@@ -64,6 +64,17 @@ static void skipped(const struct stretch *bad) {
     printf("{\"event\": \"skipped\", \"at\": %" PRIu64 ", \"bytes\": %" PRIu64 ", \"refusal\": %u, \"words\": ", bad->at, bad->bytes,
            bad->refusal);
     put_ascii(nw_refusal_text(bad->refusal));
+    printf(", \"in_packets\": %s}", truth(bad->in_packets));
+}
+
+static void lost(const struct stream_loss *loss) {
+    const uint8_t *s = loss->heading;
+    next();
+    printf("{\"event\": \"lost\", \"at\": %" PRIu64 ", \"packets\": %u, \"words\": ", loss->at, loss->packets);
+    put_ascii(stream_words(loss->kind));
+    if (loss->known)
+        printf(", \"table_id\": %u, \"extension\": %u, \"version\": %u, \"number\": %u, \"last\": %u", s[0], s[3] << 8 | s[4],
+               s[5] >> 1 & 0x1Fu, s[6], s[7]);
     putchar('}');
 }
 
@@ -214,12 +225,21 @@ static void table(const struct tables *all, const struct table *t, struct clock 
 
 // ---- all in all
 
+static void put_packets(const struct captured *c) {
+    if (!c->is_stream) fputs("null", stdout);
+    else
+        printf("{\"ours\": %" PRIu64 ", \"repeats\": %" PRIu64 ", \"others\": %" PRIu64 ", \"errors\": %" PRIu64 ", \"refused\": %" PRIu64 "}",
+               c->ours, c->repeats, c->others, c->errors, c->refused);
+}
+
 static void end(const struct tables *all, const struct sum *s, bool faultless) {
     printf("],\n\"sum\": {\"bytes\": %" PRIu64 ", \"taken\": %" PRIu64 ", \"held\": %" PRIu64 ", \"refused\": %" PRIu64
            ", \"skipped\": %" PRIu64 ", \"tables\": %zu, \"whole\": %" PRIu64 ", \"accepted\": %" PRIu64
-           ", \"messages_without_content\": %" PRIu64 ", \"contents_without_message\": %" PRIu64 ", \"status\": %d}}\n",
-           s->bytes, s->taken, s->held, s->refused, s->skipped, all->count, s->whole, s->accepted, s->messages_without_content,
-           s->contents_without_message, faultless ? 0 : 1);
+           ", \"messages_without_content\": %" PRIu64 ", \"contents_without_message\": %" PRIu64 ", \"losses\": %" PRIu64 ", \"status\": %d, \"packets\": ",
+           s->capture.bytes, s->taken, s->held, s->refused, s->skipped, all->count, s->whole, s->accepted, s->messages_without_content,
+           s->contents_without_message, s->losses, faultless ? 0 : 1);
+    put_packets(&s->capture);
+    fputs("}}\n", stdout);
 }
 
-const struct report json_report = {begin, skipped, arrival, tables, table, end};
+const struct report json_report = {begin, skipped, lost, arrival, tables, table, end};

@@ -5,18 +5,16 @@
 
 const char *called(const char *name) { return strcmp(name, "-") == 0 ? "standard input" : shown(name); }
 
-bool load(const struct command *c, const char *name, struct finder finder, uint64_t *bytes) {
+bool load(const struct command *c, const char *name, struct finder finder, struct captured *got) {
     bool standard = strcmp(name, "-") == 0;
     FILE *in = standard ? stdin : fopen(name, "rb");
     int why = errno; // which to call it by its name may change
     if (in == NULL) return say(c, "%s can't be opened: %s", called(name), strerror(why)), false;
-    enum capture came = capture_read(in, finder, bytes);
+    bool read = capture_read(in, finder, got);
     why = errno;
-    if (came == CAPTURE_FAULT) say(c, "%s can't be read: %s", called(name), strerror(why));
-    if (came == CAPTURE_PACKETS)
-        say(c, "%s is a transport stream (0x47 every 188 bytes): nw reads bare sections", called(name));
+    if (!read) say(c, "%s can't be read: %s", called(name), strerror(why));
     if (!standard) fclose(in);
-    return came == CAPTURE_READ;
+    return read;
 }
 
 // Hours and minutes with their sign, as +08:00.

@@ -7,7 +7,7 @@
 #include "walk.h"
 
 /* Reads a capture by its name, - for standard input. False where it can't be read, which is said. */
-bool load(const struct command *c, const char *name, struct finder finder, uint64_t *bytes);
+bool load(const struct command *c, const char *name, struct finder finder, struct captured *got);
 
 /* How a capture is called to a person, until the next call. */
 const char *called(const char *name);

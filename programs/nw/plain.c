@@ -9,13 +9,28 @@
 
 static void begin(const char *name) { printf("capture %s\n", name); }
 
+// What something was, by a section's heading.
+static void put_heading(const char *what, const uint8_t s[HEADING]) {
+    printf("; by its heading %s was ", what);
+    if (s[0] < NW_CONFIGURATION || s[0] > NW_CONTENT) printf("of another kind of table, table_id 0x%02X", s[0]);
+    else
+        printf("number %u, the last being %u, of %s table %02X%02X, version %u", s[6], s[7], kind_name(s[0]), s[3], s[4],
+               s[5] >> 1 & 0x1Fu);
+}
+
 static void skipped(const struct stretch *bad) {
-    const uint8_t *s = bad->heading;
-    printf("bytes %" PRIu64 " to %" PRIu64 " are skipped: %s (refusal %u)", bad->at, bad->at + bad->bytes - 1,
-           nw_refusal_text(bad->refusal), bad->refusal);
-    if (s[0] != 0)
-        printf("; by its heading it was number %u, the last being %u, of %s table %02X%02X, version %u", s[6], s[7], kind_name(s[0]),
-               s[3], s[4], s[5] >> 1 & 0x1Fu);
+    if (bad->in_packets) printf("section that the packet at byte %" PRIu64 " completes is skipped", bad->at);
+    else printf("bytes %" PRIu64 " to %" PRIu64 " are skipped", bad->at, bad->at + bad->bytes - 1);
+    printf(": %s (refusal %u)", nw_refusal_text(bad->refusal), bad->refusal);
+    if (bad->heading[0] != 0) put_heading("it", bad->heading);
+    putchar('\n');
+}
+
+static void lost(const struct stream_loss *loss) {
+    printf("packet at byte %" PRIu64 ": %s", loss->at, stream_words(loss->kind));
+    if (loss->kind == STREAM_GAP) printf(", %u by the counters", loss->packets);
+    if (loss->known) put_heading("the section", loss->heading);
+    else fputs("; what was lost there is not known", stdout);
     putchar('\n');
 }
 
@@ -164,20 +179,27 @@ static void table_in_bytes(const struct tables *all, const struct table *t, stru
 
 static const char *plural(uint64_t n) { return n == 1 ? "" : "s"; }
 
+static void put_packets(const struct captured *c, uint64_t losses) {
+    printf("packets: %" PRIu64 " on PID 0x0021, of which %" PRIu64 " repeated, %" PRIu64 " of other PIDs, %" PRIu64
+           " with the error bit, %" PRIu64 " refused; losses: %" PRIu64 "\n",
+           c->ours, c->repeats, c->others, c->errors, c->refused, losses);
+}
+
 static void end(const struct tables *all, const struct sum *sum, bool faultless) {
     uint64_t count = all->count;
     printf("\nall in all: %" PRIu64 " byte%s; sections: %" PRIu64 " taken, %" PRIu64 " held already, %" PRIu64 " refused; %" PRIu64
            " byte%s skipped\n",
-           sum->bytes, plural(sum->bytes), sum->taken, sum->held, sum->refused, sum->skipped, plural(sum->skipped));
+           sum->capture.bytes, plural(sum->capture.bytes), sum->taken, sum->held, sum->refused, sum->skipped, plural(sum->skipped));
+    if (sum->capture.is_stream) put_packets(&sum->capture, sum->losses);
     printf("tables: %" PRIu64 ", of which %" PRIu64 " whole and %" PRIu64 " accepted\n", count, sum->whole, sum->accepted);
     if (sum->messages_without_content != 0)
         printf("messages without their content table: %" PRIu64 "\n", sum->messages_without_content);
     if (sum->contents_without_message != 0)
         printf("content tables without their message: %" PRIu64 "\n", sum->contents_without_message);
-    if (sum->bytes == 0) puts("the capture is empty");
+    if (sum->capture.bytes == 0) puts("the capture is empty");
     else if (count == 0) puts("no table has come");
     puts(faultless ? "everything is whole and accepted" : "not everything is whole and accepted: it is said above");
 }
 
-const struct report plain_report = {begin, skipped, arrival, tables, table_in_words, end};
-const struct report bytes_report = {begin, skipped, arrival, tables, table_in_bytes, end};
+const struct report plain_report = {begin, skipped, lost, arrival, tables, table_in_words, end};
+const struct report bytes_report = {begin, skipped, lost, arrival, tables, table_in_bytes, end};

@@ -7,15 +7,17 @@
 
 /* What came of a capture, all in all. */
 struct sum {
-    uint64_t bytes, taken, held, refused;                       /* refused: good sections that are not taken */
-    uint64_t stretches, skipped;                                /* stretches of skipped bytes, and how many bytes these are */
-    uint64_t whole, accepted;                                   /* tables */
+    struct captured capture;
+    uint64_t taken, held, refused;                               /* refused: good sections that are not taken */
+    uint64_t skipped, losses;                                    /* bytes that are skipped; what a transport stream lost */
+    uint64_t whole, accepted;                                    /* tables */
     uint64_t messages_without_content, contents_without_message; /* of whole tables */
 };
 
 struct report {
     void (*begin)(const char *name); /* of the capture */
     void (*skipped)(const struct stretch *bad);
+    void (*lost)(const struct stream_loss *loss);
     void (*arrival)(const struct arrival *a);
     void (*tables)(void); /* the capture is read, and the tables follow */
     void (*table)(const struct tables *all, const struct table *t, struct clock clock);

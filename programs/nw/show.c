@@ -7,18 +7,18 @@
 const struct command show_command = {
     "nw show", "nw show [--bytes | --json] [--auxiliary BITS] [--offset OFFSET] CAPTURE",
     "Reads the sections of GD/J 086-2018 in CAPTURE, or in standard input where it is -, damage\n"
-    "among them or not, gathers them into tables, and tells all that came: what was skipped or\n"
-    "refused and why, which sections are missing, and each field of every table.\n"
+    "among them or not, or in the packets on PID 0x0021 where it is a transport stream, gathers\n"
+    "them into tables, and tells all that came: what was skipped, lost or refused and why, which\n"
+    "sections are missing, and each field of every table.\n"
     "  --bytes          tells the bodies byte by byte, with each field's name in the standard\n"
     "  --json           tells the same for scripts; nw(1) says how\n"
     "  --auxiliary BITS the length of an auxiliary file has 24 bits, as without it, or 32\n"
     "  --offset OFFSET  times are also local, so far east of UTC: minutes, -720 to 840, or hours\n"
     "                   and minutes with their sign, as +08:00; without it they are UTC alone\n"
     "  --help           says this\n"
-    "Exit status: 0, every table is whole and accepted, nothing was skipped or refused, and\n"
+    "Exit status: 0, every table is whole and accepted, nothing was skipped, lost or refused, and\n"
     "messages and contents belong together; 1, something of that is not so, or no table came;\n"
-    "2, wrong usage, a CAPTURE that can't be read or is a transport stream, or output that\n"
-    "can't be written.\n"};
+    "2, wrong usage, a CAPTURE that can't be read, or output that can't be written.\n"};
 
 struct work {
     const char *name; // the CAPTURE's, or NULL
@@ -47,9 +47,14 @@ static void note_section(void *own, uint64_t at, const uint8_t *s, size_t n, nw_
 
 static void note_skipped(void *own, const struct stretch *bad) {
     struct work *w = own;
-    w->sum.stretches++;
     w->sum.skipped += bad->bytes;
     w->report->skipped(bad);
+}
+
+static void note_lost(void *own, const struct stream_loss *loss) {
+    struct work *w = own;
+    w->sum.losses++;
+    w->report->lost(loss);
 }
 
 // What a table adds to the sum.
@@ -65,7 +70,7 @@ static void count_table(struct work *w, const struct table *t) {
 
 static bool is_faultless(const struct work *w) {
     const struct sum *s = &w->sum;
-    return w->tables.count != 0 && s->accepted == w->tables.count && s->refused == 0 && s->skipped == 0 &&
+    return w->tables.count != 0 && s->accepted == w->tables.count && s->refused == 0 && s->skipped == 0 && s->losses == 0 &&
            s->messages_without_content == 0 && s->contents_without_message == 0;
 }
 
@@ -82,8 +87,8 @@ static int tell(struct work *w) {
 }
 
 static int run(struct work *w) {
-    struct finder finder = {note_begin, note_section, note_skipped, w};
-    int status = load(&show_command, w->name, finder, &w->sum.bytes) ? tell(w) : UNUSABLE;
+    struct finder finder = {note_begin, note_section, note_skipped, note_lost, w};
+    int status = load(&show_command, w->name, finder, &w->sum.capture) ? tell(w) : UNUSABLE;
     tables_free(&w->tables);
     return status;
 }

@@ -25,7 +25,11 @@ static const char *const looks[] = {
     [NW_OUTSIDE_SET] = "class and level 1 to 4, letters a to z, character set 0 to 4, volume to 100",
     [NW_IMPOSSIBLE_DAY] = "day and month in the wrong order, hour 24, a field of zeros",
     [NW_OTHER_CHECKSUM] = "the CRC-16 of EBM_id's 140 bits, without the four reserved ones",
-    [NW_NOT_OF_THE_FORM] = "dd/mm/yyyy hh:mm:ss, day first, and nothing else in the line"};
+    [NW_NOT_OF_THE_FORM] = "dd/mm/yyyy hh:mm:ss, day first, and nothing else in the line",
+    [NW_NOT_A_PACKET] = "the capture ends or was cut here",
+    [NW_NO_SYNC_BYTE] = "bytes lost or added between packets, or damage in the first byte of one",
+    [NW_SCRAMBLED] = "a multiplexer that scrambles PID 0x0021: emergency tables have to be in the clear",
+    [NW_PAST_PACKET] = "damage in a packet's header, or a multiplexer that points past the packet"};
 
 enum { NUMBERS = 256, KNOWN = sizeof looks / sizeof *looks };
 

@@ -34,6 +34,10 @@ use Rattle.section_cutter.specs.declared.Cut.{Cut}
 use Rattle.section_cutter.specs.declared.Cut.the-variants as cut
 use Rattle.salvage.specs.declared.Salvaged.{Salvaged}
 use Rattle.salvage.specs.declared.Salvaged.the-variants as salvaged
+use Rattle.packet_writer.specs.declared.Packed.{Packed}
+use Rattle.packet_writer.specs.declared.Packed.the-variants as packets
+use Rattle.packet_reader.specs.declared.Completed.{Completed}
+use Rattle.packet_reader.specs.declared.Completed.the-variants as completed
 use Rattle.body_formats.specs.declared.Step.{Step}
 use Rattle.body_formats.specs.declared.Step.the-variants as step
 use Rattle.body_formats.specs.declared.Number.{Number}
@@ -123,6 +127,17 @@ lengthAnswer (cut.Refused why) = refusedOf why
 abbrev pub salvagedAnswer : Salvaged → ℕ
 salvagedAnswer (salvaged.Of bytes runs) = answerOf 0 (packed ((24, runs) ∷ (24, bytes) ∷ []))
 salvagedAnswer (salvaged.Refused why) = refusedOf why
+
+-- ---- packets
+
+-- the bytes of the packets written, and of the sections completed
+abbrev pub packAnswer : Packed → ℕ
+packAnswer (packets.Packets n) = answerOf 0 n
+packAnswer (packets.Refused why) = refusedOf why
+
+abbrev pub unpackAnswer : Completed → ℕ
+unpackAnswer (completed.Sections n) = answerOf 0 n
+unpackAnswer (completed.Refused why) = refusedOf why
 
 -- ---- the gathering
 

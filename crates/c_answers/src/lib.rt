@@ -7,6 +7,8 @@ use content_writer::Written;
 use gathering_feed::Answer;
 use gathering_hand_out::Handed;
 use ground_refusal::Refusal;
+use packet_reader::Completed;
+use packet_writer::Packed;
 use salvage::Salvaged;
 use section_cutter::Counted;
 use section_cutter::Cut;
@@ -26,7 +28,7 @@ ghost use Prim.Native.Nat.{_≤_};
 ghost use Rattle.crc.specs.Crc.{digit};
 ghost use Rattle.c_answers.specs.Packing.{packed};
 ghost use Rattle.c_answers.specs.Version.{version};
-ghost use Rattle.c_answers.specs.Answers.{answerOf, refusedOf, dayAnswer, dateFields, dateAnswer, weekdayAnswer, fieldAnswer, timeFields, localAnswer, showingAnswer, headingFields, sectionAnswer, statedAnswer, countAnswer, lengthAnswer, feedAnswer, handAnswer, readAnswer, numberAnswer, partAnswer, writtenAnswer, contentAnswer, localFieldAnswer, salvagedAnswer};
+ghost use Rattle.c_answers.specs.Answers.{answerOf, refusedOf, dayAnswer, dateFields, dateAnswer, weekdayAnswer, fieldAnswer, timeFields, localAnswer, showingAnswer, headingFields, sectionAnswer, statedAnswer, countAnswer, lengthAnswer, feedAnswer, handAnswer, readAnswer, numberAnswer, partAnswer, writtenAnswer, contentAnswer, localFieldAnswer, salvagedAnswer, packAnswer, unpackAnswer};
 
 // What an answer holds above its low byte: 56 bits.
 const ABOVE: u64 = 0x0100_0000_0000_0000;
@@ -196,6 +198,24 @@ pub fn salvaged_answer(a: Salvaged) -> u64
             answered((runs as u64) % 0x100_0000 * 0x100_0000 + (bytes as u64) % 0x100_0000)
         }
         Salvaged::Refused(why) => refused(why),
+    }
+}
+
+pub fn pack_answer(a: Packed) -> u64
+    ensures { λ r. ⌜ r ≡ packAnswer a ⌝ }
+{
+    match a {
+        Packed::Packets(n) => answered(n as u64),
+        Packed::Refused(why) => refused(why),
+    }
+}
+
+pub fn unpack_answer(a: Completed) -> u64
+    ensures { λ r. ⌜ r ≡ unpackAnswer a ⌝ }
+{
+    match a {
+        Completed::Sections(n) => answered(n as u64),
+        Completed::Refused(why) => refused(why),
     }
 }
 

@@ -7,7 +7,7 @@ use native.Mathlib.Omega.{arith}
 use lib.Dec.{eqb}
 use Rattle.ground_refusal.specs.Numbers.{refusalNumber, isNumber, refusalPlace, placeless}
 use Rattle.ground_refusal.specs.declared.Refusal.{Refusal}
-use Rattle.ground_refusal.specs.declared.Refusal.the-variants.{SectionTooShort, OtherKind, FixedBitZero, SectionLengthOutside, OtherLength, NumberAboveLast, CheckNotZero, NotCurrent, OtherHeading, StoreTooShort, Contradiction, ImpossibleState, Missing, PastBody, PastPart, LeftOver, ReservedBitZero, DigitAboveNine, OutsideSet, ImpossibleDay, OutputTooSmall, TooLarge, OtherChecksum, NotOfTheForm, NotAPacket, NoSyncByte, OtherPid, Scrambled, PastPacket, CaptureTooLong}
+use Rattle.ground_refusal.specs.declared.Refusal.the-variants.{SectionTooShort, OtherKind, FixedBitZero, SectionLengthOutside, OtherLength, NumberAboveLast, CheckNotZero, NotCurrent, OtherHeading, StoreTooShort, Contradiction, ImpossibleState, Missing, PastBody, PastPart, LeftOver, ReservedBitZero, DigitAboveNine, OutsideSet, ImpossibleDay, OutputTooSmall, TooLarge, OtherChecksum, NotOfTheForm, NotAPacket, NoSyncByte, OtherPid, Scrambled, PastPacket, NoFreeRoom, CaptureTooLong, TeachingBufferFull}
 
 -- each number beside its refusal, at a place
 abbrev beside : ℕ → List (ℕ × Refusal)
@@ -18,7 +18,7 @@ beside at =
     ∷ (17, ReservedBitZero at) ∷ (18, DigitAboveNine at) ∷ (19, OutsideSet at) ∷ (20, ImpossibleDay at) ∷ (21, OutputTooSmall)
     ∷ (22, TooLarge) ∷ (23, OtherChecksum) ∷ (24, NotOfTheForm)
     ∷ (30, NotAPacket) ∷ (31, NoSyncByte) ∷ (32, OtherPid) ∷ (33, Scrambled) ∷ (34, PastPacket)
-    ∷ (36, CaptureTooLong) ∷ []
+    ∷ (35, NoFreeRoom) ∷ (36, CaptureTooLong) ∷ (37, TeachingBufferFull) ∷ []
 
 -- what stands beside a number; any refusal where nothing does
 abbrev found : ℕ → List (ℕ × Refusal) → Refusal
@@ -65,7 +65,9 @@ known NoSyncByte = record { listed = refl; most = omega arith; back = refl }
 known OtherPid = record { listed = refl; most = omega arith; back = refl }
 known Scrambled = record { listed = refl; most = omega arith; back = refl }
 known PastPacket = record { listed = refl; most = omega arith; back = refl }
+known NoFreeRoom = record { listed = refl; most = omega arith; back = refl }
 known CaptureTooLong = record { listed = refl; most = omega arith; back = refl }
+known TeachingBufferFull = record { listed = refl; most = omega arith; back = refl }
 
 pub number-listed : (r : Refusal) → isNumber (refusalNumber r) ≡ true
 number-listed r = known r .listed
@@ -109,4 +111,6 @@ placeless-is NoSyncByte = (refl, refl)
 placeless-is OtherPid = (refl, refl)
 placeless-is Scrambled = (refl, refl)
 placeless-is PastPacket = (refl, refl)
+placeless-is NoFreeRoom = (refl, refl)
 placeless-is CaptureTooLong = (refl, refl)
+placeless-is TeachingBufferFull = (refl, refl)

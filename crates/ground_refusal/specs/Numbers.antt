@@ -3,7 +3,7 @@ use Prim.Native.Nat.{ℕ}
 use mathlib.Core.Bool.{Bool, _&&_, _||_}
 use lib.Dec.{eqb, leb}
 use Rattle.ground_refusal.specs.declared.Refusal.{Refusal}
-use Rattle.ground_refusal.specs.declared.Refusal.the-variants.{SectionTooShort, OtherKind, FixedBitZero, SectionLengthOutside, OtherLength, NumberAboveLast, CheckNotZero, NotCurrent, OtherHeading, StoreTooShort, Contradiction, ImpossibleState, Missing, PastBody, PastPart, LeftOver, ReservedBitZero, DigitAboveNine, OutsideSet, ImpossibleDay, OutputTooSmall, TooLarge, OtherChecksum, NotOfTheForm, NotAPacket, NoSyncByte, OtherPid, Scrambled, PastPacket, CaptureTooLong}
+use Rattle.ground_refusal.specs.declared.Refusal.the-variants.{SectionTooShort, OtherKind, FixedBitZero, SectionLengthOutside, OtherLength, NumberAboveLast, CheckNotZero, NotCurrent, OtherHeading, StoreTooShort, Contradiction, ImpossibleState, Missing, PastBody, PastPart, LeftOver, ReservedBitZero, DigitAboveNine, OutsideSet, ImpossibleDay, OutputTooSmall, TooLarge, OtherChecksum, NotOfTheForm, NotAPacket, NoSyncByte, OtherPid, Scrambled, PastPacket, NoFreeRoom, CaptureTooLong, TeachingBufferFull}
 
 -- the numbers of document 01's list, and of the requests of document 02
 abbrev pub refusalNumber : Refusal → ℕ
@@ -36,11 +36,13 @@ refusalNumber NoSyncByte = 31
 refusalNumber OtherPid = 32
 refusalNumber Scrambled = 33
 refusalNumber PastPacket = 34
+refusalNumber NoFreeRoom = 35
 refusalNumber CaptureTooLong = 36
+refusalNumber TeachingBufferFull = 37
 
 -- the numbers that the list has; it may have gaps. 25 is gone, and not given again.
 abbrev pub isNumber : ℕ → Bool
-isNumber n = (leb 1 n && leb n 24) || (leb 30 n && leb n 34) || eqb n 36
+isNumber n = (leb 1 n && leb n 24) || (leb 30 n && leb n 37)
 
 -- "A refusal returns its number and a place": the place is 0 where the list gives none
 abbrev pub refusalPlace : Refusal → ℕ
@@ -73,7 +75,9 @@ refusalPlace NoSyncByte = 0
 refusalPlace OtherPid = 0
 refusalPlace Scrambled = 0
 refusalPlace PastPacket = 0
+refusalPlace NoFreeRoom = 0
 refusalPlace CaptureTooLong = 0
+refusalPlace TeachingBufferFull = 0
 
 -- a refusal without its place, as writers answer it: "and always 0 from writers"
 abbrev pub placeless : Refusal → Refusal
@@ -106,4 +110,6 @@ placeless NoSyncByte = NoSyncByte
 placeless OtherPid = OtherPid
 placeless Scrambled = Scrambled
 placeless PastPacket = PastPacket
+placeless NoFreeRoom = NoFreeRoom
 placeless CaptureTooLong = CaptureTooLong
+placeless TeachingBufferFull = TeachingBufferFull

@@ -63,8 +63,12 @@ pub enum Refusal {
     Scrambled,
     // 34: pointer or adaptation field past the packet's end, or adaptation control 00.
     PastPacket,
+    // 35: every room is held.
+    NoFreeRoom,
     // 36: a capture above 65,536 bytes.
     CaptureTooLong,
+    // 37: the teaching buffer is full.
+    TeachingBufferFull,
 }
 
 // The number of a refusal in the list.
@@ -101,7 +105,9 @@ pub fn number(r: Refusal) -> u8
         Refusal::OtherPid => 32,
         Refusal::Scrambled => 33,
         Refusal::PastPacket => 34,
+        Refusal::NoFreeRoom => 35,
         Refusal::CaptureTooLong => 36,
+        Refusal::TeachingBufferFull => 37,
     }
 }
 
@@ -139,7 +145,9 @@ pub fn place(r: Refusal) -> usize
         Refusal::OtherPid => 0,
         Refusal::Scrambled => 0,
         Refusal::PastPacket => 0,
+        Refusal::NoFreeRoom => 0,
         Refusal::CaptureTooLong => 0,
+        Refusal::TeachingBufferFull => 0,
     }
 }
 
@@ -177,6 +185,8 @@ pub fn placeless(r: Refusal) -> Refusal
         Refusal::OtherPid => Refusal::OtherPid,
         Refusal::Scrambled => Refusal::Scrambled,
         Refusal::PastPacket => Refusal::PastPacket,
+        Refusal::NoFreeRoom => Refusal::NoFreeRoom,
         Refusal::CaptureTooLong => Refusal::CaptureTooLong,
+        Refusal::TeachingBufferFull => Refusal::TeachingBufferFull,
     }
 }

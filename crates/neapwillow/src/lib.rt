@@ -10,6 +10,7 @@ mod c_index;
 mod c_index_fields;
 mod c_index_records;
 mod c_index_stream_fields;
+mod c_packet;
 mod c_salvage;
 mod c_section;
 mod c_time;

@@ -13,6 +13,7 @@ use Rattle.packet_frames.proofs.Scans.{begun-is}
 use Rattle.packet_plan.specs.Reading.{ended, ahead, readOn}
 use Rattle.packet_memory.specs.Memory.{Memory, fresh, isRepeat, follows, goingOn}
 use Rattle.packet_reader.specs.Unpacking.{gives, fitting, verdictOn, unpacking}
+use Rattle.packet_arrival.specs.Unmixed.{onward}
 use Rattle.packet_arrival.proofs.Packets.{taken-read}
 
 -- where nothing is unfinished, the sections are those from the packet's own pointer on
@@ -30,10 +31,6 @@ gap-drops room m p t n f = taken-read room m p t n ∙ rw f
 pub error-drops : (room : ℕ) (m : Memory) (p : List ℕ) → judged p ≡ Damaged → unpacking room m p ≡ gives [] fresh
 unfolding unpacking verdictOn
 error-drops room m p e = rw e
-
--- the bytes that an unfinished section goes on with
-unfoldable pub onward : List ℕ → List ℕ
-onward p = if starts p then ahead p else drop (payloadAt p) p
 
 -- what gives nothing and leaves nothing behind
 gone-nothing : (u p : List ℕ) → goneOn u (onward p) ≡ nothing → readOn u p ≡ readOn [] p

@@ -6,4 +6,5 @@ pub mod Arrival
 pub mod Drops
 pub mod Unmixed
 pub mod Served
+pub mod Most
 pub mod Readings

@@ -27,7 +27,11 @@ silence = record { bytes = []; pointers = [] }
 unfoldable pub carried : List ℕ → List ℕ
 carried p = if starts p then drop (payloadAt p + 1) p else drop (payloadAt p) p
 
--- and with the packet p after it
+-- the bytes of it that an unfinished section goes on with
+unfoldable pub onward : List ℕ → List ℕ
+onward p = if starts p then ahead p else drop (payloadAt p) p
+
+-- what was heard, and the packet p after it
 unfoldable pub hearing : Heard → List ℕ → Heard
 hearing h p =
     record {

@@ -91,7 +91,7 @@ pub fn possible(s: &[u8]) -> bool
     may_leave(&s[LAST_AT..UNFINISHED_AT], &s[UNFINISHED_AT..end])
 }
 
-// Is the packet the one repeat of the last that is ignored? `known` says whether the state is possible.
+// Is the packet the one repeat of the last that is ignored? `known` says whether the state is possible. Most packets are told apart by their counter.
 pub fn repeats(s: &[u8], known: bool, p: &[u8]) -> bool
     requires { ⌜ (length (now s) ≡ stateBytes) × (known ≡ isPossible (now s)) × (length (now p) ≡ packetBytes) ⌝ }
     ensures { λ r. ⌜ r ≡ isRepeat (memoryOf (now (s .entry))) (now (p .entry)) ⌝ }
@@ -102,7 +102,11 @@ pub fn repeats(s: &[u8], known: bool, p: &[u8]) -> bool
     if s[0] == 2 {
         return false;
     }
-    same_bytes(&s[LAST_AT..UNFINISHED_AT], p)
+    let last = &s[LAST_AT..UNFINISHED_AT];
+    if last[3] != p[3] {
+        return false;
+    }
+    same_bytes(last, p)
 }
 
 // How many bytes of an unfinished section the packet goes on from.

@@ -18,6 +18,13 @@ use Rattle.section_reader.specs.declared.Heading.{Heading}
 use Rattle.section_reader.specs.declared.Sectioned.{Sectioned}
 use Rattle.section_reader.specs.declared.Sectioned.the-variants.{Good, Refused as NotGood}
 use Rattle.salvage.proofs.Calls.{writes-nothing as salvage-keeps}
+use Rattle.packet_writer.specs.Packing as packer
+use Rattle.packet_writer.specs.Answers as packed
+use Rattle.packet_writer.specs.declared.Packed.the-variants.{Refused as NotPacked}
+use Rattle.packet_reader.specs.Unpacking as unpacker
+use Rattle.packet_reader.specs.Answers as completed
+use Rattle.packet_reader.proofs.States.{state-means}
+use Rattle.packet_reader.specs.declared.Completed.the-variants.{Refused as NotCompleted}
 use Rattle.gathering_state.specs.State.{possibleOf, nothingBegun, spoiledState}
 use Rattle.gathering_state.specs.declared.Gathering.{Gathering}
 use Rattle.gathering_state.proofs.State.{possible-fresh, possible-begun}
@@ -60,6 +67,21 @@ cut-keeps : (v : cutter.Verdict) (out : List ℕ) (r : Refusal) → cutter.cutBy
 unfolding cutter.cutBy cutter.outputBy
 cut-keeps (cutter.refuses r′) out r e = refl
 cut-keeps (cutter.writes bytes) out r e = absurd-answer (cc)
+
+pack-keeps : (v : packer.Verdict) (out : List ℕ) (r : Refusal) → packed.packedBy v ≡ NotPacked r → packed.outputBy v out ≡ out
+unfolding packed.packedBy packed.outputBy
+pack-keeps (packer.refuses r′) out r e = refl
+pack-keeps (packer.writes bytes) out r e = absurd-answer (cc)
+
+unpack-keeps : (v : unpacker.Verdict) (out : List ℕ) (r : Refusal) → completed.answerBy v ≡ NotCompleted r → completed.outputBy v out ≡ out
+unfolding completed.answerBy completed.outputBy
+unpack-keeps (unpacker.refuses r′) out r e = refl
+unpack-keeps (unpacker.gives ss m) out r e = absurd-answer (cc)
+
+unpacker-keeps : (v : unpacker.Verdict) (s left : List ℕ) (r : Refusal) → completed.StateBy v s left → completed.answerBy v ≡ NotCompleted r → left ≡ s
+unfolding completed.StateBy completed.answerBy
+unpacker-keeps (unpacker.refuses r′) s left r by e = by
+unpacker-keeps (unpacker.gives ss m) s left r by e = absurd-answer (cc)
 
 handed-keeps : (body out : List ℕ) (h : Handed) (r : Refusal) → h ≡ NotHanded r → outBy body out h ≡ out
 unfolding outBy
@@ -115,6 +137,9 @@ writes-nothing =
     record {
       cutter = λ body kind extension version number out. cut-keeps (cutter.cutting body kind extension version number (length out)) out;
       salvage = salvage-keeps;
+      packer = λ counter section out. pack-keeps (packer.packing (length out) counter section) out;
+      unpacker = λ s p out r l e.
+          (unpack-keeps (completed.verdictFor s p out) out r e, unpacker-keeps (completed.verdictFor s p out) s _ r (state-means s p out l) e);
       feed = λ g store s. fed-keeps store (payloadOf s) (verdictOf g store s);
       hand-out = λ g store out. handed-keeps (bodyHeld g store) out (handedOf g store out);
       pack = λ g store. handed-keeps (bodyHeld g store) store (packing.packedOf g store);

@@ -8,6 +8,7 @@ pub mod RealDays
 pub mod Demand2
 pub mod Demand3
 pub mod Salvaging
+pub mod Packets
 pub mod Values
 pub mod Determined
 pub mod Offered

@@ -3,6 +3,7 @@ use Rattle.promises_orders.proofs.Sections.{sections-as-listed}
 use Rattle.promises_orders.proofs.Gathering.{feeding-as-listed, complete-as-listed, handing-as-listed, packing-as-listed as packing-store-as-listed}
 use Rattle.promises_orders.proofs.Cutter.{count-as-listed, cutter-as-listed}
 use Rattle.promises_orders.proofs.Salvage.{salvage-as-listed}
+use Rattle.promises_orders.proofs.Packets.{packer-as-listed, unpacker-as-listed}
 use Rattle.promises_orders.proofs.Times.{packing-as-listed, unpacking-as-listed, text-as-listed}
 use Rattle.promises.specs.Lists.{GivenExactly}
 
@@ -17,6 +18,8 @@ given-exactly =
       count = count-as-listed;
       cutter = cutter-as-listed;
       salvage = salvage-as-listed;
+      packer = packer-as-listed;
+      unpacker = unpacker-as-listed;
       packing = packing-as-listed;
       unpacking = unpacking-as-listed;
       text = text-as-listed;

@@ -69,7 +69,14 @@ use Rattle.salvage.specs.Salvage.{salvageOf}
 use Rattle.salvage.specs.declared.Salvaged.the-variants.{Of as SalvagedOf}
 use Rattle.salvage.proofs.Standing.{sections-most, runs-most}
 use Rattle.salvage.proofs.Calls.{answered}
-use Rattle.c_answers.specs.Answers.{answerOf, localAnswer, sectionAnswer, contentAnswer, localFieldAnswer, salvagedAnswer}
+use Rattle.packet_frames.specs.Framing.{joined}
+use Rattle.packet_writer.specs.Answers.{packedOf}
+use Rattle.packet_writer.specs.declared.Packed.the-variants.{Packets}
+use Rattle.packet_reader.specs.Unpacking as unpacker
+use Rattle.packet_reader.specs.Answers.{answerBy, verdictFor, completedOf}
+use Rattle.packet_reader.specs.declared.Completed.the-variants.{Sections as Completes}
+use Rattle.packet_arrival.proofs.Most.{packs-most, gives-most}
+use Rattle.c_answers.specs.Answers.{answerOf, localAnswer, sectionAnswer, contentAnswer, localFieldAnswer, salvagedAnswer, packAnswer, unpackAnswer}
 use Rattle.c_answers.specs.Taking.{TellsValue, TellsTime, TellsHeading, TellsContent, TellsSalvaged}
 use Rattle.c_answers.proofs.Taking.{refusal-told, value-told, date-told, time-told, heading-told, part-told, content-told, salvaged-told}
 use Rattle.promises.specs.Told.{RefusalsTold, Told}
@@ -150,6 +157,20 @@ salvaged-back : (capture : List ℕ) (room entries bytes runs : ℕ) → salvage
 salvaged-back capture room entries bytes runs e =
     let a = answered capture room entries bytes runs e in
     salvaged-told runs bytes (omega (arith, runs-most capture, a .runs-are, a .short)) (omega (arith, sections-most capture, a .bytes-are, a .short))
+
+packets-back : (counter : ℕ) (section out : List ℕ) (n : ℕ) → packedOf counter section out ≡ Packets n → TellsValue (packAnswer (Packets n)) n
+packets-back counter section out n e = value-told n (omega (arith, packs-most counter section out n e .1))
+
+completed-back : (s p out : List ℕ) (n : ℕ) → completedOf s p out ≡ Completes n → TellsValue (unpackAnswer (Completes n)) n
+unfolding answerBy
+completed-back s p out n e = go (verdictFor s p out) refl e
+  where
+    go : (v : unpacker.Verdict) → verdictFor s p out ≡ v → answerBy v ≡ Completes n → TellsValue (unpackAnswer (Completes n)) n
+    go (unpacker.refuses r) q x = absurd (let z : _≡_ {A = ℕ} 0 1 = cc in omega arith)
+    go (unpacker.gives ss m) q x =
+        let b = gives-most (length out) s p ss m q .1 in
+        let k : length (joined ss) ≡ n = cc in
+        value-told n (omega arith)
 
 handed-told : (g : Gathering) (store out : List ℕ) (n : ℕ) → length (g .held) ≡ 256 → handedOf g store out ≡ Body n → TellsValue (answerOf 0 n) n
 handed-told g store out n l e =
@@ -242,6 +263,8 @@ refusals-told =
       section-count = refusal-told;
       cut = refusal-told;
       salvaged = refusal-told;
+      packets = refusal-told;
+      completed = refusal-told;
       fed = refusal-told;
       handed-out = refusal-told;
       read = refusal-told;
@@ -276,6 +299,8 @@ told =
       section-count = count-told;
       cut = cut-told;
       salvaged = salvaged-back;
+      packets = packets-back;
+      completed = completed-back;
       taken = value-told 0 (omega arith);
       held-already = value-told 1 (omega arith);
       handed-out = handed-told;

@@ -12,6 +12,11 @@ use Rattle.section_cutter.specs.Cutting.{cutAnswer, cutOutput}
 use Rattle.section_cutter.specs.declared.Cut.the-variants.{Refused as NotCut}
 use Rattle.salvage.specs.Salvage.{salvageOf, outputAfter, listAfter}
 use Rattle.salvage.specs.declared.Salvaged.the-variants.{Refused as NotSalvaged}
+use Rattle.packet_writer.specs.Answers.{packedOf, packetsOver}
+use Rattle.packet_writer.specs.declared.Packed.the-variants.{Refused as NotPacked}
+use Rattle.packet_memory.specs.State.{stateBytes}
+use Rattle.packet_reader.specs.Answers.{completedOf, sectionsOver, stateAfter}
+use Rattle.packet_reader.specs.declared.Completed.the-variants.{Refused as NotCompleted}
 use Rattle.gathering_state.specs.State.{possibleOf, spoiledState}
 use Rattle.gathering_state.specs.declared.Gathering.{Gathering}
 use Rattle.gathering_feed.specs.Feeding.{fedOf, storeAfter}
@@ -51,6 +56,10 @@ pub record WritesNothing : Type 1 where
       → cutAnswer body kind extension version number out ≡ NotCut r → cutOutput body kind extension version number out ≡ out
   pub salvage : (capture out list : List ℕ) (r : Refusal) → salvageOf capture (length out) (length list) ≡ NotSalvaged r
       → (outputAfter capture out list ≡ out) × (listAfter capture out list ≡ list)
+  pub packer : (counter : ℕ) (section out : List ℕ) (r : Refusal) → packedOf counter section out ≡ NotPacked r → packetsOver counter section out ≡ out
+  -- "A refused packet changes nothing, not even the counter"
+  pub unpacker : (s p out : List ℕ) (r : Refusal) → length s ≡ stateBytes → completedOf s p out ≡ NotCompleted r
+      → (sectionsOver s p out ≡ out) × (stateAfter s p out ≡ s)
   pub feed : (g : Gathering) (store s : List ℕ) (r : Refusal) → fedOf g store s .answer ≡ NotFed r → storeAfter g store s ≡ store
   pub hand-out : (g : Gathering) (store out : List ℕ) (r : Refusal) → handedOf g store out ≡ NotHanded r → outAfter g store out ≡ out
   pub pack : (g : Gathering) (store : List ℕ) (r : Refusal) → packingOf g store .answer ≡ NotHanded r → storePacked g store ≡ store

@@ -7,6 +7,7 @@ pub mod LocalTimes
 pub mod Demand2
 pub mod Demand3
 pub mod Salvaging
+pub mod Packets
 pub mod Values
 pub mod Determined
 pub mod Offered

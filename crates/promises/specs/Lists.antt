@@ -23,11 +23,17 @@ use Rattle.gathering_hand_out.specs.Handing.{bodyHeld, completeOf, handedOf}
 use Rattle.gathering_hand_out.specs.declared.Completeness.the-variants.{Complete, Refused as NotComplete}
 use Rattle.gathering_hand_out.specs.declared.Handed.the-variants.{Body, Refused as NotHanded}
 use Rattle.gathering_pack.specs.Packing.{packingOf}
+use Rattle.packet_writer.specs.Packing.{packed, laid}
+use Rattle.packet_writer.specs.Answers.{packedOf}
+use Rattle.packet_writer.specs.declared.Packed.the-variants.{Packets, Refused as NotPacked}
+use Rattle.packet_reader.specs.Answers.{completedOf}
+use Rattle.packet_reader.specs.declared.Completed.the-variants.{Refused as NotCompleted}
 use Rattle.promises_orders.specs.Order.{AsListed}
 use Rattle.promises_orders.specs.Sections.{sectionLines}
 use Rattle.promises_orders.specs.Gathering.{FedAsListed, completeLines, handingLines}
 use Rattle.promises_orders.specs.Cutter.{countLines, cutterLines}
 use Rattle.promises_orders.specs.Salvage.{salvageLines}
+use Rattle.promises_orders.specs.Packets.{packerLines, unpackerLines, IsSections}
 use Rattle.promises_orders.specs.Times.{IsField, packingLines, IsLocalTime, unpackingLines, textLines}
 
 pub record GivenExactly : Type 0 where
@@ -51,6 +57,10 @@ pub record GivenExactly : Type 0 where
   pub salvage : (capture : List ℕ) (room entries : ℕ)
       → AsListed NotSalvaged (λ a. a ≡ Of (length (sections capture)) (length (runsOf capture)))
       (salvageLines capture room entries) (salvageOf capture room entries)
+  -- M-106: "The packer: 1 to 7, 19 (counter above 15), 21"; the unpacker 30 to 34, "then 21"
+  pub packer : (counter : ℕ) (section out : List ℕ)
+      → AsListed NotPacked (λ a. a ≡ Packets (length (laid (packed counter section)))) (packerLines counter section out) (packedOf counter section out)
+  pub unpacker : (s p out : List ℕ) → AsListed NotCompleted IsSections (unpackerLines s p out) (completedOf s p out)
   -- "Local from UTC adds it (order 19, 18, 20)"; to UTC 19, 20
   pub packing : (t : LocalTime) (offset : ℤ) → AsListed NotFielded IsField (packingLines t offset) (packOf t offset)
   pub unpacking : (field : ℕ) (offset : ℤ) → AsListed NotUnpacked IsLocalTime (unpackingLines field offset) (unpackOf field offset)

@@ -13,6 +13,8 @@ use Rattle.time_local.specs.Text.{readText}
 use Rattle.section_reader.specs.Section.{readSection, statedLength}
 use Rattle.salvage.specs.Salvage.{salvageOf, outputAfter, listAfter}
 use Rattle.section_cutter.specs.Cutting.{countedOf, cutAnswer, cutOutput}
+use Rattle.packet_reader.specs.Answers.{completedOf, stateAfter, sectionsOver}
+use Rattle.packet_writer.specs.Answers.{packedOf, packetsOver}
 use Rattle.gathering_state.specs.declared.Gathering.{Gathering}
 use Rattle.gathering_feed.specs.Feeding.{fedOf, storeAfter}
 use Rattle.gathering_hand_out.specs.Handing.{handedOf, outAfter}
@@ -41,8 +43,8 @@ use Rattle.configuration_fields.specs.Asked.{commandCount, commandPart, command
 use Rattle.configuration_fields.specs.Asked.{clockSecond, codeAddress, codeResource, codeDigit, frequency, symbolRate, mapping, returnKind, returnAddress}
 use Rattle.configuration_fields.specs.Asked.{period, volume, parameterCount, parameter, terminalCount, terminal, terminalDigit}
 use Rattle.c_answers.specs.Answers.{dayAnswer, dateAnswer, weekdayAnswer, fieldAnswer, localAnswer, showingAnswer, salvagedAnswer, sectionAnswer, statedAnswer}
-use Rattle.c_answers.specs.Answers.{countAnswer, lengthAnswer, feedAnswer, handAnswer, readAnswer, numberAnswer, partAnswer, writtenAnswer, localFieldAnswer}
-use Rattle.c_answers.specs.Answers.{contentAnswer}
+use Rattle.c_answers.specs.Answers.{countAnswer, lengthAnswer, packAnswer, unpackAnswer, feedAnswer, handAnswer, readAnswer, numberAnswer, partAnswer}
+use Rattle.c_answers.specs.Answers.{writtenAnswer, localFieldAnswer, contentAnswer}
 use Rattle.c_answers.specs.Version.{version}
 use Rattle.promises.specs.Determined.{Determined, Determined₃, Determined₂}
 
@@ -71,6 +73,13 @@ pub record Offered : Type 0 where
   pub nw-section-count : (length : ℕ) → Determined (λ r. r ≡ countAnswer (countedOf length))
   pub nw-section-cut : (body : List ℕ) (kind extension version number : ℕ) (out : List ℕ) →
       Determined₂ (λ r out′. (r ≡ lengthAnswer (cutAnswer body kind extension version number out)) × (out′ ≡ cutOutput body kind extension version number out))
+  -- Packets for C: a section packed, and one packet unpacked over the state that C lends.
+  pub nw-packet-pack : (section : List ℕ) (counter : ℕ) (out : List ℕ) →
+      Determined₂ (λ r out′. (r ≡ packAnswer (packedOf counter section out)) × (out′ ≡ packetsOver counter section out))
+  pub nw-packet-unpack : (state packet out : List ℕ) →
+      Determined₃ (λ r state′ out′. (r ≡ unpackAnswer (completedOf state packet out)) ×
+      (state′ ≡ stateAfter state packet out) ×
+      (out′ ≡ sectionsOver state packet out))
   -- The gathering as C has it: a pointer to the state, byte strings as pointer and length, and one number for the answer.
   pub nw-gathering-feed : (g : Gathering) (store s : List ℕ) →
       Determined₃ (λ r g′ store′. (r ≡ feedAnswer (fedOf g store s .answer)) × (g′ ≡ fedOf g store s .state) × (store′ ≡ storeAfter g store s))

@@ -28,6 +28,10 @@ use Rattle.section_cutter.specs.declared.Counted.the-variants.{Sections, Refuse
 use Rattle.section_cutter.specs.declared.Cut.the-variants.{Written, Refused as NotCut}
 use Rattle.salvage.specs.Salvage.{salvageOf}
 use Rattle.salvage.specs.declared.Salvaged.the-variants.{Of as SalvagedOf, Refused as NotSalvaged}
+use Rattle.packet_writer.specs.Answers.{packedOf}
+use Rattle.packet_writer.specs.declared.Packed.the-variants.{Packets, Refused as NotPacked}
+use Rattle.packet_reader.specs.Answers.{completedOf}
+use Rattle.packet_reader.specs.declared.Completed.the-variants.{Sections as Completes, Refused as NotCompleted}
 use Rattle.gathering_state.specs.declared.Gathering.{Gathering}
 use Rattle.gathering_feed.specs.declared.Answer.the-variants as fed
 use Rattle.gathering_hand_out.specs.Handing.{handedOf}
@@ -44,7 +48,7 @@ use Rattle.body_formats.specs.declared.Part.the-variants.{Of, Refused as NoPart
 use Rattle.index_records.specs.Records.{bodyRecorded}
 use Rattle.content_writer.specs.Written.{variantWritten}
 use Rattle.content_writer.specs.declared.Written.the-variants.{Of as WrittenOf, Refused as NotWritten}
-use Rattle.c_answers.specs.Answers.{answerOf, dayAnswer, dateAnswer, weekdayAnswer, fieldAnswer, localAnswer, showingAnswer, sectionAnswer, countAnswer, lengthAnswer, salvagedAnswer, feedAnswer, handAnswer, readAnswer, numberAnswer, partAnswer, writtenAnswer, contentAnswer, localFieldAnswer}
+use Rattle.c_answers.specs.Answers.{answerOf, dayAnswer, dateAnswer, weekdayAnswer, fieldAnswer, localAnswer, showingAnswer, sectionAnswer, countAnswer, lengthAnswer, salvagedAnswer, packAnswer, unpackAnswer, feedAnswer, handAnswer, readAnswer, numberAnswer, partAnswer, writtenAnswer, contentAnswer, localFieldAnswer}
 use Rattle.c_answers.specs.Taking.{refusalTold, TellsRefusal, TellsValue, TellsDate, TellsTime, TellsHeading, TellsPart, TellsContent, TellsSalvaged}
 
 -- "A refusal returns its number and a place": any refusal, as this kind of answer tells it
@@ -62,6 +66,8 @@ pub record RefusalsTold : Type 0 where
   pub section-count : Refuses countAnswer NotCounted
   pub cut : Refuses lengthAnswer NotCut
   pub salvaged : Refuses salvagedAnswer NotSalvaged
+  pub packets : Refuses packAnswer NotPacked
+  pub completed : Refuses unpackAnswer NotCompleted
   pub fed : Refuses feedAnswer fed.Refused
   pub handed-out : Refuses handAnswer NotHanded
   pub read : Refuses readAnswer NoStep
@@ -97,6 +103,8 @@ pub record Told : Type 1 where
       → TellsValue (lengthAnswer (Written n)) n
   pub salvaged : (capture : List ℕ) (room entries bytes runs : ℕ) → salvageOf capture room entries ≡ SalvagedOf bytes runs
       → TellsSalvaged (salvagedAnswer (SalvagedOf bytes runs)) runs bytes
+  pub packets : (counter : ℕ) (section out : List ℕ) (n : ℕ) → packedOf counter section out ≡ Packets n → TellsValue (packAnswer (Packets n)) n
+  pub completed : (s p out : List ℕ) (n : ℕ) → completedOf s p out ≡ Completes n → TellsValue (unpackAnswer (Completes n)) n
   pub taken : TellsValue (feedAnswer fed.Taken) 0
   pub held-already : TellsValue (feedAnswer fed.HeldAlready) 1
   -- a state has 256 numbers

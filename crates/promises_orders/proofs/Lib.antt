@@ -2,6 +2,7 @@
 pub mod Order
 pub mod Sections
 pub mod Cutter
+pub mod Packets
 pub mod Gathering
 pub mod Salvage
 pub mod Times

@@ -1,7 +1,9 @@
--- `packet_memory::repeats` meets its contract: a state that holds nothing and one whose repeat was ignored have none; else the bytes are compared.
+-- `packet_memory::repeats` meets its contract: a state that holds nothing and one whose repeat was ignored have none, nor has one whose last packet
+-- has another fourth byte; else the bytes are compared.
 use mathlib.Core.Path.{_∙_}
 use native.Mathlib.Omega.{arith}
 use Rattle.ground_choices.proofs.Tests.{unmet, met}
+use Rattle.ground_equal.proofs.Same.{same-differs}
 use Rattle.packet_memory.specs.State.{lastOf}
 use Rattle.packet_memory.proofs.States.{repeat-fresh, repeat-second, repeat-then}
 use borrow.Author.Needs.{needs}
@@ -22,8 +24,14 @@ repeats-spec =
     (λ c. search needs)
     (λ c. search needs)
     (λ c. search needs)
+    (λ c. search needs)
+    (λ c. search needs)
+    (λ c.
+    let here = c .before .before .before .before .before .before in
+    let start = here .before .before .before in
+    same-differs _ _ 3 (c .if3 .taken) ∙ repeat-then _ _ (met _ (start .pre .1) (here .if1 .left)) (λ e. omega arith))
     (λ c κs. search needs)
     (λ c.
-    let here = c .before .before .before .before in
+    let here = c .before .before .before .before .before .before .before in
     let start = here .before .before .before in
     c .same-bytes .ensures ∙ repeat-then _ _ (met _ (start .pre .1) (here .if1 .left)) (λ e. omega arith)))
