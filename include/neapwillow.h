@@ -710,14 +710,14 @@ typedef struct nw_record {
  * descriptors counts by its low ten bits, and is then 17 if one of the two bits above them is 1. Bytes
  * left in a message are 15, at the first of them. Reserved bits are a field before the one whose byte
  * they share. NW_LIVE is a good end, and 18 as a start. An end before its start is accepted.
- * Stack: 592 bytes. */
+ * Stack: 608 bytes. */
 nw_answer nw_index_read(uint32_t kind, const uint8_t *body, size_t n);
 
 /* Judges a body and writes a record for each message at the start of list, which has room for so many;
  * records after them stay. Value: the count of messages. Refusals, with no record written: those of
  * nw_index_read, then 21, the list has less room than there are messages: nw_index_message_count tells
  * how many, and NW_MOST_MESSAGES are always enough. The list must not overlap the body.
- * Stack: 656 bytes. */
+ * Stack: 672 bytes. */
 nw_answer nw_index_records(uint32_t kind, const uint8_t *body, size_t n, nw_record *list, size_t room);
 
 /* The messages and the signature, asked for without reading inside a message, whatever else is wrong
@@ -743,12 +743,12 @@ nw_part nw_index_signature(const uint8_t *body, size_t n);
  * that they fill. A digit of the identifier is refused as the identifier is, also for its day (20). The
  * extension is that of the sections of the message's content table, the CRC-16 of the identifier's 140
  * bits, and is refused so too. Two identifiers may have the same one, so the table that is found by it
- * must have the identifier too (nw_content_identifier). Stack: 128 bytes. */
+ * must have the identifier too (nw_content_identifier). Stack: 80 bytes. */
 nw_part nw_message_identifier(const uint8_t *body, size_t n, size_t at, size_t length);
-/* Stack: 160 bytes. */
+/* Stack: 96 bytes. */
 nw_answer nw_message_identifier_digit(const uint8_t *body, size_t n, size_t at, size_t length,
                                       uint64_t i);
-/* Stack: 192 bytes. */
+/* Stack: 160 bytes. */
 nw_answer nw_message_extension(const uint8_t *body, size_t n, size_t at, size_t length);
 nw_answer nw_message_network(const uint8_t *body, size_t n, size_t at, size_t length);
 nw_answer nw_message_start(const uint8_t *body, size_t n, size_t at, size_t length);
@@ -826,7 +826,7 @@ nw_answer nw_index_measure(const uint8_t *pool, size_t pool_bytes, const uint64_
 /* Lays an accepted body onto a tape: the form from which, with the body itself as the pool,
  * nw_index_write writes it again. Value: the entries laid; entries after them stay. Refusals, with
  * nothing laid: those of nw_index_read, then 21, the tape is too short: NW_INDEX_ENTRIES(n) are enough.
- * The tape must not overlap the body. Stack: 688 bytes. */
+ * The tape must not overlap the body. Stack: 704 bytes. */
 nw_answer nw_index_lay(uint32_t kind, const uint8_t *body, size_t n, uint64_t *tape, size_t entries);
 
 /* ---- The content table ------------------------------------------------------------------------
@@ -886,7 +886,7 @@ static inline const char *nw_character_set_text(uint64_t number)
  * 4, a language count that is not 1 to 5, an auxiliary count above 2; 20, the identifier has no real
  * day. A length is 14 or 15 too if what it counts passes an end. Bytes left in a language are 15, at the
  * first of them. Reserved bits are a field before the one whose byte they share.
- * Stack: 416 bytes. */
+ * Stack: 368 bytes. */
 nw_answer nw_content_read(uint32_t kind, uint32_t variant, uint32_t extension, const uint8_t *body,
                           size_t n);
 
@@ -900,10 +900,10 @@ nw_answer nw_content_read(uint32_t kind, uint32_t variant, uint32_t extension, c
  * (place 18); last, for a digit, 19, there is no such digit (place 0). For the identifier, its digits
  * and the extension only the first 18 bytes are looked at, so these alone are enough: after
  * nw_identifier_bytes(text, bytes), nw_content_extension(bytes, 18) is the extension of those digits.
- * Stack: 144 bytes. */
+ * Stack: 80 bytes. */
 nw_part nw_content_identifier(const uint8_t *body, size_t n);
 nw_answer nw_content_identifier_digit(const uint8_t *body, size_t n, uint64_t i);
-/* Stack: 192 bytes. */
+/* Stack: 160 bytes. */
 nw_answer nw_content_extension(const uint8_t *body, size_t n);
 /* Stack: 16 bytes. */
 nw_answer nw_content_language_count(const uint8_t *body, size_t n);
@@ -959,7 +959,7 @@ nw_answer nw_content_measure(uint32_t variant, const uint8_t *pool, size_t pool_
  * the body itself as the pool, nw_content_write writes it again, in this variant or as the same table in
  * the other. Value: the entries laid; entries after them stay. Refusals, with nothing laid: those of
  * nw_content_read but 23, then 21, the tape is too short: NW_CONTENT_ENTRIES are enough for any body.
- * The tape must not overlap the body. Stack: 496 bytes. */
+ * The tape must not overlap the body. Stack: 448 bytes. */
 nw_answer nw_content_lay(uint32_t kind, uint32_t variant, const uint8_t *body, size_t n, uint64_t *tape,
                          size_t entries);
 

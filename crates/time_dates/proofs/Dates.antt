@@ -2,9 +2,10 @@
 use Prim.Native.Nat.{ℕ, suc, _+_, _-_, _*_, _≤_, _<_}
 use mathlib.Core.Path.{_≡_, refl, sym, ap, _∙_}
 use mathlib.Core.Bool.{Bool, true, false, _||_, cond}
+use native.Mathlib.Decide.{ℕ-discrete}
 use native.Mathlib.Omega.{arith}
 use lib.Dec.{eqb, leb}
-use borrow.Author.Tests.{leb-true, leb-false, eq-eqb, ne-eqb}
+use borrow.Author.Tests.{leb-true, leb-false, le-leb, eq-eqb, ne-eqb}
 use Rattle.ground_choices.proofs.Tests.{refuted}
 use Rattle.time_days.specs.Calendar.{leap, monthLength, monthsFrom, monthStart, dayNumber, hasDay, dayOf}
 use Rattle.time_days.specs.declared.DayAnswer.the-variants.{Day}
@@ -87,3 +88,22 @@ module _ (y m d : ℕ) where
         go : (t : Bool) → leb d 22 ≡ t → t ≡ hasDay y m d
         go true t = let short = leb-true d 22 t in sym (day-of (omega (arith, length-within y m)) (omega (arith, last)))
         go false t = let long = leb-false d 22 t in date-not (λ j v. let n = v .number in let u = v .until in omega (arith, last))
+
+-- ---- most dates, without the month's own length
+
+module _ (y m : ℕ) where
+  -- any month but February has 30 days
+  long-month : (m ≡ 2 → ⊥) → 30 ≤ monthLength y m
+  long-month h = go (eqb m 4 || eqb m 6 || eqb m 9 || eqb m 11) refl
+    where
+      go : (t : Bool) → (eqb m 4 || eqb m 6 || eqb m 9 || eqb m 11) ≡ t → 30 ≤ monthLength y m
+      go true e = omega (arith, thirty y m h e)
+      go false e = omega (arith, thirty-one y m h e)
+
+  -- from 1901 to 2037 every day until the 28th is a date, and until the 30th where the month is not February
+  pub usual-date : (d : ℕ) → 1901 ≤ y → y ≤ 2037 → 1 ≤ m → m ≤ 12 → 1 ≤ d → d ≤ 30 → (m ≡ 2 → d ≤ 28) → hasDay y m d ≡ true
+  usual-date d from until first last some most short =
+      sym (date-before y m d first last some (omega arith) (monthLength y m) refl (omega arith)) ∙ le-leb d (monthLength y m) within
+    where
+      within : d ≤ monthLength y m
+      within = elim (ℕ-discrete m 2) [ yes h ↦ omega (arith, length-within y m, short h) | no h ↦ omega (arith, long-month h) ]
