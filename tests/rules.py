@@ -1,7 +1,7 @@
 """docs/RULES.md against the tree: each name that it gives is there, and each refusal and heading of document 01 has its rows.
 
-A name is `crate.name`, a definition, law, function or type; `crate.Record.field`, a part of a record or a case of a type; `crate/edit`, an
-edit in the crate's must-fail/; or the path of a file. What docs/PROMISES.md and docs/DECISIONS.md name is looked for too.
+A name is `crate.name`, a definition, law, function or type; `crate.Record.field`, a part of a record or a case of a type; `crate/fault`, a
+fault of an edit in the crate's must-fail/; or the path of a file. What docs/PROMISES.md and docs/DECISIONS.md name is looked for too.
 """
 import glob
 import os
@@ -52,7 +52,7 @@ class Crate:
             self.add_definitions(re.sub(r'--.*', '', read(source)))
         for source in files(path, 'src', '*.rt'):
             self.add_code(re.sub(r'//.*', '', read(source)))
-        self.edits = {without_ending(os.path.basename(edit)) for edit in files(path, 'must-fail', '*.edit')}
+        self.edits = {fault for edit in files(path, 'must-fail', '*.edit') for fault in re.findall(r'^fault: (\w+)$', read(edit), flags=re.M)}
 
     def add_definitions(self, text):
         """Definitions and laws stand at the left, or in a module with `pub`; what is indented under a record or a data type is its part."""
