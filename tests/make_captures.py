@@ -1,8 +1,10 @@
-"""Captures of three invented head ends with different habits, and what `nw show` has to say of them; no code is shared with the library.
+"""Captures of invented head ends with different habits, good and bad, and what `nw show` has to say of them; no code is shared with the library.
 
-Alder fills its sections, sends each table several times in order, and numbers its index tables with extension 0. Birch cuts wherever it
-likes, turns the order round, mixes tables, announces versions before they are current, and its line loses and spoils bytes. Cedar's capture is a
-transport stream, from which packets are missing.
+Alder fills its sections, sends each table several times in order, and numbers its index tables with extension 0; in its transport stream each
+section begins a packet of its own, which is filled up with 0xFF. Birch cuts wherever it likes, turns the order round, mixes tables, announces
+versions before they are current; in its transport stream sections follow each other within a packet, with pointers to where the first begins,
+adaptation fields fill packets up or stand alone, and packets are sent twice. Of each there is a good stream; in a bad one Alder makes mistakes
+itself, and Birch's line loses and spoils packets. Cedar's capture is a transport stream, from which packets are missing.
 What has to be said is worked out here from the same values that the bytes are made of.
 """
 import datetime
@@ -386,16 +388,175 @@ def cedar():
     return data, [], 1, said
 
 
-CAPTURES = {'alder.sec': alder, 'birch.sec': birch, 'cedar.ts': cedar}
+# ---- the transport streams of Alder and Birch
+
+NULL_PACKET, FIRST_PID = b'\x47\x1F\xFF\x10' + bytes(184), b'\x47\x40\x00\x10\x00' + bytes(183)
+
+
+def packets_said(ours, repeats, others, errors=0, refused=0, losses=0):
+    return ('packets: %d on PID 0x0021, of which %d repeated, %d of other PIDs, %d with the error bit, %d refused; losses: %d'
+            % (ours, repeats, others, errors, refused, losses))
+
+
+def adapted(counter, start, payload):
+    """A packet that an adaptation field fills up, if its payload does not; without a payload it stands alone."""
+    room = 184 - len(payload)
+    field = b'' if room == 0 else bytes([room - 1]) + (b'\0' + b'\xFF' * (room - 2) if room > 1 else b'')
+    return bytes([0x47, start, 0x21, (0x20 if room else 0) | (0x10 if payload else 0) | counter]) + field + payload
+
+
+def birch_packets(sections, counter=0):
+    """Sections right behind each other: packets with and without pointers, of which every third leaves room for an adaptation field. Answers pairs
+    of a packet and the numbers of the sections that it has bytes of."""
+    stream, begins = b'', []
+    for one in sections:
+        begins.append(len(stream))
+        stream += one
+    at, made = 0, []
+    while at < len(stream):
+        room = 184 if len(made) % 3 else 150
+        first = next((b for b in begins if at <= b < at + room - 1), None)
+        pointer = b'' if first is None else bytes([first - at])
+        part = stream[at:at + room - len(pointer)]
+        numbers = {i for i, (begin, one) in enumerate(zip(begins, sections)) if begin < at + len(part) and at < begin + len(one)}
+        made.append((adapted(counter, 0 if first is None else 0x40, pointer + part), numbers))
+        at, counter = at + len(part), (counter + 1) % 16
+    return made
+
+
+def alder_stream():
+    """All is well: every table three times over, null packets between."""
+    index, content = Index([DRILL], 6, signature=bytes(range(64))), Content(DRILL, [('eng', 0, LONG_TEXT, 'County office', [])], 6)
+    sections, packets = index.sections() + content.sections(), []
+    for section in sections * 3:
+        packets += packed(section, len(packets) % 16)
+    data = b''.join(packet + NULL_PACKET for packet in packets)
+    said = [*index.whole(1, 2), *index.said(480), *index.contents(6), verdict(), *content.whole(3, 6), *content.said(480), belongs(1, index), verdict(),
+            summed(data, 4, 8, 0, 0), packets_said(len(packets), 0, len(packets)), 'tables: 2, of which 2 whole and 2 accepted', ALL_WELL]
+    return data, ['--offset', '480'], 0, said
+
+
+def birch_tables():
+    index = Index([FLOOD, DRILL], 12, 7)
+    drill = Content(DRILL, [('eng', 2, 'Go on foot.\n' * 200, 'Office', [(9, b'picture')]), ('zho', 1, '请步行到集合点。', '县应急办', [])], 1)
+    flood = Content(FLOOD, [('zho', 0, '大水。\n' * 200, '水利局', [])], 31)
+    return index, drill, flood
+
+
+def birch_sections(tables):
+    index, drill, flood = tables
+    return index.sections(61)[::-1] + drill.sections(700) + flood.sections(333)[::-1]
+
+
+def birch_said(tables, repeats):
+    """What has to be said of the tables, each section of which came so many times more."""
+    index, drill, flood = tables
+    return [*index.whole(len(index.sections(61)), repeats * len(index.sections(61))), *[fact.replace(FLOOD.kind, FLOOD_TYPE) for fact in index.said(None)],
+            *index.contents(31, 1), verdict(), *drill.whole(len(drill.sections(700)), repeats * len(drill.sections(700))), *drill.said(None),
+            belongs(2, index), verdict(), *flood.whole(len(flood.sections(333)), repeats * len(flood.sections(333))), *flood.said(None),
+            belongs(1, index), verdict()]
+
+
+def birch_stream():
+    """All is well: the tables twice over in packets that are close, every fifth sent twice, adaptation fields alone and other PIDs between."""
+    tables = birch_tables()
+    sections = birch_sections(tables)
+    made, sent, repeats = birch_packets(sections * 2, 9), [], 0
+    for number, (packet, _) in enumerate(made):
+        sent += [packet, packet] if number % 5 == 4 else [packet]
+        sent += [adapted(packet[3] & 15, 0, b'')] if number % 7 == 6 else []
+        sent += [FIRST_PID] if number % 10 == 9 else []
+        repeats += number % 5 == 4
+    data, count = b''.join(sent), len(sections)
+    others = len(made) // 10
+    return data, [], 0, [*birch_said(tables, 1), summed(data, count, count, 0, 0), packets_said(len(sent) - others, repeats, others),
+                         'tables: 3, of which 3 whole and 3 accepted', ALL_WELL]
+
+
+def alder_mistakes():
+    """Alder's own mistakes, three times over, as no damage is: hour 24 in a start, an extension from 144 bits, and a section that is never sent."""
+    index, content = Index([DRILL], 7), Content(DRILL, [('eng', 0, 'This is a drill.', 'County office', [])], 7)
+    body = index.body()
+    place = 3 + 18 + 2  # of the start
+    body = body[:place + 2] + b'\x24' + body[place + 3:]
+    content.extension = crc(digits(content.identifier), 16, 0x1021)
+    certificates = Certificates([b'list' * 40], [], 1)
+    three = certificates.sections(60)
+    sections, packets = [*cut(INDEX, 0, 7, body), *content.sections(), three[0], three[2]], []
+    for section in sections * 3:
+        packets += packed(section, len(packets) % 16)
+    data = b''.join(packets)
+    why = 'the day or the time is impossible or out of range (refusal 20'
+    said = [*index.whole(1, 2), '  message 1 of 1', line(1, 'identifier', DRILL.identifier), line(1, 'start', body[place:place + 5].hex(' ').upper()),
+            '      ^ refused: %s, EBM_start_time at byte %d of the body)' % (why, place),
+            line(0, 'not read', '%d bytes after it, from byte %d of the body on' % (len(body) - place - 5, place + 5)),
+            line(0, 'content', 'of message 1: none has come whole; it would be content table %04X' % DRILL.extension()),
+            line(0, 'verdict', 'refused: %s at byte %d of the body)' % (why, place)), *content.whole(1, 2), *content.said(None),
+            line(0, 'belongs to', 'no message that has come'),
+            line(0, 'verdict', "refused: the extension is not the CRC-16 of the identifier (refusal 23); its identifier's is %04X" % DRILL.extension()),
+            certificates.title(), line(0, 'sections', '2 of 3, %d bytes; 4 repeats, 0 refused' % (len(certificates.body()) - 60)),
+            line(0, 'versions seen', '1'), line(0, 'missing', '1'),
+            line(0, 'front of the body', '60 bytes, those before section 1, as far as they can be read:'),
+            line(0, 'verdict', 'not whole: a section is missing (refusal 13, number 1)'), summed(data, 4, 8, 0, 0), packets_said(len(packets), 0, 0),
+            'tables: 3, of which 2 whole and 0 accepted', 'messages without their content table: 1', 'content tables without their message: 1', NOT_WELL]
+    return data, [], 1, said
+
+
+def birch_damage():
+    """Birch's line: a packet is lost, one scrambled, bytes stand between packets, a bit of a section is changed, and the capture ends in a section.
+    Each falls into the middle of a section of a round of its own; the last round but the end is as it was sent."""
+    tables = birch_tables()
+    sections = birch_sections(tables)
+    target = len(tables[0].sections(61)) + 1  # a section of the drill's text, with 712 bytes
+    by_heading = 'number %d, the last being %d, of content table %04X, version 1' % (1, len(tables[1].sections(700)) - 1, tables[1].extension)
+    made = birch_packets(sections * 4)
+    inside = [[i for i, (_, numbers) in enumerate(made) if numbers == {target + turn * len(sections)}][1] for turn in range(4)]
+    sent, events, at, end = [], [], 0, inside[3] + 1
+    for number, (packet, _) in enumerate(made[:end]):
+        if number == inside[0]:
+            continue  # it is lost
+        if number in (inside[0] + 1, inside[1] + 1):
+            events.append('packet at byte %d: packets before it are lost, 1 by the counters; by its heading the section was %s' % (at, by_heading))
+        if number == inside[1]:
+            packet = packet[:3] + bytes([packet[3] | 0x80]) + packet[4:]
+            events.append('bytes %d to %d are skipped: the packet is scrambled (refusal 33)' % (at, at + 187))
+        if number == inside[2]:
+            packet = packet[:120] + bytes([packet[120] ^ 1]) + packet[121:] + b'between packets'
+        sent.append(packet)
+        at += len(packet)
+        if number == inside[2]:
+            events.append('bytes %d to %d are skipped: the packet does not begin with the sync byte 0x47 (refusal 31)' % (at - 15, at - 1))
+        if number > inside[2] and target + 2 * len(sections) in made[number][1] and target + 2 * len(sections) not in made[number + 1][1]:
+            events.append("section that the packet at byte %d completes is skipped: the section's CRC_32 is wrong (refusal 7); by its heading it was %s"
+                          % (at - 188, by_heading))
+    events.append('packet at byte %d: the stream ends after it, and a section has not ended; by its heading the section was %s' % (at - 188, by_heading))
+    data, count = b''.join(sent), len(sections)
+    index, drill, flood = tables
+    cuts = len(index.sections(61)), len(drill.sections(700)), len(flood.sections(333))
+    said = [*events, *index.whole(cuts[0], 3 * cuts[0]), *[fact.replace(FLOOD.kind, FLOOD_TYPE) for fact in index.said(None)], *index.contents(31, None),
+            verdict(), drill.title(), line(0, 'sections', '%d of %d, %d bytes; %d repeats, 0 refused' % (
+                cuts[1] - 1, cuts[1], len(drill.body()) - 700, 3 + 2 * (cuts[1] - 2))),
+            line(0, 'versions seen', '1'), line(0, 'missing', '1'), line(0, 'verdict', 'not whole: a section is missing (refusal 13, number 1)'),
+            *flood.whole(cuts[2], 2 * cuts[2]), *flood.said(None), belongs(1, index), verdict(),
+            summed(data, count - 1, 3 * cuts[0] + 3 + 2 * (cuts[1] - 2) + 2 * cuts[2], 0, 188 + 15 + 712), packets_said(len(sent) - 1, 0, 0, 0, 1, 3),
+            'tables: 3, of which 2 whole and 2 accepted', 'messages without their content table: 1', NOT_WELL]
+    return data, [], 1, said
+
+
+CAPTURES = {'alder.sec': alder, 'birch.sec': birch, 'cedar.ts': cedar, 'alder.ts': alder_stream, 'birch.ts': birch_stream,
+            'alder-mistakes.ts': alder_mistakes, 'birch-damaged.ts': birch_damage}
 
 
 def main():
-    """make_captures.py FOLDER: writes the captures as files."""
+    """make_captures.py FOLDER: writes the captures as files, and beside each, in NAME.txt, what has to be said of it, line by line in this order."""
     folder = sys.argv[1]
     os.makedirs(folder, exist_ok=True)
     for name, made in CAPTURES.items():
+        data, words, status, said = made()
         with open(os.path.join(folder, name), 'wb') as file:
-            file.write(made()[0])
+            file.write(data)
+        with open(os.path.join(folder, name + '.txt'), 'w', encoding='utf-8') as file:
+            file.write('\n'.join([' '.join(['nw show', *words, name]) + ' ends with %d and says' % status, *said, '']))
 
 
 if __name__ == '__main__':

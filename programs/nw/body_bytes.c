@@ -5,27 +5,30 @@
 
 enum { ACROSS = 12 }; // bytes to a line
 
-// The bits of a byte from one on, up to another: in hexadecimal digits where they are whole ones, else one by one; dots for the others.
-static int put_bits(unsigned byte, unsigned from, unsigned to) {
-    if (from % 4 != 0 || to % 4 != 0) {
-        for (unsigned i = 0; i < 8; i++) putchar(i < from || i >= to ? '.' : "01"[byte >> (7 - i) & 1]);
-        return 8;
+// The bits of a byte from one on, up to another.
+static char *bits_text(unsigned byte, unsigned from, unsigned to, char text[BITS_ROOM]) {
+    size_t n = 0;
+    if (from % 4 != 0 || to % 4 != 0)
+        for (unsigned i = 0; i < 8; i++) text[n++] = i < from || i >= to ? '.' : "01"[byte >> (7 - i) & 1];
+    else {
+        text[n++] = from >= 4 ? '.' : "0123456789ABCDEF"[byte >> 4];
+        text[n++] = to <= 4 ? '.' : "0123456789ABCDEF"[byte & 15];
     }
-    putchar(from >= 4 ? '.' : "0123456789ABCDEF"[byte >> 4]);
-    putchar(to <= 4 ? '.' : "0123456789ABCDEF"[byte & 15]);
-    return 2;
+    text[n] = '\0';
+    return text;
+}
+
+char *field_bits(const struct walk *w, const struct field *f, size_t i, char text[BITS_ROOM]) {
+    size_t stop = f->bit + f->bits;
+    return bits_text(w->body.s[f->at + i], i == 0 ? f->bit : 0, stop >= 8 * (i + 1) ? 8 : (unsigned)(stop - 8 * i), text);
 }
 
 // A line of a field's bytes from one on. Answers how wide it is.
 static int put_line(const struct walk *w, const struct field *f, size_t from, size_t n) {
-    size_t stop = f->bit + f->bits;
+    char bits[BITS_ROOM];
     int width = 0;
     printf("  %7zu ", f->at + from);
-    for (size_t i = from; i < from + n; i++) {
-        unsigned first = i == 0 ? f->bit : 0, last = stop >= 8 * (i + 1) ? 8 : (unsigned)(stop - 8 * i);
-        putchar(' ');
-        width += put_bits(w->body.s[f->at + i], first, last) + 1;
-    }
+    for (size_t i = from; i < from + n; i++) width += printf(" %s", field_bits(w, f, i, bits));
     return width;
 }
 

@@ -96,8 +96,7 @@ static void put_refused(struct plain *p, const struct walk *w, const struct fiel
     printf("  ^ refused: %s (refusal %u, %s at byte %zu of the body)\n", nw_refusal_text(f->refusal), f->refusal, f->name, f->at);
 }
 
-// Counts of things that follow, lengths and reserved bits go without saying.
-static bool is_told(const struct field *f) {
+bool is_told(const struct field *f) {
     return f->role == VALUE || f->role == TIME || f->role == HEX || f->role == OPAQUE || (f->role == COUNT && f->number == 0);
 }
 

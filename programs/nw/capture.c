@@ -1,5 +1,6 @@
 // capture.c: a capture of sections or of transport packets read through a window of bounded size, and the sections in it found.
 #include "capture.h"
+#include "progress.h"
 #include <string.h>
 
 enum { WINDOW = 1 << 16, LEAST = 12 };
@@ -20,6 +21,7 @@ static void fill(struct window *w) {
     w->start = 0;
     w->end += fread(w->s + w->end, 1, WINDOW - w->end, w->in);
     w->over = w->end < WINDOW;
+    progress_at(w->at + w->end);
 }
 
 // Judges what begins a byte string, as long as it says to be: 12 bytes where it doesn't, so that its kind is looked at first.

@@ -1,17 +1,29 @@
 // load.c: the words that commands over captures have in common: a capture by its name, and an offset.
 #include "load.h"
+#include "progress.h"
 #include <errno.h>
 #include <string.h>
+#include <sys/stat.h>
+#include <unistd.h>
 
 const char *called(const char *name) { return strcmp(name, "-") == 0 ? "standard input" : shown(name); }
+
+// How many bytes a file has; 0 where it is none, as a pipe.
+static uint64_t bytes_of(const char *name, bool standard) {
+    struct stat about;
+    bool known = (standard ? fstat(STDIN_FILENO, &about) : stat(name, &about)) == 0 && S_ISREG(about.st_mode);
+    return known ? (uint64_t)about.st_size : 0;
+}
 
 bool load(const struct command *c, const char *name, struct finder finder, struct captured *got) {
     bool standard = strcmp(name, "-") == 0;
     FILE *in = standard ? stdin : fopen(name, "rb");
     int why = errno; // which to call it by its name may change
     if (in == NULL) return say(c, "%s can't be opened: %s", called(name), strerror(why)), false;
+    progress_begin(c, bytes_of(name, standard));
     bool read = capture_read(in, finder, got);
     why = errno;
+    progress_end();
     if (!read) say(c, "%s can't be read: %s", called(name), strerror(why));
     if (!standard) fclose(in);
     return read;

@@ -24,11 +24,10 @@ struct report {
     void (*end)(const struct tables *all, const struct sum *sum, bool faultless);
 };
 
-extern const struct report plain_report, bytes_report, json_report;
+extern const struct report plain_report, bytes_report, json_report, html_report;
 
-/* Which of its sections a table lacks, in words: numbers and ranges of them. Answers the text. */
-char *missing_words(const nw_gathering *g, char *text, size_t room);
-
-enum { MISSING_ROOM = 2048 };
+/* The verdict of a capture. */
+#define ALL_WELL "everything is whole and accepted"
+#define NOT_ALL_WELL "not everything is whole and accepted"
 
 #endif

@@ -1,20 +1,27 @@
-// show.c: `nw show [--bytes | --json] [--auxiliary BITS] [--offset OFFSET] CAPTURE`: every table of a capture told to a person.
+// show.c: `nw show [--bytes | --json | --html FILE] [--auxiliary BITS] [--offset OFFSET] CAPTURE`: every table of a capture told to a person.
 #include "show.h"
+#include "events.h"
 #include "load.h"
+#include "page.h"
+#include "progress.h"
 #include "report.h"
 #include <string.h>
 
 const struct command show_command = {
-    "nw show", "nw show [--bytes | --json] [--auxiliary BITS] [--offset OFFSET] CAPTURE",
+    "nw show", "nw show [--bytes | --json | --html FILE] [--auxiliary BITS] [--offset OFFSET] CAPTURE",
     "Reads the sections of GD/J 086-2018 in CAPTURE, or in standard input where it is -, damage\n"
     "among them or not, or in the packets on PID 0x0021 where it is a transport stream, gathers\n"
     "them into tables, and tells all that came: what was skipped, lost or refused and why, which\n"
     "sections are missing, and each field of every table.\n"
     "  --bytes          tells the bodies byte by byte, with each field's name in the standard\n"
     "  --json           tells the same for scripts; nw(1) says how\n"
+    "  --html FILE      writes all of it to FILE, or to standard output where it is -, as one page\n"
+    "                   for a browser, with pictures; a FILE that is something else is kept\n"
     "  --auxiliary BITS the length of an auxiliary file has 24 bits, as without it, or 32\n"
     "  --offset OFFSET  times are also local, so far east of UTC: minutes, -720 to 840, or hours\n"
     "                   and minutes with their sign, as +08:00; without it they are UTC alone\n"
+    "  --progress       says on standard error how much of a capture above 10 MB is read, as it\n"
+    "                   does on a terminal without this\n"
     "  --help           says this\n"
     "Exit status: 0, every table is whole and accepted, nothing was skipped, lost or refused, and\n"
     "messages and contents belong together; 1, something of that is not so, or no table came;\n"
@@ -25,6 +32,7 @@ struct work {
     struct clock clock;
     unsigned variant; // 0 while it is not given
     const struct report *report;
+    const char *page; // the FILE after --html, or NULL
     struct tables tables;
     struct sum sum;
 };
@@ -42,18 +50,21 @@ static void note_section(void *own, uint64_t at, const uint8_t *s, size_t n, nw_
     if (a.outcome == TOOK || a.outcome == TOOK_OVER) w->sum.taken++;
     else if (a.outcome == HELD) w->sum.held++;
     else w->sum.refused++;
+    if (is_event(&a)) progress_clear();
     w->report->arrival(&a);
 }
 
 static void note_skipped(void *own, const struct stretch *bad) {
     struct work *w = own;
     w->sum.skipped += bad->bytes;
+    progress_clear();
     w->report->skipped(bad);
 }
 
 static void note_lost(void *own, const struct stream_loss *loss) {
     struct work *w = own;
     w->sum.losses++;
+    progress_clear();
     w->report->lost(loss);
 }
 
@@ -74,6 +85,13 @@ static bool is_faultless(const struct work *w) {
            s->messages_without_content == 0 && s->contents_without_message == 0;
 }
 
+// Ends the page, and says so.
+static bool tell_page(const struct work *w, bool faultless) {
+    if (!page_close(&show_command)) return false;
+    if (strcmp(w->page, "-") != 0) printf("%s is written: %s\n", shown(w->page), faultless ? ALL_WELL : NOT_ALL_WELL);
+    return true;
+}
+
 static int tell(struct work *w) {
     tables_finish(&w->tables, w->variant);
     w->report->tables();
@@ -83,31 +101,43 @@ static int tell(struct work *w) {
     }
     bool faultless = is_faultless(w);
     w->report->end(&w->tables, &w->sum, faultless);
+    if (w->page != NULL && !tell_page(w, faultless)) return UNUSABLE;
     return finish_output(&show_command, faultless ? TAKEN : REFUSED);
 }
 
 static int run(struct work *w) {
     struct finder finder = {note_begin, note_section, note_skipped, note_lost, w};
-    int status = load(&show_command, w->name, finder, &w->sum.capture) ? tell(w) : UNUSABLE;
+    if (w->page != NULL && !page_open(&show_command, w->page)) return UNUSABLE;
+    bool loaded = load(&show_command, w->name, finder, &w->sum.capture);
+    if (!loaded && w->page != NULL) page_drop();
+    int status = loaded ? tell(w) : UNUSABLE;
     tables_free(&w->tables);
     return status;
 }
 
 // ---- the words of the command
 
-static int take_report(struct work *w, const char *word, const struct report *report) {
-    if (w->report != NULL) return misused(&show_command, word, ": one of --bytes and --json is given already"), 0;
+static bool take_report(struct work *w, const char *word, const struct report *report) {
+    if (w->report != NULL) return misused(&show_command, word, ": one of --bytes, --json and --html is given already"), false;
     w->report = report;
-    return 1;
+    return true;
 }
 
-// Takes a word, and perhaps the one after it. Answers how many were taken, or 0 where they are wrong, which is said; so does
-// the one above.
+static bool take_page(struct work *w, const char *file) {
+    if (!take_report(w, "--html", &html_report)) return false;
+    if (file == NULL) return misused(&show_command, "--html", ": a FILE has to follow, or - for standard output"), false;
+    w->page = file;
+    return true;
+}
+
+// Takes a word, and perhaps the one after it. Answers how many were taken, or 0 where they are wrong, which is said.
 static int take(struct work *w, char **word, bool *options) {
     bool option = *options && word[0][0] == '-' && word[0][1] != '\0';
     if (*options && strcmp(word[0], "--") == 0) return *options = false, 1;
-    if (option && strcmp(word[0], "--bytes") == 0) return take_report(w, word[0], &bytes_report);
-    if (option && strcmp(word[0], "--json") == 0) return take_report(w, word[0], &json_report);
+    if (option && strcmp(word[0], "--bytes") == 0) return take_report(w, word[0], &bytes_report) ? 1 : 0;
+    if (option && strcmp(word[0], "--json") == 0) return take_report(w, word[0], &json_report) ? 1 : 0;
+    if (option && strcmp(word[0], "--html") == 0) return take_page(w, word[1]) ? 2 : 0;
+    if (option && strcmp(word[0], "--progress") == 0) return progress_ask(), 1;
     if (option && strcmp(word[0], "--offset") == 0) return take_offset(&show_command, &w->clock, word[1]) ? 2 : 0;
     if (option && strcmp(word[0], "--auxiliary") == 0) return take_variant(&show_command, &w->variant, word[1]) ? 2 : 0;
     if (option) return misused(&show_command, word[0], ": there is no such word"), 0;

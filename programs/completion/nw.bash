@@ -1,0 +1,27 @@
+# nw.bash: bash's completion of nw's commands, topics, options and files. It asks nw itself, so that it offers what this nw has.
+# shellcheck shell=bash disable=SC2207
+
+# _nw_listed WHAT WORD..: the commands, topics or options that nw tells of after these words.
+_nw_listed() {
+    local pattern='s/^  \(--[a-z]*\).*/\1/p'
+    [ "$1" != commands ] || pattern='s/^  nw \([a-z-]*\) .*/\1/p'
+    [ "$1" != topics ] || pattern='s/.*nw help \([a-z]*\).*/\1/p'
+    "${@:2}" --help 2>/dev/null | sed -n "$pattern"
+}
+
+_nw() {
+    local nw=${COMP_WORDS[0]} current=${COMP_WORDS[COMP_CWORD]} before=${COMP_WORDS[COMP_CWORD - 1]} word words='' files=no
+    if [ "$COMP_CWORD" -eq 1 ]; then words=$(_nw_listed commands "$nw")
+    elif [ "${COMP_WORDS[1]}" = help ]; then words=$(_nw_listed commands "$nw" | grep -v -e '^-' -e '^help$'; _nw_listed topics "$nw")
+    elif [ "$before" = --auxiliary ]; then words='24 32'
+    elif [ "$before" = --offset ]; then words=
+    else files=yes; fi
+    for word in "${COMP_WORDS[@]:2:COMP_CWORD-2}"; do [ "$word" != -- ] || files=only; done
+    if [ $files = yes ] && [[ $current == -* ]]; then words=$(_nw_listed options "$nw" "${COMP_WORDS[1]}"); fi
+    if [ $files != no ] && [ -z "$words" ]; then
+        compopt -o filenames 2>/dev/null
+        COMPREPLY=($(IFS=$'\n' && compgen -f -- "$current"))
+    else COMPREPLY=($(compgen -W "$words" -- "$current")); fi
+}
+
+complete -F _nw nw

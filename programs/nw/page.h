@@ -1,0 +1,29 @@
+/* page.h: the file that an HTML page is written to, whole or not at all, and what stands in it put safely. */
+#ifndef PAGE_H
+#define PAGE_H
+
+#include "../command.h"
+#include <stdio.h>
+
+/* The page while it is written. */
+extern FILE *page;
+
+/* Begins a page with a file's name, - for standard output. A file that is there already is left as it is, unless it is such a page. False where
+ * it can't be written, which is said. */
+bool page_open(const struct command *c, const char *name);
+
+/* Ends it: only now has the file what was written. False where it can't be written, which is said. */
+bool page_close(const struct command *c);
+
+/* Gives it up; the file is as it was. */
+void page_drop(void);
+
+/* Puts ASCII, and a name in the terminal's character set, so that nothing in it is taken for HTML. */
+void page_put(const char *s);
+void page_put_name(const char *s, bool marks);
+
+/* Puts a character: what would steer the page or is invisible as \u{..}, and a bare byte as \xNN, with marks both so that they are told from the
+ * same written in a text. */
+void page_put_character(uint32_t c, bool marks);
+
+#endif
