@@ -47,20 +47,6 @@ static inline const char *stream_words(enum stream_kind kind) {
 
 // ---- where packets are
 
-// Whether nine packets in ten have the sync byte at one place, or all of less than five packets at their beginning; never where a
-// good section begins the bytes.
-static inline bool stream_is(const uint8_t *s, size_t n) {
-    nw_answer stated = nw_section_length(s, n);
-    if (NW_REFUSAL(stated) == NW_TAKEN && nw_value(stated) <= n && NW_REFUSAL(nw_section_read(s, nw_value(stated))) == NW_TAKEN)
-        return false;
-    for (size_t start = 0; start < NW_PACKET_BYTES && start < n; start++) {
-        size_t packets = 0, synced = 0;
-        for (size_t p = start; p < n; p += NW_PACKET_BYTES, packets++) synced += s[p] == STREAM_SYNC;
-        if (packets >= 5 ? synced * 10 >= packets * 9 : start == 0 && n % NW_PACKET_BYTES == 0 && synced == packets) return true;
-    }
-    return false;
-}
-
 // How many bytes stand before the next packet: the sync byte begins it and the two after it, as far as the bytes reach. Of places
 // for it the first `sure` ones are looked at.
 static inline size_t stream_next(const uint8_t *s, size_t n, size_t sure) {
@@ -70,6 +56,30 @@ static inline size_t stream_next(const uint8_t *s, size_t n, size_t sure) {
         if (p >= n || p > at + 2 * NW_PACKET_BYTES) return at;
     }
     return sure;
+}
+
+// Whether packets are nine bytes in ten, found as a reader finds them: from one to the next, and where there is none, searched for.
+static inline bool stream_is_found(const uint8_t *s, size_t n) {
+    size_t at = s[0] == STREAM_SYNC ? 0 : stream_next(s, n, n), packets = 0;
+    for (; at < n; packets++) {
+        at += NW_PACKET_BYTES;
+        if (at < n && s[at] != STREAM_SYNC) at += stream_next(s + at, n - at, n - at);
+    }
+    return packets >= 5 && packets * NW_PACKET_BYTES * 10 >= n * 9;
+}
+
+// Whether bytes are a transport stream: packets are found, or nine in ten have the sync byte at one place, or all of less than five at their
+// beginning; never where a good section begins the bytes.
+static inline bool stream_is(const uint8_t *s, size_t n) {
+    nw_answer stated = nw_section_length(s, n);
+    if (NW_REFUSAL(stated) == NW_TAKEN && nw_value(stated) <= n && NW_REFUSAL(nw_section_read(s, nw_value(stated))) == NW_TAKEN)
+        return false;
+    for (size_t start = 0; start < NW_PACKET_BYTES && start < n; start++) {
+        size_t packets = 0, synced = 0;
+        for (size_t p = start; p < n; p += NW_PACKET_BYTES, packets++) synced += s[p] == STREAM_SYNC;
+        if (packets >= 5 ? synced * 10 >= packets * 9 : start == 0 && n % NW_PACKET_BYTES == 0 && synced == packets) return true;
+    }
+    return n != 0 && stream_is_found(s, n);
 }
 
 // ---- what is lost

@@ -52,7 +52,7 @@ function misplaced(svg) {
 function measured(frame) {
   const d = frame.contentDocument, w = frame.contentWindow, names = {};
   for (const e of d.querySelectorAll('*')) names[e.localName] = (names[e.localName] || 0) + 1;
-  const wide = [...d.querySelectorAll('body *')].filter(e => !e.closest('.wide') && e.getBoundingClientRect().right > w.innerWidth + 1);
+  const wide = [...d.querySelectorAll('body *')].filter(e => e.getBoundingClientRect().right > w.innerWidth + 1);
   return {
     name: frame.name, width: w.innerWidth, wide: [...new Set(wide.map(e => e.localName + '.' + e.getAttribute('class')))].slice(0, 5),
     across: d.documentElement.scrollWidth, names, misplaced: [...d.querySelectorAll('svg')].flatMap(misplaced).slice(0, 5),

@@ -2,7 +2,7 @@
 import html.parser
 import re
 
-VOID = {'meta', 'br', 'hr', 'img', 'input', 'link'}
+VOID = {'meta', 'br', 'hr', 'img', 'input', 'link', 'wbr'}
 SHAPES = {'rect', 'line', 'path', 'circle'}
 
 

@@ -143,7 +143,8 @@ def check_messages(page, told):
     starts = [row for row in real if row[1] != 'not read'][:60]
     bars = list(part.all('rect', 'message'))
     expect('bars', len(bars), len(starts))
-    points = [(moments(text.text())[0], float(text.get('x')[:-1])) for text in part.all('text') if moments(text.text())]
+    ticks = list(part.all('text'))
+    points = [(moments('%s %s' % (day.text(), clock.text()))[0], float(day.get('x')[:-1])) for day, clock in zip(ticks, ticks[1:]) if 'day' in day.classes()]
     for bar, row in zip(bars, starts):
         x, width = float(bar.get('x')[:-1]), float(bar.get('width')[:-1])
         points.append((moments(row[1])[0], x))

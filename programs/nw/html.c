@@ -87,19 +87,28 @@ static void put_contents(const struct tables *all, const struct messages *m) {
 
 // ---- messages
 
-static void put_time_cell(bool has, uint64_t field) {
+// A cell; on a phone its column's name stands before it.
+static void put_cell(const char *column, const char *value) {
+    fprintf(page, "<td data-is=\"%s\">", column);
+    page_put(value);
+    fputs("</td>", page);
+}
+
+static void put_time_cell(const char *column, bool has, uint64_t field) {
     char text[256];
-    fprintf(page, "<td>%s</td>", has ? time_words(field, clock_, text, sizeof text) : "not read");
+    put_cell(column, has ? time_words(field, clock_, text, sizeof text) : "not read");
 }
 
 static void put_message(const struct tables *all, const struct message *m) {
     const struct table *content = m->table->whole ? content_of(all, m->table, m->number) : NULL;
     char name[64];
-    fprintf(page, "<tr><th scope=\"row\"><a href=\"#table-%zu\">%" PRIu64 "</a></th><td><code>%s</code></td>", m->place, m->number + 1,
-            m->identifier[0] == '\0' ? "not read" : m->identifier);
-    put_time_cell(m->has_start, m->start);
-    put_time_cell(m->has_end, m->end);
-    fprintf(page, "<td>%s</td><td>%s</td><td>", m->class_[0] == '\0' ? "not read" : m->class_, m->level[0] == '\0' ? "not read" : m->level);
+    fprintf(page, "<tr><th scope=\"row\"><a href=\"#table-%zu\">%" PRIu64 "</a></th>", m->place, m->number + 1);
+    put_cell("identifier", m->identifier[0] == '\0' ? "not read" : m->identifier);
+    put_time_cell("start", m->has_start, m->start);
+    put_time_cell("end", m->has_end, m->end);
+    put_cell("class", m->class_[0] == '\0' ? "not read" : m->class_);
+    put_cell("level", m->level[0] == '\0' ? "not read" : m->level);
+    fputs("<td data-is=\"content\">", page);
     if (content == NULL) fputs("none has come whole", page);
     else fprintf(page, "<a href=\"#table-%td\">%s</a>", content - all->list, table_name(content, name, sizeof name));
     fputs("</td></tr>\n", page);
@@ -109,12 +118,12 @@ static void put_messages(const struct tables *all, const struct messages *m) {
     if (m->count == 0) return;
     fputs("<section id=\"messages\">\n<h2>Messages</h2>\n", page);
     picture_of_messages(m, clock_);
-    fputs("<div class=\"wide\" tabindex=\"0\" role=\"group\" aria-label=\"messages\"><table><thead><tr><th scope=\"col\">message</th><th scope=\"col\">identifier</th>"
+    fputs("<table class=\"messages\"><thead><tr><th scope=\"col\">message</th><th scope=\"col\">identifier</th>"
           "<th scope=\"col\">start</th><th scope=\"col\">end</th><th scope=\"col\">class</th><th scope=\"col\">level</th><th scope=\"col\">content</th>"
           "</tr></thead><tbody>\n",
           page);
     for (size_t i = 0; i < m->count; i++) put_message(all, &m->list[i]);
-    fputs("</tbody></table></div>\n", page);
+    fputs("</tbody></table>\n", page);
     if (m->full) fputs("<p class=\"remark\">There is no memory for more messages here; the tables have all of them.</p>\n", page);
     fputs("</section>\n", page);
 }
@@ -133,9 +142,9 @@ static void put_events(void) {
     fputs("</section>\n", page);
 }
 
-static void put_capture(const struct tables *all, const struct sum *sum) {
+static void put_capture(const struct sum *sum) {
     fputs("<section id=\"capture\">\n<h2>What came and went</h2>\n", page);
-    picture_of_capture(all, sum);
+    picture_of_capture(sum);
     fputs("</section>\n", page);
     put_events();
 }
@@ -190,7 +199,7 @@ static void end(const struct tables *all, const struct sum *sum, bool faultless)
     put_contents(all, &messages);
     fputs("<main>\n", page);
     put_messages(all, &messages);
-    put_capture(all, sum);
+    put_capture(sum);
     for (size_t i = 0; i < all->count; i++) put_table(all, i);
     put_bytes(all);
     fputs("</main>\n<footer>Written by nw " NW_VERSION ". No signature is checked. nw help refusals says what to look at for each refusal.</footer>\n"

@@ -26,7 +26,7 @@ void messages_find(struct messages *m, const struct tables *all);
 
 /* Pictures: the messages from the first start to the last end; the capture from its first byte to its last. */
 void picture_of_messages(const struct messages *m, struct clock clock);
-void picture_of_capture(const struct tables *all, const struct sum *sum);
+void picture_of_capture(const struct sum *sum);
 
 /* What the picture of the capture is drawn from, in the order of the capture. */
 void picture_skipped(const struct stretch *bad);

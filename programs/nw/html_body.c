@@ -30,7 +30,7 @@ static void put_hex(const struct walk *w, const struct field *f) {
 static void enter_words(void *own, const struct walk *w, const struct group *g) {
     struct telling *t = own;
     (void)w;
-    fputs(g->single || g->row ? "<dt>" : "<dt class=\"group\">", page);
+    fputs(g->row ? "<dt>" : "<dt class=\"group\">", page);
     put_group(g);
     fputs(g->row ? "</dt><dd>" : "</dt><dd class=\"group\"><dl>\n", page);
     t->in_row = g->row;
@@ -125,6 +125,14 @@ static void bytes_value(const struct field *f) {
     else page_put(f->words);
 }
 
+// A name of the standard, which may be broken after each part of it.
+static void put_name(const char *name) {
+    for (; *name != '\0'; name++) {
+        putc(*name, page);
+        if (*name == '_') fputs("<wbr>", page);
+    }
+}
+
 static void field_bytes(void *own, const struct walk *w, const struct field *f) {
     const struct telling *t = own;
     bool refused = f->refusal != NW_TAKEN;
@@ -133,7 +141,9 @@ static void field_bytes(void *own, const struct walk *w, const struct field *f) 
     else fputs("<tr>", page);
     fprintf(page, "<th scope=\"row\">%zu</th><td><code>", f->at);
     put_hex(w, f);
-    fprintf(page, "</code></td><td class=\"name\">%s</td><td>", f->name);
+    fputs("</code></td><td>", page);
+    put_name(f->name);
+    fputs("</td><td>", page);
     if (refused) fprintf(page, "<strong class=\"refused\">refused here: %s</strong> (refusal %u)", nw_refusal_text(f->refusal), f->refusal);
     else bytes_value(f);
     fputs("</td></tr>\n", page);

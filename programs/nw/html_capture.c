@@ -4,7 +4,7 @@
 #include <inttypes.h>
 #include <string.h>
 
-enum { BINS = 400, MOST_SPANS = 32, MOST_LANES = 64, MOST_SECTIONS = 256, ROW = 46, LANE = 16 };
+enum { BINS = 400, MOST_SPANS = 32, MOST_LANES = 64, MOST_SECTIONS = 256, ROW = 60, NAMES = 32, LANE = 16, LABEL = 20 }; // LABEL: percent that a version's name may take
 
 // What came in some bytes of the capture.
 struct bin {
@@ -126,19 +126,30 @@ static void put_marks(const char *kind, const uint32_t *counts, size_t stride, u
 }
 
 static void put_lane_label(int y, const char *label) {
-    fprintf(page, "<text class=\"small\" x=\"0\" y=\"%d\">%s</text><rect class=\"lane\" x=\"0\" y=\"%d\" width=\"100%%\" height=\"%d\"/>\n", y + 12, label,
-            y + 22, LANE);
+    fprintf(page, "<text x=\"0\" y=\"%d\">%s</text><rect class=\"lane\" x=\"0\" y=\"%d\" width=\"100%%\" height=\"%d\"/>\n", y + 12, label,
+            y + NAMES, LANE);
 }
 
 static void put_span(const struct span *s, uint64_t all, int y) {
     double from = percent(s->from, all), to = s->is_over ? percent(s->to, all) : 100, whole = percent(s->whole, all);
     fprintf(page, "<rect class=\"version\" x=\"%.2f%%\" y=\"%d\" width=\"%.2f%%\" height=\"%d\"><title>version %u, from byte %" PRIu64 "</title></rect>", from,
-            y + 22, to - from, LANE, s->version, s->from);
+            y + NAMES, to - from, LANE, s->version, s->from);
     if (s->is_whole)
         fprintf(page, "<rect class=\"whole\" x=\"%.2f%%\" y=\"%d\" width=\"%.2f%%\" height=\"%d\"><title>version %u, whole from byte %" PRIu64 "</title></rect>",
-                whole, y + 22, to - whole, LANE, s->version, s->whole);
-    if (to - from >= 8) fprintf(page, "<text class=\"small\" x=\"%.2f%%\" y=\"%d\" dx=\"4\">version %u</text>", from, y + 22 + LANE - 4, s->version);
+                whole, y + NAMES, to - whole, LANE, s->version, s->whole);
     putc('\n', page);
+}
+
+// The versions by name, over where they begin, as far as they find room: the latest first.
+static void put_names(const struct lane *l, uint64_t all, int y) {
+    double end = 100;
+    for (size_t i = l->span_count; i-- > 0;) {
+        double x = percent(l->spans[i].from, all);
+        bool at_end = x > 100 - LABEL;
+        if ((at_end ? x : x + LABEL) > end) continue;
+        fprintf(page, "<text x=\"%.2f%%\" y=\"%d\" text-anchor=\"%s\">version %u</text>\n", x, y + NAMES - 4, at_end ? "end" : "start", l->spans[i].version);
+        end = at_end ? x - LABEL : x;
+    }
 }
 
 static void put_lane(const struct lane *l, uint64_t all, int y) {
@@ -147,16 +158,17 @@ static void put_lane(const struct lane *l, uint64_t all, int y) {
     snprintf(label, sizeof label, "%s table %04X", kind_name(l->kind), l->extension);
     put_lane_label(y, label);
     for (size_t i = 0; i < l->span_count; i++) put_span(&l->spans[i], all, y);
-    put_marks("held", &l->bins->held, stride, all, y + 22 + LANE - 4, 4, "held already:");
-    put_marks("taken", &l->bins->taken, stride, all, y + 22, LANE, "taken:");
-    put_marks("no", &l->bins->refused, stride, all, y + 15, 6, "refused:");
+    put_names(l, all, y);
+    put_marks("held", &l->bins->held, stride, all, y + NAMES + LANE - 4, 4, "held already:");
+    put_marks("taken", &l->bins->taken, stride, all, y + NAMES, LANE, "taken:");
+    put_marks("no", &l->bins->refused, stride, all, y + NAMES + LANE + 2, 6, "refused:");
 }
 
 static void put_legend(void) {
     static const char *const marks[][2] = {
         {"<rect class=\"taken\" x=\"8\" y=\"0\" width=\"4\" height=\"16\"/>", "a section is taken"},
         {"<rect class=\"held\" x=\"8\" y=\"12\" width=\"4\" height=\"4\"/>", "it is held already: a repeat"},
-        {"<rect class=\"no\" x=\"8\" y=\"0\" width=\"4\" height=\"6\"/>", "refused or left out, above the band; bytes skipped; packets lost"},
+        {"<rect class=\"no\" x=\"8\" y=\"10\" width=\"4\" height=\"6\"/>", "it is refused or left out, below the band"},
         {"<rect class=\"version\" x=\"0\" y=\"0\" width=\"20\" height=\"16\"/>", "a version of the table has begun"},
         {"<rect class=\"whole\" x=\"0\" y=\"0\" width=\"20\" height=\"16\"/>", "and is whole, until another takes over"}};
     fputs("<ul class=\"legend\">\n", page);
@@ -169,25 +181,24 @@ static void put_bands(const struct sum *sum, int *y) {
     uint64_t all = sum->capture.bytes;
     if (any_skipped) {
         put_lane_label(*y, "skipped");
-        put_marks("no", skipped_in, 1, all, *y + 22, LANE, "stretches that are skipped:");
+        put_marks("no", skipped_in, 1, all, *y + NAMES, LANE, "stretches that are skipped:");
         *y += ROW;
     }
     if (!any_lost) return;
     put_lane_label(*y, "lost");
-    put_marks("no", lost_in, 1, all, *y + 22, LANE, "losses:");
+    put_marks("no", lost_in, 1, all, *y + NAMES, LANE, "losses:");
     *y += ROW;
 }
 
-void picture_of_capture(const struct tables *all, const struct sum *sum) {
+void picture_of_capture(const struct sum *sum) {
     size_t drawn = lane_count < MOST_LANES ? lane_count : MOST_LANES;
     int rows = (int)drawn + any_skipped + any_lost, y = 0;
-    (void)all;
     if (rows == 0) return;
     fprintf(page, "<figure><svg role=\"img\" aria-label=\"Which sections came where in the capture; the events and the tables say the same in words.\" "
                   "width=\"100%%\" height=\"%d\">\n", rows * ROW + 20);
     put_bands(sum, &y);
     for (size_t i = 0; i < drawn; i++, y += ROW) put_lane(&lanes[i], sum->capture.bytes, y);
-    fprintf(page, "<text class=\"small\" x=\"0\" y=\"%d\">byte 0</text><text class=\"small\" x=\"100%%\" y=\"%d\" text-anchor=\"end\">byte %" PRIu64
+    fprintf(page, "<text x=\"0\" y=\"%d\">byte 0</text><text x=\"100%%\" y=\"%d\" text-anchor=\"end\">byte %" PRIu64
                   "</text>\n</svg>\n<figcaption>From the first byte of the capture to its last.", y + 14, y + 14, sum->capture.bytes);
     if (sum->capture.is_stream) fputs(" A section stands at the packet that completes it.", page);
     if (lane_count > drawn || not_drawn > 0)

@@ -6,7 +6,7 @@
 #include <stdlib.h>
 #include <string.h>
 
-enum { MOST_DRAWN = 60, ROW = 54, TOP = 22, HOUR = 3600, DAY = 86400 };
+enum { MOST_DRAWN = 60, ROW = 54, TOP = 36, HOUR = 3600, DAY = 86400 };
 
 // ---- the messages
 
@@ -85,15 +85,10 @@ static struct axis axis_of(const struct messages *m, struct clock clock) {
 
 static double percent(struct axis a, int64_t at) { return 100.0 * (double)(at - a.from) / (double)(a.to - a.from); }
 
-// A time of the axis, day first.
-static const char *moment(int64_t s, char text[32]) {
+// A time of the axis.
+static nw_time moment(int64_t s) {
     int64_t day = s / DAY, hour = s % DAY / HOUR, minute = s % HOUR / 60;
-    uint64_t field = (uint64_t)day << 24 | (uint64_t)(hour / 10 << 20 | hour % 10 << 16 | minute / 10 << 12 | minute % 10 << 8);
-    nw_time t = nw_time_unpack(field, 0);
-    text[0] = '\0';
-    if (day >= 0 && day < 65536 && NW_REFUSAL(t) == NW_TAKEN)
-        snprintf(text, 32, "%02u/%02u/%04u %02u:%02u", nw_time_day(t), nw_time_month(t), nw_time_year(t), nw_time_hour(t), nw_time_minute(t));
-    return text;
+    return nw_time_unpack((uint64_t)day << 24 | (uint64_t)(hour / 10 << 20 | hour % 10 << 16 | minute / 10 << 12 | minute % 10 << 8), 0);
 }
 
 // ---- the picture
@@ -107,23 +102,30 @@ static int64_t step_of(struct axis a) {
     return steps[i];
 }
 
-static void put_axis(struct axis a, int height) {
-    char text[32];
-    int64_t step = step_of(a);
-    for (int64_t at = (a.from / step + 1) * step; at < a.to; at += step) {
-        double x = percent(a, at);
-        const char *anchor = x < 20 ? "start" : x > 80 ? "end" : "middle";
-        fprintf(page, "<line class=\"grid\" x1=\"%.2f%%\" x2=\"%.2f%%\" y1=\"%d\" y2=\"%d\"/>", x, x, TOP - 4, height);
-        fprintf(page, "<text class=\"small\" x=\"%.2f%%\" y=\"12\" text-anchor=\"%s\">%s</text>\n", x, anchor, moment(at, text));
-    }
+// The day, first, and the time below it, so that three find room on a phone.
+static void put_tick(double x, nw_time t, int height) {
+    const char *anchor = x < 12 ? "start" : x > 88 ? "end" : "middle";
+    fprintf(page, "<line class=\"grid\" x1=\"%.2f%%\" x2=\"%.2f%%\" y1=\"%d\" y2=\"%d\"/>", x, x, TOP - 4, height);
+    fprintf(page, "<text class=\"day\" x=\"%.2f%%\" y=\"12\" text-anchor=\"%s\">%02u/%02u/%04u</text>", x, anchor, nw_time_day(t), nw_time_month(t),
+            nw_time_year(t));
+    fprintf(page, "<text x=\"%.2f%%\" y=\"27\" text-anchor=\"%s\">%02u:%02u</text>\n", x, anchor, nw_time_hour(t), nw_time_minute(t));
 }
+
+static void put_axis(struct axis a, int height) {
+    int64_t step = step_of(a);
+    for (int64_t at = (a.from / step + 1) * step; at < a.to; at += step)
+        if (at >= 0 && at / DAY < 65536 && NW_REFUSAL(moment(at)) == NW_TAKEN) put_tick(percent(a, at), moment(at), height);
+}
+
+// A class or a level without its number.
+static const char *named(const char *words) { return words[0] == '\0' ? "not read" : strchr(words, ' ') + 1; }
 
 static void put_message(const struct message *m, struct axis a, struct clock clock, int y) {
     char text[256];
     double from = percent(a, seconds(m->start, clock)), to = is_live(m) ? 100 : percent(a, ends(m, clock));
     fprintf(page, "<text class=\"mono\" x=\"0\" y=\"%d\">%s</text>", y + 13, m->identifier);
-    fprintf(page, "<text class=\"small\" x=\"0\" y=\"%d\">class %s; level %s%s</text>", y + 28, m->class_[0] == '\0' ? "not read" : m->class_,
-            m->level[0] == '\0' ? "not read" : m->level, is_live(m) ? m->has_end ? "; live" : "; its end is not read" : "");
+    fprintf(page, "<text x=\"0\" y=\"%d\">%s, %s%s</text>", y + 28, named(m->class_), named(m->level),
+            !is_live(m) ? "" : m->has_end ? ", live" : ", end not read");
     fprintf(page, "<rect class=\"lane\" x=\"0\" y=\"%d\" width=\"100%%\" height=\"12\"/>", y + 34);
     fprintf(page, "<rect class=\"%s\" x=\"%.3f%%\" y=\"%d\" width=\"%.3f%%\" height=\"12\"><title>%s to ", is_live(m) ? "message live" : "message", from,
             y + 34, to > from ? to - from : 0.0, time_words(m->start, clock, text, sizeof text));
@@ -144,7 +146,7 @@ void picture_of_messages(const struct messages *m, struct clock clock) {
     fputs("</svg>\n<figcaption>From the start of each message to its end", page);
     if (clock.local) fprintf(page, ", in UTC%c%02d:%02d", clock.offset < 0 ? '-' : '+', abs(clock.offset) / 60, abs(clock.offset) % 60);
     else fputs(", in UTC", page);
-    fputs("; an end without an edge is live.", page);
+    fputs("; a dashed bar has no end: the message is live.", page);
     if (can_be > drawn) fprintf(page, " The first %zu of %zu are drawn.", drawn, can_be);
     fputs("</figcaption></figure>\n", page);
 }
