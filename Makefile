@@ -7,6 +7,9 @@ BINDIR = $(PREFIX)/bin
 LIBDIR = $(PREFIX)/lib
 INCLUDEDIR = $(PREFIX)/include
 MANDIR = $(PREFIX)/share/man
+DATADIR = $(PREFIX)/share/neapwillow
+BASHDIR = $(PREFIX)/share/bash-completion/completions
+ZSHDIR = $(PREFIX)/share/zsh/site-functions
 INSTALL ?= install
 
 # The archives of the crates that tools/kit lists; the library's alone is installed.
@@ -34,7 +37,7 @@ $(COMMANDS) &: $(ARCHIVES) $(wildcard programs/* programs/nw/* include/*) exampl
 
 help:
 	@echo 'make            proves and builds the library and the commands $(PROGRAMS)'
-	@echo 'make install    puts them down below PREFIX ($(PREFIX)), with header, man pages and pkg-config file; DESTDIR stages'
+	@echo 'make install    puts them down below PREFIX ($(PREFIX)), with header, man pages, completion and pkg-config file; DESTDIR stages'
 	@echo 'make uninstall  removes them again'
 	@echo 'make check      runs the tests through C, without the proofs; ./test is the whole gate'
 	@echo 'make drill      a drill from end to end'
@@ -48,7 +51,8 @@ drill:
 	tools/drill
 
 install: all
-	$(INSTALL) -d "$(DESTDIR)$(BINDIR)" "$(DESTDIR)$(LIBDIR)/pkgconfig" "$(DESTDIR)$(INCLUDEDIR)" "$(DESTDIR)$(MANDIR)/man1" "$(DESTDIR)$(MANDIR)/man3"
+	$(INSTALL) -d "$(DESTDIR)$(BINDIR)" "$(DESTDIR)$(LIBDIR)/pkgconfig" "$(DESTDIR)$(INCLUDEDIR)" "$(DESTDIR)$(MANDIR)/man1" "$(DESTDIR)$(MANDIR)/man3" \
+	    "$(DESTDIR)$(DATADIR)" "$(DESTDIR)$(BASHDIR)" "$(DESTDIR)$(ZSHDIR)"
 	for name in $(PROGRAMS); do \
 	    $(INSTALL) -m 755 "target/bin/$$name" "$(DESTDIR)$(BINDIR)/" && \
 	    $(FILL) "man/$$name.1.in" >"$(DESTDIR)$(MANDIR)/man1/$$name.1" || exit 1; \
@@ -57,11 +61,15 @@ install: all
 	$(INSTALL) -m 644 include/neapwillow.h "$(DESTDIR)$(INCLUDEDIR)/"
 	$(FILL) neapwillow.pc.in >"$(DESTDIR)$(LIBDIR)/pkgconfig/neapwillow.pc"
 	$(FILL) man/neapwillow.3.in >"$(DESTDIR)$(MANDIR)/man3/neapwillow.3"
+	$(INSTALL) -m 644 docs/nw-show.schema.json "$(DESTDIR)$(DATADIR)/"
+	$(INSTALL) -m 644 programs/completion/nw.bash "$(DESTDIR)$(BASHDIR)/nw"
+	$(INSTALL) -m 644 programs/completion/_nw "$(DESTDIR)$(ZSHDIR)/"
 
 uninstall:
 	for name in $(PROGRAMS); do rm -f "$(DESTDIR)$(BINDIR)/$$name" "$(DESTDIR)$(MANDIR)/man1/$$name.1"; done
 	rm -f "$(DESTDIR)$(LIBDIR)/libneapwillow.a" "$(DESTDIR)$(LIBDIR)/pkgconfig/neapwillow.pc" \
-	    "$(DESTDIR)$(INCLUDEDIR)/neapwillow.h" "$(DESTDIR)$(MANDIR)/man3/neapwillow.3"
+	    "$(DESTDIR)$(INCLUDEDIR)/neapwillow.h" "$(DESTDIR)$(MANDIR)/man3/neapwillow.3" "$(DESTDIR)$(DATADIR)/nw-show.schema.json" \
+	    "$(DESTDIR)$(BASHDIR)/nw" "$(DESTDIR)$(ZSHDIR)/_nw"
 
 # What was built, and not what was proved: `rm -rf target` removes that too.
 clean:

@@ -1,4 +1,4 @@
-"""What `nw` says, writes and ends with, slip by slip, and on captures of two head ends: nw_slips.py HOW PROGRAM.."""
+"""What `nw` says, writes and ends with, slip by slip, and on captures of invented head ends: nw_slips.py HOW PROGRAM.."""
 import copy
 import json
 import os
@@ -18,7 +18,7 @@ ROOT = os.path.join(os.path.dirname(os.path.abspath(__file__)), os.pardir)
 with open(os.path.join(ROOT, 'VERSION'), encoding='ascii') as version:
     VERSION = version.read()
 USAGE = 'usage: nw COMMAND ..; nw --help says more'
-SHOW_USAGE = 'usage: nw show [--bytes | --json] [--auxiliary BITS] [--offset OFFSET] CAPTURE; nw show --help says more'
+SHOW_USAGE = 'usage: nw show [--bytes | --json | --html FILE] [--auxiliary BITS] [--offset OFFSET] CAPTURE; nw show --help says more'
 OFFSETS = 'nw show: %s: an OFFSET has to be a whole number of minutes from -720 to 840, or as +08:00'
 NOT_WRITTEN = "the output can't be written: "
 
@@ -72,8 +72,10 @@ def try_usage():
                         (['show', '-x'], ['nw show: -x: there is no such word', SHOW_USAGE]),
                         (['show', 'good', 'more'], ['nw show: more: there is a CAPTURE already, and one is read', SHOW_USAGE]),
                         (['show', '--', 'good', '--bytes'], ['nw show: --bytes: there is a CAPTURE already, and one is read', SHOW_USAGE]),
-                        (['show', '--bytes', '--json', 'good'], ['nw show: --json: one of --bytes and --json is given already', SHOW_USAGE]),
-                        (['show', '--bytes', '--bytes', 'good'], ['nw show: --bytes: one of --bytes and --json is given already', SHOW_USAGE]),
+                        (['show', '--bytes', '--json', 'good'], ['nw show: --json: one of --bytes, --json and --html is given already', SHOW_USAGE]),
+                        (['show', '--bytes', '--bytes', 'good'], ['nw show: --bytes: one of --bytes, --json and --html is given already', SHOW_USAGE]),
+                        (['show', '--html', 'page', '--html', 'page', 'good'], ['nw show: --html: one of --bytes, --json and --html is given already', SHOW_USAGE]),
+                        (['show', 'good', '--html'], ['nw show: --html: a FILE has to follow, or - for standard output', SHOW_USAGE]),
                         (['show', 'good', '--offset'], ['nw show: --offset: an OFFSET has to follow', SHOW_USAGE]),
                         (['show', '--offset', '1', '--offset', '2', 'good'], ['nw show: --offset: it is given already', SHOW_USAGE])]:
         expect('nw %r' % words, run(words), 2, b'', said)
@@ -103,7 +105,7 @@ def try_files():
 
 def try_streams():
     """Output that is full, closed, or a pipe that nobody reads."""
-    for words in ['show', 'good'], ['show', '--bytes', 'good'], ['show', '--json', 'good'], ['show', '--help'], ['--help'], ['--version'], ['show', '-'], ['help', 'refusals']:
+    for words in ['show', 'good'], ['show', '--bytes', 'good'], ['show', '--json', 'good'], ['show', '--html', '-', 'good'], ['show', '--html', '/dev/null', 'good'], ['show', '--help'], ['--help'], ['--version'], ['show', '-'], ['help', 'refusals']:
         name = 'nw: ' if words[0] != 'show' else 'nw show: '
         with open('/dev/full', 'wb') as full:
             expect('%r on a full disk' % words, run(words, stdout=full), 2, b'', [name + NOT_WRITTEN + 'No space left on device'])
@@ -119,7 +121,7 @@ def try_help():
     expect('help show', run(['help', 'show']), 0, run(['show', '--help'])[1], [])
     expect('help', run(['help']), 0, run(['--help'])[1], [])
     for words, needed in ((['--help'], ['nw show CAPTURE', 'nw compare A B', 'nw dates', 'nw section', 'nw help TOPIC', 'refusals', '--version']),
-                          (['show', '--help'], ['CAPTURE', '--bytes', '--json', '--offset OFFSET', '-720 to 840', '+08:00'])):
+                          (['show', '--help'], ['CAPTURE', '--bytes', '--json', '--html FILE', '--progress', '--offset OFFSET', '-720 to 840', '+08:00'])):
         output = ' '.join(run(words)[1].decode().split())
         for word in [*needed, 'Exit status: 0, ', '; 1, ', '2, wrong usage']:
             if word not in output:

@@ -1,5 +1,5 @@
 # nw.bash: bash's completion of nw's commands, topics, options and files. It asks nw itself, so that it offers what this nw has.
-# shellcheck shell=bash disable=SC2207
+# shellcheck shell=bash
 
 # _nw_listed WHAT WORD..: the commands, topics or options that nw tells of after these words.
 _nw_listed() {
@@ -20,8 +20,8 @@ _nw() {
     if [ $files = yes ] && [[ $current == -* ]]; then words=$(_nw_listed options "$nw" "${COMP_WORDS[1]}"); fi
     if [ $files != no ] && [ -z "$words" ]; then
         compopt -o filenames 2>/dev/null
-        COMPREPLY=($(IFS=$'\n' && compgen -f -- "$current"))
-    else COMPREPLY=($(compgen -W "$words" -- "$current")); fi
+        mapfile -t COMPREPLY < <(compgen -f -- "$current")
+    else mapfile -t COMPREPLY < <(compgen -W "$words" -- "$current"); fi
 }
 
 complete -F _nw nw
