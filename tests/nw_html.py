@@ -167,7 +167,7 @@ def check_page(what, data, words=(), where='C.UTF-8'):
     status, output, said = run(['show', '--html', '-', *words, '-'], data, where)
     told = json.loads(run(['show', '--json', *words, '-'], data, where)[1].decode('ascii'))
     expect(what + ' ends', (status, said), (told['sum']['status'], ''))
-    expect(what + ' begins', output.startswith(b'<!DOCTYPE html>\n<!-- a page of nw show -->\n<html lang="en">\n'), True)
+    expect(what + ' begins', output.startswith(b'<!DOCTYPE html>\n<html lang="en">\n'), True)
     try:
         page = html_tree.read(output)
         html_tree.needs_nothing(page)
@@ -254,29 +254,27 @@ def try_captures():
 
 
 def try_files():
-    """The page's file: whole or not at all, and nothing else is overwritten."""
+    """The page's file: whole or not at all, and nothing is replaced unless that is asked for."""
     good = make.section(make.INDEX, 0, 0, 0, 0, b'\0\0\0')
     with open('good', 'wb') as file:
         file.write(good)
     os.mkdir('folder')
     written = run(['show', '--html', '-', 'good'])[1]
-    for _ in range(2):  # a page is replaced
-        expect('a page', run(['show', '--html', 'page.html', 'good']), (0, b'page.html is written: ' + make.ALL_WELL.encode() + b'\n', ''))
+    for words in [], ['--replace']:
+        expect('a page', run(['show', '--html', 'page.html', *words, 'good']), (0, b'page.html is written: ' + make.ALL_WELL.encode() + b'\n', ''))
         with open('page.html', 'rb') as file:
             expect('what is in it', file.read(), written)
-    there = 'nw show: %s is there already, and no page of nw show: it is left as it is\n'
-    cant = "nw show: %s can't be written: %s\n"
-    for words, said in ((['--html', 'good', 'good'], there % 'good'), (['--html', 'none/page', 'good'], cant % ('none/page.part', 'No such file or directory')),
-                        (['--html', 'folder', 'good'], cant % ('folder', 'Is a directory')), (['--html', '/dev/full', 'good'], cant % ('/dev/full', 'No space left on device')),
-                        (['--html', 'other.html', 'none'], "nw show: none can't be opened: No such file or directory\n"),
-                        (['--html', 'other.html', 'folder'], "nw show: folder can't be read: Is a directory\n")):
-        expect('%r' % words, run(['show', *words]), (2, b'', said))
+    there = 'nw show: page.html is there already, and stays as it is; --replace replaces it\n'
+    left = 'nw show: %s\n'
+    for words, said in ((['page.html', 'good'], there), (['none/page', 'good'], left % "none/page can't be opened: No such file or directory"),
+                        (['folder', 'good'], left % "folder can't be opened: Is a directory"),
+                        (['/dev/full', 'good'], left % "/dev/full is not whole, it can't be written: No space left on device"),
+                        (['other.html', 'none'], left % "none can't be opened: No such file or directory"),
+                        (['other.html', 'folder'], left % "folder can't be read: Is a directory")):
+        expect('%r' % words, run(['show', '--html', *words]), (2, b'', said))
     expect('the files', sorted(os.listdir('.')), ['folder', 'good', 'page.html'])
-    with open('good', 'rb') as file:
-        expect('the capture', file.read(), good)
-    with open('page.html.part', 'wb'):
-        pass
-    expect('a part', run(['show', '--html', 'page.html', 'good']), (2, b'', cant % ('page.html.part', 'File exists')))
+    with open('page.html', 'rb') as file:
+        expect('the page', file.read(), written)
     expect('a bad capture', run(['show', '--html', 'bad.html', '-'], b'x'), (1, b'bad.html is written: not everything is whole and accepted\n', ''))
     name = 'a <b> & "c" \x1B\u202E 演.sec'
     with open(name, 'wb') as file:

@@ -84,9 +84,9 @@ def told(words, size, limit=None):
 
 
 def least():
-    """The least limit in megabytes, but for some, under which a short capture is told."""
-    low, high = 1, 4096
-    while high - low > 2:
+    """The least limit in megabytes under which a short capture is told."""
+    low, high = 1, 1024
+    while high - low > 1:
         middle = (low + high) // 2
         low, high = (low, middle) if told([], 1, middle * MB)[0] == 0 else (middle, high)
     return high
@@ -103,7 +103,7 @@ def try_memory():
         expect('%r on %d MB in %d' % (words, MEGABYTES, limit // MB), (status, said), (0, ''))
         if not words:
             expect('what is told', uncounted(output), uncounted(short[1]))
-            expect('how much', re.search(r'all in all: (\d+) bytes', output)[1:], (str(sent),))
+            expect('how much', re.search(r'all in all: (\d+) bytes', output)[1], str(sent))
     return limit // MB
 
 

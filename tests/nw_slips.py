@@ -18,7 +18,7 @@ ROOT = os.path.join(os.path.dirname(os.path.abspath(__file__)), os.pardir)
 with open(os.path.join(ROOT, 'VERSION'), encoding='ascii') as version:
     VERSION = version.read()
 USAGE = 'usage: nw COMMAND ..; nw --help says more'
-SHOW_USAGE = 'usage: nw show [--bytes | --json | --html FILE] [--auxiliary BITS] [--offset OFFSET] CAPTURE; nw show --help says more'
+SHOW_USAGE = 'usage: nw show [--bytes | --json | --html FILE [--replace]] [--auxiliary BITS] [--offset OFFSET] CAPTURE; nw show --help says more'
 OFFSETS = 'nw show: %s: an OFFSET has to be a whole number of minutes from -720 to 840, or as +08:00'
 NOT_WRITTEN = "the output can't be written: "
 
@@ -75,6 +75,8 @@ def try_usage():
                         (['show', '--bytes', '--json', 'good'], ['nw show: --json: one of --bytes, --json and --html is given already', SHOW_USAGE]),
                         (['show', '--bytes', '--bytes', 'good'], ['nw show: --bytes: one of --bytes, --json and --html is given already', SHOW_USAGE]),
                         (['show', '--html', 'page', '--html', 'page', 'good'], ['nw show: --html: one of --bytes, --json and --html is given already', SHOW_USAGE]),
+                        (['show', '--replace', 'good'], ['nw show: --replace: it goes with --html', SHOW_USAGE]),
+                        (['show', '--html', './good', '--replace', 'good'], ['nw show: ./good: this is the CAPTURE, and it would be lost', SHOW_USAGE]),
                         (['show', 'good', '--html'], ['nw show: --html: a FILE has to follow, or - for standard output', SHOW_USAGE]),
                         (['show', 'good', '--offset'], ['nw show: --offset: an OFFSET has to follow', SHOW_USAGE]),
                         (['show', '--offset', '1', '--offset', '2', 'good'], ['nw show: --offset: it is given already', SHOW_USAGE])]:
@@ -121,7 +123,7 @@ def try_help():
     expect('help show', run(['help', 'show']), 0, run(['show', '--help'])[1], [])
     expect('help', run(['help']), 0, run(['--help'])[1], [])
     for words, needed in ((['--help'], ['nw show CAPTURE', 'nw compare A B', 'nw dates', 'nw section', 'nw help TOPIC', 'refusals', '--version']),
-                          (['show', '--help'], ['CAPTURE', '--bytes', '--json', '--html FILE', '--progress', '--offset OFFSET', '-720 to 840', '+08:00'])):
+                          (['show', '--help'], ['CAPTURE', '--bytes', '--json', '--html FILE', '--replace', '--progress', '--offset OFFSET', '-720 to 840', '+08:00'])):
         output = ' '.join(run(words)[1].decode().split())
         for word in [*needed, 'Exit status: 0, ', '; 1, ', '2, wrong usage']:
             if word not in output:

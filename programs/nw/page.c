@@ -1,73 +1,30 @@
 // page.c: the file that an HTML page is written to, whole or not at all, and what stands in it put safely.
 #include "page.h"
+#include "output.h"
 #include "text.h"
 #include <errno.h>
-#include <stdlib.h>
 #include <string.h>
-#include <sys/stat.h>
 #include <wchar.h>
 
 FILE *page;
 
-static const char first_lines[] = "<!DOCTYPE html>\n<!-- a page of nw show -->\n", suffix[] = ".part";
-static const char *file; // its name
-static char *part;       // the name of what is written until it is whole; NULL where it is written in place
+static struct output output;
 
 // ---- the file
 
-// Whether a file begins as a page does.
-static bool is_page(const char *name) {
-    char s[sizeof first_lines - 1];
-    FILE *in = fopen(name, "rb");
-    bool is = in != NULL && fread(s, 1, sizeof s, in) == sizeof s && memcmp(s, first_lines, sizeof s) == 0;
-    if (in != NULL) fclose(in);
-    return is;
-}
-
-// Something else than a file, as a pipe or a terminal, is written in place.
-static bool open_part(const struct command *c) {
-    struct stat about;
-    bool there = stat(file, &about) == 0;
-    if (there && S_ISREG(about.st_mode) && !is_page(file))
-        return say(c, "%s is there already, and no page of nw show: it is left as it is", shown(file)), false;
-    bool in_place = there && !S_ISREG(about.st_mode);
-    part = in_place ? NULL : malloc(strlen(file) + sizeof suffix);
-    if (part == NULL && !in_place) return say(c, "there is no memory for a page"), false;
-    if (!in_place) strcat(strcpy(part, file), suffix);
-    page = fopen(in_place ? file : part, in_place ? "wb" : "wbx");
-    int why = errno;
-    if (page == NULL) say(c, "%s can't be written: %s", shown(in_place ? file : part), strerror(why));
-    if (page == NULL) free(part);
-    return page != NULL;
-}
-
-bool page_open(const struct command *c, const char *name) {
-    file = name;
-    part = NULL;
-    page = stdout;
-    if (strcmp(name, "-") != 0 && !open_part(c)) return false;
-    fputs(first_lines, page);
+bool page_open(const struct command *c, const char *name, bool replace) {
+    bool standard = strcmp(name, "-") == 0;
+    if (!standard && !output_open(&output, c, name, replace)) return false;
+    page = standard ? stdout : output.file;
+    fputs("<!DOCTYPE html>\n", page);
     return true;
 }
 
-bool page_close(const struct command *c) {
-    if (page == stdout) return true; // which is finished as all output is
-    bool failed = ferror(page) != 0;
-    int why = EIO;
-    if (fflush(page) != 0) failed = true, why = errno;
-    if (fclose(page) != 0 && !failed) failed = true, why = errno;
-    if (!failed && part != NULL && rename(part, file) != 0) failed = true, why = errno;
-    if (failed && part != NULL) remove(part);
-    free(part);
-    if (failed) say(c, "%s can't be written: %s", shown(file), strerror(why));
-    return !failed;
-}
-
-void page_drop(void) {
-    if (page == stdout) return;
-    fclose(page);
-    if (part != NULL) remove(part);
-    free(part);
+bool page_close(bool keep) {
+    if (page == stdout) return keep; // which is finished as all output is
+    if (ferror(page)) output.why = EIO; // unless the next write tells why
+    if (output.why != 0 && fflush(page) != 0) output.why = errno;
+    return output_close(&output, keep);
 }
 
 // ---- what stands in it

@@ -8,15 +8,11 @@
 /* The page while it is written. */
 extern FILE *page;
 
-/* Begins a page with a file's name, - for standard output. A file that is there already is left as it is, unless it is such a page. False where
- * it can't be written, which is said. */
-bool page_open(const struct command *c, const char *name);
+/* Begins a page in a file, or on standard output where its name is -. False where it can't be written, which is said. */
+bool page_open(const struct command *c, const char *name, bool replace);
 
-/* Ends it: only now has the file what was written. False where it can't be written, which is said. */
-bool page_close(const struct command *c);
-
-/* Gives it up; the file is as it was. */
-void page_drop(void);
+/* Ends it: kept, the file has all of it, and else it is as it was. False where it can't be kept, which is said. */
+bool page_close(bool keep);
 
 /* Puts ASCII, and a name in the terminal's character set, so that nothing in it is taken for HTML. */
 void page_put(const char *s);

@@ -1,14 +1,15 @@
-// show.c: `nw show [--bytes | --json | --html FILE] [--auxiliary BITS] [--offset OFFSET] CAPTURE`: every table of a capture told to a person.
+// show.c: `nw show [--bytes | --json | --html FILE [--replace]] [--auxiliary BITS] [--offset OFFSET] CAPTURE`: every table of a capture told to a person.
 #include "show.h"
 #include "events.h"
 #include "load.h"
+#include "output.h"
 #include "page.h"
 #include "progress.h"
 #include "report.h"
 #include <string.h>
 
 const struct command show_command = {
-    "nw show", "nw show [--bytes | --json | --html FILE] [--auxiliary BITS] [--offset OFFSET] CAPTURE",
+    "nw show", "nw show [--bytes | --json | --html FILE [--replace]] [--auxiliary BITS] [--offset OFFSET] CAPTURE",
     "Reads the sections of GD/J 086-2018 in CAPTURE, or in standard input where it is -, damage\n"
     "among them or not, or in the packets on PID 0x0021 where it is a transport stream, gathers\n"
     "them into tables, and tells all that came: what was skipped, lost or refused and why, which\n"
@@ -16,7 +17,8 @@ const struct command show_command = {
     "  --bytes          tells the bodies byte by byte, with each field's name in the standard\n"
     "  --json           tells the same for scripts; nw(1) says how\n"
     "  --html FILE      writes all of it to FILE, or to standard output where it is -, as one page\n"
-    "                   for a browser, with pictures; a FILE that is something else is kept\n"
+    "                   for a browser, with pictures\n"
+    "  --replace        replaces a FILE that is there already, once the new one is whole\n"
     "  --auxiliary BITS the length of an auxiliary file has 24 bits, as without it, or 32\n"
     "  --offset OFFSET  times are also local, so far east of UTC: minutes, -720 to 840, or hours\n"
     "                   and minutes with their sign, as +08:00; without it they are UTC alone\n"
@@ -33,6 +35,7 @@ struct work {
     unsigned variant; // 0 while it is not given
     const struct report *report;
     const char *page; // the FILE after --html, or NULL
+    bool replace;
     struct tables tables;
     struct sum sum;
 };
@@ -87,7 +90,7 @@ static bool is_faultless(const struct work *w) {
 
 // Ends the page, and says so.
 static bool tell_page(const struct work *w, bool faultless) {
-    if (!page_close(&show_command)) return false;
+    if (!page_close(true)) return false;
     if (strcmp(w->page, "-") != 0) printf("%s is written: %s\n", shown(w->page), faultless ? ALL_WELL : NOT_ALL_WELL);
     return true;
 }
@@ -107,9 +110,9 @@ static int tell(struct work *w) {
 
 static int run(struct work *w) {
     struct finder finder = {note_begin, note_section, note_skipped, note_lost, w};
-    if (w->page != NULL && !page_open(&show_command, w->page)) return UNUSABLE;
+    if (w->page != NULL && !page_open(&show_command, w->page, w->replace)) return UNUSABLE;
     bool loaded = load(&show_command, w->name, finder, &w->sum.capture);
-    if (!loaded && w->page != NULL) page_drop();
+    if (!loaded && w->page != NULL) page_close(false);
     int status = loaded ? tell(w) : UNUSABLE;
     tables_free(&w->tables);
     return status;
@@ -137,6 +140,7 @@ static int take(struct work *w, char **word, bool *options) {
     if (option && strcmp(word[0], "--bytes") == 0) return take_report(w, word[0], &bytes_report) ? 1 : 0;
     if (option && strcmp(word[0], "--json") == 0) return take_report(w, word[0], &json_report) ? 1 : 0;
     if (option && strcmp(word[0], "--html") == 0) return take_page(w, word[1]) ? 2 : 0;
+    if (option && strcmp(word[0], "--replace") == 0) return w->replace = true, 1;
     if (option && strcmp(word[0], "--progress") == 0) return progress_ask(), 1;
     if (option && strcmp(word[0], "--offset") == 0) return take_offset(&show_command, &w->clock, word[1]) ? 2 : 0;
     if (option && strcmp(word[0], "--auxiliary") == 0) return take_variant(&show_command, &w->variant, word[1]) ? 2 : 0;
@@ -155,6 +159,8 @@ int show(int words, char **word) {
         if (taken == 0) return UNUSABLE;
     }
     if (w.name == NULL) return misused(&show_command, "CAPTURE", " is wanted: a file's name, or - for standard input");
+    if (w.replace && w.page == NULL) return misused(&show_command, "--replace", ": it goes with --html");
+    if (w.page != NULL && is_one_file(w.name, w.page)) return misused(&show_command, w.page, ": this is the CAPTURE, and it would be lost");
     if (w.report == NULL) w.report = &plain_report;
     if (w.variant == 0) w.variant = NW_AUXILIARY_24;
     return run(&w);
