@@ -65,7 +65,7 @@ def try_usage():
     command = 'nw: %s: there is no such command'
     for words, said in [([], ['nw: COMMAND is wanted', USAGE]), (['shwo'], [command % 'shwo', USAGE]), ([''], [command % '(an empty word)', USAGE]),
                         (['--halp'], [command % '--halp', USAGE]), (['\x1B[2J'], [command % '\\x1B[2J', USAGE]),
-                        (['help', 'shwo'], ['nw: shwo: there is no such topic; there are show, compare, dates, section and refusals', USAGE]),
+                        (['help', 'shwo'], ['nw: shwo: there is no such topic; there are show, compare, form, make, salvage, dates, section and refusals', USAGE]),
                         (['help', 'show', 'more'], ['nw: more: one TOPIC is told of at a time', USAGE]),
                         (['show'], ['nw show: CAPTURE is wanted: a file\'s name, or - for standard input', SHOW_USAGE]),
                         (['show', '--byte', 'good'], ['nw show: --byte: there is no such word', SHOW_USAGE]),
@@ -122,7 +122,8 @@ def try_help():
     expect('version', run(['--version']), 0, b'nw ' + VERSION.encode(), [])
     expect('help show', run(['help', 'show']), 0, run(['show', '--help'])[1], [])
     expect('help', run(['help']), 0, run(['--help'])[1], [])
-    for words, needed in ((['--help'], ['nw show CAPTURE', 'nw compare A B', 'nw dates', 'nw section', 'nw help TOPIC', 'refusals', '--version']),
+    for words, needed in ((['--help'], ['nw show CAPTURE', 'nw compare A B', 'nw form CAPTURE', 'nw make FORM STREAM', 'nw salvage IN OUT', 'nw dates', 'nw section', 'nw help TOPIC',
+                                        'nw help form', 'nw help refusals', '--version']),
                           (['show', '--help'], ['CAPTURE', '--bytes', '--json', '--html FILE', '--replace', '--progress', '--offset OFFSET', '-720 to 840', '+08:00'])):
         output = ' '.join(run(words)[1].decode().split())
         for word in [*needed, 'Exit status: 0, ', '; 1, ', '2, wrong usage']:

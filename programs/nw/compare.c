@@ -1,4 +1,4 @@
-// compare.c: `nw compare [--auxiliary BITS] [--offset OFFSET] A B`: which field of which message of two captures differs, in words.
+// compare.c: `nw compare [--auxiliary BITS] [--offset OFFSET] A B`: which field of which message of two captures or forms differs, in words.
 #include "compare.h"
 #include "load.h"
 #include "notes.h"
@@ -8,10 +8,11 @@
 
 const struct command compare_command = {
     "nw compare", "nw compare [--auxiliary BITS] [--offset OFFSET] A B",
-    "Reads two captures as nw show does, - for standard input, and tells in which tables and fields\n"
-    "they differ. A table of one is held against the table of the other with the same kind and\n"
-    "extension, in their newest versions, or but for content tables with the only one of its kind;\n"
-    "a message against the one with the same identifier, a text line by line.\n"
+    "Reads two captures as nw show does, - for standard input, or forms by their names, as nw make\n"
+    "does, and tells in which tables and fields they differ. A table of one is held against the\n"
+    "table of the other with the same kind and extension, in their newest versions, or but for\n"
+    "content tables with the only one of its kind; a message against the one with the same\n"
+    "identifier, a text line by line.\n"
     "How the tables were cut, repeated and ordered makes no difference, nor do damaged bytes\n"
     "or lost packets whose section came whole elsewhere.\n"
     "  --auxiliary BITS the length of an auxiliary file has 24 bits, as without it, or 32\n"
@@ -19,26 +20,18 @@ const struct command compare_command = {
     "                   and minutes with their sign, as +08:00; without it they are UTC alone\n"
     "  --help           says this\n"
     "Exit status: 0, every table of both is whole, and nothing differs; 1, something does, or\n"
-    "can't be told; 2, wrong usage, a capture that can't be read, or output that can't be written.\n"};
+    "can't be told; 2, wrong usage, a capture or form that can't be read, a form with faults, or\n"
+    "output that can't be written.\n"};
 
 struct work {
     const char *names[2];
+    bool is_form[2];
     unsigned given;
     struct clock clock;
     unsigned variant; // 0 while it is not given
     struct tables tables[2];
     uint64_t fields, differences;
 };
-
-static void note_begin(void *own) { (void)own; }
-
-static void note_section(void *own, uint64_t at, const uint8_t *s, size_t n, nw_heading heading) {
-    tables_feed(own, at, s, n, heading);
-}
-
-static void note_skipped(void *own, const struct stretch *bad) { (void)own, (void)bad; }
-
-static void note_lost(void *own, const struct stream_loss *loss) { (void)own, (void)loss; }
 
 // ---- differences
 
@@ -126,9 +119,7 @@ static void tell_only(struct work *w, const struct table *t, char which) {
 }
 
 static int tell(struct work *w) {
-    for (unsigned i = 0; i < 2; i++) tables_finish(&w->tables[i], w->variant);
-    printf("A is %s\n", called(w->names[0]));
-    printf("B is %s\n", called(w->names[1]));
+    for (unsigned i = 0; i < 2; i++) printf("%c is %s%s\n", "AB"[i], called(w->names[i]), w->is_form[i] ? ", a form" : "");
     for (size_t i = 0; i < w->tables[0].count; i++) {
         const struct table *a = &w->tables[0].list[i], *b = other_table(&w->tables[0], &w->tables[1], a);
         if (b == NULL) tell_only(w, a, 'A');
@@ -146,11 +137,7 @@ static int tell(struct work *w) {
 
 static int run(struct work *w) {
     bool read = true;
-    for (unsigned i = 0; i < 2 && read; i++) {
-        struct captured got;
-        struct finder finder = {note_begin, note_section, note_skipped, note_lost, &w->tables[i]};
-        read = load(&compare_command, w->names[i], finder, &got);
-    }
+    for (unsigned i = 0; i < 2 && read; i++) read = load_tables(&compare_command, w->names[i], w->variant, &w->tables[i], &w->is_form[i]);
     int status = read ? tell(w) : UNUSABLE;
     for (unsigned i = 0; i < 2; i++) tables_free(&w->tables[i]);
     return status;

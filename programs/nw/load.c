@@ -1,5 +1,6 @@
-// load.c: the words that commands over captures have in common: a capture by its name, and an offset.
+// load.c: the words that commands over captures have in common: a capture or a form by its name, and an offset.
 #include "load.h"
+#include "form.h"
 #include "progress.h"
 #include <errno.h>
 #include <string.h>
@@ -29,8 +30,32 @@ bool load(const struct command *c, const char *name, struct finder finder, struc
     return read;
 }
 
-// Hours and minutes with their sign, as +08:00.
-static bool read_hours(const char *s, int *out) {
+static void note_begin(void *own) { (void)own; }
+
+static void note_section(void *own, uint64_t at, const uint8_t *s, size_t n, nw_heading heading) { tables_feed(own, at, s, n, heading); }
+
+static void note_skipped(void *own, const struct stretch *bad) { (void)own, (void)bad; }
+
+static void note_lost(void *own, const struct stream_loss *loss) { (void)own, (void)loss; }
+
+bool load_tables(const struct command *c, const char *name, unsigned variant, struct tables *all, bool *is_form) {
+    static struct form f;
+    struct captured got;
+    FILE *in = strcmp(name, "-") == 0 ? NULL : fopen(name, "rb"); // where it can't be opened, reading the capture says so
+    *is_form = in != NULL && form_is(in);
+    bool read = true;
+    if (*is_form) {
+        read = form_read(&f, c, called(name), in, variant) == TAKEN;
+        if (read) form_feed(&f, all);
+        form_free(&f);
+    }
+    if (in != NULL) fclose(in);
+    if (!*is_form) read = load(c, name, (struct finder){note_begin, note_section, note_skipped, note_lost, all}, &got);
+    tables_finish(all, variant);
+    return read;
+}
+
+bool read_hours(const char *s, int *out) {
     static const char form[] = "+99:99";
     for (size_t i = 0; i < sizeof form - 1; i++)
         if (form[i] == '9' ? s[i] < '0' || s[i] > '9' : form[i] == '+' ? s[i] != '+' && s[i] != '-' : s[i] != form[i]) return false;

@@ -1,16 +1,23 @@
-/* load.h: the words that commands over captures have in common: a capture by its name, and an offset. */
+/* load.h: the words that commands over captures have in common: a capture or a form by its name, and an offset. */
 #ifndef LOAD_H
 #define LOAD_H
 
 #include "../command.h"
 #include "capture.h"
-#include "walk.h"
+#include "tables.h"
 
 /* Reads a capture by its name, - for standard input. False where it can't be read, which is said. */
 bool load(const struct command *c, const char *name, struct finder finder, struct captured *got);
 
+/* Reads the tables of a capture, or of a form that is a file, content tables of a variant, and tells which of the two it is. False where it
+ * can't be read or the form has faults, which is said. */
+bool load_tables(const struct command *c, const char *name, unsigned variant, struct tables *all, bool *is_form);
+
 /* How a capture is called to a person, until the next call. */
 const char *called(const char *name);
+
+/* Hours and minutes with their sign, as +08:00, from -12:00 to +14:00, and nothing else. */
+bool read_hours(const char *s, int *out);
 
 /* Takes the word after --offset, which may be missing. False where it is wrong, which is said. */
 bool take_offset(const struct command *c, struct clock *clock, const char *offset);

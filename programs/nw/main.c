@@ -1,7 +1,11 @@
-// nw COMMAND ..: the bench volunteer's program: captures of emergency tables shown, and the small programs under one roof.
+// nw COMMAND ..: the bench volunteer's program: captures of emergency tables shown, compared, written down as forms and made from them, and the
+// small programs under one roof.
 #include "../dates.h"
 #include "../section.h"
 #include "compare.h"
+#include "form_command.h"
+#include "make.h"
+#include "salvage.h"
 #include "show.h"
 #include "topics.h"
 #include <locale.h>
@@ -10,14 +14,18 @@
 static const struct command me = {
     "nw", "nw COMMAND ..",
     "The emergency tables of GD/J 086-2018 on the bench.\n"
-    "  nw show CAPTURE  tells every table in a capture: sections, versions, refusals, fields\n"
-    "  nw compare A B   tells in which tables and fields two captures differ\n"
-    "  nw dates [FILE]  turns day-first times into time fields with their weekdays, and back\n"
-    "  nw section FILE  judges one section\n"
-    "  nw help TOPIC    says how a command is used, as nw COMMAND --help does; or what each\n"
-    "                   refusal's number means: nw help refusals\n"
-    "  nw --help        says this\n"
-    "  nw --version     says the version\n"
+    "  nw show CAPTURE      tells every table in a capture: sections, versions, refusals, fields\n"
+    "  nw compare A B       tells in which tables and fields two captures or forms differ\n"
+    "  nw form CAPTURE      writes the tables of a capture as a form, which can be changed\n"
+    "  nw make FORM STREAM  makes a stream of a form\n"
+    "  nw salvage IN OUT    takes the good sections out of a damaged capture\n"
+    "  nw dates [FILE]      turns day-first times into time fields with their weekdays, and back\n"
+    "  nw section FILE      judges one section\n"
+    "  nw help TOPIC        says how a command is used, as nw COMMAND --help does; or what stands\n"
+    "                       in a form: nw help form; or what each refusal's number means: nw help\n"
+    "                       refusals\n"
+    "  nw --help            says this\n"
+    "  nw --version         says the version\n"
     "Exit status: 0, all is well; 1, something is refused, missing or skipped; 2, wrong usage, a\n"
     "file that can't be read, or output that can't be written.\n"};
 
@@ -32,7 +40,9 @@ static const struct {
     const struct command *about;
     int (*run)(const struct command *about, int words, char **word);
 } commands[] = {
-    {"show", &show_command, show_words}, {"compare", &compare_command, compare}, {"dates", &nw_dates, dates}, {"section", &nw_section, section},
+    {"show", &show_command, show_words}, {"compare", &compare_command, compare}, {"form", &form_command, form},
+    {"make", &make_command, make},       {"salvage", &salvage_command, salvage}, {"dates", &nw_dates, dates},
+    {"section", &nw_section, section},
 };
 
 enum { COMMANDS = sizeof commands / sizeof *commands };
@@ -49,9 +59,10 @@ static int help_on(int words, char **word) {
     if (words == 0) return help(&me);
     if (words > 1) return misused(&me, word[1], ": one TOPIC is told of at a time");
     if (strcmp(word[0], "refusals") == 0) return tell_refusals(&me);
+    if (strcmp(word[0], "form") == 0) return tell_form(&me, &form_command);
     size_t i = named(word[0]);
     return i < COMMANDS ? help(commands[i].about)
-                        : misused(&me, word[0], ": there is no such topic; there are show, compare, dates, section and refusals");
+                        : misused(&me, word[0], ": there is no such topic; there are show, compare, form, make, salvage, dates, section and refusals");
 }
 
 int main(int words, char **word) {

@@ -1,4 +1,4 @@
-// topics.c: what `nw help` tells beside how the commands are used: each refusal, and what to look at.
+// topics.c: what `nw help` tells beside how the commands are used: each refusal, and what to look at; and what stands in a form.
 #include "topics.h"
 #include <neapwillow.h>
 #include <stdio.h>
@@ -42,5 +42,80 @@ int tell_refusals(const struct command *c) {
         printf("%3u  %s\n", number, words);
         if (number < KNOWN && looks[number] != NULL) printf("       %s\n", looks[number]);
     }
+    return finish_output(c, TAKEN);
+}
+
+// A form, line by line: each word, in its order, and what stands after it.
+static const char *const form_lines[] = {
+    "A form is UTF-8 text. A line is a word, a space and a value; spaces at its ends don't matter, nor",
+    "do empty lines and remarks, which begin with #. Lines stand in the order given here; those with *",
+    "may be missing or stand more than once. All of it is one table after the other.",
+    "",
+    "table index",
+    "  extension 0x0000      0 to 65535; numbers are decimal, or hexadecimal after 0x",
+    "  version 5             0 to 31",
+    "  message* DIGITS       its identifier, 35 digits; 0 to 255 messages",
+    "    network 1           0 to 65535",
+    "    start 03/11/2024 07:45:00 +08:00    local time, day first, and its offset from UTC",
+    "    end 03/11/2024 08:15:00 +08:00      the same, or the word live",
+    "    type 11A01          five ASCII characters",
+    "    class 3             1 to 4",
+    "    level 4             1 to 4",
+    "    resource* DIGITS    23 digits; 0 to 255",
+    "    channel*            one or none",
+    "      network 10        0 to 65535; so are the next two",
+    "      transport 20",
+    "      program 30",
+    "      pcr 0x1FFF        a PID, 0 to 0x1FFF",
+    "      descriptor* 0x44  its tag, 0 to 255",
+    "        data BYTES      up to 255",
+    "      stream* 0x1B      its type, 0 to 255",
+    "        pid 0x0101",
+    "        descriptor* 0x0A, with data as above",
+    "  signature BYTES       up to 65535",
+    "table content           its extension follows from the identifier",
+    "  version 5",
+    "  message DIGITS        the identifier of its message",
+    "  language* eng         three letters a to z; 1 to 5 languages",
+    "    set GB/T 2312       or GB/T 18030, GB/T 13000, GB/T 21669, GB 16959",
+    "    text STRING         a line for each line of the text; up to 65535 bytes",
+    "    agency STRING       up to 255 bytes",
+    "    file* 9             its type, 0 to 255; up to two files",
+    "      data BYTES",
+    "  signature BYTES",
+    "table certificate",
+    "  extension 0x0000",
+    "  version 5",
+    "  authorization* BYTES  up to 65535; 0 to 255 lists",
+    "  certificate* BYTES    up to 255; 0 to 255 certificates",
+    "  signature BYTES",
+    "table configuration",
+    "  extension 0x0000",
+    "  version 5             then 0 to 255 commands in any order, each with its lines:",
+    "  clock* 03/11/2024 07:45:09    as the box is to show it",
+    "  code* BYTES           a terminal's address, up to 255",
+    "    resource DIGITS     23 digits",
+    "  frequency* 355000     kHz, up to 32 bits; so are rate and period",
+    "    rate 6875           kBd",
+    "    mapping 3           0 to 5",
+    "    terminal* DIGITS    23 digits; 0 to 255; also after the following",
+    "  return* 3             the kind of address",
+    "    address back.example.org:8080       1: 11 digits; 2: as 192.0.2.7:8080; 3: name and port",
+    "  period* 86400         seconds",
+    "  volume* 50            0 to 100",
+    "  query*",
+    "    parameter* 1        0 to 255; 0 to 255 parameters",
+    "  command* 153          any other tag, 0 or 8 to 255",
+    "    data BYTES          up to 65535",
+    "  signature BYTES",
+    "",
+    "BYTES are hexadecimal digits, two for each byte, more of them in lines with the word hex after it;",
+    "or the word none; or the word from and the name of a file whose bytes they are.",
+    "STRING is text, \\xNN for a byte that can't be typed or seen, or is a space at an end, and \\\\ for a",
+    "backslash. It is converted to the language's set where the C library can."};
+
+int tell_form(const struct command *c, const struct command *form) {
+    printf("usage: %s\n%s\n", form->usage, form->more);
+    for (size_t i = 0; i < sizeof form_lines / sizeof *form_lines; i++) puts(form_lines[i]);
     return finish_output(c, TAKEN);
 }
