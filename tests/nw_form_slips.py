@@ -136,104 +136,115 @@ def expect_faults(what, form, faults):
         wrong.append('%s: something is written' % what)
 
 
+WHOLE = 'has to be a whole number from %d to %d'
+DIGITS = 'here %d digits have to stand, and %s'
+TIME = 'it has to be dd/mm/yyyy hh:mm:ss +hh:mm, day first, with the offset from UTC'
+HEXES = 'hexadecimal digits, two for each byte; or the word none; or from and a file\'s name'
+DAY = 'digits 24 to 31 have to be a day of the calendar, year, month and day, from 19000301 to 20380422'
+SETS = 'there is no such character set; there are GB/T 2312, GB/T 18030, GB/T 13000, GB/T 21669 and GB 16959'
+IP = 'of kind 2 it has to be an IP address and a port, as 192.0.2.7:8080'
+NAME = 'of kind 3 it has to be a name, a colon and a port up to 65535, all in printed ASCII without spaces'
+# A word of the good form and another value; then the column, what was typed and what is wrong with it.
+VALUES = (
+    ('extension', '65536', 13, '65536', 'extension ' + WHOLE % (0, 65535)), ('extension', '0x', 13, '0x', 'extension ' + WHOLE % (0, 65535)),
+    ('extension', '-1', 13, '-1', 'extension ' + WHOLE % (0, 65535)), ('version', '32', 11, '32', 'version ' + WHOLE % (0, 31)),
+    ('version', '', 3, 'version', 'version ' + WHOLE % (0, 31)), ('version', '5 6', 11, '5 6', 'version ' + WHOLE % (0, 31)),
+    ('version', '18446744073709551617', 11, '18446744073709551617', 'version ' + WHOLE % (0, 31)),
+    ('table', 'indx', 7, 'indx', 'there is no such kind of table; there are index, content, certificate and configuration'),
+    ('message', '3654', 11, '3654', DIGITS % (35, 'there are 4')),
+    ('message', '365432O0000000303010103202411030001', 17, 'O', DIGITS % (35, 'this is none')),
+    ('message', '36543200000000303010103202413110001', 34, '20241311', DAY),
+    ('message', '36543200000000303010103190002290001', 34, '19000229', DAY),
+    ('network', '65536', 13, '65536', 'network ' + WHOLE % (0, 65535)),
+    ('start', '11/13/2024 07:45:00 +08:00', 11, '11/13/2024 07:45:00 +08:00', 'there is no such month (the day comes first, then the month)'),
+    ('start', '31/11/2024 07:45:00 +08:00', 11, '31/11/2024 07:45:00 +08:00', 'there is no such day in the calendar'),
+    ('start', '29/02/1900 07:45:00 +08:00', 11, '29/02/1900 07:45:00 +08:00', 'there is no such day in the calendar'),
+    ('start', '03/11/2024 24:00:00 +08:00', 11, '03/11/2024 24:00:00 +08:00', 'there is no such time of day'),
+    ('start', '23/04/2038 07:45:00 +08:00', 11, '23/04/2038 07:45:00 +08:00', 'the day is out of the range 01/03/1900 to 22/04/2038'),
+    ('start', '01/03/1900 07:45:00 +08:00', 11, '01/03/1900 07:45:00 +08:00',
+     'in UTC, less the offset, the day is out of the range 01/03/1900 to 22/04/2038'),
+    ('start', '03/11/2024 07:45:00', 11, '03/11/2024 07:45:00', TIME), ('start', '3/11/2024 07:45:00 +08:00', 11, '3/11/2024 07:45:00 +08:00', TIME),
+    ('start', '2024-11-03 07:45:00 +08:00', 11, '2024-11-03 07:45:00 +08:00', TIME), ('start', 'live', 11, 'live', TIME),
+    ('start', '03/11/2024 07:45:00 8:00', 31, '8:00', 'the offset has to be from -12:00 to +14:00, as +08:00'),
+    ('start', '03/11/2024 07:45:00 +14:01', 31, '+14:01', 'the offset has to be from -12:00 to +14:00, as +08:00'),
+    ('end', 'Live', 9, 'Live', TIME + '; or the word live'),
+    ('type', '11A0', 10, '11A0', 'it has to be five ASCII characters, a space at its ends as \\x20'),
+    ('type', '11A0\\xFF', 10, '11A0\\xFF', 'it has to be five ASCII characters, a space at its ends as \\x20'),
+    ('type', '11A0é', 14, 'é', 'it is no ASCII'), ('class', '5', 11, '5', 'class ' + WHOLE % (1, 4)),
+    ('level', '0', 11, '0', 'level ' + WHOLE % (1, 4)),
+    ('resource', '3', 14, '3', DIGITS % (23, 'there are 1')), ('channel', '1', 13, '1', 'nothing stands after the word channel'),
+    ('pcr', '0x2000', 11, '0x2000', 'pcr ' + WHOLE % (0, 8191)), ('descriptor', '256', 18, '256', 'descriptor ' + WHOLE % (0, 255)),
+    ('data', '010', 16, '0', 'a byte has two hexadecimal digits, and after this there is none'),
+    ('data', '01 0g', 17, '0', 'a byte has two hexadecimal digits, and after this there is none'),
+    ('data', '01 g0', 17, 'g', 'here have to stand ' + HEXES), ('data', '', 9, 'data', HEXES.replace('digits,', 'digits have to follow,')),
+    ('data', 'from missing', 19, 'missing', 'the file can\'t be opened: No such file or directory'),
+    ('data', 'from folder', 19, 'folder', 'the file can\'t be read: Is a directory'),
+    ('data', 'from long', 19, 'long', 'the file has more than 255 bytes, the most that there can be'),
+    ('data', '00' * 256, 9, 'data', 'with this line it has more than 255 bytes, the most that there can be'),
+    ('language', 'En', 12, 'En', 'it has to be three letters a to z'), ('set', 'UTF-8', 9, 'UTF-8', SETS),
+    ('set', 'GB/T 2312-1980', 9, 'GB/T 2312-1980', SETS),
+    ('text', 'a\\b', 11, '\\', 'after a backslash has to stand x and two hexadecimal digits, or another backslash'),
+    ('text', 'a\\x1', 11, '\\', 'after a backslash has to stand x and two hexadecimal digits, or another backslash'),
+    ('text', '演\tb', 11, '\\x09', 'a tab is written \\x09'),
+    ('agency', 'x' * 256, 5, 'agency', 'with this line it has more than 255 bytes, the most that there can be'),
+    ('file', '256', 10, '256', 'file ' + WHOLE % (0, 255)),
+    ('clock', '31/11/2024 07:45:09', 9, '31/11/2024 07:45:09', 'there is no such day in the calendar'),
+    ('clock', '03/11/2024 07:45:09 +08:00', 9, '03/11/2024 07:45:09 +08:00', 'it has to be dd/mm/yyyy hh:mm:ss, day first, without an offset'),
+    ('frequency', '4294967296', 13, '4294967296', 'frequency ' + WHOLE % (0, 2**32 - 1)), ('mapping', '6', 13, '6', 'mapping ' + WHOLE % (0, 5)),
+    ('volume', '101', 10, '101', 'volume ' + WHOLE % (0, 100)), ('parameter', '-', 15, '-', 'parameter ' + WHOLE % (0, 255)),
+    ('command', '6', 11, '6', 'a command of this tag is written with the word volume'), ('command', '256', 11, '256', 'command ' + WHOLE % (0, 255)),
+    ('address', '1380013800', 13, '1380013800', 'of kind 1 it has to be the 11 digits of a telephone'),
+    ('address 192', '192.0.2.7', 13, '192.0.2.7', IP), ('address 192', '192.0.2.256:1', 13, '192.0.2.256:1', IP),
+    ('address 192', '1.2.3.4:65536', 13, '1.2.3.4:65536', IP), ('address 192', '1.2.3.4.5:6', 13, '1.2.3.4.5:6', IP),
+    ('address back', 'www.chinaeb-lab.org: 8080', 13, 'www.chinaeb-lab.org: 8080', NAME), ('address back', '', 5, 'address', NAME),
+    ('address back', 'x' * 300 + ':80', 13, 'x' * 80 + '..', 'it has 303 bytes, and an address has at most 255'))
+
+
 def try_values():
     """A value of the good form replaced: what is said of it, at its line and column."""
-    whole = 'has to be a whole number from %d to %d'
-    digits = 'here %d digits have to stand, and %s'
-    time = 'it has to be dd/mm/yyyy hh:mm:ss +hh:mm, day first, with the offset from UTC'
-    hexes = 'hexadecimal digits, two for each byte; or the word none; or from and a file\'s name'
-    day = 'digits 24 to 31 have to be a day of the calendar, year, month and day, from 19000301 to 20380422'
-    sets = 'there is no such character set; there are GB/T 2312, GB/T 18030, GB/T 13000, GB/T 21669 and GB 16959'
-    ip, name = 'of kind 2 it has to be an IP address and a port, as 192.0.2.7:8080', 'of kind 3 it has to be a name, a colon and a port up to 65535, all in printed ASCII without spaces'
-    for word, value, column, typed, why in (
-            ('extension', '65536', 13, '65536', 'extension ' + whole % (0, 65535)), ('extension', '0x', 13, '0x', 'extension ' + whole % (0, 65535)),
-            ('extension', '-1', 13, '-1', 'extension ' + whole % (0, 65535)), ('version', '32', 11, '32', 'version ' + whole % (0, 31)),
-            ('version', '', 3, 'version', 'version ' + whole % (0, 31)), ('version', '5 6', 11, '5 6', 'version ' + whole % (0, 31)),
-            ('version', '18446744073709551617', 11, '18446744073709551617', 'version ' + whole % (0, 31)),
-            ('table', 'indx', 7, 'indx', 'there is no such kind of table; there are index, content, certificate and configuration'),
-            ('message', '3654', 11, '3654', digits % (35, 'there are 4')),
-            ('message', '365432O0000000303010103202411030001', 17, 'O', digits % (35, 'this is none')),
-            ('message', '36543200000000303010103202413110001', 34, '20241311', day),
-            ('message', '36543200000000303010103190002290001', 34, '19000229', day),
-            ('network', '65536', 13, '65536', 'network ' + whole % (0, 65535)),
-            ('start', '11/13/2024 07:45:00 +08:00', 11, '11/13/2024 07:45:00 +08:00', 'there is no such month (the day comes first, then the month)'),
-            ('start', '31/11/2024 07:45:00 +08:00', 11, '31/11/2024 07:45:00 +08:00', 'there is no such day in the calendar'),
-            ('start', '29/02/1900 07:45:00 +08:00', 11, '29/02/1900 07:45:00 +08:00', 'there is no such day in the calendar'),
-            ('start', '03/11/2024 24:00:00 +08:00', 11, '03/11/2024 24:00:00 +08:00', 'there is no such time of day'),
-            ('start', '23/04/2038 07:45:00 +08:00', 11, '23/04/2038 07:45:00 +08:00', 'the day is out of the range 01/03/1900 to 22/04/2038'),
-            ('start', '01/03/1900 07:45:00 +08:00', 11, '01/03/1900 07:45:00 +08:00', 'in UTC, less the offset, the day is out of the range 01/03/1900 to 22/04/2038'),
-            ('start', '03/11/2024 07:45:00', 11, '03/11/2024 07:45:00', time), ('start', '3/11/2024 07:45:00 +08:00', 11, '3/11/2024 07:45:00 +08:00', time),
-            ('start', '2024-11-03 07:45:00 +08:00', 11, '2024-11-03 07:45:00 +08:00', time), ('start', 'live', 11, 'live', time),
-            ('start', '03/11/2024 07:45:00 8:00', 31, '8:00', 'the offset has to be from -12:00 to +14:00, as +08:00'),
-            ('start', '03/11/2024 07:45:00 +14:01', 31, '+14:01', 'the offset has to be from -12:00 to +14:00, as +08:00'),
-            ('end', 'Live', 9, 'Live', time + '; or the word live'),
-            ('type', '11A0', 10, '11A0', 'it has to be five ASCII characters, a space at its ends as \\x20'),
-            ('type', '11A0\\xFF', 10, '11A0\\xFF', 'it has to be five ASCII characters, a space at its ends as \\x20'),
-            ('type', '11A0é', 14, 'é', 'it is no ASCII'), ('class', '5', 11, '5', 'class ' + whole % (1, 4)), ('level', '0', 11, '0', 'level ' + whole % (1, 4)),
-            ('resource', '3', 14, '3', digits % (23, 'there are 1')), ('channel', '1', 13, '1', 'nothing stands after the word channel'),
-            ('pcr', '0x2000', 11, '0x2000', 'pcr ' + whole % (0, 8191)), ('descriptor', '256', 18, '256', 'descriptor ' + whole % (0, 255)),
-            ('data', '010', 16, '0', 'a byte has two hexadecimal digits, and after this there is none'),
-            ('data', '01 0g', 17, '0', 'a byte has two hexadecimal digits, and after this there is none'),
-            ('data', '01 g0', 17, 'g', 'here have to stand ' + hexes), ('data', '', 9, 'data', hexes.replace('digits,', 'digits have to follow,')),
-            ('data', 'from missing', 19, 'missing', 'the file can\'t be opened: No such file or directory'),
-            ('data', 'from folder', 19, 'folder', 'the file can\'t be read: Is a directory'),
-            ('data', 'from long', 19, 'long', 'the file has more than 255 bytes, the most that there can be'),
-            ('data', '00' * 256, 9, 'data', 'with this line it has more than 255 bytes, the most that there can be'),
-            ('language', 'En', 12, 'En', 'it has to be three letters a to z'), ('set', 'UTF-8', 9, 'UTF-8', sets), ('set', 'GB/T 2312-1980', 9, 'GB/T 2312-1980', sets),
-            ('text', 'a\\b', 11, '\\', 'after a backslash has to stand x and two hexadecimal digits, or another backslash'),
-            ('text', 'a\\x1', 11, '\\', 'after a backslash has to stand x and two hexadecimal digits, or another backslash'),
-            ('text', '演\tb', 11, '\\x09', 'a tab is written \\x09'),
-            ('agency', 'x' * 256, 5, 'agency', 'with this line it has more than 255 bytes, the most that there can be'),
-            ('file', '256', 10, '256', 'file ' + whole % (0, 255)), ('clock', '31/11/2024 07:45:09', 9, '31/11/2024 07:45:09', 'there is no such day in the calendar'),
-            ('clock', '03/11/2024 07:45:09 +08:00', 9, '03/11/2024 07:45:09 +08:00', 'it has to be dd/mm/yyyy hh:mm:ss, day first, without an offset'),
-            ('frequency', '4294967296', 13, '4294967296', 'frequency ' + whole % (0, 2**32 - 1)), ('mapping', '6', 13, '6', 'mapping ' + whole % (0, 5)),
-            ('volume', '101', 10, '101', 'volume ' + whole % (0, 100)), ('parameter', '-', 15, '-', 'parameter ' + whole % (0, 255)),
-            ('command', '6', 11, '6', 'a command of this tag is written with the word volume'), ('command', '256', 11, '256', 'command ' + whole % (0, 255)),
-            ('address', '1380013800', 13, '1380013800', 'of kind 1 it has to be the 11 digits of a telephone'),
-            ('address 192', '192.0.2.7', 13, '192.0.2.7', ip), ('address 192', '192.0.2.256:1', 13, '192.0.2.256:1', ip),
-            ('address 192', '1.2.3.4:65536', 13, '1.2.3.4:65536', ip), ('address 192', '1.2.3.4.5:6', 13, '1.2.3.4.5:6', ip),
-            ('address back', 'www.chinaeb-lab.org: 8080', 13, 'www.chinaeb-lab.org: 8080', name), ('address back', '', 5, 'address', name),
-            ('address back', 'x' * 300 + ':80', 13, 'x' * 80 + '..', 'it has 303 bytes, and an address has at most 255')):
+    for word, value, column, typed, why in VALUES:
         form, count = re.subn(r'^( *)%s\S*( ?).*$' % word, lambda found: '%s%s %s' % (found[1], word.split()[0], value), GOOD, count=1, flags=re.M)
         number = 1 + next(i for i, (a, b) in enumerate(zip(form.split('\n'), GOOD.split('\n'))) if a != b)
         expect_faults('%s %s' % (word, value), form, ['%d, column %d: %s: %s' % (number, column, typed, why)])
 
 
-def without(*words):
-    return '\n'.join(part for part in GOOD.split('\n') if not part.split()[:1] or part.split()[0] not in words)
+# Forms with lines that are missing, misplaced, misspelt or too many, and what is said of them.
+ORDERS = (
+    (GOOD.replace('    class 3\n', ''), ['9, column 5: level: class is wanted before it']),
+    (GOOD.replace('class 3', 'klass 3'), ['9, column 5: klass: there is no such word; class is wanted here']),
+    (GOOD.replace('    class 3\n    level 4\n', '    level 4\n    class 3\n'),
+     ['9, column 5: level: class is wanted before it', '10, column 5: class: signature is wanted before it']),
+    (GOOD.replace('  signature 736967\n', ''), ['24, column 1: table: signature is wanted before it']),
+    (GOOD.replace('  signature 736967\n', '  signature 736967\n  signature none\n'),
+     ['24, column 3: signature: here the form has to end, or the next table to begin, with the word table']),
+    ('index\n', ['1, column 1: index: here the form has to end, or the next table to begin, with the word table']),
+    ('table\n', ['1, column 1: table: there is no such kind of table; there are index, content, certificate and configuration']),
+    ('table index\n', ['typed, at its end: extension is wanted, and the form ends']),
+    ('# only\n\n   # remarks\n', ['typed has no table']), ('', ['typed has no table']),
+    (GOOD.replace('        pid 0x0101\n', ''), ['20, column 9: descriptor: pid is wanted before it']),
+    (GOOD.replace('  language eng\n', '').replace('    set GB/T 13000\n', ''), ['28, column 5: text: language is wanted before it']),
+    (GOOD.replace('    text One.\n    text\n', '').replace('    text Two', '    test Two'), ['30, column 5: test: there is no such word; text is wanted here']),
+    (GOOD.replace('data none', 'data none\n            hex 01'), ['23, column 13: hex: nothing is added to none']),
+    (GOOD.replace('    channel\n', '    channel\n' + GOOD[GOOD.index('      network 10'):GOOD.index('  signature')] + '    channel\n', 1),
+     ['23, column 5: channel: one more than there can be: 1 stand before it']),
+    (GOOD.replace('      data 616263\n', '      data 616263\n    file 1\n      data none\n    file 2\n      data none\n'),
+     ['38, column 5: file: one more than there can be: 2 stand before it']),
+    (GOOD.replace('    text One.', '    text \x1B[31mOne.'),
+     ['30, column 10: \\x1B: a control character can\'t stand in a form: in a text it is written \\x1B']),
+    (GOOD + '\n' + GOOD[:GOOD.index('\ntable content')],
+     ['typed, line 70: index table 0007: one of this kind and extension stands already at line 1']))
 
 
 def try_order():
-    """Lines that are missing, misplaced, misspelt or too many."""
-    for form, faults in (
-            (GOOD.replace('    class 3\n', ''), ['9, column 5: level: class is wanted before it']),
-            (GOOD.replace('    clas', '    klas').replace('class 3', 'klass 3'), ['9, column 5: klass: there is no such word; class is wanted here']),
-            (GOOD.replace('    class 3\n    level 4\n', '    level 4\n    class 3\n'),
-             ['9, column 5: level: class is wanted before it', '10, column 5: class: signature is wanted before it'][:2]),
-            (GOOD.replace('  signature 736967\n', ''), ['24, column 1: table: signature is wanted before it']),
-            (GOOD.replace('  signature 736967\n', '  signature 736967\n  signature none\n'),
-             ['24, column 3: signature: here the form has to end, or the next table to begin, with the word table']),
-            ('index\n', ['1, column 1: index: here the form has to end, or the next table to begin, with the word table']),
-            ('table\n', ['1, column 1: table: there is no such kind of table; there are index, content, certificate and configuration']),
-            ('table index\n', ['typed, at its end: extension is wanted, and the form ends']),
-            ('# only\n\n   # remarks\n', ['typed has no table']), ('', ['typed has no table']),
-            (GOOD.replace('        pid 0x0101\n', ''), ['20, column 9: descriptor: pid is wanted before it']),
-            (GOOD.replace('  language eng\n', '').replace('    set GB/T 13000\n', ''), ['28, column 5: text: language is wanted before it']),
-            (GOOD.replace('    text One.\n    text\n', '').replace('    text Two', '    test Two'), ['30, column 5: test: there is no such word; text is wanted here']),
-            (GOOD.replace('data none', 'data none\n            hex 01'), ['23, column 13: hex: nothing is added to none']),
-            (GOOD.replace('    channel\n', '    channel\n' + GOOD[GOOD.index('      network 10'):GOOD.index('  signature')] + '    channel\n', 1),
-             ['23, column 5: channel: one more than there can be: 1 stand before it']),
-            (GOOD.replace('      data 616263\n', '      data 616263\n    file 1\n      data none\n    file 2\n      data none\n'),
-             ['38, column 5: file: one more than there can be: 2 stand before it']),
-            (GOOD.replace('    text One.', '    text \x1B[31mOne.'),
-             ['30, column 10: \\x1B: a control character can\'t stand in a form: in a text it is written \\x1B']),
-            (GOOD + '\n' + GOOD[:GOOD.index('\ntable content')],
-             ['typed, line 70: index table 0007: one of this kind and extension stands already at line 1'])):
+    for form, faults in ORDERS:
         expect_faults('a form', form, faults)
+
+
+def try_whole():
+    """Forms of which more is wrong than a line."""
     many = '\n'.join(GOOD.replace('    level 4', '    level 5').split('\n')[:23]) + '\n'
-    levels = [number + 1 for k in range(25) for number, part in enumerate(many.replace('0x0007', '%d' % k).split('\n')) if part == '    level 5' and k == 0]
     write('typed', ''.join(many.replace('0x0007', '%d' % k) for k in range(25)))
-    told = ['nw make: typed, line %d, column 11: 5: level has to be a whole number from 1 to 4' % (levels[0] + 23 * k) for k in range(20)]
+    told = ['nw make: typed, line %d, column 11: 5: level has to be a whole number from 1 to 4' % (10 + 23 * k) for k in range(20)]
     expect('many faults', run(['make', 'typed', 'made']), 1, b'', [*told, 'nw make: typed has 20 faults so far: the rest of it is not read',
                                                                 'nw make: typed has 20 faults: nothing is made of it'])
     write('typed', b'\xFF\xFEt\0a\0')
@@ -271,7 +282,7 @@ def try_lengths():
         content('made')
     form = head + resource * 256 + end
     expect_faults('256 resources', form, ['266, column 5: resource: one more than there can be: 255 stand before it'])
-    files = ''.join('  language eng\n    set GB 16959\n    text\n    agency\n    file 1\n      data from half\n    file 2\n      data from half\n' for _ in range(2))
+    files = ('  language eng\n    set GB 16959\n    text\n    agency\n' + '    file 1\n      data from half\n' * 2) * 2
     write('half', b'x' * 400000)
     start = GOOD[GOOD.index('table content'):GOOD.index('  language')]
     expect_faults('a long table', start + files + '  signature none\n', [
@@ -342,7 +353,8 @@ def try_remarks():
 def try_sets():
     """Typed characters in each set, where the C library converts."""
     start = 'table content\n  version 5\n  message %s\n  language zho\n    set %%s\n    text %%s\n    agency\n  signature none\n' % make.DRILL.identifier
-    for its_set, text, data in (('GB/T 2312', '演练 a', 'D1DDC1B72061'), ('GB/T 18030', '演练€🌊', 'D1DDC1B7A2E3' + '🌊'.encode('gb18030').hex().upper()),
+    for its_set, text, data in (('GB/T 2312', '演练 a', 'D1DDC1B72061'),
+                                ('GB/T 18030', '演练€🌊', 'D1DDC1B7A2E3' + '🌊'.encode('gb18030').hex()),
                                 ('GB/T 13000', 'é🌊', 'C3A9F09F8C8A'), ('GB/T 21669', 'a\\xFF', '61FF'), ('GB 16959', '\\x20a\\x20', '206120')):
         if not CONVERTS and its_set in ('GB/T 2312', 'GB/T 18030'):
             continue
@@ -420,7 +432,8 @@ def try_captures():
     expect('no table', run(['form', '-'], b'junk'), 1, b'', ['nw form: standard input: no table has come'])
     body = make.Index([make.DRILL], 3)
     bad = make.section(make.INDEX, 0, 3, 0, 0, body.body()[:-1])
-    expect('a refused table', run(['form', '-'], bad), 1, b'', ['nw form: index table 0000, version 3 is left out: it is refused, the body ends too early (refusal 14)'])
+    expect('a refused table', run(['form', '-'], bad), 1, b'', [
+        'nw form: index table 0000, version 3 is left out: it is refused, the body ends too early (refusal 14)'])
     half = make.Content(make.DRILL, [('eng', 0, 'x' * 90, '', [])], 1).sections(60)[0]
     status, output, said = run(['form', '-'], half + b''.join(body.sections()))
     expect('a table that is not whole', (status, output[:32], said), 1, 'table index\n  extension 0x0000\n ', [
@@ -428,7 +441,8 @@ def try_captures():
     write('typed', GOOD)
     run(['make', 'typed', 'made.ts'])
     expect('a form and its stream', run(['compare', 'typed', 'made.ts']), 0, None, [])
-    expect('the stream and its form', (0, run(['compare', 'made.ts', 'typed'])[1].split(b', in')[0], b''), 0, 'A is made.ts\nB is typed, a form\ndifferences: 0', [])
+    output = run(['compare', 'made.ts', 'typed'])[1].split(b', in')[0]
+    expect('the stream and its form', (0, output, b''), 0, 'A is made.ts\nB is typed, a form\ndifferences: 0', [])
     write('other', GOOD.replace('level 4', 'level 2'))
     expect('another form', (0, run(['compare', 'other', 'made.ts'])[1].split(b', in')[0], b''), 0, (
         'A is other, a form\nB is made.ts\nindex table 0007, message %s, level: A has 2, grave; B has 4, ordinary\ndifferences: 1' % make.DRILL.identifier), [])
@@ -447,7 +461,8 @@ def try_captures():
 def try_salvage():
     """Runs and sections as the second program has them, of captures longer than a window too."""
     one, two = make.section(make.INDEX, 0, 0, 0, 0, b'\0\0\0'), make.section(make.CERTIFICATE, 1, 0, 0, 0, b'\0\0' + make.counted(bytes(3900), 2))
-    for data in (b'', one, b'noise' + one + two[:-1] + b'!' + one, two * 40, (two + b'junk' + one) * 40, b'x' * 70000 + one, two[:-1] * 20 + one, one * 9000 + b'x'):
+    for data in (b'', one, b'noise' + one + two[:-1] + b'!' + one, two * 40, (two + b'junk' + one) * 40, b'x' * 70000 + one, two[:-1] * 20 + one,
+                 one * 9000 + b'x'):
         write('in', data)
         runs = second_salvage.runs_of(data)
         kept = second_salvage.kept_of(data, runs)
@@ -467,7 +482,7 @@ with tempfile.TemporaryDirectory() as scratch:
     os.chdir(scratch)
     os.mkdir('folder')
     write('long', bytes(256))
-    for part in try_values, try_order, try_lengths, try_good, try_remarks, try_sets, try_files, try_captures, try_salvage:
+    for part in try_values, try_order, try_whole, try_lengths, try_good, try_remarks, try_sets, try_files, try_captures, try_salvage:
         part()
     os.chdir('/')
 if wrong or tried < 120:

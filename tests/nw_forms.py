@@ -20,6 +20,7 @@ from second_sections import fields_of, printed, register
 
 HOW, SECONDS, PROGRAM = sys.argv[1], float(sys.argv[2]), sys.argv[3:]
 INDEX, CONTENT, CERTIFICATE, CONFIGURATION = ORDER = 0xFD, 0xFE, 0xFC, 0xFB
+SLIPS = 120  # forms with slips that are tried
 HANZI = '这是演练七时四十五分警报响一分钟请步行到集合点水利局大水来了'
 chance = random.Random(135)
 wrong = []
@@ -164,18 +165,19 @@ def try_told(tables, variant, offset, ascii_only):
     differ('nw form', run('form', *bits, '--offset', str(offset), 'capture', where='C' if ascii_only else 'C.UTF-8'), said)
 
 
-def try_untold(tables, variant):
+def try_untold(tables, variant, name='made.ts'):
     """What is printed makes the bodies that it was printed of, and is printed of these again."""
     bodies, bits = [(*one[:3], body_of(one[0], one[3], variant)) for one in tables], ['--auxiliary', str(variant)]
     write('capture', b''.join(cut(*one) for one in bodies))
     said = run('form', *bits, 'capture')
     write('typed', said)
-    run('make', *bits, '--replace', 'typed', 'made.ts')
-    if bodies_made('made.ts') != bodies:
+    run('make', *bits, '--replace', 'typed', name)
+    if bodies_made(name) != bodies:
         wrong.append('nw make makes other tables than nw form was told')
-    differ('nw form of what nw make made', run('form', *bits, 'made.ts'), said)
-    differ('nw form of the form', run('form', *bits, 'typed'), said)
-    run('compare', *bits, 'typed', 'capture')
+    differ('nw form of what nw make made', run('form', *bits, name), said)
+    if len(said) < 2**22:
+        differ('nw form of the form', run('form', *bits, 'typed'), said)
+        run('compare', *bits, 'typed', 'capture')
 
 
 def long_tables():
@@ -195,15 +197,59 @@ def try_long():
         if one[1] is not None:
             found[one[:2]] = one
     tables = sorted(found.values(), key=lambda one: ORDER.index(one[0]))
-    try_untold(tables, 24)
-    try_told([one for one in tables if one[0] != CONTENT], 24, 0, False)
+    try_untold(tables, 24, 'made.sec')
     return len(tables)
 
 
+# ---- forms with any slips
+
+
+def slipped(lines):
+    """A form with some lines gone, doubled, moved, mixed or changed in a byte."""
+    lines = list(lines)
+    for _ in range(chance.choice((1, 1, 2, 5))):
+        at, other = chance.randrange(len(lines)), chance.randrange(len(lines))
+        how = chance.randrange(6)
+        if how == 0:
+            del lines[at]
+        elif how == 1:
+            lines.insert(other, lines[at])
+        elif how == 2:
+            lines[at], lines[other] = lines[other], lines[at]
+        elif how == 3:
+            lines[at] = lines[at][:chance.randint(0, len(lines[at]))] + lines[other][chance.randint(0, len(lines[other])):]
+        elif lines[at]:
+            place = chance.randrange(len(lines[at]))
+            lines[at] = lines[at][:place] + bytes([chance.choice((*b' \\x0#f9', 0x1B, 0, 0xE6, 0xFF))]) + lines[at][place + (how == 4):]
+        lines = lines or [b'table index']
+    return b'\n'.join(lines)
+
+
+def try_slipped(count):
+    """Each fault is a sentence with a place, and nothing is written; what is taken all the same comes back."""
+    taken = 0
+    for _ in range(count):
+        tables = tables_by_chance(chance.choice((1, 2, 3)), True)
+        lines = b'\n'.join('\n'.join(second_form.form(*one)).encode() for one in tables).split(b'\n')
+        write('typed', slipped(lines))
+        done = subprocess.run([*PROGRAM, 'make', 'typed', 'fresh.ts'], capture_output=True, check=False, timeout=300, env={**os.environ, 'LC_ALL': 'C.UTF-8'})
+        said = done.stderr.decode('utf-8').splitlines()
+        bad = [part for part in said if not part.startswith('nw make: typed') or any(ord(c) < 0x20 or 0x7F <= ord(c) < 0xA0 for c in part)]
+        if done.returncode not in (0, 1, 2) or bad or (done.returncode == 0) != (not said) or (done.returncode == 0) != os.path.exists('fresh.ts'):
+            wrong.append('a slipped form: status %d, %.300r, %.300r' % (done.returncode, bad, said))
+        if done.returncode == 0:
+            differ('nw form of a slipped form', run('form', 'fresh.ts'), run('form', 'typed'))
+            os.remove('fresh.ts')
+            taken += 1
+    return taken
+
+
 def main():
-    began, rounds, count = time.monotonic(), 0, 0
-    if SECONDS > 2:
+    rounds, count, taken = 0, 0, 0
+    if SECONDS > 0:
         count += try_long()
+        taken = try_slipped(SLIPS)
+    began = time.monotonic()
     while rounds < 3 or time.monotonic() - began < SECONDS:
         variant, offset = (24, 32)[rounds % 2], (0, 480, -330)[rounds % 3]
         if rounds % 3 == 2:
@@ -213,7 +259,7 @@ def main():
         rounds, count = rounds + 1, count + 400
         if wrong:
             sys.exit('%s\n%s: %d faults in %d tables' % ('\n'.join(wrong[:20]), HOW, len(wrong), count))
-    print('%s: %d tables as forms and back, byte for byte' % (HOW, count))
+    print('%s: %d tables as forms and back, byte for byte; of forms with slips %d are taken' % (HOW, count, taken))
 
 
 with tempfile.TemporaryDirectory() as scratch:

@@ -206,7 +206,8 @@ static bool read_internet(const char *s, uint8_t out[6]) {
 }
 
 bool value_address(struct lines *l, uint64_t kind, struct bytes *out) {
-    static const char *const wanted[] = {"of kind 1 it has to be the 11 digits of a telephone", "of kind 2 it has to be an IP address and a port, as 192.0.2.7:8080",
+    static const char *const wanted[] = {"of kind 1 it has to be the 11 digits of a telephone",
+                                         "of kind 2 it has to be an IP address and a port, as 192.0.2.7:8080",
                                          "of kind 3 it has to be a name, a colon and a port up to 65535, all in printed ASCII without spaces"};
     uint8_t internet[6];
     if (kind < 1 || kind > 3) return false; // which is told already

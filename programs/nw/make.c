@@ -53,7 +53,8 @@ static const char *plural(uint64_t n) { return n == 1 ? "" : "s"; }
 static void tell(const struct form *f, const struct tables *all, const char *name, size_t bytes, size_t packets) {
     size_t sections = 0;
     for (const struct made *m = f->list; m < f->list + f->count; m++) {
-        printf("%s table %04X, version %u: %zu bytes in %zu section%s\n", kind_name(m->kind), m->extension, m->version, m->bytes, m->sections, plural(m->sections));
+        printf("%s table %04X, version %u: %zu bytes in %zu section%s\n", kind_name(m->kind), m->extension, m->version, m->bytes, m->sections,
+               plural(m->sections));
         sections += m->sections;
     }
     for (size_t i = 0; i < all->count; i++) tell_table(all, &all->list[i]);
