@@ -371,6 +371,26 @@ def try_sets():
 # ---- files and words
 
 
+WANTED = ' are wanted: two files\' names, or - and one for a form on standard input'
+# Words that are wrong, and what is said of them.
+WORDS = (
+    (['make'], 'nw make: FORM and STREAM' + WANTED, MAKE_USAGE), (['make', 'typed'], 'nw make: FORM and STREAM' + WANTED, MAKE_USAGE),
+    (['make', 'typed', 'out', 'more'], 'nw make: more: there are FORM and STREAM already', MAKE_USAGE),
+    (['make', 'typed', '-'], 'nw make: -: a STREAM has to be a file\'s name', MAKE_USAGE),
+    (['make', 'typed', ''], 'nw make: (an empty word): a STREAM has to be a file\'s name', MAKE_USAGE),
+    (['make', '--replace', 'typed', './typed'], 'nw make: ./typed: this is the FORM, and it would be lost', MAKE_USAGE),
+    (['make', '--offset', '0', 'typed', 'out'], 'nw make: --offset: there is no such word', MAKE_USAGE),
+    (['make', '--auxiliary', '16', 'typed', 'out'], 'nw make: 16: BITS have to be 24 or 32', MAKE_USAGE),
+    (['form'], 'nw form: CAPTURE is wanted: a file\'s name, or - for standard input', FORM_USAGE),
+    (['form', 'typed', 'more'], 'nw form: more: there is a CAPTURE already, and one is read', FORM_USAGE),
+    (['form', '--replace', 'typed'], 'nw form: --replace: there is no such word', FORM_USAGE),
+    (['salvage', 'typed'], 'nw salvage: IN and OUT are wanted: a capture\'s name, or - for standard input, and a file\'s', SALVAGE_USAGE),
+    (['salvage', 'typed', 'out', 'x'], 'nw salvage: x: there are IN and OUT already', SALVAGE_USAGE),
+    (['salvage', 'typed', '-'], 'nw salvage: -: an OUT has to be a file\'s name', SALVAGE_USAGE),
+    (['salvage', '--replace', 'typed', 'typed'], 'nw salvage: typed: this is IN, and it would be lost', SALVAGE_USAGE),
+    (['salvage', '--output', 'typed', 'out'], 'nw salvage: --output: there is no such word', SALVAGE_USAGE))
+
+
 def try_files():
     write('typed', GOOD)
     write('there', b'old')
@@ -393,23 +413,10 @@ def try_files():
             name = 'nw' if words[0] == 'help' else 'nw ' + words[0]
             expect('%r on a full disk' % words, run(words, stdout=full), 2, b'', [name + ": the output can't be written: No space left on device"])
     content('there')
-    wanted = ' are wanted: two files\' names, or - and one for a form on standard input'
-    for words, said, usage in (
-            (['make'], 'nw make: FORM and STREAM' + wanted, MAKE_USAGE), (['make', 'typed'], 'nw make: FORM and STREAM' + wanted, MAKE_USAGE),
-            (['make', 'typed', 'out', 'more'], 'nw make: more: there are FORM and STREAM already', MAKE_USAGE),
-            (['make', 'typed', '-'], 'nw make: -: a STREAM has to be a file\'s name', MAKE_USAGE),
-            (['make', 'typed', ''], 'nw make: (an empty word): a STREAM has to be a file\'s name', MAKE_USAGE),
-            (['make', '--replace', 'typed', './typed'], 'nw make: ./typed: this is the FORM, and it would be lost', MAKE_USAGE),
-            (['make', '--offset', '0', 'typed', 'out'], 'nw make: --offset: there is no such word', MAKE_USAGE),
-            (['make', '--auxiliary', '16', 'typed', 'out'], 'nw make: 16: BITS have to be 24 or 32', MAKE_USAGE),
-            (['form'], 'nw form: CAPTURE is wanted: a file\'s name, or - for standard input', FORM_USAGE),
-            (['form', 'typed', 'more'], 'nw form: more: there is a CAPTURE already, and one is read', FORM_USAGE),
-            (['form', '--replace', 'typed'], 'nw form: --replace: there is no such word', FORM_USAGE),
-            (['salvage', 'typed'], 'nw salvage: IN and OUT are wanted: a capture\'s name, or - for standard input, and a file\'s', SALVAGE_USAGE),
-            (['salvage', 'typed', 'out', 'x'], 'nw salvage: x: there are IN and OUT already', SALVAGE_USAGE),
-            (['salvage', 'typed', '-'], 'nw salvage: -: an OUT has to be a file\'s name', SALVAGE_USAGE),
-            (['salvage', '--replace', 'typed', 'typed'], 'nw salvage: typed: this is IN, and it would be lost', SALVAGE_USAGE),
-            (['salvage', '--output', 'typed', 'out'], 'nw salvage: --output: there is no such word', SALVAGE_USAGE)):
+
+
+def try_words():
+    for words, said, usage in WORDS:
         expect('%r' % words, run(words), 2, b'', [said, usage])
     for name in 'make', 'form', 'salvage':
         output = run([name, '--help'])
@@ -482,7 +489,7 @@ with tempfile.TemporaryDirectory() as scratch:
     os.chdir(scratch)
     os.mkdir('folder')
     write('long', bytes(256))
-    for part in try_values, try_order, try_whole, try_lengths, try_good, try_remarks, try_sets, try_files, try_captures, try_salvage:
+    for part in try_values, try_order, try_whole, try_lengths, try_good, try_remarks, try_sets, try_files, try_words, try_captures, try_salvage:
         part()
     os.chdir('/')
 if wrong or tried < 120:

@@ -186,12 +186,19 @@ def try_bench():
     with open(os.path.join(ROOT, 'docs', 'BENCH.md'), encoding='utf-8') as file:
         blocks = [re.sub('^    ', '', block, flags=re.M) for block in re.findall(r'(?:^    .*\n)+', file.read(), flags=re.M)]
     subprocess.run([sys.executable, '-B', os.path.join(ROOT, 'tests', 'make_captures.py'), 'samples'], check=True)
-    shown = [(before.split()[1:], block) for before, block in zip(blocks, blocks[1:]) if before.startswith('nw ')]
-    for words, block in shown:
-        output = run(words)[1].decode()
+    shown = []
+    for block in blocks[1:]:  # the first writes the samples
+        if block.startswith('nw '):
+            words, _, kept = block[3:].partition(' > ')
+            output = run(words.split())[1].decode()
+            if kept:
+                with open(kept.strip(), 'w', encoding='utf-8') as file:
+                    file.write(output)
+            continue
         if '\n' + block not in '\n' + output:
-            wrong.append('docs/BENCH.md: nw %s does not write %.300r' % (' '.join(words), block))
-    if len(shown) < 7:
+            wrong.append('docs/BENCH.md: nw %s does not write %.300r' % (words.strip(), block))
+        shown.append(block)
+    if len(shown) < 11:
         wrong.append('docs/BENCH.md shows few commands')
 
 
