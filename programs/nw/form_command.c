@@ -60,9 +60,8 @@ static int run(struct work *w) {
 }
 
 // Takes a word, and perhaps the one after it. Answers how many were taken, or 0 where they are wrong, which is said.
-static int take(struct work *w, char **word, bool *options) {
-    bool option = *options && word[0][0] == '-' && word[0][1] != '\0';
-    if (*options && strcmp(word[0], "--") == 0) return *options = false, 1;
+static int take(void *own, char **word, bool option) {
+    struct work *w = own;
     if (option && strcmp(word[0], "--offset") == 0) return take_offset(&form_command, &w->clock, word[1]) ? 2 : 0;
     if (option && strcmp(word[0], "--auxiliary") == 0) return take_variant(&form_command, &w->variant, word[1]) ? 2 : 0;
     if (option) return misused(&form_command, word[0], ": there is no such word"), 0;
@@ -73,12 +72,8 @@ static int take(struct work *w, char **word, bool *options) {
 
 int form(const struct command *name, int words, char **word) {
     struct work w = {0};
-    bool options = true;
-    for (int i = 0, taken; i < words; i += taken) {
-        if (options && strcmp(word[i], "--help") == 0) return help(name);
-        taken = take(&w, word + i, &options);
-        if (taken == 0) return UNUSABLE;
-    }
+    int status = each_word(name, words, word, take, &w);
+    if (status != GO_ON) return status;
     if (w.name == NULL) return misused(name, "CAPTURE", " is wanted: a file's name, or - for standard input");
     if (w.variant == 0) w.variant = NW_AUXILIARY_24;
     return run(&w);

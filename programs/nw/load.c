@@ -1,4 +1,4 @@
-// load.c: the words that commands over captures have in common: a capture or a form by its name, and an offset.
+// load.c: the words that commands over captures have in common: a capture or a form by its name, options.
 #include "load.h"
 #include "form.h"
 #include "progress.h"
@@ -53,6 +53,18 @@ bool load_tables(const struct command *c, const char *name, unsigned variant, st
     if (!*is_form) read = load(c, name, (struct finder){note_begin, note_section, note_skipped, note_lost, all}, &got);
     tables_finish(all, variant);
     return read;
+}
+
+int each_word(const struct command *c, int words, char **word, int (*take)(void *own, char **word, bool option), void *own) {
+    bool options = true;
+    for (int i = 0, taken; i < words; i += taken) {
+        taken = 1;
+        if (options && strcmp(word[i], "--help") == 0) return help(c);
+        if (options && strcmp(word[i], "--") == 0) options = false;
+        else taken = take(own, word + i, options && word[i][0] == '-' && word[i][1] != '\0');
+        if (taken == 0) return UNUSABLE;
+    }
+    return GO_ON;
 }
 
 bool read_hours(const char *s, int *out) {

@@ -1,4 +1,4 @@
-/* load.h: the words that commands over captures have in common: a capture or a form by its name, and an offset. */
+/* load.h: the words that commands over captures have in common: a capture or a form by its name, options. */
 #ifndef LOAD_H
 #define LOAD_H
 
@@ -18,6 +18,11 @@ const char *called(const char *name);
 
 /* Hours and minutes with their sign, as +08:00, from -12:00 to +14:00, and nothing else. */
 bool read_hours(const char *s, int *out);
+
+/* Hands the words of a command, options and names, to its own function, which answers how many it took, or 0 where they are wrong, which is
+ * said; after the word -- nothing is an option. Answers GO_ON, or the status where --help was answered or a word is wrong. */
+enum { GO_ON = -1 };
+int each_word(const struct command *c, int words, char **word, int (*take)(void *own, char **word, bool option), void *own);
 
 /* Takes the word after --offset, which may be missing. False where it is wrong, which is said. */
 bool take_offset(const struct command *c, struct clock *clock, const char *offset);

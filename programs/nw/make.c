@@ -132,9 +132,8 @@ static int run(const struct work *w) {
 // ---- the words of the command
 
 // Takes a word, and perhaps the one after it. Answers how many were taken, or 0 where they are wrong, which is said.
-static int take(struct work *w, char **word, bool *options) {
-    bool option = *options && word[0][0] == '-' && word[0][1] != '\0';
-    if (*options && strcmp(word[0], "--") == 0) return *options = false, 1;
+static int take(void *own, char **word, bool option) {
+    struct work *w = own;
     if (option && strcmp(word[0], "--auxiliary") == 0) return take_variant(&make_command, &w->variant, word[1]) ? 2 : 0;
     if (option && strcmp(word[0], "--replace") == 0) return w->replace = true, 1;
     if (option) return misused(&make_command, word[0], ": there is no such word"), 0;
@@ -146,12 +145,8 @@ static int take(struct work *w, char **word, bool *options) {
 
 int make(const struct command *name, int words, char **word) {
     struct work w = {0};
-    bool options = true;
-    for (int i = 0, taken; i < words; i += taken) {
-        if (options && strcmp(word[i], "--help") == 0) return help(name);
-        taken = take(&w, word + i, &options);
-        if (taken == 0) return UNUSABLE;
-    }
+    int status = each_word(name, words, word, take, &w);
+    if (status != GO_ON) return status;
     if (w.stream == NULL) return misused(name, "FORM and STREAM", " are wanted: two files' names, or - and one for a form on standard input");
     if (w.stream[0] == '\0' || strcmp(w.stream, "-") == 0) return misused(name, w.stream, ": a STREAM has to be a file's name");
     if (is_one_file(w.form, w.stream)) return misused(name, w.stream, ": this is the FORM, and it would be lost");

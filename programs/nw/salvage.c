@@ -104,25 +104,21 @@ static int run(struct work *w) {
 
 // ---- the words of the command
 
-// Takes a word. False where it is wrong, which is said.
-static bool take(struct work *w, const char *word, bool *options) {
-    bool option = *options && word[0] == '-' && word[1] != '\0';
-    if (*options && strcmp(word, "--") == 0) *options = false;
-    else if (option && strcmp(word, "--replace") == 0) w->replace = true;
-    else if (option) return misused(&salvage_command, word, ": there is no such word"), false;
-    else if (w->out != NULL) return misused(&salvage_command, word, ": there are IN and OUT already"), false;
-    else if (w->in == NULL) w->in = word;
-    else w->out = word;
-    return true;
+// Takes a word. Answers 1, or 0 where it is wrong, which is said.
+static int take(void *own, char **word, bool option) {
+    struct work *w = own;
+    if (option && strcmp(word[0], "--replace") == 0) return w->replace = true, 1;
+    if (option) return misused(&salvage_command, word[0], ": there is no such word"), 0;
+    if (w->out != NULL) return misused(&salvage_command, word[0], ": there are IN and OUT already"), 0;
+    if (w->in == NULL) w->in = word[0];
+    else w->out = word[0];
+    return 1;
 }
 
 int salvage(const struct command *name, int words, char **word) {
     struct work w = {0};
-    bool options = true;
-    for (int i = 0; i < words; i++) {
-        if (options && strcmp(word[i], "--help") == 0) return help(name);
-        if (!take(&w, word[i], &options)) return UNUSABLE;
-    }
+    int status = each_word(name, words, word, take, &w);
+    if (status != GO_ON) return status;
     if (w.out == NULL) return misused(name, "IN and OUT", " are wanted: a capture's name, or - for standard input, and a file's");
     if (w.out[0] == '\0' || strcmp(w.out, "-") == 0) return misused(name, w.out, ": an OUT has to be a file's name");
     if (is_one_file(w.in, w.out)) return misused(name, w.out, ": this is IN, and it would be lost");
