@@ -1,0 +1,2 @@
+-- The runs that the checker computes.
+pub mod Examples

@@ -1,0 +1,3 @@
+-- The laws that the proofs cite, and other crates.
+pub mod Verdicts
+pub mod Taken
