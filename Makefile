@@ -13,8 +13,8 @@ ZSHDIR = $(PREFIX)/share/zsh/site-functions
 INSTALL ?= install
 
 # The archives of the crates that tools/kit lists; the library's alone is installed.
-ARCHIVE = target/staticlib/libneapwillow.a
-ARCHIVES := $(patsubst %,target/staticlib/lib%.a,$(shell sed -n 's/^exporting=(\(.*\))/\1/p' tools/kit))
+ARCHIVE = target/library/libneapwillow.a
+ARCHIVES := $(ARCHIVE) $(patsubst %,target/staticlib/lib%.a,$(shell sed -n 's/^exporting=(\(.*\))/\1/p' tools/kit))
 PROGRAMS = nw nw-dates nw-salvage nw-section
 COMMANDS = $(PROGRAMS:%=target/bin/%)
 SOURCES := crates.txt $(shell find crates -type f)
@@ -73,4 +73,4 @@ uninstall:
 
 # What was built, and not what was proved: `rm -rf target` removes that too.
 clean:
-	rm -rf target/bin target/staticlib target/c target/native target/drill
+	rm -rf target/bin target/staticlib target/library target/c target/native target/drill

@@ -16,6 +16,7 @@
 #include "plain_index.h"
 #include "plain_numbers.h"
 #include "plain_packets.h"
+#include "plain_rooms.h"
 #include "plain_sections.h"
 #include "real_day.h"
 
@@ -215,6 +216,52 @@ static uint64_t pack_all(packer *pack) {
 
 static uint64_t pack_library(const uint8_t *s, size_t n) { return (void)s, (void)n, pack_all(packed_gathering_pack); }
 static uint64_t pack_memmove(const uint8_t *s, size_t n) { return (void)s, (void)n, pack_all(plain_gathering_pack); }
+
+// ---- two networks over one store: each is fed the table of full sections, in turn, and hands it out; and one section fed for one of them, while
+// the other holds a room
+
+typedef plain_answer networks_feeder(nw_networks *x, uint32_t network, uint8_t *store, size_t room, const uint8_t *s, size_t n);
+typedef plain_answer networks_hander(const nw_networks *x, uint32_t network, const uint8_t *store, size_t room, uint8_t *out,
+                                     size_t out_room);
+
+PACKED(networks_feed, (nw_networks *x, uint32_t network, uint8_t *store, size_t room, const uint8_t *s, size_t n), x, network,
+       store, room, s, n)
+PACKED(networks_hand_out,
+       (const nw_networks *x, uint32_t network, const uint8_t *store, size_t room, uint8_t *out, size_t out_room), x, network,
+       store, room, out, out_room)
+
+static uint64_t gather_two(networks_feeder *feed, networks_hander *hand_out, const uint8_t *s, size_t n) {
+    static uint8_t store[NW_ROOMS_BYTES(NW_MOST_ROOMS)];
+    nw_networks x;
+    uint64_t answers = plain_networks_start(&x, sizeof store);
+    for (size_t at = 0; at < n; at += NW_MOST_SECTION)
+        for (uint32_t network = 1; network <= 2; network++)
+            answers = answers * 31 + feed(&x, network, store, sizeof store, s + at, NW_MOST_SECTION);
+    for (uint32_t network = 1; network <= 2; network++)
+        answers = answers * 31 + hand_out(&x, network, store, sizeof store, output, sizeof output);
+    return answers;
+}
+
+static uint64_t gather_two_library(const uint8_t *s, size_t n) {
+    return gather_two(packed_networks_feed, packed_networks_hand_out, s, n);
+}
+
+static uint64_t gather_two_slicing(const uint8_t *s, size_t n) {
+    return gather_two(plain_networks_feed, plain_networks_hand_out, s, n);
+}
+
+static nw_networks halves;
+static uint8_t halves_store[NW_ROOMS_BYTES(4)];
+
+static uint64_t feed_two_library(const uint8_t *s, size_t n) {
+    nw_networks x = halves;
+    return packed_networks_feed(&x, 1, halves_store, sizeof halves_store, s, n);
+}
+
+static uint64_t feed_two_slicing(const uint8_t *s, size_t n) {
+    nw_networks x = halves;
+    return plain_networks_feed(&x, 1, halves_store, sizeof halves_store, s, n);
+}
 
 // ---- a certificate body read, and written from a form: as many parts as there can be
 
@@ -549,6 +596,17 @@ static void fill_feeding(size_t n) {
     if (refusal_of(held) || feed_slicing(input, n) != NW_FED_TAKEN) abort();
 }
 
+// The same for network 1, while network 2 holds the second section too.
+static void fill_feeding_two(size_t n) {
+    uint8_t second[12];
+    plain_section_put(second, &(struct plain_heading){0xFD, 0x0C29, 17, 1, 1, 1}, input, 0);
+    plain_networks_start(&halves, sizeof halves_store);
+    for (uint32_t network = 1; network <= 2; network++)
+        if (refusal_of(plain_networks_feed(&halves, network, halves_store, sizeof halves_store, second, sizeof second))) abort();
+    fill_feeding(n);
+    if (feed_two_slicing(input, n) != NW_FED_TAKEN) abort();
+}
+
 // A state that holds all of a table whose body has n bytes.
 static void fill_packing(size_t n) {
     size_t sections = n / SHORT_PAYLOAD;
@@ -829,6 +887,14 @@ static const struct operation operations[] = {
      fill_twice,
      {{"neapwillow", gather_library}, {"C, slicing by 8", gather_slicing}},
      {2 * 4096, 32 * 4096, 512 * 4096}},
+    {"feeding, one of two",
+     fill_feeding_two,
+     {{"neapwillow", feed_two_library}, {"C, slicing by 8", feed_two_slicing}},
+     {12, 4096}},
+    {"gathering, two",
+     fill_in_order,
+     {{"neapwillow", gather_two_library}, {"C, slicing by 8", gather_two_slicing}},
+     {4096, 16 * 4096, 256 * 4096}},
     {"packing",
      fill_packing,
      {{"neapwillow", pack_library}, {"C, memmove", pack_memmove}},

@@ -1,29 +1,7 @@
 // The gathering's target: feeds, handings out and packings over one state and one store, beside the bodies that were cut.
-#include "trial.h"
+#include "cuts.h"
 
-enum { BODY = 3 * NW_MOST_PAYLOAD + 100, STORE = 4 * NW_MOST_PAYLOAD };
-
-// The table that the sections are cut from.
-struct cuts {
-    uint8_t body[BODY];
-    size_t n;
-};
-
-// A section of the table, of another version of it, or one damaged or not current; answers its length.
-static size_t make_section(struct input *in, const struct cuts *c, uint8_t *out) {
-    uint32_t version = now_and_then(in, 8) ? (uint32_t)upto(in, 31) : 7;
-    uint32_t number = (uint32_t)upto(in, nw_value(nw_section_count(c->n)) - 1);
-    nw_answer a = nw_section_cut(c->body, c->n, NW_CONTENT, 0x1234, version, number, out, NW_MOST_SECTION);
-    must(taken(a));
-    size_t n = (size_t)nw_value(a);
-    if (now_and_then(in, 8)) out[upto(in, n - 1)] ^= (uint8_t)(1 + upto(in, 254));
-    if (now_and_then(in, 16)) { // another payload or current bit, and a right check
-        out[now_and_then(in, 2) && n > 12 ? 8 : 5] ^= 1;
-        uint32_t check = nw_crc32(out, n - 4);
-        for (size_t i = 0; i < 4; i++) out[n - 4 + i] = (uint8_t)(check >> (24 - 8 * i));
-    }
-    return now_and_then(in, 16) ? upto(in, n) : n;
-}
+enum { STORE = 4 * NW_MOST_PAYLOAD };
 
 // Without a store, at NULL, a feed is refused with 10, or as before where its refusal stands before 10; it changes nothing.
 static void try_no_store(const nw_gathering *g, const uint8_t *s, size_t n, unsigned refusal) {
@@ -125,8 +103,7 @@ static void try_whole(struct input *in, struct lent *store, const struct cuts *c
 
 int LLVMFuzzerTestOneInput(const uint8_t *data, size_t size) {
     struct input in = {data, size};
-    struct cuts c = {{0}, 1 + upto(&in, BODY - 1)};
-    for (size_t i = 0; i < c.n; i++) c.body[i] = (uint8_t)(i + i / 251);
+    struct cuts c = take_cuts(&in);
     struct lent state = lend(sizeof(nw_gathering), 0), store = lend(now_and_then(&in, 8) ? upto(&in, STORE) : STORE, 0x11);
     uint8_t section[NW_MOST_SECTION];
     if (now_and_then(&in, 8)) // a state that no feed made, mostly an impossible one

@@ -55,6 +55,8 @@ uint32_t nw_version(void);
  * - nw_salvage is new, the good sections of a damaged capture, and with it refusal 36.
  * - nw_packet_pack and nw_packet_unpack are new, transport packets on PID 0x0021, and with them refusals
  *   30 to 34.
+ * - nw_networks_start, _feed, _hand_out, _end, _held_rooms and _free_rooms are new, two networks over one
+ *   store, and with them refusal 35.
  * - The stack that each function takes is stated. */
 
 /* ---- Answers ----------------------------------------------------------------------------------
@@ -122,7 +124,7 @@ enum nw_refusal {
     NW_OTHER_HEADING = 9,           /* the heading differs from the gathering's */
     NW_STORE_TOO_SHORT = 10,        /* the store is shorter than (last + 1) x 4,084 bytes */
     NW_CONTRADICTION = 11,          /* same heading and number, other payload; or spoiled already */
-    NW_IMPOSSIBLE_STATE = 12,       /* not a possible gathering state: see nw_gathering */
+    NW_IMPOSSIBLE_STATE = 12,       /* not a possible state: see nw_gathering and nw_networks */
     NW_MISSING = 13,                /* a section is missing; the place is the smallest number */
     NW_PAST_BODY = 14,              /* the body ends inside a field or part; the cutter's is empty */
     NW_PAST_PART = 15,              /* a field passes the end of its part, or bytes are left in it */
@@ -141,7 +143,7 @@ enum nw_refusal {
     NW_OTHER_PID = 32,              /* a packet of another PID than 0x0021 */
     NW_SCRAMBLED = 33,              /* a scrambled packet */
     NW_PAST_PACKET = 34,            /* pointer or adaptation field past the packet's end; control 00 */
-    NW_NO_FREE_ROOM = 35,           /* every room of the store is held; nothing gives it yet */
+    NW_NO_FREE_ROOM = 35,           /* a room is needed, and every room of the store is held */
     NW_CAPTURE_TOO_LONG = 36,       /* a capture above 65,536 bytes */
     NW_TEACHING_BUFFER_FULL = 37    /* the teaching buffer has no room for what is fed; nothing gives it yet */
 };
@@ -454,6 +456,100 @@ nw_answer nw_gathering_hand_out(const nw_gathering *g, const uint8_t *store, siz
  *         if (NW_REFUSAL(packed) == NW_TAKEN) show(kind, extension, store, nw_value(packed));
  *     } */
 nw_answer nw_gathering_pack(nw_gathering *g, uint8_t *store, size_t store_bytes);
+
+/* ---- Two networks, one store ------------------------------------------------------------------
+ *
+ * At a border site one box listens to two cable networks and has memory for one store. Its whole rooms
+ * of NW_ROOM_BYTES bytes, at most NW_MOST_ROOMS of them, serve both: a room is taken for each section
+ * that is taken, whose payload stands at its start, and is given back when its network's gathering ends
+ * or a newer version takes over. No room is ever held twice, and held and free rooms together are all of
+ * them. A number has no fixed place in this store, and there is no packing: a body is handed out.
+ *
+ * The networks are 1 and 2. Each gathers one table, as nw_gathering says. What a network is answered
+ * depends on its own calls and on whether a room was free at each of its takes, and on nothing else that
+ * the other one did. A section that is refused for room counts as not fed: it may come again.
+ *
+ * The caller lends one state, which nw_networks_start makes, and from then on to every call the same
+ * store, or its length. State, store, section and output must not overlap, and the state is never NULL.
+ * What each network holds is the caller's to read, not to set: x->one.gathering tells of network 1 how
+ * many sections are missing and how many bytes are held, as an nw_gathering does.
+ *
+ * A state is possible if the store is as long as at the start, each gathering is possible by itself, each
+ * number that is held has one of the store's rooms and no other number has any, and no two numbers, of
+ * one network or of both, have the same room. From the start on calls leave only possible ones. The
+ * struct has 2,080 bytes. */
+#define NW_ROOM_BYTES 4084u /* of a room: the longest payload */
+#define NW_MOST_ROOMS 512u  /* rooms that are used of any store */
+#define NW_ROOMS_BYTES(rooms) ((size_t)(rooms) * NW_ROOM_BYTES) /* a store of so many rooms */
+
+typedef struct nw_network {
+    nw_gathering gathering;
+    uint16_t rooms[256]; /* by section number: its room, counted from 1, or 0 where it is not held */
+} nw_network;
+
+typedef struct nw_networks {
+    size_t bytes;   /* of the store, at the start */
+    nw_network one;
+    nw_network two;
+} nw_networks;
+
+/* Makes the state that holds nothing, over a store of so many bytes, whatever it was before; the store
+ * itself may hold anything. The rooms of such a store: the smaller of NW_MOST_ROOMS and the whole rooms
+ * in its length. Nothing is refused; where there is no room, no section is taken (35).
+ * Stack: 24 bytes. */
+size_t nw_networks_start(nw_networks *x, size_t store_bytes);
+
+/* Feeds one byte string for a network. Value: one of enum nw_fed. A payload that is taken goes to the
+ * start of the first room that is free, and all other bytes of the store stay; one section less is
+ * missing, and so many bytes more are held. A section that is held already needs no room and changes
+ * nothing. A newer version's section, as nw_gathering_feed says, gives back all rooms of its network
+ * before it takes one, so that it is never refused for room. The other network's part stays. Refusals,
+ * in this order: 19, a network other than 1 or 2; 12, not a possible state, whichever part it is that is
+ * not, or a store of another length; 1 to 7, as nw_section_read; 8, not current; 9, another table's
+ * heading; 11, a payload other than the one held for its number, or that network's gathering is spoiled
+ * already; 35, the section would be taken, and every room is held. There is no 10. A refused call changes
+ * nothing, so that a first section refused with 35 begins nothing, but that 11 for a contradiction spoils
+ * the network's gathering, which keeps its counts and its rooms: end it to begin again, or wait for a
+ * newer version. Stack: 23,784 bytes. */
+nw_answer nw_networks_feed(nw_networks *x, uint32_t network, uint8_t *store, size_t store_bytes,
+                           const uint8_t *s, size_t n);
+
+/* Writes a network's body at the start of out: the payloads of numbers 0 to last, joined out of their
+ * rooms. Value: its length; bytes of out after it stay, and so do store and state: no room is given back.
+ * It is written exactly when every number is held and no contradiction was fed. Refusals, in this order,
+ * with nothing written: 19, a network other than 1 or 2; 12, as for nw_networks_feed; 13, nothing is
+ * begun (place 0); 11, spoiled; 13, with the smallest missing number as its place; 21, out is too small:
+ * gathering.bytes of that network are enough, and no body is longer than NW_MOST_BODY bytes. There is no
+ * 10. Stack: 11,712 bytes. */
+nw_answer nw_networks_hand_out(const nw_networks *x, uint32_t network, const uint8_t *store,
+                               size_t store_bytes, uint8_t *out, size_t out_bytes);
+
+/* Ends a network's gathering, begun or not, whole, spoiled or neither: its part of the state is fresh
+ * again, and its rooms are free. The other network's part stays, and nothing of the store is touched,
+ * whose length alone is asked for. Value: 0. Refusals, in this order, with nothing changed: 19, a network
+ * other than 1 or 2; 12, as for nw_networks_feed. Stack: 10,064 bytes. */
+nw_answer nw_networks_end(nw_networks *x, uint32_t network, size_t store_bytes);
+
+/* How many rooms both networks hold together, and how many of the store's rooms nobody holds. Together
+ * they are what nw_networks_start answered. Refusal 12: as for nw_networks_feed. Stack: 7,968 bytes.
+ *
+ * All that a box between two networks needs, with memory for one table of 256 sections on either side:
+ *
+ *     static nw_networks x;
+ *     static uint8_t store[NW_ROOMS_BYTES(NW_MOST_ROOMS)], body[NW_MOST_BODY];
+ *
+ *     void begin(void) { nw_networks_start(&x, sizeof store); }
+ *
+ *     void take_section(uint32_t network, const uint8_t *s, size_t n) {
+ *         nw_networks_feed(&x, network, store, sizeof store, s, n);
+ *         const nw_gathering *g = network == 1 ? &x.one.gathering : &x.two.gathering;
+ *         nw_answer got = nw_networks_hand_out(&x, network, store, sizeof store, body, sizeof body);
+ *         if (NW_REFUSAL(got) != NW_TAKEN) return;
+ *         show(network, g->kind, g->extension, body, nw_value(got));
+ *         nw_networks_end(&x, network, sizeof store); // and its rooms are free
+ *     } */
+nw_answer nw_networks_held_rooms(const nw_networks *x, size_t store_bytes);
+nw_answer nw_networks_free_rooms(const nw_networks *x, size_t store_bytes);
 
 /* ---- Forms ------------------------------------------------------------------------------------
  *

@@ -7,8 +7,8 @@ import sys
 ROOT = os.path.join(os.path.dirname(os.path.abspath(__file__)), os.pardir)
 RECORDS = 'crates/index_records/src/lib.rt'
 
-# The crates that C is offered, and the header of each.
-HEADERS = {'neapwillow': 'include/neapwillow.h', 'c_commands': 'programs/c_commands.h'}
+# The headers, and the crates that each declares.
+HEADERS = {'include/neapwillow.h': ['neapwillow', 'neapwillow_rooms'], 'programs/c_commands.h': ['c_commands']}
 
 # What the commands' header calls a constant of the source.
 CONSTANTS = {'NW_MOST_INPUT': 'program_printing::MOST_INPUT', 'NW_MOST_REPORT': 'program_date_lines::MOST_OUTPUT',
@@ -17,14 +17,17 @@ CONSTANTS = {'NW_MOST_INPUT': 'program_printing::MOST_INPUT', 'NW_MOST_REPORT': 
 LENT = {'NW_UNPACKER_BYTES': 'packet_memory::STATE_BYTES'}
 
 # What C lends as a struct: its name there, and where the source has it under which name.
-STRUCTS = [('nw_gathering', 'crates/gathering_state/src/lib.rt', 'Gathering'), ('nw_record', RECORDS, 'Record')]
+ROOMS = 'crates/rooms_state/src/lib.rt'
+STRUCTS = [('nw_gathering', 'crates/gathering_state/src/lib.rt', 'Gathering'), ('nw_record', RECORDS, 'Record'), ('nw_network', ROOMS, 'Part'),
+           ('nw_networks', ROOMS, 'Networks')]
 
 # What a type of the source is in C: a slice is a pointer and a length.
 IN_C = {
     'u8': ['uint8_t'], 'u16': ['uint16_t'], 'u32': ['uint32_t'], 'u64': ['uint64_t'], 'usize': ['size_t'], 'i32': ['int32_t'],
     '&[u8]': ['const uint8_t *', 'size_t'], '&mut [u8]': ['uint8_t *', 'size_t'],
     '&[u64]': ['const uint64_t *', 'size_t'], '&mut [u64]': ['uint64_t *', 'size_t'],
-    '&Gathering': ['const nw_gathering *'], '&mut Gathering': ['nw_gathering *'],
+    '&Gathering': ['const nw_gathering *'], '&mut Gathering': ['nw_gathering *'], 'Gathering': ['nw_gathering'],
+    '&Networks': ['const nw_networks *'], '&mut Networks': ['nw_networks *'], 'Part': ['nw_network'],
     '&mut [Record]': ['nw_record *', 'size_t'], '&mut [u32]': ['uint32_t *', 'size_t'],
 }
 
@@ -185,8 +188,9 @@ def shapes(header):
 
 
 def main():
-    header, commands = (without_comments(read(path)) for path in HEADERS.values())
-    functions = [('function of ' + crate, exports(crate), declarations(text)) for crate, text in zip(HEADERS, (header, commands))]
+    header, commands = (without_comments(read(path)) for path in HEADERS)
+    functions = [('function of ' + ' and '.join(crates), {name: said for crate in crates for name, said in exports(crate).items()}, declarations(text))
+                 for crates, text in zip(HEADERS.values(), (header, commands))]
     pairs = [functions[0], ('version', source_version(), header_version(header)), ('refusal', source_refusals(), header_refusals(header)),
              ('struct', {lent: source_fields(path, name) for lent, path, name in STRUCTS},
               {lent: header_fields(header, lent) for lent, _, _ in STRUCTS}),

@@ -119,7 +119,7 @@ static unsigned count_missing(const nw_gathering *g) {
     return missing;
 }
 
-static int is_possible(const nw_gathering *g) {
+int plain_possible(const nw_gathering *g) {
     unsigned most = 0, above = 0;
     for (size_t k = 0; k < 256; k++) most = g->held[k] > most ? g->held[k] : most;
     if (g->kind == 0) return (most | g->extension | g->version | g->last | g->spoiled | g->missing | g->bytes) == 0;
@@ -128,7 +128,7 @@ static int is_possible(const nw_gathering *g) {
            most <= NW_MOST_PAYLOAD + 1 && above == 0 && g->missing == count_missing(g) && g->bytes == count_bytes(g);
 }
 
-static int is_other_heading(const nw_gathering *g, plain_answer read) {
+int plain_other_heading(const nw_gathering *g, plain_answer read) {
     return g->kind != heading_kind(read) || g->extension != heading_extension(read) ||
            g->version != heading_version(read) || g->last != heading_last(read);
 }
@@ -139,13 +139,25 @@ static int is_newer(const nw_gathering *g, plain_answer read) {
     return g->kind == heading_kind(read) && g->extension == heading_extension(read) && steps > 0 && steps < 16;
 }
 
+int plain_begins(const nw_gathering *g, plain_answer read) { return g->kind == 0 || is_newer(g, read); }
+
+void plain_hold(nw_gathering *g, plain_answer read, size_t length) {
+    g->extension = (uint16_t)heading_extension(read);
+    g->kind = (uint8_t)heading_kind(read);
+    g->version = (uint8_t)heading_version(read);
+    g->last = (uint8_t)heading_last(read);
+    g->held[heading_number(read)] = (uint16_t)(length + 1);
+    g->missing = (uint16_t)count_missing(g);
+    g->bytes = count_bytes(g);
+}
+
 plain_answer plain_gathering_feed(nw_gathering *g, uint8_t *store, size_t store_bytes, const uint8_t *s, size_t n) {
-    if (!is_possible(g)) return NW_IMPOSSIBLE_STATE;
+    if (!plain_possible(g)) return NW_IMPOSSIBLE_STATE;
     plain_answer read = plain_section_read(s, n);
     if (refusal_of(read)) return read;
     if (!heading_current(read)) return NW_NOT_CURRENT;
-    int begins = g->kind == 0 || is_newer(g, read);
-    if (!begins && is_other_heading(g, read)) return NW_OTHER_HEADING;
+    int begins = plain_begins(g, read);
+    if (!begins && plain_other_heading(g, read)) return NW_OTHER_HEADING;
     if (store_bytes < NW_STORE_BYTES(heading_last(read))) return NW_STORE_TOO_SHORT;
     if (begins) memset(g, 0, sizeof *g);
     if (g->spoiled) return NW_CONTRADICTION;
@@ -157,19 +169,13 @@ plain_answer plain_gathering_feed(nw_gathering *g, uint8_t *store, size_t store_
         return NW_CONTRADICTION;
     }
     memcpy(place, s + HEADING, length);
-    g->extension = (uint16_t)heading_extension(read);
-    g->kind = (uint8_t)heading_kind(read);
-    g->version = (uint8_t)heading_version(read);
-    g->last = (uint8_t)heading_last(read);
-    g->held[number] = (uint16_t)(length + 1);
-    g->missing = (uint16_t)count_missing(g);
-    g->bytes = count_bytes(g);
+    plain_hold(g, read, length);
     return value(NW_FED_TAKEN);
 }
 
 // The length of the body, if all of the table is there.
-static plain_answer whole_body(const nw_gathering *g, size_t store_bytes) {
-    if (!is_possible(g)) return NW_IMPOSSIBLE_STATE;
+plain_answer plain_whole_body(const nw_gathering *g, size_t store_bytes) {
+    if (!plain_possible(g)) return NW_IMPOSSIBLE_STATE;
     if (g->kind == 0) return NW_MISSING;
     if (store_bytes < NW_STORE_BYTES(g->last)) return NW_STORE_TOO_SHORT;
     if (g->spoiled) return NW_CONTRADICTION;
@@ -183,7 +189,7 @@ static plain_answer whole_body(const nw_gathering *g, size_t store_bytes) {
 
 plain_answer plain_gathering_hand_out(const nw_gathering *g, const uint8_t *store, size_t store_bytes, uint8_t *out,
                                       size_t out_bytes) {
-    plain_answer whole = whole_body(g, store_bytes);
+    plain_answer whole = plain_whole_body(g, store_bytes);
     if (refusal_of(whole)) return whole;
     if (value_of(whole) > out_bytes) return NW_OUTPUT_TOO_SMALL;
     for (size_t k = 0; k <= g->last; out += g->held[k++] - 1) memcpy(out, store + k * NW_MOST_PAYLOAD, g->held[k] - 1u);
@@ -191,7 +197,7 @@ plain_answer plain_gathering_hand_out(const nw_gathering *g, const uint8_t *stor
 }
 
 plain_answer plain_gathering_pack(nw_gathering *g, uint8_t *store, size_t store_bytes) {
-    plain_answer whole = whole_body(g, store_bytes);
+    plain_answer whole = plain_whole_body(g, store_bytes);
     if (refusal_of(whole)) return whole;
     uint8_t *front = store;
     for (size_t k = 0; k <= g->last; front += g->held[k++] - 1)

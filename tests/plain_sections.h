@@ -26,4 +26,12 @@ plain_answer plain_gathering_hand_out(const nw_gathering *g, const uint8_t *stor
                                       size_t out_bytes);
 plain_answer plain_gathering_pack(nw_gathering *g, uint8_t *store, size_t store_bytes);
 
+// What of a gathering plain_rooms.c shares: whether a state is possible, whether a section that was read begins a gathering or has
+// another heading, what holding it makes of the state, and the length of the body, if all of the table is there.
+int plain_possible(const nw_gathering *g);
+int plain_begins(const nw_gathering *g, plain_answer read);
+int plain_other_heading(const nw_gathering *g, plain_answer read);
+void plain_hold(nw_gathering *g, plain_answer read, size_t length);
+plain_answer plain_whole_body(const nw_gathering *g, size_t store_bytes);
+
 #endif

@@ -1,10 +1,11 @@
-"""What adapter, box and cable say of slips in forms, files and calls, and their status: slips.py CABLE HOW FOLDER RUNNER.."""
+"""What adapter, boxes and cable say of slips in forms, files and calls, and their status: slips.py CABLE HOW FOLDER RUNNER.."""
 import os
 import subprocess
 import sys
 import tempfile
 import unicodedata
 
+import border_slips as border
 import file_slips as files
 import form_slips as forms
 import stream_slips as streams
@@ -114,6 +115,24 @@ def try_adapter_calls():
     os.close(folder)
 
 
+# ---- the box at a border
+
+
+def try_border():
+    write('one', files.DRILL)
+    write('two', files.DRILL)
+    for words, sentence in border.CALLS:
+        expect('border %r' % words, run('border', words), 2, exactly=['border: ' + sentence, border.USAGE])
+    expect('border --help', run('border', ['--help']), 0, ['usage: border [--rooms N] FILE1 FILE2'])
+    for words, name in (['none', 'two'], 'none'), (['one', 'none'], 'none'):
+        expect('border %r' % words, run('border', words), 2, exactly=["border: %s can't be opened: No such file or directory" % name])
+    expect('border on a folder', run('border', ['one', 'folder']), 2, exactly=["border: folder can't be read: Is a directory"])
+    for words, one, two, status, wanted in border.pairs():
+        write('one', one)
+        write('two', two)
+        expect('border %r on %d and %d bytes' % (words, len(one), len(two)), run('border', [*words, 'one', 'two']), status, wanted)
+
+
 # ---- the box
 
 
@@ -221,7 +240,7 @@ def try_cable_of_packets():
 with tempfile.TemporaryDirectory() as scratch:
     os.chdir(scratch)
     os.mkdir('folder')
-    for part in try_forms, try_adapter_calls, try_files, try_box_calls, try_cable, try_cable_of_packets:
+    for part in try_forms, try_adapter_calls, try_files, try_box_calls, try_border, try_cable, try_cable_of_packets:
         part()
     os.chdir('/')
 if wrong or tried < 200:

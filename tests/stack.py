@@ -1,9 +1,9 @@
 """The deepest stack of each function that the header declares, found in the archive's own machine code, against the limits that the header states.
 
-stack.py OBJDUMP ARCHIVE HEADER PAGE CLANG MODULE: in each function of the disassembled archive the stack pointer is followed along every way; what it
-calls comes on top of where it calls it. Nothing is guessed: a function that calls itself, over others too, a call through a pointer, and a stack
-pointer that is moved by no constant are faults. Counted are the return address and what lies below the stack pointer (the red zone); of the C
-library's memcpy and its like the return address alone.
+stack.py OBJDUMP HEADER PAGE CLANG FOLDER CRATE..: of each crate its archive and its module in FOLDER, which is target/. In each function of a disassembled
+archive the stack pointer is followed along every way; what it calls comes on top of where it calls it. Nothing is guessed: a function that calls
+itself, over others too, a call through a pointer, and a stack pointer that is moved by no constant are faults. Counted are the return address and what
+lies below the stack pointer (the red zone); of the C library's memcpy and its like the return address alone.
 
 A limit is a sentence of the header, `Stack: N bytes.`, for the functions declared after it up to the next such sentence or heading. Each function
 has one, meets it, and the deepest of each group lies close below it, so that a buffer which comes in is seen. Each group of the man page says the
@@ -176,12 +176,16 @@ class Walk:
 # ---- all of them
 
 class Stack:
-    """The deepest stack of each function, with all that it calls."""
+    """The deepest stack of each function, with all that it calls. All but what C is offered is local to its archive."""
 
     def __init__(self, objdump, archive):
         code, where = disassembled(objdump, archive)
         self.walks = {name: Walk(name, lines, where) for name, lines in code.items()}
         self.found = {}
+
+    def offers(self, stated):
+        """Those of the stated functions that this archive has."""
+        return [name for name in stated if name in self.walks]
 
     def of(self, name, above=()):
         """How many bytes, and the functions on the deepest way."""
@@ -254,11 +258,13 @@ def faults(found, stated, page):
 
 # ---- what the limits have to show
 
-# A function of the module, the bytes that are planted in it, what these are, and the functions of the header that have to be found too deep.
+# A crate, a function of its module, the bytes that are planted in it, what these are, and the functions of the header that have to be found too deep.
 PLANTED = [
-    ('body_identifier::read_identifier', 35, 'the digits of an identifier, laid out by its reader', ['nw_message_identifier', 'nw_content_identifier']),
-    ('gathering_verdict::decide', 524, 'a second copy of the state', ['nw_gathering_feed']),
-    ('gathering_hand_out::complete', 524, 'a second copy of the state', ['nw_gathering_hand_out', 'nw_gathering_pack']),
+    ('neapwillow', 'body_identifier::read_identifier', 35, 'the digits of an identifier, laid out by its reader',
+     ['nw_message_identifier', 'nw_content_identifier']),
+    ('neapwillow', 'gathering_verdict::decide', 524, 'a second copy of the state', ['nw_gathering_feed']),
+    ('neapwillow', 'gathering_hand_out::complete', 524, 'a second copy of the state', ['nw_gathering_hand_out', 'nw_gathering_pack']),
+    ('neapwillow_rooms', 'rooms_feed::take_free', 1036, "a second copy of a network's part", ['nw_networks_feed']),
 ]
 
 
@@ -277,14 +283,18 @@ def too_deep(objdump, clang, module, function, size, header):
         with open(text, 'w', encoding='utf-8') as file:
             file.write(lines[:start.end()] + buffer + lines[start.end():])
         subprocess.run(own + ['-c', '-O3', '-fPIC', '-ffunction-sections', '-o', code, text], check=True)
-        stack = Stack(objdump, code)
-        return {name for name, (limit, _) in limits(header).items() if limit is not None and stack.of(name)[0] > limit}
+        stack, stated = Stack(objdump, code), limits(header)
+        return {name for name in stack.offers(stated) if stated[name][0] is not None and stack.of(name)[0] > stated[name][0]}
 
 
-def main(objdump, archive, header, page, clang, module):
+def main(objdump, header, page, clang, folder, *crates):
     try:
-        stack, stated = Stack(objdump, archive), limits(header)
-        found = {name: stack.of(name) for name in stated}
+        stated, found = limits(header), {}
+        for crate in crates:
+            stack = Stack(objdump, os.path.join(folder, 'staticlib', f'lib{crate}.a'))
+            found.update({name: stack.of(name) for name in stack.offers(stated)})
+        for name in stated.keys() - found.keys():
+            raise Fault(f'the header names {name}, which is in no archive')
         heading = None
         for name, (limit, under) in stated.items():
             if under != heading:
@@ -292,8 +302,8 @@ def main(objdump, archive, header, page, clang, module):
                 print(heading)
             print(f'  {name:36} {found[name][0]:5} of {limit}, by {" ".join(found[name][1][1:]) or "itself"}')
         wrong = list(faults({name: deep for name, (deep, _) in found.items()}, stated, page))
-        for function, size, what, readers in PLANTED:
-            deep = too_deep(objdump, clang, module, function, size, header)
+        for crate, function, size, what, readers in PLANTED:
+            deep = too_deep(objdump, clang, os.path.join(folder, 'native', f'{crate}.bc'), function, size, header)
             print(f'planted in {function}, {what}: {len(deep)} functions pass their limits')
             wrong += [f'{what} in {function} is not seen at {name}' for name in readers if name not in deep]
     except Fault as fault:

@@ -517,6 +517,7 @@ int main(int count, char **words) {
     try_salvaging();
     try_packets();
     try_gathering();
+    try_rooms();
     try_tables();
     uint64_t calls = 0;
     int failed = 0;

@@ -11,6 +11,7 @@
 #include "plain_index.h"
 #include "plain_numbers.h"
 #include "plain_packets.h"
+#include "plain_rooms.h"
 #include "plain_sections.h"
 
 // Every function of the header, and the refusals that it can give: each must be met, and no other.
@@ -22,6 +23,8 @@
     X(packet_pack, "1 2 3 4 5 6 7 19 21") X(packet_unpack, "21 30 31 32 33 34")                                      \
     X(gathering_feed, "1 2 3 4 5 6 7 8 9 10 11 12") X(gathering_hand_out, "10 11 12 13 21")                          \
     X(gathering_pack, "10 11 12 13")                                                                                 \
+    X(networks_start, "") X(networks_feed, "1 2 3 4 5 6 7 8 9 11 12 19 35") X(networks_hand_out, "11 12 13 19 21")   \
+    X(networks_end, "12 19") X(networks_held_rooms, "12") X(networks_free_rooms, "12")                               \
     X(certificate_read, "2 14 16 22") X(certificate_authorization_count, "14") X(certificate_authorization, "14 19") \
     X(certificate_certificate_count, "14") X(certificate_certificate, "14 19") X(certificate_signature, "14")        \
     X(certificate_write, "19 21 22") X(certificate_lay, "2 14 16 21 22")                                             \
@@ -109,6 +112,7 @@ void wrong(const char *what);                               // says it and ends
                   plain_##name(__VA_ARGS__, (void *)output_plain.at, size)))
 
 void try_packets(void); // in whole_packets.c
+void try_rooms(void);   // in whole_rooms.c
 void try_tables(void);  // in whole_tables.c
 
 #endif

@@ -33,15 +33,15 @@ ghost use Rattle.c_answers.specs.Answers.{answerOf, refusedOf, dayAnswer
 // What an answer holds above its low byte: 56 bits.
 const ABOVE: u64 = 0x0100_0000_0000_0000;
 
-// A refusal as C is told of it.
-fn refused(r: Refusal) -> u64
+// A refusal as C is told of it. For c_rooms_answers too.
+pub fn refused(r: Refusal) -> u64
     ensures { λ a. ⌜ a ≡ refusedOf r ⌝ }
 {
     (ground_refusal::number(r) as u64) + 256 * ((ground_refusal::place(r) as u64) % ABOVE)
 }
 
-// A value as C is told of it: no refusal, and the value above the low byte.
-fn answered(value: u64) -> u64
+// A value as C is told of it: no refusal, and the value above the low byte. For c_rooms_answers too.
+pub fn answered(value: u64) -> u64
     ensures { λ a. ⌜ a ≡ answerOf 0 value ⌝ }
 {
     256 * (value % ABOVE)

@@ -3,6 +3,7 @@ use Prim.Native.Nat.{ℕ, _≤_}
 use mathlib.Core.Path.{_≡_, refl, sym, ap, ap₂, _∙_}
 use mathlib.Core.Bool.{Bool, true, false}
 use mathlib.Core.List.{List, [], _∷_}
+use mathlib.Core.Option.{Option, none, some}
 use native.Mathlib.Omega.{arith}
 use lib.ListN.{length}
 use lib.Dec.{eqb}
@@ -39,6 +40,11 @@ use Rattle.gathering_hand_out.specs.declared.Handed.{Handed}
 use Rattle.gathering_hand_out.specs.declared.Handed.the-variants.{Body, Refused as NotHanded}
 use Rattle.gathering_hand_out.proofs.Handing.{body-most}
 use Rattle.gathering_pack.specs.Packing as packing
+use Rattle.rooms_marks.proofs.Tests.{Seen, yes-is, no-is, seen}
+use Rattle.rooms_state.specs.State.{Network, mine, possibleOf as networksPossible}
+use Rattle.rooms_state.specs.declared.Networks.{Networks}
+use Rattle.rooms_feed.specs.Feeding as feeding-rooms
+use Rattle.rooms_hand_out.specs.Handing as handing-rooms
 use Rattle.body_formats.specs.Reading.{Reading, found, refused}
 use Rattle.body_formats.specs.Format.{Format}
 use Rattle.body_formats.specs.Answers.{stepOf}
@@ -131,6 +137,36 @@ fed-keeps store payload Contradict r e = refl
 fed-keeps store payload (Begin h) r e = absurd-answer (cc)
 fed-keeps store payload (Take h) r e = absurd-answer (cc)
 
+-- two networks: by the verdict with its room, and where the state is not possible nothing is looked at
+roomed-keeps : (store payload : List ℕ) (room : ℕ) (v : Verdict) (r : Refusal) → feeding.answerBy v ≡ NotFed r
+    → feeding-rooms.storeBy store payload room v ≡ store
+unfolding feeding.answerBy feeding-rooms.storeBy
+roomed-keeps store payload room (Refuse r′) r e = refl
+roomed-keeps store payload room Repeat r e = refl
+roomed-keeps store payload room Contradict r e = refl
+roomed-keeps store payload room (Begin h) r e = absurd-answer (cc)
+roomed-keeps store payload room (Take h) r e = absurd-answer (cc)
+
+networks-feed-keeps : (o : Option Network) (x : Networks) (store s : List ℕ) (r : Refusal) → feeding-rooms.fedOf o x store s .answer ≡ NotFed r
+    → feeding-rooms.storeAfter o x store s ≡ store
+unfolding feeding-rooms.fedOf feeding-rooms.storeAfter feeding-rooms.fedFor feeding-rooms.storeFor feeding-rooms.partFed feeding-rooms.partStore
+networks-feed-keeps none x store s r e = refl
+networks-feed-keeps (some i) x store s r e = go (seen (networksPossible x (length store)))
+  where
+    go : Seen (networksPossible x (length store)) → feeding-rooms.storeAfter (some i) x store s ≡ store
+    go (yes-is ok) = rw ok (roomed-keeps store (payloadOf s) _ _ r (rw ok at e))
+    go (no-is bad) = rw bad
+
+networks-hand-keeps : (o : Option Network) (x : Networks) (store out : List ℕ) (r : Refusal) → handing-rooms.handedOf o x store out ≡ NotHanded r
+    → handing-rooms.outAfter o x store out ≡ out
+unfolding handing-rooms.handedOf handing-rooms.outAfter handing-rooms.handedFor handing-rooms.outFor handing-rooms.partOut
+networks-hand-keeps none x store out r e = refl
+networks-hand-keeps (some i) x store out r e = go (seen (networksPossible x (length store)))
+  where
+    go : Seen (networksPossible x (length store)) → handing-rooms.outAfter (some i) x store out ≡ out
+    go (yes-is ok) = rw ok (handed-keeps (handing-rooms.bodyIn (mine i x) store) out (handing-rooms.partHanded (mine i x) store out) r (rw ok at e))
+    go (no-is bad) = rw bad
+
 writes-nothing : WritesNothing
 unfolding feeding.fedOf feeding.storeAfter handedOf outAfter bodyWritten variantWritten variantOutput variantLaid variantTape outputWritten bodyLaid laidTape bodyRecorded recorded packing.packingOf packing.storePacked
 writes-nothing =
@@ -143,6 +179,8 @@ writes-nothing =
       feed = λ g store s. fed-keeps store (payloadOf s) (verdictOf g store s);
       hand-out = λ g store out. handed-keeps (bodyHeld g store) out (handedOf g store out);
       pack = λ g store. handed-keeps (bodyHeld g store) store (packing.packedOf g store);
+      networks-feed = networks-feed-keeps;
+      networks-hand-out = networks-hand-keeps;
       writers = λ F pool tape out. written-keeps F out (writing F pool tape (length out));
       content-writer = λ v pool tape out. variant-keeps pool tape out (widthOf v);
       content-layer = λ kind v body tape. variant-laid-keeps kind body tape (opened kind v (length body));

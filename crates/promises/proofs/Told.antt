@@ -1,12 +1,13 @@
 -- What C is told comes back: every value that is answered fits the bits that it is told in, and c_answers' laws say the rest.
-use Prim.Native.Nat.{ℕ, _+_, _^_, _≤_, _<_}
+use Prim.Native.Nat.{ℕ, _+_, _*_, _^_, _≤_, _<_}
 use mathlib.Core.Path.{_≡_, refl, sym, ap, _∙_}
 use mathlib.Core.Bool.{Bool, true, false}
 use mathlib.Core.List.{List}
+use mathlib.Core.Option.{Option, none, some}
 use native.Mathlib.Omega.{arith}
 use native.Mathlib.Nat.{pow-le-pow-right, lt-of-lt-of-le}
-use lib.ListN.{length}
-use lib.Dec.{leb}
+use lib.ListN.{length, length-take}
+use lib.Dec.{leb, ltb}
 use lib.IntN.{ℤ}
 use borrow.Author.Tests.{leb-true}
 use Rattle.ground_refusal.specs.declared.Refusal.{Refusal}
@@ -40,12 +41,28 @@ use Rattle.section_cutter.specs.declared.Counted.the-variants.{Sections}
 use Rattle.section_cutter.specs.declared.Cut.the-variants.{Written}
 use Rattle.section_cutter.proofs.Counting.{counted-some, count-most, part-length}
 use Rattle.section_cutter.proofs.Sections.{cut-written}
+use Rattle.gathering_state.specs.State.{lengths}
 use Rattle.gathering_state.specs.declared.Gathering.{Gathering}
-use Rattle.gathering_hand_out.specs.Handing.{handedOf}
+use Rattle.gathering_state.proofs.Lists.{greatest-take, total-most}
+use Rattle.gathering_state.proofs.State.{possible-short}
+use Rattle.gathering_hand_out.specs.Handing.{handedIfRoom, handedBy, handedOf}
+use Rattle.gathering_hand_out.specs.declared.Completeness.{Completeness}
+use Rattle.gathering_hand_out.specs.declared.Completeness.the-variants.{Complete, Refused as NotComplete}
 use Rattle.gathering_hand_out.specs.declared.Handed.the-variants.{Body, Refused as NotHanded}
+use Rattle.gathering_hand_out.proofs.Joining.{joined-most}
 use Rattle.gathering_hand_out.proofs.Handing.{handed-whole, body-most}
 use Rattle.gathering_pack.specs.Packing.{packingOf}
 use Rattle.gathering_pack.proofs.Packing.{packed-whole}
+use Rattle.ground_choices.specs.Choice.{if_then_else_}
+use Rattle.rooms_marks.proofs.Tests.{Seen, yes-is, no-is, seen}
+use Rattle.rooms_state.specs.State.{roomsIn, roomAt, possibleOf, Network, mine}
+use Rattle.rooms_state.specs.declared.Part.{Part}
+use Rattle.rooms_state.specs.declared.Networks.{Networks}
+use Rattle.rooms_state.proofs.Facts.{PartIs, networks-are, sound-of}
+use Rattle.rooms_hand_out.specs.Handing as handing-rooms
+use Rattle.rooms_count.specs.Counting.{held, free, heldOf, freeOf}
+use Rattle.rooms_count.specs.declared.Counted.the-variants.{Rooms}
+use Rattle.rooms_count.proofs.Counting.{held-plus-free}
 use Rattle.body_formats.specs.Reading.{Reading, found, refused}
 use Rattle.body_formats.specs.Format.{Format, count}
 use Rattle.body_formats.specs.Answers.{stepOf, numberOf, numberRead}
@@ -178,6 +195,59 @@ handed-told g store out n l e =
     let most = body-most g store (omega arith) (whole .0 .possible) in
     value-told n (omega arith)
 
+-- two networks: a body out of its rooms is no longer than one of 256 numbers, and there are 512 rooms at most
+rooms-body-most : (n : ℕ) (p : Part) (store : List ℕ) → PartIs n p → length (handing-rooms.bodyIn p store) ≤ 256 * 4084
+unfolding handing-rooms.bodyIn lengths
+rooms-body-most n p store x =
+    let long = x .held-long in
+    let few = length-take (p .gathering .last + 1) (p .gathering .held) in
+    let taken = greatest-take (p .gathering .last + 1) (p .gathering .held) in
+    let short = possible-short (p .gathering) (x .possible) in
+    let joins = joined-most (roomAt (p .rooms)) store 0 (lengths (p .gathering)) in
+    let most = total-most (lengths (p .gathering)) (omega arith) in
+    omega arith
+
+handed-length : (c : Completeness) (bytes room n : ℕ) → handedBy c bytes room ≡ Body n → bytes ≡ n
+unfolding handedBy handedIfRoom
+handed-length (NotComplete r) bytes room n e = absurd (let z : _≡_ {A = ℕ} 0 1 = cc in omega arith)
+handed-length Complete bytes room n e = go (ltb room bytes) e
+  where
+    go : (b : Bool) → (if b then NotHanded OutputTooSmall else Body bytes) ≡ Body n → bytes ≡ n
+    go true f = absurd (let z : _≡_ {A = ℕ} 0 1 = cc in omega arith)
+    go false f = cc
+
+networks-handed : (o : Option Network) (x : Networks) (store out : List ℕ) (n : ℕ) → handing-rooms.handedOf o x store out ≡ Body n → TellsValue (answerOf 0 n) n
+unfolding handing-rooms.handedOf handing-rooms.handedFor handing-rooms.partHanded
+networks-handed none x store out n e = absurd (let z : _≡_ {A = ℕ} 0 1 = cc in omega arith)
+networks-handed (some i) x store out n e = go (seen (possibleOf x (length store)))
+  where
+    go : Seen (possibleOf x (length store)) → TellsValue (answerOf 0 n) n
+    go (yes-is ok) =
+        let most = rooms-body-most _ (mine i x) store (sound-of i x (networks-are x (length store) ok) .own) in
+        let same = handed-length _ _ _ n (rw ok at e) in
+        value-told n (omega arith)
+    go (no-is bad) = let f = rw bad at e in let z : _≡_ {A = ℕ} 0 1 = cc in absurd (omega arith)
+
+rooms-few : (x : Networks) (bytes : ℕ) → possibleOf x bytes ≡ true → (held x ≤ 512) × (free x bytes ≤ 512)
+unfolding roomsIn
+rooms-few x bytes ok = let h = held-plus-free x bytes ok in (omega arith, omega arith)
+
+held-back : (x : Networks) (bytes n : ℕ) → heldOf x bytes ≡ Rooms n → TellsValue (answerOf 0 n) n
+unfolding heldOf
+held-back x bytes n e = go (seen (possibleOf x bytes))
+  where
+    go : Seen (possibleOf x bytes) → TellsValue (answerOf 0 n) n
+    go (yes-is ok) = let f = rw ok at e in let k : held x ≡ n = cc in let few = rooms-few x bytes ok .0 in value-told n (omega arith)
+    go (no-is bad) = let f = rw bad at e in let z : _≡_ {A = ℕ} 0 1 = cc in absurd (omega arith)
+
+free-back : (x : Networks) (bytes n : ℕ) → freeOf x bytes ≡ Rooms n → TellsValue (answerOf 0 n) n
+unfolding freeOf
+free-back x bytes n e = go (seen (possibleOf x bytes))
+  where
+    go : Seen (possibleOf x bytes) → TellsValue (answerOf 0 n) n
+    go (yes-is ok) = let f = rw ok at e in let k : free x bytes ≡ n = cc in let few = rooms-few x bytes ok .1 in value-told n (omega arith)
+    go (no-is bad) = let f = rw bad at e in let z : _≡_ {A = ℕ} 0 1 = cc in absurd (omega arith)
+
 packed-told : (g : Gathering) (store : List ℕ) (n : ℕ) → length (g .held) ≡ 256 → packingOf g store .answer ≡ Body n → TellsValue (answerOf 0 n) n
 packed-told g store n l e =
     let whole = packed-whole g store n e in
@@ -267,6 +337,8 @@ refusals-told =
       completed = refusal-told;
       fed = refusal-told;
       handed-out = refusal-told;
+      network-ended = refusal-told;
+      rooms = refusal-told;
       read = refusal-told;
       written = refusal-told;
       content-written = refusal-told;
@@ -305,6 +377,10 @@ told =
       held-already = value-told 1 (omega arith);
       handed-out = handed-told;
       packed-store = packed-told;
+      networks-handed-out = networks-handed;
+      network-ended = value-told 0 (omega arith);
+      rooms-held = held-back;
+      rooms-free = free-back;
       accepted = λ end. value-told 0 (omega arith);
       measured-length = λ F pool tape n e. let x = found-of _ n e in let m = measured-value F pool tape (x .0) n (x .1) .4 in value-told n (omega arith);
       written = λ F pool tape room n e. let x = found-of _ n e in let m = written-most F pool tape room (x .0) n (x .1) in value-told n (omega arith);

@@ -3,6 +3,7 @@ use Prim.Native.Nat.{ℕ, _*_, _≤_}
 use mathlib.Core.Path.{_≡_}
 use mathlib.Core.Bool.{true}
 use mathlib.Core.List.{List}
+use mathlib.Core.Option.{Option}
 use lib.ListN.{length}
 use Rattle.ground_numbers.specs.Sizes.{payloadMost}
 use Rattle.ground_refusal.specs.Numbers.{refusalNumber, isNumber, refusalPlace}
@@ -24,6 +25,10 @@ use Rattle.gathering_feed.specs.declared.Answer.the-variants.{HeldAlready, Refu
 use Rattle.gathering_hand_out.specs.Handing.{bodyHeld, handedOf, outAfter}
 use Rattle.gathering_hand_out.specs.declared.Handed.the-variants.{Refused as NotHanded}
 use Rattle.gathering_pack.specs.Packing.{packingOf, storePacked}
+use Rattle.rooms_state.specs.State.{Network}
+use Rattle.rooms_state.specs.declared.Networks.{Networks}
+use Rattle.rooms_feed.specs.Feeding as feeding-rooms
+use Rattle.rooms_hand_out.specs.Handing as handing-rooms
 use Rattle.body_formats.specs.Format.{Format}
 use Rattle.body_formats.specs.Body.{bodyWritten, outputWritten, bodyLaid, laidTape}
 use Rattle.body_formats.specs.declared.Step.the-variants.{Refused as NoStep}
@@ -46,7 +51,7 @@ pub record Numbered : Type 0 where
   -- a number and a place say which refusal it is
   pub one-refusal : (r r′ : Refusal) → refusalNumber r ≡ refusalNumber r′ → refusalPlace r ≡ refusalPlace r′ → r ≡ r′
 
--- "[..] given exactly when the list says": for sections, the gathering, the cutter, salvaging, local times and text `Lists` states it, list by list. For
+-- "[..] given exactly when the list says": for sections, the gathering, two networks, the cutter, salvaging, packets, local times and text `Lists` states it, list by list. For
 -- bodies and writers the order is that of the fields, and the list is the definition that the answer is equal to (`Offered`): `reading` and the
 -- tables' formats, for content `variantRead`; `writing`, for content `variantWritten`. So it is for days and instants, which have 18 to 20 alone: `dayOf`, `dateOf`, `showing`.
 
@@ -63,6 +68,10 @@ pub record WritesNothing : Type 1 where
   pub feed : (g : Gathering) (store s : List ℕ) (r : Refusal) → fedOf g store s .answer ≡ NotFed r → storeAfter g store s ≡ store
   pub hand-out : (g : Gathering) (store out : List ℕ) (r : Refusal) → handedOf g store out ≡ NotHanded r → outAfter g store out ≡ out
   pub pack : (g : Gathering) (store : List ℕ) (r : Refusal) → packingOf g store .answer ≡ NotHanded r → storePacked g store ≡ store
+  pub networks-feed : (o : Option Network) (x : Networks) (store s : List ℕ) (r : Refusal) → feeding-rooms.fedOf o x store s .answer ≡ NotFed r
+      → feeding-rooms.storeAfter o x store s ≡ store
+  pub networks-hand-out : (o : Option Network) (x : Networks) (store out : List ℕ) (r : Refusal) → handing-rooms.handedOf o x store out ≡ NotHanded r
+      → handing-rooms.outAfter o x store out ≡ out
   -- once for every format, so for every table
   pub writers : {A : Type 0} (F : Format A) (pool tape out : List ℕ) (r : Refusal) → bodyWritten F pool tape (length out) ≡ NoStep r → outputWritten F pool tape out ≡ out
   -- and of the content table, whatever the variant

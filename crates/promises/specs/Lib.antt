@@ -8,6 +8,7 @@ pub mod Demand2
 pub mod Demand3
 pub mod Salvaging
 pub mod Packets
+pub mod Rooms
 pub mod Values
 pub mod Determined
 pub mod Offered

@@ -1,8 +1,9 @@
 -- "Given exactly when the list says": each answer is the first refusal of its list whose condition holds, or the value if none does. The lists
--- stand in orders' `Sections`, `Gathering`, `Cutter`, `Salvage` and `Times`, each number beside 01's words, and `AsListed` in its `Order`.
-use Prim.Native.Nat.{ℕ, _-_}
+-- stand in orders' `Sections`, `Gathering`, `Rooms`, `Cutter`, `Salvage`, `Packets` and `Times`, each number beside 01's words, and `AsListed` in its `Order`.
+use Prim.Native.Nat.{ℕ, _-_, _≤_}
 use mathlib.Core.Path.{_≡_}
 use mathlib.Core.List.{List}
+use mathlib.Core.Option.{Option}
 use lib.IntN.{ℤ}
 use lib.ListN.{length}
 use Rattle.time_fields.specs.declared.Fielded.the-variants.{Refused as NotFielded}
@@ -28,9 +29,19 @@ use Rattle.packet_writer.specs.Answers.{packedOf}
 use Rattle.packet_writer.specs.declared.Packed.the-variants.{Packets, Refused as NotPacked}
 use Rattle.packet_reader.specs.Answers.{completedOf}
 use Rattle.packet_reader.specs.declared.Completed.the-variants.{Refused as NotCompleted}
+use Rattle.gathering_feed.specs.declared.Answer.the-variants.{Refused as NotFed}
+use Rattle.rooms_state.specs.State.{Network}
+use Rattle.rooms_state.specs.declared.Networks.{Networks}
+use Rattle.rooms_feed.specs.Feeding as feeding-rooms
+use Rattle.rooms_hand_out.specs.Handing as handing-rooms
+use Rattle.rooms_end.specs.Ending.{endedOf}
+use Rattle.rooms_end.specs.declared.Ended.the-variants.{Done, Refused as NotEnded}
+use Rattle.rooms_count.specs.Counting.{held, free, heldOf, freeOf}
+use Rattle.rooms_count.specs.declared.Counted.the-variants.{Rooms, Refused as RoomsNotCounted}
 use Rattle.promises_orders.specs.Order.{AsListed}
 use Rattle.promises_orders.specs.Sections.{sectionLines}
 use Rattle.promises_orders.specs.Gathering.{FedAsListed, completeLines, handingLines}
+use Rattle.promises_orders.specs.Rooms.{partFor, networkLines, networksFeedingLines, fedValue, networksHandingLines, countingLines}
 use Rattle.promises_orders.specs.Cutter.{countLines, cutterLines}
 use Rattle.promises_orders.specs.Salvage.{salvageLines}
 use Rattle.promises_orders.specs.Packets.{packerLines, unpackerLines, IsSections}
@@ -48,6 +59,18 @@ pub record GivenExactly : Type 0 where
   -- packing: "12, 13, 10, 11, 13 in handing-out order, with no 21"
   pub packing-store : (g : Gathering) (store : List ℕ)
       → AsListed NotHanded (λ a. a ≡ Body (length (bodyHeld g store))) (completeLines g (length store)) (packingOf g store .answer)
+  -- M-109: "first 19 for a network other than 1 or 2; 12 [..]; 35 no free room, after 11; 10 is not given"
+  pub networks-feeding : (o : Option Network) (x : Networks) (store s : List ℕ)
+      → AsListed NotFed (λ a. a ≡ fedValue o x s) (networksFeedingLines o x store s) (feeding-rooms.fedOf o x store s .answer)
+  -- a state's last number is a byte
+  pub networks-handing-out : (o : Option Network) (x : Networks) (store out : List ℕ) → partFor o x .gathering .last ≤ 255
+      → AsListed NotHanded (λ a. a ≡ Body (length (handing-rooms.bodyIn (partFor o x) store))) (networksHandingLines o x store out)
+      (handing-rooms.handedOf o x store out)
+  -- "ending a gathering, begun or not, complete or not, refuses for 19 and 12 only"
+  pub networks-ending : (o : Option Network) (x : Networks) (bytes : ℕ)
+      → AsListed NotEnded (λ a. a ≡ Done) (networkLines o x bytes) (endedOf o x bytes .answer)
+  pub rooms-held : (x : Networks) (bytes : ℕ) → AsListed RoomsNotCounted (λ a. a ≡ Rooms (held x)) (countingLines x bytes) (heldOf x bytes)
+  pub rooms-free : (x : Networks) (bytes : ℕ) → AsListed RoomsNotCounted (λ a. a ≡ Rooms (free x bytes)) (countingLines x bytes) (freeOf x bytes)
   -- "Cutter: 2, 19 (version above 31), 14 (L = 0), 22, 6, 21", of which 14 and 22 are the count's
   pub count : (bytes : ℕ) → AsListed NotCounted (λ a. a ≡ Sections (sectionCount bytes)) (countLines bytes) (countedOf bytes)
   pub cutter : (body : List ℕ) (kind extension version number : ℕ) (out : List ℕ)

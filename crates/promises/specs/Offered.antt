@@ -16,9 +16,15 @@ use Rattle.section_cutter.specs.Cutting.{countedOf, cutAnswer, cutOutput}
 use Rattle.packet_reader.specs.Answers.{completedOf, stateAfter, sectionsOver}
 use Rattle.packet_writer.specs.Answers.{packedOf, packetsOver}
 use Rattle.gathering_state.specs.declared.Gathering.{Gathering}
-use Rattle.gathering_feed.specs.Feeding.{fedOf, storeAfter}
-use Rattle.gathering_hand_out.specs.Handing.{handedOf, outAfter}
+use Rattle.gathering_feed.specs.Feeding as gathering-feed
+use Rattle.gathering_hand_out.specs.Handing as gathering-hand-out
 use Rattle.gathering_pack.specs.Packing.{packingOf, storePacked}
+use Rattle.rooms_state.specs.State.{roomsIn, freshNetworks, networkOf}
+use Rattle.rooms_state.specs.declared.Networks.{Networks}
+use Rattle.rooms_feed.specs.Feeding as rooms-feed
+use Rattle.rooms_hand_out.specs.Handing as rooms-hand-out
+use Rattle.rooms_end.specs.Ending.{endedOf}
+use Rattle.rooms_count.specs.Counting.{heldOf, freeOf}
 use Rattle.program_date_lines.specs.Report.{reportOf}
 use Rattle.program_salvage_lines.specs.Report.{reportOf as runsText}
 use Rattle.program_section_line.specs.Line.{lineOf}
@@ -46,6 +52,7 @@ use Rattle.c_answers.specs.Answers.{dayAnswer, dateAnswer, weekdayAnswer, field
 use Rattle.c_answers.specs.Answers.{countAnswer, lengthAnswer, packAnswer, unpackAnswer, feedAnswer, handAnswer, readAnswer, numberAnswer, partAnswer}
 use Rattle.c_answers.specs.Answers.{writtenAnswer, localFieldAnswer, contentAnswer}
 use Rattle.c_answers.specs.Version.{version}
+use Rattle.c_rooms_answers.specs.Answers.{endedAnswer, roomsAnswer}
 use Rattle.promises.specs.Determined.{Determined, Determined₃, Determined₂}
 
 pub record Offered : Type 0 where
@@ -82,9 +89,11 @@ pub record Offered : Type 0 where
       (out′ ≡ sectionsOver state packet out))
   -- The gathering as C has it: a pointer to the state, byte strings as pointer and length, and one number for the answer.
   pub nw-gathering-feed : (g : Gathering) (store s : List ℕ) →
-      Determined₃ (λ r g′ store′. (r ≡ feedAnswer (fedOf g store s .answer)) × (g′ ≡ fedOf g store s .state) × (store′ ≡ storeAfter g store s))
+      Determined₃ (λ r g′ store′. (r ≡ feedAnswer (gathering-feed.fedOf g store s .answer)) ×
+      (g′ ≡ gathering-feed.fedOf g store s .state) ×
+      (store′ ≡ gathering-feed.storeAfter g store s))
   pub nw-gathering-hand-out : (g : Gathering) (store out : List ℕ) →
-      Determined₂ (λ r out′. (r ≡ handAnswer (handedOf g store out)) × (out′ ≡ outAfter g store out))
+      Determined₂ (λ r out′. (r ≡ handAnswer (gathering-hand-out.handedOf g store out)) × (out′ ≡ gathering-hand-out.outAfter g store out))
   pub nw-gathering-pack : (g : Gathering) (store : List ℕ) →
       Determined₃ (λ r g′ store′. (r ≡ handAnswer (packingOf g store .answer)) × (g′ ≡ packingOf g store .state) × (store′ ≡ storePacked g store))
   -- The certificate table for C.
@@ -201,6 +210,19 @@ pub record Offered : Type 0 where
   pub nw-command-terminal-digit : (body : List ℕ) (at i j : ℕ) → Determined (λ r. r ≡ numberAnswer (terminalDigit body at i j))
   -- The library's version for C.
   pub nw-version : Determined (λ r. r ≡ version)
+  -- Two networks over one store as C has them: a pointer to the state, the network's number, byte strings as pointer and length, and one number for the answer.
+  pub nw-networks-start : (x : Networks) (bytes : ℕ) → Determined₂ (λ r x′. (r ≡ roomsIn bytes) × (x′ ≡ freshNetworks bytes))
+  pub nw-networks-feed : (x : Networks) (network : ℕ) (store s : List ℕ) →
+      Determined₃ (λ r x′ store′. (r ≡ feedAnswer (rooms-feed.fedOf (networkOf network) x store s .answer)) ×
+      (x′ ≡ rooms-feed.fedOf (networkOf network) x store s .state) ×
+      (store′ ≡ rooms-feed.storeAfter (networkOf network) x store s))
+  pub nw-networks-hand-out : (x : Networks) (network : ℕ) (store out : List ℕ) →
+      Determined₂ (λ r out′. (r ≡ handAnswer (rooms-hand-out.handedOf (networkOf network) x store out)) ×
+      (out′ ≡ rooms-hand-out.outAfter (networkOf network) x store out))
+  pub nw-networks-end : (x : Networks) (network bytes : ℕ) →
+      Determined₂ (λ r x′. (r ≡ endedAnswer (endedOf (networkOf network) x bytes .answer)) × (x′ ≡ endedOf (networkOf network) x bytes .state))
+  pub nw-networks-held-rooms : (x : Networks) (bytes : ℕ) → Determined (λ r. r ≡ roomsAnswer (heldOf x bytes))
+  pub nw-networks-free-rooms : (x : Networks) (bytes : ℕ) → Determined (λ r. r ≡ roomsAnswer (freeOf x bytes))
   -- What the commands nw-dates, nw-section and nw-salvage call from C: the report, the line and the list of runs that the programs write.
   pub nw-dates-report : (input out : List ℕ) → Determined₂ (λ r out′. (r ≡ length (reportOf input)) × (out′ ≡ reportOf input ++ drop r out))
   pub nw-section-line : (input out : List ℕ) → Determined₂ (λ r out′. (r ≡ length (lineOf input)) × (out′ ≡ lineOf input ++ drop r out))

@@ -3,6 +3,7 @@ use Prim.Native.Nat.{ℕ, _+_, _^_, _≤_, _<_}
 use mathlib.Core.Path.{_≡_}
 use mathlib.Core.Bool.{true, false}
 use mathlib.Core.List.{List}
+use mathlib.Core.Option.{Option}
 use lib.ListN.{length}
 use lib.IntN.{ℤ}
 use Rattle.ground_refusal.specs.declared.Refusal.{Refusal}
@@ -37,6 +38,12 @@ use Rattle.gathering_feed.specs.declared.Answer.the-variants as fed
 use Rattle.gathering_hand_out.specs.Handing.{handedOf}
 use Rattle.gathering_hand_out.specs.declared.Handed.the-variants.{Body, Refused as NotHanded}
 use Rattle.gathering_pack.specs.Packing.{packingOf}
+use Rattle.rooms_state.specs.State.{Network}
+use Rattle.rooms_state.specs.declared.Networks.{Networks}
+use Rattle.rooms_hand_out.specs.Handing as handing-rooms
+use Rattle.rooms_end.specs.declared.Ended.the-variants.{Done, Refused as NotEnded}
+use Rattle.rooms_count.specs.Counting.{heldOf, freeOf}
+use Rattle.rooms_count.specs.declared.Counted.the-variants.{Rooms, Refused as RoomsNotCounted}
 use Rattle.body_formats.specs.Format.{Format}
 use Rattle.body_formats.specs.Answers.{numberRead}
 use Rattle.ground_numbers.specs.Sizes.{bodyMost}
@@ -49,6 +56,7 @@ use Rattle.index_records.specs.Records.{bodyRecorded}
 use Rattle.content_writer.specs.Written.{variantWritten}
 use Rattle.content_writer.specs.declared.Written.the-variants.{Of as WrittenOf, Refused as NotWritten}
 use Rattle.c_answers.specs.Answers.{answerOf, dayAnswer, dateAnswer, weekdayAnswer, fieldAnswer, localAnswer, showingAnswer, sectionAnswer, countAnswer, lengthAnswer, salvagedAnswer, packAnswer, unpackAnswer, feedAnswer, handAnswer, readAnswer, numberAnswer, partAnswer, writtenAnswer, contentAnswer, localFieldAnswer}
+use Rattle.c_rooms_answers.specs.Answers.{endedAnswer, roomsAnswer}
 use Rattle.c_answers.specs.Taking.{refusalTold, TellsRefusal, TellsValue, TellsDate, TellsTime, TellsHeading, TellsPart, TellsContent, TellsSalvaged}
 
 -- "A refusal returns its number and a place": any refusal, as this kind of answer tells it
@@ -70,6 +78,8 @@ pub record RefusalsTold : Type 0 where
   pub completed : Refuses unpackAnswer NotCompleted
   pub fed : Refuses feedAnswer fed.Refused
   pub handed-out : Refuses handAnswer NotHanded
+  pub network-ended : Refuses endedAnswer NotEnded
+  pub rooms : Refuses roomsAnswer RoomsNotCounted
   pub read : Refuses readAnswer NoStep
   pub written : Refuses writtenAnswer NoStep
   pub content-written : Refuses contentAnswer NotWritten
@@ -110,6 +120,12 @@ pub record Told : Type 1 where
   -- a state has 256 numbers
   pub handed-out : (g : Gathering) (store out : List ℕ) (n : ℕ) → length (g .held) ≡ 256 → handedOf g store out ≡ Body n → TellsValue (handAnswer (Body n)) n
   pub packed-store : (g : Gathering) (store : List ℕ) (n : ℕ) → length (g .held) ≡ 256 → packingOf g store .answer ≡ Body n → TellsValue (handAnswer (Body n)) n
+  -- two networks: feeding is told as it is of one gathering; a body, 0 for an ended gathering, and how many rooms are held and free
+  pub networks-handed-out : (o : Option Network) (x : Networks) (store out : List ℕ) (n : ℕ) → handing-rooms.handedOf o x store out ≡ Body n
+      → TellsValue (handAnswer (Body n)) n
+  pub network-ended : TellsValue (endedAnswer Done) 0
+  pub rooms-held : (x : Networks) (bytes n : ℕ) → heldOf x bytes ≡ Rooms n → TellsValue (roomsAnswer (Rooms n)) n
+  pub rooms-free : (x : Networks) (bytes n : ℕ) → freeOf x bytes ≡ Rooms n → TellsValue (roomsAnswer (Rooms n)) n
   -- tables: 0 for an accepted body; the length of a body measured or written; so many entries or records as the tape or the list had room for
   pub accepted : (end : ℕ) → TellsValue (readAnswer (At end)) 0
   pub measured-length : {A : Type 0} (F : Format A) (pool tape : List ℕ) (n : ℕ) → measured F pool tape ≡ At n → TellsValue (writtenAnswer (At n)) n

@@ -78,7 +78,7 @@ module _ (g : Gathering) (store s : List ℕ) where
   unfolding headingOf
   section-low = omega arith
 
-  other-line : possibleOf g ≡ true → not (begins g (headingOf s) || agrees g (headingOf s)) ≡ (not (nothingBegun g) && isOther (fixedHeading g) (headingOf s))
+  pub other-line : possibleOf g ≡ true → not (begins g (headingOf s) || agrees g (headingOf s)) ≡ (not (nothingBegun g) && isOther (fixedHeading g) (headingOf s))
   unfolding begins agrees
   other-line p = rw (other-exactly (fixedHeading g) (headingOf s) (version-low p) section-low) (go (nothingBegun g) _ _)
     where

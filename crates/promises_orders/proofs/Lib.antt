@@ -4,5 +4,6 @@ pub mod Sections
 pub mod Cutter
 pub mod Packets
 pub mod Gathering
+pub mod Rooms
 pub mod Salvage
 pub mod Times
