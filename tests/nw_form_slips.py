@@ -423,13 +423,30 @@ def try_words():
         expect(name + ' --help', (output[0], output[1][:13 + len(name)], output[2]), 0, 'usage: nw %s [-' % name, [])
     said = run(['help', 'form'])[1].decode()
     expect('help form', (0, said[:said.index('A form is')].encode(), b''), 0, run(['form', '--help'])[1] + b'\n', [])
-    words = {part.split()[0] for part in GOOD.split('\n') if part} | {'hex', 'none', 'from', 'live'}
     with open(os.path.join(ROOT, 'man', 'nw.1.in'), encoding='ascii') as file:
-        page = file.read()
-    for word in sorted(words):
-        for name, text in ('nw help form', said), ('man/nw.1.in', page):
-            if not re.search(r'\b%s\b' % word, text):
-                wrong.append('%s does not have the word %s' % (name, word))
+        try_document('man/nw.1.in', file.read())
+    try_document('nw help form', said)
+
+
+def try_document(name, text):
+    """The lines that a document shows are a form: with digits, bytes and strings filled in it is taken, and has all words of a form in their order."""
+    shown = text[text.index('\ntable index') + 1:].split('\n')
+    shown = shown[:max(i for i, part in enumerate(shown) if part.startswith('  signature BYTES')) + 1]
+    filled = []
+    for part in shown:
+        word, value = (re.split(' {2,}', part.strip())[0].replace('*', '') + ' ').split(' ', 1)
+        digits = make.DRILL.identifier if word == 'message' else make.RESOURCE
+        value = value.strip().replace('DIGITS', digits).replace('BYTES', '00').replace('STRING', 'name:80' if word == 'address' else 'x')
+        filled.append((word, value))
+    write('typed', ''.join('%s %s\n' % pair for pair in filled))
+    expect('the form in ' + name, run(['make', '--replace', 'typed', 'made']), 0, None, [])
+    words = [part.split()[0] for part in run(['form', 'made'])[1].decode().split('\n') if part]
+    if words != [word for word, _ in filled] or not {part.split()[0] for part in GOOD.split('\n') if part} <= set(words):
+        wrong.append('%s shows other words than a form has' % name)
+    for word in 'hex', 'none', 'from', 'live':
+        if not re.search(r'\b%s\b' % word, text):
+            wrong.append('%s does not have the word %s' % (name, word))
+    content('made')
 
 
 # ---- captures as forms, and beside forms
