@@ -462,6 +462,12 @@ def try_captures():
     status, output, said = run(['form', '-'], half + b''.join(body.sections()))
     expect('a table that is not whole', (status, output[:32], said), 1, 'table index\n  extension 0x0000\n ', [
         'nw form: content table 7CBC, version 1 is left out: it is not whole, a section is missing (refusal 13)'])
+    many = b''.join(make.section(make.CERTIFICATE, n, 0, 0, 0, b'\0\0\0\0') for n in range(514))
+    left = ' has more tables than the 512 that are held, or than there is memory for: sections left out: 2'
+    expect('514 tables', run(['form', '-'], many), 1, None, ['nw form: standard input' + left])
+    write('many', many)
+    expect('514 tables twice', run(['compare', 'many', '-'], many), 1,
+           'A is many\nA%s\nB is standard input\nB%s\ndifferences: 2, in 512 fields\n' % (left, left), [])
     write('typed', GOOD)
     run(['make', 'typed', 'made.ts'])
     expect('a form and its stream', run(['compare', 'typed', 'made.ts']), 0, None, [])

@@ -118,8 +118,19 @@ static void tell_only(struct work *w, const struct table *t, char which) {
     printf(": only %c has it\n", which);
 }
 
+// Tells what A and B are, and whether not all of them could be held.
+static void tell_names(struct work *w) {
+    static const char *const letters[] = {"A", "B"};
+    for (unsigned i = 0; i < 2; i++) {
+        printf("%s is %s%s\n", letters[i], called(w->names[i]), w->is_form[i] ? ", a form" : "");
+        if (w->tables[i].left_out == 0) continue;
+        printf(LEFT_OUT "\n", letters[i], w->tables[i].left_out);
+        w->differences++;
+    }
+}
+
 static int tell(struct work *w) {
-    for (unsigned i = 0; i < 2; i++) printf("%c is %s%s\n", "AB"[i], called(w->names[i]), w->is_form[i] ? ", a form" : "");
+    tell_names(w);
     for (size_t i = 0; i < w->tables[0].count; i++) {
         const struct table *a = &w->tables[0].list[i], *b = other_table(&w->tables[0], &w->tables[1], a);
         if (b == NULL) tell_only(w, a, 'A');

@@ -36,6 +36,10 @@ static int print_tables(const struct work *w) {
     int status = w->tables.count == 0 ? REFUSED : TAKEN;
     bool first = true;
     if (w->tables.count == 0) say(&form_command, "%s: no table has come", called(w->name));
+    if (w->tables.left_out != 0) {
+        say(&form_command, LEFT_OUT, called(w->name), w->tables.left_out);
+        status = REFUSED;
+    }
     for (const struct table *t = w->tables.list; t < w->tables.list + w->tables.count; t++) {
         nw_answer refusal;
         const char *why = why_not(t, &refusal);

@@ -68,9 +68,11 @@ struct arrival tables_feed(struct tables *all, uint64_t at, const uint8_t *s, si
     struct table *t = table_of(all, heading, &full);
     if (t == NULL) {
         if (!full) a.outcome = NOT_TAKEN;
+        all->left_out++;
         return a;
     }
     a.outcome = feed(t, s, n, heading, &a.refusal);
+    all->left_out += a.refusal == NW_STORE_TOO_SHORT;
     bool begins = t == all->list + all->count;
     if (begins && t->state.kind == 0) { // its first section is not taken: there is no table yet
         free(t->store);

@@ -27,6 +27,7 @@ struct table {
 struct tables {
     struct table *list;
     size_t count, room;
+    uint64_t left_out; /* sections for whose table there was no place or no memory */
 };
 
 /* What becomes of a good section. */
