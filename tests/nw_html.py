@@ -222,7 +222,8 @@ def refused():
 def versions():
     """Versions that come and go; and one that two payloads contradict."""
     turns = [make.section(make.INDEX, 0, n % 32, n % 2, n % 3, b'\0\0\0') for n in range(45)]
-    return turns + [make.section(make.INDEX, 9, 0, 0, 0, data) for data in (b'\0\0\0', b'\0\0\1')] + [make.section(make.CERTIFICATE, 1, 0, 0, 0, b'\0\0\0\0', 0)]
+    contradicting = [make.section(make.INDEX, 9, 0, 0, 0, data) for data in (b'\0\0\0', b'\0\0\1')]
+    return turns + contradicting + [make.section(make.CERTIFICATE, 1, 0, 0, 0, b'\0\0\0\0', 0)]
 
 
 def days():

@@ -13,7 +13,8 @@ ROOT = os.path.join(os.path.dirname(os.path.abspath(__file__)), os.pardir)
 with open(os.path.join(ROOT, 'docs', 'nw-show.schema.json'), encoding='ascii') as file:
     SCHEMA = json.load(file)
 TYPES = {'object': dict, 'array': list, 'string': str, 'boolean': bool, 'null': type(None), 'integer': int}
-KNOWN = {'$schema', 'title', 'description', 'type', 'required', 'properties', '$defs', '$ref', 'items', 'enum', 'const', 'minimum', 'maximum', 'pattern', 'oneOf'}
+KNOWN = {'$schema', 'title', 'description', 'type', 'required', 'properties', '$defs', '$ref', 'items', 'enum', 'const', 'minimum', 'maximum',
+         'pattern', 'oneOf'}
 seen = set()
 
 

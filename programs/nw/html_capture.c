@@ -4,7 +4,9 @@
 #include <inttypes.h>
 #include <string.h>
 
-enum { BINS = 400, MOST_SPANS = 32, MOST_LANES = 64, MOST_SECTIONS = 256, ROW = 60, NAMES = 32, LANE = 16, LABEL = 20 }; // LABEL: percent that a version's name may take
+enum { BINS = 400, MOST_SPANS = 32, MOST_LANES = 64, MOST_SECTIONS = 256 };
+enum { ROW = 60, NAMES = 32, LANE = 16 }; // pixels: of a band with its names, of the names, and of the band itself
+enum { LABEL = 20 };                      // percent of the width: what a version's name may take
 
 // What came in some bytes of the capture.
 struct bin {
@@ -112,8 +114,10 @@ static double percent(uint64_t at, uint64_t all) { return all == 0 ? 0 : 100.0 *
 static void put_mark(const char *kind, size_t from, size_t to, uint64_t all, int y, int height, const char *what, uint64_t count) {
     uint64_t end = to * width < all ? to * width : all;
     double x = percent(from * width, all), wide = percent(end, all) - x;
-    fprintf(page, "<rect class=\"%s\" x=\"%.2f%%\" y=\"%d\" width=\"%.2f%%\" height=\"%d\"><title>bytes %" PRIu64 " to %" PRIu64 ": %s %" PRIu64
-                  "</title></rect>\n", kind, x, y, wide, height, (uint64_t)from * width, end - 1, what, count);
+    fprintf(page,
+            "<rect class=\"%s\" x=\"%.2f%%\" y=\"%d\" width=\"%.2f%%\" height=\"%d\"><title>bytes %" PRIu64 " to %" PRIu64 ": %s %" PRIu64
+            "</title></rect>\n",
+            kind, x, y, wide, height, (uint64_t)from * width, end - 1, what, count);
 }
 
 // The marks of one kind, those of bins side by side as one.
@@ -135,7 +139,9 @@ static void put_span(const struct span *s, uint64_t all, int y) {
     fprintf(page, "<rect class=\"version\" x=\"%.2f%%\" y=\"%d\" width=\"%.2f%%\" height=\"%d\"><title>version %u, from byte %" PRIu64 "</title></rect>", from,
             y + NAMES, to - from, LANE, s->version, s->from);
     if (s->is_whole)
-        fprintf(page, "<rect class=\"whole\" x=\"%.2f%%\" y=\"%d\" width=\"%.2f%%\" height=\"%d\"><title>version %u, whole from byte %" PRIu64 "</title></rect>",
+        fprintf(page,
+                "<rect class=\"whole\" x=\"%.2f%%\" y=\"%d\" width=\"%.2f%%\" height=\"%d\"><title>version %u, whole from byte %" PRIu64
+                "</title></rect>",
                 whole, y + NAMES, to - whole, LANE, s->version, s->whole);
     putc('\n', page);
 }
@@ -147,7 +153,8 @@ static void put_names(const struct lane *l, uint64_t all, int y) {
         double x = percent(l->spans[i].from, all);
         bool at_end = x > 100 - LABEL;
         if ((at_end ? x : x + LABEL) > end) continue;
-        fprintf(page, "<text x=\"%.2f%%\" y=\"%d\" text-anchor=\"%s\">version %u</text>\n", x, y + NAMES - 4, at_end ? "end" : "start", l->spans[i].version);
+        fprintf(page, "<text x=\"%.2f%%\" y=\"%d\" text-anchor=\"%s\">version %u</text>\n", x, y + NAMES - 4, at_end ? "end" : "start",
+                l->spans[i].version);
         end = at_end ? x - LABEL : x;
     }
 }
