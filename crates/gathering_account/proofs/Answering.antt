@@ -228,7 +228,7 @@ module _ (bytes : ℕ) (box : Box) (s : List ℕ) where
       → (v : Verdict) → Decided (box .state) (box .store) h (payloadOf s) v → answerTo (hasRoom bytes) a s ≡ answerBy v
   good-tells (fresh-stands z l) h n e = fresh-tells bytes box s h n e z l
   good-tells (calm-stands {t} {S} x l z k) h n e = calm-tells bytes box s h n e t S x l z k
-  good-tells (spoiled-stands {t} {S} x l z k) h n e = spoiled-tells bytes box s h n e t S x l z k
+  good-tells (spoiled-stands {t} {S} x l z k o) h n e = spoiled-tells bytes box s h n e t S x l z k
 
   pub stands-answers : {a : Account} → Stands bytes box a → fedAnswer box s ≡ answerTo (hasRoom bytes) a s
   unfolding answerBy

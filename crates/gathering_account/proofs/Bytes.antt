@@ -26,12 +26,12 @@ bytes-append : (xs ys : List ℕ) → AreBytes xs → AreBytes ys → AreBytes (
 bytes-append [] ys a b = b
 bytes-append (x ∷ xs) ys a b = bytes-cons (a .byte 0) (bytes-append xs ys (record { byte = λ i. a .byte (suc i) }) b)
 
-bytes-take : (n : ℕ) (xs : List ℕ) → AreBytes xs → AreBytes (take n xs)
+pub bytes-take : (n : ℕ) (xs : List ℕ) → AreBytes xs → AreBytes (take n xs)
 bytes-take zero xs a = bytes-none
 bytes-take (suc n) [] a = bytes-none
 bytes-take (suc n) (x ∷ xs) a = bytes-cons (a .byte 0) (bytes-take n xs (record { byte = λ i. a .byte (suc i) }))
 
-bytes-drop : (n : ℕ) (xs : List ℕ) → AreBytes xs → AreBytes (drop n xs)
+pub bytes-drop : (n : ℕ) (xs : List ℕ) → AreBytes xs → AreBytes (drop n xs)
 bytes-drop n xs a = record { byte = λ i. rw (getD-drop n xs i 0) (a .byte (n + i)) }
 
 pub part-bytes : (body : List ℕ) (k : ℕ) → AreBytes body → AreBytes (partCarried body k)

@@ -47,7 +47,7 @@ pub fixes : {bytes : ℕ} {box : Box} {a : Account} → Stands bytes box a → F
 unfolding Fixes
 fixes (fresh-stands z l) = z
 fixes (calm-stands x l z k) = (x .same .kind, x .same .extension, x .same .version, x .same .last)
-fixes (spoiled-stands x l z k) = (x .same .kind, x .same .extension, x .same .version, x .same .last)
+fixes (spoiled-stands x l z k o) = (x .same .kind, x .same .extension, x .same .version, x .same .last)
 
 -- ---- the theorems
 

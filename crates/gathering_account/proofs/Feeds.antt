@@ -6,6 +6,7 @@ use mathlib.Core.List.{List, [], _∷_, _++_, List·Memᴰ·head, List·Memᴰ·
 use native.Mathlib.Omega.{arith}
 use lib.ListN.{length, getD, length-set}
 use Rattle.crc.specs.Crc.{AreBytes}
+use Rattle.ground_choices.proofs.Tests.{refuted}
 use Rattle.ground_refusal.specs.declared.Refusal.{Refusal}
 use Rattle.section_reader.specs.Section.{payloadOf, readSection, WellFormed}
 use Rattle.section_reader.specs.declared.Heading.{Heading}
@@ -23,10 +24,13 @@ use Rattle.gathering_verdict.specs.declared.Verdict.the-variants.{Refuse, Repea
 use Rattle.gathering_verdict.proofs.Verdicts.{SameHeading, verdict-bad, verdict-good, Decided, old, other, short, begun, spoiled, new, again, clash, decided}
 use Rattle.gathering_account.specs.Account.{heard, Section, Account, idle, table, accountAfter, account, Agree}
 use Rattle.gathering_account.specs.Latest.{beginsAfter}
+use Rattle.gathering_account.specs.Answering.{agreeing, undisputed}
 use Rattle.gathering_account.specs.Gathers.{Box, freshBox, ByteStrings, feed, boxAfter}
-use Rattle.gathering_account.proofs.Keeping.{Kept, agree-front, kept-again, kept-clash, kept-more, kept-none}
+use Rattle.gathering_account.proofs.Agreeing.{agreeing-is, agree-agreeing}
+use Rattle.gathering_account.proofs.Undisputed.{undisputed-more, undisputed-clash}
+use Rattle.gathering_account.proofs.Keeping.{Kept, kept-agree, agree-front, kept-again, kept-clash, kept-more, kept-none}
 use Rattle.gathering_account.proofs.Hearing.{ReadAs, as-good, as-bad, readAs, heard-bad, heard-old, heard-good, counted-nothing, counted-first, counted-none, counted-same, counted-other, feed-by}
-use Rattle.gathering_account.proofs.Standing.{Fixed, Stands, fresh-stands, calm-stands, spoiled-stands, never, stands-possible, fresh-begins, opened-calm, opened-long, opened-held, fixed-spoiled, spoiled-marked, fixed-agrees, fixed-begins, fixed-heading, fixed-not-short, formed-kind}
+use Rattle.gathering_account.proofs.Standing.{Fixed, Stands, fresh-stands, calm-stands, spoiled-stands, never, stands-possible, kept-spoiled, fresh-begins, opened-calm, opened-long, opened-held, fixed-spoiled, spoiled-marked, fixed-agrees, fixed-begins, fixed-heading, fixed-not-short, formed-kind}
 
 -- ---- a good section
 
@@ -152,20 +156,24 @@ module _ (bytes : ℕ) (box : Box) (s : List ℕ) (areBytes : AreBytes s) (h : H
     good-calm z k v f (again y u q) =
         rw (counts (y .current) (y .agreed), feed-by box s Repeat f) (calm-stands x l z (kept-again g (box .store) S k section u q))
     good-calm z k v f (clash y u q) =
+        let no = kept-clash g (box .store) S k section u q in
+        let clashes : agreeing (S ++ section ∷ []) ≡ false = sym (refuted (agreeing (S ++ section ∷ [])) (λ e. no (agreeing-is _ e))) in
+        let front = undisputed-clash S section (agree-agreeing S (kept-agree k)) clashes in
         rw (counts (y .current) (y .agreed), feed-by box s Contradict f)
-        (spoiled-stands (fixed-spoiled g bytes t x) l (spoiled-marked g) (kept-clash g (box .store) S k section u q))
+        (spoiled-stands (fixed-spoiled g bytes t x) l (spoiled-marked g) no (rw front (kept-spoiled k)))
 
-    good-spoiled : (g .spoiled ≡ 0 → ⊥) → (Agree S → ⊥) → (v : Verdict) → verdictOf g (box .store) s ≡ v → Decided g (box .store) h p v
+    good-spoiled : (g .spoiled ≡ 0 → ⊥) → (Agree S → ⊥) → Kept g (box .store) (undisputed S) → (v : Verdict) → verdictOf g (box .store) s ≡ v → Decided g (box .store) h p v
         → Stands bytes (feed box s) (accountAfter (hasRoom bytes) (table t S) (heard s))
-    good-spoiled z k v f (old c) = still (table t S) (spoiled-stands x l z k) _ f _ (unheard (table t S) c)
-    good-spoiled z k v f (other c b a) = still (table t S) (spoiled-stands x l z k) _ f _ (passes c b a)
-    good-spoiled z k v f (short c b r) = still (table t S) (spoiled-stands x l z k) _ f _ (shuts c b r)
-    good-spoiled z k v f (begun c b r) = starts (table t S) (newer-begins b) c l r f
-    good-spoiled z k v f (spoiled c b a r y) =
-        still (table t (S ++ section ∷ [])) (spoiled-stands x l z (λ i. k (agree-front S (section ∷ []) i))) _ f _ (counts c a)
-    good-spoiled z k v f (new y u) = absurd (z (y .calm))
-    good-spoiled z k v f (again y u q) = absurd (z (y .calm))
-    good-spoiled z k v f (clash y u q) = absurd (z (y .calm))
+    good-spoiled z k o v f (old c) = still (table t S) (spoiled-stands x l z k o) _ f _ (unheard (table t S) c)
+    good-spoiled z k o v f (other c b a) = still (table t S) (spoiled-stands x l z k o) _ f _ (passes c b a)
+    good-spoiled z k o v f (short c b r) = still (table t S) (spoiled-stands x l z k o) _ f _ (shuts c b r)
+    good-spoiled z k o v f (begun c b r) = starts (table t S) (newer-begins b) c l r f
+    good-spoiled z k o v f (spoiled c b a r y) =
+        let same = undisputed-more S section (sym (refuted (agreeing S) (λ e. k (agreeing-is S e)))) in
+        still (table t (S ++ section ∷ [])) (spoiled-stands x l z (λ i. k (agree-front S (section ∷ []) i)) (rw same o)) _ f _ (counts c a)
+    good-spoiled z k o v f (new y u) = absurd (z (y .calm))
+    good-spoiled z k o v f (again y u q) = absurd (z (y .calm))
+    good-spoiled z k o v f (clash y u q) = absurd (z (y .calm))
 
 -- ---- any byte string, and any list of them
 
@@ -175,7 +183,7 @@ module _ (bytes : ℕ) (box : Box) (s : List ℕ) (areBytes : AreBytes s) where
       → Stands bytes (feed box s) (accountAfter (hasRoom bytes) a (heard s))
   feed-good (fresh-stands z l) h n e = good-fresh bytes box s areBytes h n e z l
   feed-good (calm-stands {t} {S} x l z k) h n e = good-calm bytes box s areBytes h n e t S x l z k
-  feed-good (spoiled-stands {t} {S} x l z k) h n e = good-spoiled bytes box s areBytes h n e t S x l z k
+  feed-good (spoiled-stands {t} {S} x l z k o) h n e = good-spoiled bytes box s areBytes h n e t S x l z k o
 
   pub feed-stands : {a : Account} → Stands bytes box a → Stands bytes (feed box s) (accountAfter (hasRoom bytes) a (heard s))
   unfolding stateBy storeBy

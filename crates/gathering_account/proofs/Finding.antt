@@ -106,7 +106,7 @@ pub finds : (bytes : ℕ) (box : Box) {a : Account} → Stands bytes box a → F
 finds bytes box (fresh-stands z l) = finds-nothing (complete-fresh (box .state) (length (box .store)) (rw z fresh-possible) (rw z fresh-none))
 finds bytes box (calm-stands {t} {S} x l z k) =
     calm-finds (box .state) (box .store) t S (rw l x) z k (ltb (smallestMissing (lengths (box .state))) (length (lengths (box .state)))) refl
-finds bytes box (spoiled-stands {t} {S} x l z k) =
+finds bytes box (spoiled-stands {t} {S} x l z k o) =
     let b = x .begun in
     finds-differing k
     (complete-spoiled (box .state) (length (box .store)) (begun-possible (box .state) b) (begun-some (box .state) b) (rw (x .same .last, l) (x .roomy)) z)

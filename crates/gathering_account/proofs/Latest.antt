@@ -14,7 +14,7 @@ use Rattle.gathering_account.proofs.Keeping.{all-more}
 use Rattle.gathering_account.proofs.Standing.{never}
 use Rattle.gathering_account.proofs.Growing.{HeardIs, hears-nothing, hears, heardIs, silent, heard-same, account-append}
 
-sections-append : (t : Heading) (xs ys : List (List ℕ)) → sectionsOfTable t (xs ++ ys) ≡ sectionsOfTable t xs ++ sectionsOfTable t ys
+pub sections-append : (t : Heading) (xs ys : List (List ℕ)) → sectionsOfTable t (xs ++ ys) ≡ sectionsOfTable t xs ++ sectionsOfTable t ys
 unfolding sectionsOfTable
 sections-append t [] ys = refl
 sections-append t (x ∷ xs) ys =
@@ -23,15 +23,15 @@ sections-append t (x ∷ xs) ys =
 
 -- what a section is to t's table
 module _ (t h : Heading) (p : List ℕ) where
-  own-section : sameTable t h ≡ true → sectionOfTable t (goodCurrent h p) ≡ record { number = h .number; contents = p } ∷ []
+  pub own-section : sameTable t h ≡ true → sectionOfTable t (goodCurrent h p) ≡ record { number = h .number; contents = p } ∷ []
   unfolding sectionOfTable
   own-section e = rw e
 
-  no-section : sameTable t h ≡ false → sectionOfTable t (goodCurrent h p) ≡ []
+  pub no-section : sameTable t h ≡ false → sectionOfTable t (goodCurrent h p) ≡ []
   unfolding sectionOfTable
   no-section e = rw e
 
-  newer-other : isNewer t h ≡ true → sameTable t h ≡ false
+  pub newer-other : isNewer t h ≡ true → sameTable t h ≡ false
   newer-other n = sym (refuted (sameTable t h) (λ e. never (isNewer t h) n (same-not-newer t h e)))
 
 module _ (room : ℕ → Bool) (done : List (List ℕ)) (s : List ℕ) where

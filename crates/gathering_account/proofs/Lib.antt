@@ -4,6 +4,7 @@ pub mod Taking
 pub mod Keeping
 pub mod Hearing
 pub mod Agreeing
+pub mod Undisputed
 pub mod Standing
 pub mod Feeds
 pub mod Answering

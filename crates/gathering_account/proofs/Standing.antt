@@ -1,4 +1,5 @@
--- What a box stands for: an account. The fresh state stands for the idle one, and a state that is not spoiled keeps the sections counted.
+-- What a box stands for: an account. The fresh state stands for the idle one; a state keeps the sections counted, a spoiled one those before the first
+-- contradiction.
 use Prim.Native.Nat.{ℕ, _≤_}
 use mathlib.Core.Path.{_≡_, refl, sym, _∙_}
 use mathlib.Core.Bool.{Bool, true, false, false≢true}
@@ -8,7 +9,7 @@ use borrow.Author.Tests.{le-leb}
 use lib.ListN.{length, getD}
 use Rattle.section_reader.specs.Section.{isKind, WellFormed}
 use Rattle.section_reader.specs.declared.Heading.{Heading}
-use Rattle.gathering_state.specs.State.{freshState, possibleOf, nothingBegun, hasRoom, opened, spoiledState}
+use Rattle.gathering_state.specs.State.{freshState, possibleOf, nothingBegun, hasRoom, opened, heldPayload, spoiledState}
 use Rattle.gathering_state.specs.declared.Gathering.{Gathering}
 use Rattle.gathering_state.proofs.Lists.{zeros-at}
 use Rattle.gathering_state.proofs.State.{Begun, begun-kind, begun-possible, fresh-possible, spoiled-begun}
@@ -16,6 +17,7 @@ use Rattle.gathering_tables.specs.Tables.{sameTable, isNewer}
 use Rattle.gathering_verdict.specs.Deciding.{agrees, begins}
 use Rattle.gathering_verdict.proofs.Verdicts.{SameHeading, agrees-is, begins-none, begins-newer}
 use Rattle.gathering_account.specs.Account.{Section, Account, idle, table, Agree}
+use Rattle.gathering_account.specs.Answering.{undisputed}
 use Rattle.gathering_account.specs.Gathers.{Box}
 use Rattle.gathering_account.proofs.Keeping.{Kept}
 
@@ -32,7 +34,7 @@ pub data Stands (bytes : ℕ) (box : Box) : Account → Type 0 where
   calm-stands : {t : Heading} {S : List Section} → Fixed (box .state) bytes t → length (box .store) ≡ bytes
       → box .state .spoiled ≡ 0 → Kept (box .state) (box .store) S → Stands bytes box (table t S)
   spoiled-stands : {t : Heading} {S : List Section} → Fixed (box .state) bytes t → length (box .store) ≡ bytes
-      → (box .state .spoiled ≡ 0 → ⊥) → (Agree S → ⊥) → Stands bytes box (table t S)
+      → (box .state .spoiled ≡ 0 → ⊥) → (Agree S → ⊥) → Kept (box .state) (box .store) (undisputed S) → Stands bytes box (table t S)
 
 pub never : {A : Type 0} (b : Bool) → b ≡ true → b ≡ false → A
 never b p q = absurd (false≢true (sym q ∙ p))
@@ -73,6 +75,10 @@ fixed-spoiled g bytes t f =
       begun = spoiled-begun g (f .begun);
     }
 
+pub kept-spoiled : {g : Gathering} {store : List ℕ} {S : List Section} → Kept g store S → Kept (spoiledState g) store S
+unfolding spoiledState heldPayload
+kept-spoiled kept = record { held = kept .held; stored = kept .stored; only = kept .only }
+
 pub spoiled-marked : (g : Gathering) → spoiledState g .spoiled ≡ 0 → ⊥
 unfolding spoiledState
 spoiled-marked g e = omega arith
@@ -104,16 +110,16 @@ formed-kind h w = rw (le-leb 0xFB (h .kind) (w .kind-low), le-leb (h .kind) 0xFE
 pub stands-possible : {bytes : ℕ} {box : Box} {a : Account} → Stands bytes box a → possibleOf (box .state) ≡ true
 stands-possible (fresh-stands z l) = rw z fresh-possible
 stands-possible {box = box} (calm-stands x l z k) = begun-possible (box .state) (x .begun)
-stands-possible {box = box} (spoiled-stands x l z k) = begun-possible (box .state) (x .begun)
+stands-possible {box = box} (spoiled-stands x l z k o) = begun-possible (box .state) (x .begun)
 
 pub stands-store : {bytes : ℕ} {box : Box} {a : Account} → Stands bytes box a → length (box .store) ≡ bytes
 stands-store (fresh-stands z l) = l
 stands-store (calm-stands x l z k) = l
-stands-store (spoiled-stands x l z k) = l
+stands-store (spoiled-stands x l z k o) = l
 
 -- a state has 256 numbers
 pub stands-few : {bytes : ℕ} {box : Box} {a : Account} → Stands bytes box a → length (box .state .held) ≤ 256
 unfolding freshState
 stands-few (fresh-stands z l) = rw z (omega arith)
 stands-few (calm-stands x l z k) = let n = x .long in omega arith
-stands-few (spoiled-stands x l z k) = let n = x .long in omega arith
+stands-few (spoiled-stands x l z k o) = let n = x .long in omega arith

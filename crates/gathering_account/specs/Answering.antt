@@ -1,7 +1,7 @@
 -- What a reader has to believe of the answers of a run of feeds: each is told by the account of what was fed before it, with no state and no store.
 use Prim.Native.Nat.{ℕ}
 use mathlib.Core.Bool.{Bool, true, false, not, _&&_, _||_}
-use mathlib.Core.List.{List, [], _∷_}
+use mathlib.Core.List.{List, [], _∷_, _++_}
 use lib.Dec.{eqb}
 use Rattle.ground_refusal.specs.declared.Refusal.the-variants.{NotCurrent, OtherHeading, StoreTooShort, Contradiction}
 use Rattle.ground_choices.specs.Choice.{if_then_else_}
@@ -35,6 +35,17 @@ differs s (t ∷ S) = contradicts s t || differs s S
 unfoldable pub agreeing : List Section → Bool
 agreeing [] = true
 agreeing (s ∷ S) = not (differs s S) && agreeing S
+
+-- ---- the sections before the first contradiction
+
+-- `before` agree; of those after them, in the order of their feeding, as many as contradict none that came before
+unfoldable pub calmFrom : List Section → List Section → List Section
+calmFrom before [] = before
+calmFrom before (s ∷ after) = if differs s before then before else calmFrom (before ++ s ∷ []) after
+
+-- "a contradiction spoils": what was fed of the table before it
+unfoldable pub undisputed : List Section → List Section
+undisputed S = calmFrom [] S
 
 -- ---- the answer to one feed
 

@@ -1,0 +1,61 @@
+-- `teaching_questions::agree` meets its contract: those still to come agree if all do, until one is found that contradicts a later one.
+use Prim.Native.Nat.{_-_, _≤_}
+use mathlib.Core.Path.{_≡_, refl, sym, _∙_}
+use native.Mathlib.Omega.{arith}
+use borrow.Author.Needs.{needs}
+use lib.ListN.{length}
+use Rattle.gathering_account.specs.Answering.{agreeing}
+use Rattle.teaching_questions.proofs.Walking.{sectionsAt}
+use Rattle.teaching_questions.proofs.Agreeing.{agree-end, agree-clash, agree-on}
+use Rattle.teaching_questions.proofs.agree.Statement.{statement}
+use Rattle.teaching_questions.proofs.agree.Tie as tie
+
+abbrev Inv-loop : tie.InvT-loop
+Inv-loop rows t at₀ at = (at ≤ length rows) × (agreeing (sectionsAt t rows at) ≡ agreeing (sectionsAt t rows 0))
+
+abbrev μ-loop : tie.MeasureT-loop
+μ-loop rows t at₀ at = length rows - at
+
+row-end-requires : tie.Need-row-end-requires Inv-loop μ-loop
+row-end-requires c κs = sym (c .before .row-begins .ensures) ∙ c .if1 .taken
+
+returns : tie.Need-returns Inv-loop μ-loop
+returns c =
+    let row = c .before .before .before .before in
+    let test = row .before in
+    let here = test .before .before .loop in
+    let begins = sym (test .before .row-begins .ensures) ∙ test .if1 .taken in
+    agree-clash _ _ (here .at) (here .inv .1) begins _ (row .row-end .ensures) _ (c .before .contradicts-one .ensures) (c .if2 .taken)
+
+loop-again : tie.Need-loop-again Inv-loop μ-loop
+loop-again c =
+    let row = c .before .before .before .before in
+    let test = row .before in
+    let here = test .before .before .loop in
+    let begins = sym (test .before .row-begins .ensures) ∙ test .if1 .taken in
+    (omega arith, agree-on _ _ (here .at) (here .inv .1) begins _ (row .row-end .ensures) _ (c .before .contradicts-one .ensures) (c .if2 .left))
+
+returns-2 : tie.Need-returns-2 Inv-loop μ-loop
+returns-2 c = let here = c .before .before .loop in agree-end _ _ (here .at) (here .inv .1) (sym (c .before .row-begins .ensures) ∙ c .if1 .left)
+
+pub agree-spec : {M : Type 1} → statement M
+agree-spec =
+    tie.close
+    (tie.spec
+    Inv-loop
+    μ-loop
+    (λ c. (omega arith, refl))
+    (λ c κs. search needs)
+    row-end-requires
+    (λ c. omega arith)
+    (λ c. omega arith)
+    (λ c. omega arith)
+    (λ c. omega arith)
+    (λ c. omega arith)
+    (λ c. omega arith)
+    (λ c. omega arith)
+    (λ c κs. search needs)
+    returns
+    (λ c. omega arith)
+    loop-again
+    returns-2)

@@ -1,0 +1,3 @@
+-- The laws that callers cite.
+pub mod Taking
+pub mod Fixing
