@@ -196,6 +196,33 @@ static uint64_t feed_slicing(const uint8_t *s, size_t n) {
     return plain_gathering_feed(&g, half_store, sizeof half_store, s, n);
 }
 
+// ---- the slow gathering to teach with, beside the quick one: all but the last section of a table are kept, and it is fed; or all are, and
+// the body is handed out. Four times the sections are some sixteen times the time: each kept one is read with all after it.
+
+static struct nw_gathering taught;
+static uint8_t taught_store[NW_STORE_BYTES(63)], taught_buffer[64 * NW_TAUGHT_BYTES(NW_MOST_SECTION)];
+static size_t taught_bytes;
+
+static uint64_t teach_feed_slow(const uint8_t *s, size_t n) {
+    size_t used = taught_bytes;
+    return nw_teaching_feed(taught_buffer, sizeof taught_buffer, &used, sizeof taught_store, s + n - NW_MOST_SECTION, NW_MOST_SECTION).packed;
+}
+
+static uint64_t teach_feed_quick(const uint8_t *s, size_t n) {
+    struct nw_gathering g = taught;
+    return packed_gathering_feed(&g, taught_store, sizeof taught_store, s + n - NW_MOST_SECTION, NW_MOST_SECTION);
+}
+
+static uint64_t teach_hand_slow(const uint8_t *s, size_t n) {
+    (void)s, (void)n;
+    return nw_teaching_hand_out(taught_buffer, sizeof taught_buffer, taught_bytes, sizeof taught_store, output, sizeof output).packed;
+}
+
+static uint64_t teach_hand_quick(const uint8_t *s, size_t n) {
+    (void)s, (void)n;
+    return packed_gathering_hand_out(&taught, taught_store, sizeof taught_store, output, sizeof output);
+}
+
 // ---- a table packed where it stands: its payloads are a byte short of full, so each is moved over a part of itself
 
 enum { SHORT_PAYLOAD = NW_MOST_PAYLOAD - 1 };
@@ -639,6 +666,28 @@ static void fill_reversed(size_t n) {
     for (size_t i = 0; i < sections; i++) put_full_section(i, sections - 1 - i, sections);
 }
 
+// Both gatherings are fed the first of the sections of the input.
+static void teach_first(size_t sections) {
+    memset(&taught, 0, sizeof taught);
+    taught_bytes = 0;
+    for (size_t i = 0; i < sections; i++) {
+        const uint8_t *s = input + i * NW_MOST_SECTION;
+        nw_answer quick = nw_gathering_feed(&taught, taught_store, sizeof taught_store, s, NW_MOST_SECTION);
+        nw_answer slow = nw_teaching_feed(taught_buffer, sizeof taught_buffer, &taught_bytes, sizeof taught_store, s, NW_MOST_SECTION);
+        if (quick.packed != slow.packed || quick.packed != NW_TAKEN) abort();
+    }
+}
+
+static void fill_teaching_feed(size_t n) {
+    fill_in_order(n);
+    teach_first(n / NW_MOST_SECTION - 1);
+}
+
+static void fill_teaching_body(size_t n) {
+    fill_in_order(n);
+    teach_first(n / NW_MOST_SECTION);
+}
+
 static void fill_shuffled(size_t n) {
     uint8_t numbers[256] = {0};
     uint32_t chance = 86;
@@ -895,6 +944,14 @@ static const struct operation operations[] = {
      fill_in_order,
      {{"neapwillow", gather_two_library}, {"C, slicing by 8", gather_two_slicing}},
      {4096, 16 * 4096, 256 * 4096}},
+    {"teaching, one feed",
+     fill_teaching_feed,
+     {{"the slow one", teach_feed_slow}, {"the quick one", teach_feed_quick}},
+     {4 * 4096, 16 * 4096, 64 * 4096}},
+    {"teaching, handing out",
+     fill_teaching_body,
+     {{"the slow one", teach_hand_slow}, {"the quick one", teach_hand_quick}},
+     {4 * 4096, 16 * 4096, 64 * 4096}},
     {"packing",
      fill_packing,
      {{"neapwillow", pack_library}, {"C, memmove", pack_memmove}},

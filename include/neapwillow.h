@@ -9,8 +9,9 @@
  * All memory is the caller's. A byte string, a tape, a list and an output are a pointer and how many
  * bytes, entries or records it has: with 0 of them nothing is read or written behind the pointer, which
  * may then be NULL. What a call may write must not overlap anything else that it is lent; what it only
- * reads may overlap. A refused call writes nothing, but that a contradiction spoils a gathering. Where
- * an output is too small (21), the comment above the function says what tells the room it needs.
+ * reads may overlap. A refused call writes nothing, but that a contradiction spoils a gathering and that
+ * the slow gathering keeps what it refuses. Where an output is too small (21), the comment above the
+ * function says what tells the room it needs.
  *
  * Stack: the most that a call takes of it, the return address included, stands with each function, or
  * with the first of those that share it; what memcpy, memmove and memset of the C library take comes
@@ -43,6 +44,8 @@ uint32_t nw_version(void);
  * - nw_gathering has two fields more, bytes and missing, and is 524 bytes long: compile anew.
  * - A section of a newer version starts a gathering over and is taken; it was refused with 9.
  * - nw_gathering_pack is new: a whole table becomes its body at the front of its store.
+ * - nw_teaching_feed, nw_teaching_hand_out, nw_teaching_heading and nw_teaching_missing are new, a slow
+ *   gathering to teach with, and with them refusal 37.
  * - The extension of a content table is the CRC-16 of its identifier's 140 bits, without the four
  *   reserved bits before them: no longer nw_crc16 of the 18 bytes. nw_message_extension, which is new,
  *   and nw_content_extension tell it; a table that is sent with the old one is refused (23).
@@ -145,7 +148,7 @@ enum nw_refusal {
     NW_PAST_PACKET = 34,            /* pointer or adaptation field past the packet's end; control 00 */
     NW_NO_FREE_ROOM = 35,           /* a room is needed, and every room of the store is held */
     NW_CAPTURE_TOO_LONG = 36,       /* a capture above 65,536 bytes */
-    NW_TEACHING_BUFFER_FULL = 37    /* the teaching buffer has no room for what is fed; nothing gives it yet */
+    NW_TEACHING_BUFFER_FULL = 37    /* the teaching buffer has no room for what is fed */
 };
 
 /* What a refusal's number means, in words for a person; any other number is no such refusal. Plain C in
@@ -550,6 +553,62 @@ nw_answer nw_networks_end(nw_networks *x, uint32_t network, size_t store_bytes);
  *     } */
 nw_answer nw_networks_held_rooms(const nw_networks *x, size_t store_bytes);
 nw_answer nw_networks_free_rooms(const nw_networks *x, size_t store_bytes);
+/* ---- A slow gathering to teach with -----------------------------------------------------------
+ *
+ * The same gathering once more, for the training room: it keeps every byte string that it is fed,
+ * and works everything out from the beginning whenever it is asked. It has no state. Its code is
+ * one short function for each question, in the order of the rules (docs/TEACHING.md walks through
+ * it), and over every run of feeds that its buffer has room for it answers as nw_gathering_feed and
+ * nw_gathering_hand_out do from a fresh state: proved, not only tried.
+ *
+ * The caller lends a buffer, which may hold anything at first, and a number, how many of its bytes
+ * are in use, at first 0. A string of n bytes takes NW_TAUGHT_BYTES(n) of them: its length in eight
+ * bytes, the high one first, then the string. store_bytes is the length of the store that the quick
+ * gathering has beside it, so that both answer 10 alike; no store is lent here.
+ *
+ * The bytes in use are whole rows of length and string, or a call answers 12. Where more are said
+ * to be in use than the buffer has, that is 37 to a feed, since nothing fits, and 12 to every other
+ * call.
+ *
+ * It is slow by design, and not for a box. With m strings kept, nw_teaching_heading reads each of
+ * them once, its check included. To find contradictions, the other calls read each with all that
+ * came after it, m x m / 2 readings, a feed of another table's section or of none excepted; handing
+ * out and asking what is missing also read them once more for each number of the table. So the cost
+ * of one such call grows with the square of what is kept, and that of a run of feeds with the cube:
+ * docs/LANDINGS.md has times. Keep a lesson to some dozens of sections. */
+#define NW_TAUGHT_BYTES(n) (8 + (size_t)(n)) /* what a string of n bytes takes of a teaching buffer */
+
+/* Feeds one byte string. Value: one of enum nw_fed, by what was kept before it: taken, or held
+ * already. The string is kept after the bytes in use, whatever the answer, refused ones and repeats
+ * too, and *used is NW_TAUGHT_BYTES(n) more; bytes of the buffer after it stay. Refusals, in this
+ * order: 37, the buffer has no room for NW_TAUGHT_BYTES(n) bytes after those in use, whatever they
+ * are; 12, the bytes in use are no whole rows; then as nw_gathering_feed with a store of
+ * store_bytes bytes: 1 to 7, 8, 9, 10, 11. With 37 and 12 nothing is kept and nothing changes: from
+ * the first 37 on the quick gathering may know more. used is never NULL. Stack: 544 bytes. */
+nw_answer nw_teaching_feed(uint8_t *buffer, size_t room, size_t *used, size_t store_bytes,
+                           const uint8_t *s, size_t n);
+
+/* Writes the body at the start of out: of each number 0 to last the payload that came first,
+ * joined, from the section on that began the table. Value: its length; bytes of out after it stay,
+ * and so does what is kept. Refusals, in this order, with nothing written: 12, the bytes in use are
+ * no whole rows; 13, nothing is begun (place 0); 11, two payloads of one number differ; 13, with
+ * the smallest missing number as its place; 21, out is too small: no body is longer than
+ * NW_MOST_BODY bytes. There is no 37, and no 10, since a table that found no room never began.
+ * Stack: 528 bytes. */
+nw_answer nw_teaching_hand_out(const uint8_t *buffer, size_t room, size_t used, size_t store_bytes,
+                               uint8_t *out, size_t out_bytes);
+
+/* The heading of the section that began the table: of the latest takeover, and of the first section
+ * taken where there was none. Its kind, extension, version and last number are the quick state's.
+ * Refusals: 12, the bytes in use are no whole rows; 13, nothing is begun (place 0). Stack: 224
+ * bytes. */
+nw_heading nw_teaching_heading(const uint8_t *buffer, size_t room, size_t used, size_t store_bytes);
+
+/* Value: how many of the table's last + 1 sections are missing, as the quick state's field missing
+ * has it. Of a spoiled table only what came before the first contradiction counts. Which number is
+ * the smallest is told by nw_teaching_hand_out. Refusals: 12, the bytes in use are no whole rows;
+ * 13, nothing is begun (place 0), where the quick state has 0. Stack: 432 bytes. */
+nw_answer nw_teaching_missing(const uint8_t *buffer, size_t room, size_t used, size_t store_bytes);
 
 /* ---- Forms ------------------------------------------------------------------------------------
  *

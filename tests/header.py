@@ -8,7 +8,7 @@ ROOT = os.path.join(os.path.dirname(os.path.abspath(__file__)), os.pardir)
 RECORDS = 'crates/index_records/src/lib.rt'
 
 # The headers, and the crates that each declares.
-HEADERS = {'include/neapwillow.h': ['neapwillow', 'neapwillow_rooms'], 'programs/c_commands.h': ['c_commands']}
+HEADERS = {'include/neapwillow.h': ['neapwillow', 'neapwillow_rooms', 'neapwillow_teaching'], 'programs/c_commands.h': ['c_commands']}
 
 # What the commands' header calls a constant of the source.
 CONSTANTS = {'NW_MOST_INPUT': 'program_printing::MOST_INPUT', 'NW_MOST_REPORT': 'program_date_lines::MOST_OUTPUT',
@@ -28,13 +28,13 @@ IN_C = {
     '&[u64]': ['const uint64_t *', 'size_t'], '&mut [u64]': ['uint64_t *', 'size_t'],
     '&Gathering': ['const nw_gathering *'], '&mut Gathering': ['nw_gathering *'], 'Gathering': ['nw_gathering'],
     '&Networks': ['const nw_networks *'], '&mut Networks': ['nw_networks *'], 'Part': ['nw_network'],
-    '&mut [Record]': ['nw_record *', 'size_t'], '&mut [u32]': ['uint32_t *', 'size_t'],
+    '&mut [Record]': ['nw_record *', 'size_t'], '&mut [u32]': ['uint32_t *', 'size_t'], '&mut usize': ['size_t *'],
 }
 
 
 # The shape of an answer in C, by the definition that an export's contract cites; a number for every other one.
 SHAPES = {'partAnswer': 'nw_part', 'dateAnswer': 'nw_date', 'localAnswer': 'nw_time', 'localFieldAnswer': 'nw_time',
-          'sectionAnswer': 'nw_heading', 'contentAnswer': 'nw_written', 'salvagedAnswer': 'nw_salvaged'}
+          'sectionAnswer': 'nw_heading', 'headedAnswer': 'nw_heading', 'contentAnswer': 'nw_written', 'salvagedAnswer': 'nw_salvaged'}
 
 # The shape that each record of c_answers' Taking says the fields of; and how many bits a type has.
 RECORDS_OF = {'TellsDate': 'nw_date', 'TellsTime': 'nw_time', 'TellsHeading': 'nw_heading', 'TellsPart': 'nw_part',

@@ -1,16 +1,17 @@
 -- Demand 1: a number and a place tell the refusal, and every verdict that refuses leaves what it was lent.
-use Prim.Native.Nat.{ℕ, _≤_}
+use Prim.Native.Nat.{ℕ, _≤_, _<_}
 use mathlib.Core.Path.{_≡_, refl, sym, ap, ap₂, _∙_}
-use mathlib.Core.Bool.{Bool, true, false}
+use mathlib.Core.Bool.{Bool, true, false, not}
 use mathlib.Core.List.{List, [], _∷_}
 use mathlib.Core.Option.{Option, none, some}
 use native.Mathlib.Omega.{arith}
-use lib.ListN.{length}
+use lib.ListN.{length, take}
 use lib.Dec.{eqb}
 use borrow.Author.Tests.{eqb-false}
+use Rattle.ground_choices.specs.Choice.{if_then_else_}
 use Rattle.ground_refusal.specs.Numbers.{refusalNumber}
 use Rattle.ground_refusal.specs.declared.Refusal.{Refusal}
-use Rattle.ground_refusal.specs.declared.Refusal.the-variants.{SectionTooShort, OtherKind, FixedBitZero, SectionLengthOutside, OtherLength, NumberAboveLast, CheckNotZero, NotCurrent, OtherHeading, StoreTooShort, Contradiction, ImpossibleState}
+use Rattle.ground_refusal.specs.declared.Refusal.the-variants.{SectionTooShort, OtherKind, FixedBitZero, SectionLengthOutside, OtherLength, NumberAboveLast, CheckNotZero, NotCurrent, OtherHeading, StoreTooShort, Contradiction, ImpossibleState, TeachingBufferFull}
 use Rattle.ground_refusal.proofs.Numbers.{number-listed, one-refusal}
 use Rattle.section_reader.specs.Section.{payloadOf, readSection}
 use Rattle.section_cutter.specs.Cutting as cutter
@@ -26,7 +27,7 @@ use Rattle.packet_reader.specs.Unpacking as unpacker
 use Rattle.packet_reader.specs.Answers as completed
 use Rattle.packet_reader.proofs.States.{state-means}
 use Rattle.packet_reader.specs.declared.Completed.the-variants.{Refused as NotCompleted}
-use Rattle.gathering_state.specs.State.{possibleOf, nothingBegun, spoiledState}
+use Rattle.gathering_state.specs.State.{possibleOf, nothingBegun, hasRoom, spoiledState}
 use Rattle.gathering_state.specs.declared.Gathering.{Gathering}
 use Rattle.gathering_state.proofs.State.{possible-fresh, possible-begun}
 use Rattle.gathering_verdict.specs.Deciding.{verdictOf}
@@ -45,6 +46,12 @@ use Rattle.rooms_state.specs.State.{Network, mine, possibleOf as networksPossib
 use Rattle.rooms_state.specs.declared.Networks.{Networks}
 use Rattle.rooms_feed.specs.Feeding as feeding-rooms
 use Rattle.rooms_hand_out.specs.Handing as handing-rooms
+use Rattle.gathering_account.specs.Account.{bodyOf}
+use Rattle.gathering_account.specs.Answering.{answerTo}
+use Rattle.teaching_rows.specs.Rows.{wholeInUse}
+use Rattle.teaching_table.specs.Table.{accountIn}
+use Rattle.teaching_feed.specs.Feeding.{rowFits, answerOf, keeps, usedAfter, bufferAfter}
+use Rattle.teaching_hand_out.specs.Asking as teaching
 use Rattle.body_formats.specs.Reading.{Reading, found, refused}
 use Rattle.body_formats.specs.Format.{Format}
 use Rattle.body_formats.specs.Answers.{stepOf}
@@ -59,7 +66,7 @@ use Rattle.content_writer.specs.Written.{writtenOf, contentWritten, variantWrit
 use Rattle.content_writer.specs.declared.Written.the-variants.{Refused as NotWritten}
 use Rattle.index_records.specs.Records.{recording, bodyRecorded, recordedOver, recorded}
 use Rattle.index_records.specs.declared.Record.{Record}
-use Rattle.promises.proofs.Places.{absurd-answer, section-refusals, places}
+use Rattle.promises.proofs.Places.{absurd-answer, section-refusals, answer-refusals, places}
 use Rattle.promises.proofs.Told.{told}
 use Rattle.promises.specs.Demand1.{Numbered, WritesNothing, OnlySpoils, Demand1}
 use Rattle.promises.proofs.Lists.{given-exactly}
@@ -88,6 +95,34 @@ unpacker-keeps : (v : unpacker.Verdict) (s left : List ℕ) (r : Refusal) → co
 unfolding completed.StateBy completed.answerBy
 unpacker-keeps (unpacker.refuses r′) s left r by e = by
 unpacker-keeps (unpacker.gives ss m) s left r by e = absurd-answer (cc)
+
+-- what is not kept changes nothing
+module _ (buffer : List ℕ) (used store : ℕ) (s : List ℕ) where
+  abbrev Unchanged : Type 0
+  Unchanged = (bufferAfter buffer used s ≡ buffer) × (usedAfter buffer used s ≡ used)
+
+  unfitting : rowFits (length buffer) used (length s) ≡ false → Unchanged
+  unfolding bufferAfter usedAfter keeps
+  unfitting e = (rw e, rw e)
+
+  unwhole : rowFits (length buffer) used (length s) ≡ true → wholeInUse buffer used ≡ false → Unchanged
+  unfolding bufferAfter usedAfter keeps
+  unwhole f e = (rw (f, e), rw (f, e))
+
+  -- a refusal above 11 is the buffer's: 37, or 12
+  taught-keeps : (r : Refusal) → 11 < refusalNumber r → answerOf buffer used store s ≡ NotFed r → Unchanged
+  unfolding answerOf
+  taught-keeps r h e = go (rowFits (length buffer) used (length s)) refl (wholeInUse buffer used) refl e
+    where
+      go : (f : Bool) → rowFits (length buffer) used (length s) ≡ f → (w : Bool) → wholeInUse buffer used ≡ w
+          → (if not f then NotFed TeachingBufferFull else
+          if not w then NotFed ImpossibleState else answerTo (hasRoom store) (accountIn store (take used buffer)) s) ≡ NotFed r → Unchanged
+      go false f w g e = unfitting f
+      go true f false g e = unwhole f g
+      go true f true g e =
+          let low = answer-refusals (λ q. refusalNumber q ≤ 11) (omega arith) (omega arith) (omega arith) (omega arith) (omega arith) (omega arith) (omega arith)
+          (omega arith) (omega arith) (omega arith) (omega arith) (hasRoom store) s (accountIn store (take used buffer)) r e in
+          absurd (omega arith)
 
 handed-keeps : (body out : List ℕ) (h : Handed) (r : Refusal) → h ≡ NotHanded r → outBy body out h ≡ out
 unfolding outBy
@@ -168,7 +203,7 @@ networks-hand-keeps (some i) x store out r e = go (seen (networksPossible x (len
     go (no-is bad) = rw bad
 
 writes-nothing : WritesNothing
-unfolding feeding.fedOf feeding.storeAfter handedOf outAfter bodyWritten variantWritten variantOutput variantLaid variantTape outputWritten bodyLaid laidTape bodyRecorded recorded packing.packingOf packing.storePacked
+unfolding feeding.fedOf feeding.storeAfter handedOf outAfter teaching.outAfter bodyWritten variantWritten variantOutput variantLaid variantTape outputWritten bodyLaid laidTape bodyRecorded recorded packing.packingOf packing.storePacked
 writes-nothing =
     record {
       cutter = λ body kind extension version number out. cut-keeps (cutter.cutting body kind extension version number (length out)) out;
@@ -178,6 +213,9 @@ writes-nothing =
           (unpack-keeps (completed.verdictFor s p out) out r e, unpacker-keeps (completed.verdictFor s p out) s _ r (state-means s p out l) e);
       feed = λ g store s. fed-keeps store (payloadOf s) (verdictOf g store s);
       hand-out = λ g store out. handed-keeps (bodyHeld g store) out (handedOf g store out);
+      teaching-full = λ buffer used store s. taught-keeps buffer used store s TeachingBufferFull (omega arith);
+      teaching-impossible = λ buffer used store s. taught-keeps buffer used store s ImpossibleState (omega arith);
+      teaching-hand-out = λ buffer used store out. handed-keeps (bodyOf (accountIn store (take used buffer))) out (teaching.handedOf buffer used store out);
       pack = λ g store. handed-keeps (bodyHeld g store) store (packing.packedOf g store);
       networks-feed = networks-feed-keeps;
       networks-hand-out = networks-hand-keeps;

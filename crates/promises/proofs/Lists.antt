@@ -5,6 +5,7 @@ use Rattle.promises_orders.proofs.Rooms.{networks-feeding-as-listed, networks-h
 use Rattle.promises_orders.proofs.Cutter.{count-as-listed, cutter-as-listed}
 use Rattle.promises_orders.proofs.Salvage.{salvage-as-listed}
 use Rattle.promises_orders.proofs.Packets.{packer-as-listed, unpacker-as-listed}
+use Rattle.promises_orders.proofs.Teaching.{teaching-as-listed, teaching-handing-as-listed}
 use Rattle.promises_orders.proofs.Times.{packing-as-listed, unpacking-as-listed, text-as-listed}
 use Rattle.promises.specs.Lists.{GivenExactly}
 
@@ -26,6 +27,8 @@ given-exactly =
       salvage = salvage-as-listed;
       packer = packer-as-listed;
       unpacker = unpacker-as-listed;
+      teaching-feeding = teaching-as-listed;
+      teaching-handing-out = teaching-handing-as-listed;
       packing = packing-as-listed;
       unpacking = unpacking-as-listed;
       text = text-as-listed;

@@ -1,17 +1,17 @@
 -- The places of refusals: for every table from its format's laws, for the others because each names the refusals that it gives.
 use Prim.Native.Nat.{ℕ, _+_, _-_, _≤_, zero-le}
 use mathlib.Core.Path.{_≡_, refl, sym, ap, subst, _∙_}
-use mathlib.Core.Bool.{Bool, true, false, not, _&&_}
+use mathlib.Core.Bool.{Bool, true, false, not, _&&_, _||_}
 use mathlib.Core.List.{List}
 use native.Mathlib.Omega.{arith}
-use lib.ListN.{length, getD, length-take}
+use lib.ListN.{length, getD, take, length-take}
 use lib.Dec.{eqb, leb, ltb}
 use borrow.Author.Tests.{leb-true, ltb-true}
 use Rattle.ground_choices.specs.Choice.{if_then_else_}
 use Rattle.ground_numbers.specs.Sizes.{sectionLengthMost, bodyMost}
 use Rattle.ground_refusal.specs.Numbers.{refusalPlace, placeless}
 use Rattle.ground_refusal.specs.declared.Refusal.{Refusal}
-use Rattle.ground_refusal.specs.declared.Refusal.the-variants.{SectionTooShort, OtherKind, FixedBitZero, SectionLengthOutside, OtherLength, NumberAboveLast, CheckNotZero, NotCurrent, OtherHeading, StoreTooShort, Contradiction, ImpossibleState, Missing, PastBody, OutsideSet, OutputTooSmall, TooLarge}
+use Rattle.ground_refusal.specs.declared.Refusal.the-variants.{SectionTooShort, OtherKind, FixedBitZero, SectionLengthOutside, OtherLength, NumberAboveLast, CheckNotZero, NotCurrent, OtherHeading, StoreTooShort, Contradiction, ImpossibleState, Missing, PastBody, OutsideSet, OutputTooSmall, TooLarge, TeachingBufferFull}
 use Rattle.crc.specs.Crc.{crc32Of}
 use Rattle.section_reader.specs.Section.{isKind, sectionLength, fixedBits, headingOf, payloadOf, readSection}
 use Rattle.section_reader.specs.declared.Heading.{Heading}
@@ -27,13 +27,24 @@ use Rattle.gathering_verdict.specs.Deciding.{verdictOf}
 use Rattle.gathering_feed.specs.Feeding as feeding
 use Rattle.gathering_verdict.specs.declared.Verdict.{Verdict}
 use Rattle.gathering_verdict.specs.declared.Verdict.the-variants.{Refuse}
-use Rattle.gathering_feed.specs.declared.Answer.the-variants.{Refused as NotFed}
+use Rattle.gathering_feed.specs.declared.Answer.{Answer}
+use Rattle.gathering_feed.specs.declared.Answer.the-variants.{Taken, HeldAlready, Refused as NotFed}
 use Rattle.gathering_verdict.proofs.Verdicts.{verdict-impossible, verdict-bad, verdict-good, Decided, old, other, short, begun, spoiled, new, again, clash, decided}
 use Rattle.gathering_hand_out.specs.Handing as handing
 use Rattle.gathering_pack.specs.Packing as packing
 use Rattle.gathering_hand_out.specs.declared.Completeness.{Completeness}
 use Rattle.gathering_hand_out.specs.declared.Completeness.the-variants.{Complete, Refused as NotComplete}
+use Rattle.gathering_hand_out.specs.declared.Handed.{Handed}
 use Rattle.gathering_hand_out.specs.declared.Handed.the-variants.{Body, Refused as NotHanded}
+use Rattle.gathering_account.specs.Account.{Account, idle, table, inOrder}
+use Rattle.gathering_account.specs.Answering.{present, differs, agreeing, answerOfTable, answerOfFirst, answerOfGood, answerOfRead, answerTo}
+use Rattle.gathering_tables.specs.Tables.{sameTable, isNewer}
+use Rattle.teaching_rows.specs.Rows.{wholeInUse}
+use Rattle.teaching_questions.specs.Questions.{absentFrom}
+use Rattle.teaching_table.specs.Table.{accountIn}
+use Rattle.teaching_feed.specs.Feeding.{rowFits, answerOf}
+use Rattle.teaching_hand_out.specs.Asking as teaching
+use Rattle.teaching_hand_out.specs.declared.Headed.the-variants as headed
 use Rattle.body_formats.specs.Reading.{Reading, found, refused, need}
 use Rattle.body_formats.specs.Format.{Format}
 use Rattle.body_formats.specs.Answers.{stepOf}
@@ -201,6 +212,75 @@ module _ (g : Gathering) (store s : List ℕ) where
       go true p (NotGood r) e = rw (verdict-bad g store s p r e) (refuse-nowhere r (section-place s r e))
       go true p (Good h n) e = rw (verdict-good g store s p h n e) (good-nowhere h (decided g store h (payloadOf s)))
 
+-- ---- the slow gathering
+
+-- what the account answers is refused for eleven reasons
+module _ (Q : Refusal → Type 0) (q1 : Q SectionTooShort) (q2 : Q OtherKind) (q3 : Q FixedBitZero) (q4 : Q SectionLengthOutside) (q5 : Q OtherLength)
+    (q6 : Q NumberAboveLast) (q7 : Q CheckNotZero) (q8 : Q NotCurrent) (q9 : Q OtherHeading) (q10 : Q StoreTooShort) (q11 : Q Contradiction)
+    (room : ℕ → Bool) (s : List ℕ) where
+  good-refusals : (a : Account) (h : Heading) (r : Refusal) → answerOfGood room a h (payloadOf s) ≡ NotFed r → Q r
+  unfolding answerOfGood answerOfFirst answerOfTable
+  good-refusals idle h =
+      or-else NotFed (λ r r′ (e : NotFed r ≡ NotFed r′). cc) Q (not (room (h .last))) StoreTooShort Taken (λ t. q10)
+      (λ r (e : Taken ≡ NotFed r). absurd-answer (cc))
+  good-refusals (table t S) h =
+      go (isNewer t h) (differs (record { number = h .number; contents = payloadOf s }) S || not (agreeing S)) (present (h .number) S)
+    where
+      next : (b : Bool) (r′ : Refusal) (x : Answer) → (b ≡ true → Q r′) → ((r : Refusal) → x ≡ NotFed r → Q r)
+          → (r : Refusal) → (if b then NotFed r′ else x) ≡ NotFed r → Q r
+      next = or-else NotFed (λ r r′ (e : NotFed r ≡ NotFed r′). cc) Q
+
+      value : (held : Bool) (r : Refusal) → (if held then HeldAlready else Taken) ≡ NotFed r → Q r
+      value true r e = absurd-answer (cc)
+      value false r e = absurd-answer (cc)
+
+      go : (newer disputed held : Bool) (r : Refusal)
+          → (if newer then (if not (room (h .last)) then NotFed StoreTooShort else Taken) else
+          if not (sameTable t h) then NotFed OtherHeading else
+          if disputed then NotFed Contradiction else
+          if held then HeldAlready else Taken) ≡ NotFed r → Q r
+      go true disputed held = next (not (room (h .last))) StoreTooShort Taken (λ t. q10) (λ r (e : Taken ≡ NotFed r). absurd-answer (cc))
+      go false disputed held = next (not (sameTable t h)) OtherHeading _ (λ t. q9) (next disputed Contradiction _ (λ t. q11) (value held))
+
+  pub answer-refusals : (a : Account) (r : Refusal) → answerTo room a s ≡ NotFed r → Q r
+  unfolding answerTo answerOfRead
+  answer-refusals a r e = go (readSection s) refl e
+    where
+      go : (x : Sectioned) → readSection s ≡ x → answerOfRead room a s x ≡ NotFed r → Q r
+      go (NotGood r′) f e = let same : r′ ≡ r = cc in subst Q same (section-refusals Q q1 q2 q3 q4 q5 q6 q7 s r′ f)
+      go (Good h n) f e =
+          or-else NotFed (λ r r′ (e : NotFed r ≡ NotFed r′). cc) Q (not (h .current)) NotCurrent _ (λ t. q8) (good-refusals a h) r e
+
+taught-place : (buffer : List ℕ) (used store : ℕ) (s : List ℕ) (r : Refusal) → answerOf buffer used store s ≡ NotFed r → refusalPlace r ≡ 0
+unfolding answerOf
+taught-place buffer used store s =
+    let next = or-else NotFed (λ r r′ (e : NotFed r ≡ NotFed r′). cc) (λ r. refusalPlace r ≡ 0) in
+    next (not (rowFits (length buffer) used (length s))) TeachingBufferFull _ (λ t. refl)
+    (next (not (wholeInUse buffer used)) ImpossibleState _ (λ t. refl)
+    (answer-refusals (λ r. refusalPlace r ≡ 0) refl refl refl refl refl refl refl refl refl refl refl (hasRoom store) s (accountIn store (take used buffer))))
+
+-- the missing number is one of the table's
+taught-handed-place : (buffer : List ℕ) (used store : ℕ) (t : Heading) → teaching.headingOf buffer used store ≡ headed.By t
+    → (out : List ℕ) (r : Refusal) → teaching.handedOf buffer used store out ≡ NotHanded r → refusalPlace r ≤ t .last
+unfolding teaching.headingOf teaching.headedTo teaching.handedOf teaching.handedTo teaching.handedTable handing.handedIfRoom
+taught-handed-place buffer used store t h out = go (wholeInUse buffer used) (accountIn store (take used buffer)) h
+  where
+    next : (b : Bool) (r′ : Refusal) (x : Handed) → (b ≡ true → refusalPlace r′ ≤ t .last) → ((r : Refusal) → x ≡ NotHanded r → refusalPlace r ≤ t .last)
+        → (r : Refusal) → (if b then NotHanded r′ else x) ≡ NotHanded r → refusalPlace r ≤ t .last
+    next = or-else NotHanded (λ r r′ (e : NotHanded r ≡ NotHanded r′). cc) (λ r. refusalPlace r ≤ t .last)
+
+    go : (w : Bool) (a : Account) → (if not w then headed.Refused ImpossibleState else teaching.headedTo a) ≡ headed.By t
+        → (r : Refusal) → (if not w then NotHanded ImpossibleState else teaching.handedTo a (length out)) ≡ NotHanded r → refusalPlace r ≤ t .last
+    go false a h = absurd-answer (cc)
+    go true idle h = absurd-answer (cc)
+    go true (table u S) h =
+        let same : u .last ≡ t .last = cc in
+        let k = absentFrom 0 (u .last + 1) S in
+        next (not (agreeing S)) Contradiction _ (λ b. zero-le)
+        (next (leb k (u .last)) (Missing k) _ (λ b. omega (arith, leb-true k (u .last) b, same))
+        (next (ltb (length out) (length (inOrder (u .last + 1) S))) OutputTooSmall (Body (length (inOrder (u .last + 1) S))) (λ b. zero-le)
+        (λ r (e : Body (length (inOrder (u .last + 1) S)) ≡ NotHanded r). absurd-answer (cc))))
+
 -- ---- the cutter
 
 module _ (body : List ℕ) (kind extension version number : ℕ) where
@@ -290,4 +370,6 @@ places =
       salvaged = salvaged-place;
       handed = handed-place;
       packed = packed-place;
+      taught = taught-place;
+      taught-handed = taught-handed-place;
     }

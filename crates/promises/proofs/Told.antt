@@ -93,6 +93,11 @@ use Rattle.packet_reader.specs.Unpacking as unpacker
 use Rattle.packet_reader.specs.Answers.{answerBy, verdictFor, completedOf}
 use Rattle.packet_reader.specs.declared.Completed.the-variants.{Sections as Completes}
 use Rattle.packet_arrival.proofs.Most.{packs-most, gives-most}
+use Rattle.teaching_hand_out.specs.Asking as teaching
+use Rattle.teaching_hand_out.specs.declared.Headed.the-variants as headed
+use Rattle.teaching_hand_out.specs.declared.Lacking.the-variants as lacking
+use Rattle.teaching_account.proofs.Bounds.{heading-formed, missing-most, taught-most}
+use Rattle.c_teaching_answers.specs.Answers.{headedAnswer}
 use Rattle.c_answers.specs.Answers.{answerOf, localAnswer, sectionAnswer, contentAnswer, localFieldAnswer, salvagedAnswer, packAnswer, unpackAnswer}
 use Rattle.c_answers.specs.Taking.{TellsValue, TellsTime, TellsHeading, TellsContent, TellsSalvaged}
 use Rattle.c_answers.proofs.Taking.{refusal-told, value-told, date-told, time-told, heading-told, part-told, content-told, salvaged-told}
@@ -254,6 +259,18 @@ packed-told g store n l e =
     let most = body-most g store (omega arith) (whole .0 .possible) in
     value-told n (omega arith)
 
+-- ---- the slow gathering
+
+module _ (buffer : List ℕ) (used store : ℕ) (areBytes : AreBytes buffer) where
+  taught-heading : (t : Heading) → teaching.headingOf buffer used store ≡ headed.By t → TellsHeading (headedAnswer (headed.By t)) t
+  taught-heading t e = heading-told t (heading-formed buffer used store areBytes t e)
+
+  taught-missing : (n k : ℕ) → teaching.lackingOf buffer used store ≡ lacking.Of n k → TellsValue (answerOf 0 n) n
+  taught-missing n k e = value-told n (omega (arith, missing-most buffer used store areBytes n k e))
+
+  taught-out : (out : List ℕ) (n : ℕ) → teaching.handedOf buffer used store out ≡ Body n → TellsValue (answerOf 0 n) n
+  taught-out out n e = value-told n (omega (arith, taught-most buffer used store areBytes out n e))
+
 -- ---- tables
 
 -- a step that answers where a reading ends
@@ -339,6 +356,8 @@ refusals-told =
       handed-out = refusal-told;
       network-ended = refusal-told;
       rooms = refusal-told;
+      headed = refusal-told;
+      lacking = refusal-told;
       read = refusal-told;
       written = refusal-told;
       content-written = refusal-told;
@@ -381,6 +400,9 @@ told =
       network-ended = value-told 0 (omega arith);
       rooms-held = held-back;
       rooms-free = free-back;
+      taught-heading = taught-heading;
+      taught-missing = taught-missing;
+      taught-out = taught-out;
       accepted = λ end. value-told 0 (omega arith);
       measured-length = λ F pool tape n e. let x = found-of _ n e in let m = measured-value F pool tape (x .0) n (x .1) .4 in value-told n (omega arith);
       written = λ F pool tape room n e. let x = found-of _ n e in let m = written-most F pool tape room (x .0) n (x .1) in value-told n (omega arith);

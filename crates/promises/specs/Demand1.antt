@@ -8,7 +8,7 @@ use lib.ListN.{length}
 use Rattle.ground_numbers.specs.Sizes.{payloadMost}
 use Rattle.ground_refusal.specs.Numbers.{refusalNumber, isNumber, refusalPlace}
 use Rattle.ground_refusal.specs.declared.Refusal.{Refusal}
-use Rattle.ground_refusal.specs.declared.Refusal.the-variants.{Contradiction}
+use Rattle.ground_refusal.specs.declared.Refusal.the-variants.{Contradiction, ImpossibleState, TeachingBufferFull}
 use Rattle.section_cutter.specs.Cutting.{cutAnswer, cutOutput}
 use Rattle.section_cutter.specs.declared.Cut.the-variants.{Refused as NotCut}
 use Rattle.salvage.specs.Salvage.{salvageOf, outputAfter, listAfter}
@@ -29,6 +29,8 @@ use Rattle.rooms_state.specs.State.{Network}
 use Rattle.rooms_state.specs.declared.Networks.{Networks}
 use Rattle.rooms_feed.specs.Feeding as feeding-rooms
 use Rattle.rooms_hand_out.specs.Handing as handing-rooms
+use Rattle.teaching_feed.specs.Feeding.{answerOf, usedAfter, bufferAfter}
+use Rattle.teaching_hand_out.specs.Asking as teaching
 use Rattle.body_formats.specs.Format.{Format}
 use Rattle.body_formats.specs.Body.{bodyWritten, outputWritten, bodyLaid, laidTape}
 use Rattle.body_formats.specs.declared.Step.the-variants.{Refused as NoStep}
@@ -72,6 +74,13 @@ pub record WritesNothing : Type 1 where
       → feeding-rooms.storeAfter o x store s ≡ store
   pub networks-hand-out : (o : Option Network) (x : Networks) (store out : List ℕ) (r : Refusal) → handing-rooms.handedOf o x store out ≡ NotHanded r
       → handing-rooms.outAfter o x store out ≡ out
+  -- M-112: "one answered 37 is not kept", nor is one answered 12; with any other answer the slow gathering keeps the string
+  pub teaching-full : (buffer : List ℕ) (used store : ℕ) (s : List ℕ) → answerOf buffer used store s ≡ NotFed TeachingBufferFull
+      → (bufferAfter buffer used s ≡ buffer) × (usedAfter buffer used s ≡ used)
+  pub teaching-impossible : (buffer : List ℕ) (used store : ℕ) (s : List ℕ) → answerOf buffer used store s ≡ NotFed ImpossibleState
+      → (bufferAfter buffer used s ≡ buffer) × (usedAfter buffer used s ≡ used)
+  pub teaching-hand-out : (buffer : List ℕ) (used store : ℕ) (out : List ℕ) (r : Refusal) → teaching.handedOf buffer used store out ≡ NotHanded r
+      → teaching.outAfter buffer used store out ≡ out
   -- once for every format, so for every table
   pub writers : {A : Type 0} (F : Format A) (pool tape out : List ℕ) (r : Refusal) → bodyWritten F pool tape (length out) ≡ NoStep r → outputWritten F pool tape out ≡ out
   -- and of the content table, whatever the variant

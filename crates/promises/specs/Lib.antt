@@ -9,6 +9,7 @@ pub mod Demand3
 pub mod Salvaging
 pub mod Packets
 pub mod Rooms
+pub mod Teaching
 pub mod Values
 pub mod Determined
 pub mod Offered

@@ -1,11 +1,12 @@
 -- "Given exactly when the list says": each answer is the first refusal of its list whose condition holds, or the value if none does. The lists
--- stand in orders' `Sections`, `Gathering`, `Rooms`, `Cutter`, `Salvage`, `Packets` and `Times`, each number beside 01's words, and `AsListed` in its `Order`.
+-- stand in orders' `Sections`, `Gathering`, `Rooms`, `Cutter`, `Salvage`, `Packets`, `Teaching` and `Times`, each number beside 01's words, and `AsListed` in its
+-- `Order`.
 use Prim.Native.Nat.{ℕ, _-_, _≤_}
 use mathlib.Core.Path.{_≡_}
 use mathlib.Core.List.{List}
 use mathlib.Core.Option.{Option}
 use lib.IntN.{ℤ}
-use lib.ListN.{length}
+use lib.ListN.{length, take}
 use Rattle.time_fields.specs.declared.Fielded.the-variants.{Refused as NotFielded}
 use Rattle.time_local.specs.Clock.{packOf, unpackOf}
 use Rattle.time_local.specs.Text.{readText}
@@ -38,6 +39,9 @@ use Rattle.rooms_end.specs.Ending.{endedOf}
 use Rattle.rooms_end.specs.declared.Ended.the-variants.{Done, Refused as NotEnded}
 use Rattle.rooms_count.specs.Counting.{held, free, heldOf, freeOf}
 use Rattle.rooms_count.specs.declared.Counted.the-variants.{Rooms, Refused as RoomsNotCounted}
+use Rattle.gathering_account.specs.Account.{bodyOf}
+use Rattle.teaching_table.specs.Table.{accountIn}
+use Rattle.teaching_hand_out.specs.Asking as teaching
 use Rattle.promises_orders.specs.Order.{AsListed}
 use Rattle.promises_orders.specs.Sections.{sectionLines}
 use Rattle.promises_orders.specs.Gathering.{FedAsListed, completeLines, handingLines}
@@ -45,6 +49,7 @@ use Rattle.promises_orders.specs.Rooms.{partFor, networkLines, networksFeedingL
 use Rattle.promises_orders.specs.Cutter.{countLines, cutterLines}
 use Rattle.promises_orders.specs.Salvage.{salvageLines}
 use Rattle.promises_orders.specs.Packets.{packerLines, unpackerLines, IsSections}
+use Rattle.promises_orders.specs.Teaching.{TaughtAsListed, teachingHandingLines}
 use Rattle.promises_orders.specs.Times.{IsField, packingLines, IsLocalTime, unpackingLines, textLines}
 
 pub record GivenExactly : Type 0 where
@@ -84,6 +89,11 @@ pub record GivenExactly : Type 0 where
   pub packer : (counter : ℕ) (section out : List ℕ)
       → AsListed NotPacked (λ a. a ≡ Packets (length (laid (packed counter section)))) (packerLines counter section out) (packedOf counter section out)
   pub unpacker : (s p out : List ℕ) → AsListed NotCompleted IsSections (unpackerLines s p out) (completedOf s p out)
+  -- M-112: "37 teaching buffer full, before all others", 12, then as feeding; handing out as above, and "never gives 37"
+  pub teaching-feeding : (buffer : List ℕ) (used store : ℕ) (s : List ℕ) → TaughtAsListed buffer used store s
+  pub teaching-handing-out : (buffer : List ℕ) (used store : ℕ) (out : List ℕ)
+      → AsListed NotHanded (λ a. a ≡ Body (length (bodyOf (accountIn store (take used buffer)))))
+      (teachingHandingLines buffer used store (length out)) (teaching.handedOf buffer used store out)
   -- "Local from UTC adds it (order 19, 18, 20)"; to UTC 19, 20
   pub packing : (t : LocalTime) (offset : ℤ) → AsListed NotFielded IsField (packingLines t offset) (packOf t offset)
   pub unpacking : (field : ℕ) (offset : ℤ) → AsListed NotUnpacked IsLocalTime (unpackingLines field offset) (unpackOf field offset)

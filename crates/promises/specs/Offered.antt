@@ -48,11 +48,15 @@ use Rattle.configuration_fields.specs.Asked as configuration-fields
 use Rattle.configuration_fields.specs.Asked.{commandCount, commandPart, commandTag, commandContent, clockYear, clockMonth, clockDay, clockHour, clockMinute}
 use Rattle.configuration_fields.specs.Asked.{clockSecond, codeAddress, codeResource, codeDigit, frequency, symbolRate, mapping, returnKind, returnAddress}
 use Rattle.configuration_fields.specs.Asked.{period, volume, parameterCount, parameter, terminalCount, terminal, terminalDigit}
+use Rattle.teaching_feed.specs.Feeding.{taughtOf, bufferAfter}
+use Rattle.teaching_hand_out.specs.Asking as teaching-hand-out
+use Rattle.teaching_hand_out.specs.Asking.{headingOf, lackingOf}
 use Rattle.c_answers.specs.Answers.{dayAnswer, dateAnswer, weekdayAnswer, fieldAnswer, localAnswer, showingAnswer, salvagedAnswer, sectionAnswer, statedAnswer}
 use Rattle.c_answers.specs.Answers.{countAnswer, lengthAnswer, packAnswer, unpackAnswer, feedAnswer, handAnswer, readAnswer, numberAnswer, partAnswer}
 use Rattle.c_answers.specs.Answers.{writtenAnswer, localFieldAnswer, contentAnswer}
 use Rattle.c_answers.specs.Version.{version}
 use Rattle.c_rooms_answers.specs.Answers.{endedAnswer, roomsAnswer}
+use Rattle.c_teaching_answers.specs.Answers.{headedAnswer, lackingAnswer}
 use Rattle.promises.specs.Determined.{Determined, Determined₃, Determined₂}
 
 pub record Offered : Type 0 where
@@ -223,6 +227,15 @@ pub record Offered : Type 0 where
       Determined₂ (λ r x′. (r ≡ endedAnswer (endedOf (networkOf network) x bytes .answer)) × (x′ ≡ endedOf (networkOf network) x bytes .state))
   pub nw-networks-held-rooms : (x : Networks) (bytes : ℕ) → Determined (λ r. r ≡ roomsAnswer (heldOf x bytes))
   pub nw-networks-free-rooms : (x : Networks) (bytes : ℕ) → Determined (λ r. r ≡ roomsAnswer (freeOf x bytes))
+  -- What is offered to C for the training room: the slow gathering over the buffer that C lends, and its answers told as all others are.
+  pub nw-teaching-feed : (buffer : List ℕ) (used store : ℕ) (s : List ℕ) →
+      Determined₃ (λ r buffer′ used′. (r ≡ feedAnswer (taughtOf buffer used store s .answer)) ×
+      (buffer′ ≡ bufferAfter buffer used s) ×
+      (used′ ≡ taughtOf buffer used store s .used))
+  pub nw-teaching-hand-out : (buffer : List ℕ) (used store : ℕ) (out : List ℕ) →
+      Determined₂ (λ r out′. (r ≡ handAnswer (teaching-hand-out.handedOf buffer used store out)) × (out′ ≡ teaching-hand-out.outAfter buffer used store out))
+  pub nw-teaching-heading : (buffer : List ℕ) (used store : ℕ) → Determined (λ r. r ≡ headedAnswer (headingOf buffer used store))
+  pub nw-teaching-missing : (buffer : List ℕ) (used store : ℕ) → Determined (λ r. r ≡ lackingAnswer (lackingOf buffer used store))
   -- What the commands nw-dates, nw-section and nw-salvage call from C: the report, the line and the list of runs that the programs write.
   pub nw-dates-report : (input out : List ℕ) → Determined₂ (λ r out′. (r ≡ length (reportOf input)) × (out′ ≡ reportOf input ++ drop r out))
   pub nw-section-line : (input out : List ℕ) → Determined₂ (λ r out′. (r ≡ length (lineOf input)) × (out′ ≡ lineOf input ++ drop r out))

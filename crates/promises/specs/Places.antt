@@ -9,6 +9,7 @@ use Rattle.ground_refusal.specs.Numbers.{refusalPlace, placeless}
 use Rattle.ground_refusal.specs.declared.Refusal.{Refusal}
 use Rattle.ground_refusal.specs.declared.Refusal.the-variants.{OutputTooSmall}
 use Rattle.section_reader.specs.Section.{readSection}
+use Rattle.section_reader.specs.declared.Heading.{Heading}
 use Rattle.section_reader.specs.declared.Sectioned.the-variants.{Refused as NotGood}
 use Rattle.section_cutter.specs.Cutting.{cutAnswer}
 use Rattle.section_cutter.specs.declared.Cut.the-variants.{Refused as NotCut}
@@ -20,6 +21,9 @@ use Rattle.gathering_feed.specs.declared.Answer.the-variants.{Refused as NotFed
 use Rattle.gathering_hand_out.specs.Handing.{handedOf}
 use Rattle.gathering_hand_out.specs.declared.Handed.the-variants.{Refused as NotHanded}
 use Rattle.gathering_pack.specs.Packing.{packingOf}
+use Rattle.teaching_feed.specs.Feeding.{answerOf}
+use Rattle.teaching_hand_out.specs.Asking as teaching
+use Rattle.teaching_hand_out.specs.declared.Headed.the-variants.{By}
 use Rattle.body_formats.specs.Format.{Format}
 use Rattle.body_formats.specs.Body.{bodyRead, measured, bodyWritten, bodyLaid}
 use Rattle.body_formats.specs.declared.Step.the-variants.{At, Refused as NoStep}
@@ -56,12 +60,15 @@ pub record Places : Type 0 where
   pub content-laid : (kind v : ℕ) (body : List ℕ) (room : ℕ) (r : Refusal) → variantLaid kind v body room ≡ NoStep r → refusalPlace r ≤ length body
   pub content-measured : (v : ℕ) (pool tape : List ℕ) (r : Refusal) → variantMeasured v pool tape ≡ NoStep r → refusalPlace r ≤ length tape
   pub content-written : (v : ℕ) (pool tape : List ℕ) (room : ℕ) (r : Refusal) → variantWritten v pool tape room ≡ NotWritten r → refusalPlace r ≡ 0
-  -- "else 0": of a section, of feeding, of the cutter and of salvaging
+  -- "else 0": of a section, of feeding either gathering, of the cutter and of salvaging
   pub section : (s : List ℕ) (r : Refusal) → readSection s ≡ NotGood r → refusalPlace r ≡ 0
   pub fed : (g : Gathering) (store s : List ℕ) (r : Refusal) → fedOf g store s .answer ≡ NotFed r → refusalPlace r ≡ 0
   pub cut : (body : List ℕ) (kind extension version number : ℕ) (out : List ℕ) (r : Refusal)
       → cutAnswer body kind extension version number out ≡ NotCut r → refusalPlace r ≡ 0
   pub salvaged : (capture : List ℕ) (room entries : ℕ) (r : Refusal) → salvageOf capture room entries ≡ NotSalvaged r → refusalPlace r ≡ 0
+  pub taught : (buffer : List ℕ) (used store : ℕ) (s : List ℕ) (r : Refusal) → answerOf buffer used store s ≡ NotFed r → refusalPlace r ≡ 0
   -- "The place is 13's missing number": a number of the table
   pub handed : (g : Gathering) (store out : List ℕ) (r : Refusal) → handedOf g store out ≡ NotHanded r → refusalPlace r ≤ g .last
   pub packed : (g : Gathering) (store : List ℕ) (r : Refusal) → packingOf g store .answer ≡ NotHanded r → refusalPlace r ≤ g .last
+  pub taught-handed : (buffer : List ℕ) (used store : ℕ) (t : Heading) → teaching.headingOf buffer used store ≡ By t
+      → (out : List ℕ) (r : Refusal) → teaching.handedOf buffer used store out ≡ NotHanded r → refusalPlace r ≤ t .last

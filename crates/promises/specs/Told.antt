@@ -44,6 +44,9 @@ use Rattle.rooms_hand_out.specs.Handing as handing-rooms
 use Rattle.rooms_end.specs.declared.Ended.the-variants.{Done, Refused as NotEnded}
 use Rattle.rooms_count.specs.Counting.{heldOf, freeOf}
 use Rattle.rooms_count.specs.declared.Counted.the-variants.{Rooms, Refused as RoomsNotCounted}
+use Rattle.teaching_hand_out.specs.Asking as teaching
+use Rattle.teaching_hand_out.specs.declared.Headed.the-variants as headed
+use Rattle.teaching_hand_out.specs.declared.Lacking.the-variants as lacking
 use Rattle.body_formats.specs.Format.{Format}
 use Rattle.body_formats.specs.Answers.{numberRead}
 use Rattle.ground_numbers.specs.Sizes.{bodyMost}
@@ -57,6 +60,7 @@ use Rattle.content_writer.specs.Written.{variantWritten}
 use Rattle.content_writer.specs.declared.Written.the-variants.{Of as WrittenOf, Refused as NotWritten}
 use Rattle.c_answers.specs.Answers.{answerOf, dayAnswer, dateAnswer, weekdayAnswer, fieldAnswer, localAnswer, showingAnswer, sectionAnswer, countAnswer, lengthAnswer, salvagedAnswer, packAnswer, unpackAnswer, feedAnswer, handAnswer, readAnswer, numberAnswer, partAnswer, writtenAnswer, contentAnswer, localFieldAnswer}
 use Rattle.c_rooms_answers.specs.Answers.{endedAnswer, roomsAnswer}
+use Rattle.c_teaching_answers.specs.Answers.{headedAnswer, lackingAnswer}
 use Rattle.c_answers.specs.Taking.{refusalTold, TellsRefusal, TellsValue, TellsDate, TellsTime, TellsHeading, TellsPart, TellsContent, TellsSalvaged}
 
 -- "A refusal returns its number and a place": any refusal, as this kind of answer tells it
@@ -80,6 +84,8 @@ pub record RefusalsTold : Type 0 where
   pub handed-out : Refuses handAnswer NotHanded
   pub network-ended : Refuses endedAnswer NotEnded
   pub rooms : Refuses roomsAnswer RoomsNotCounted
+  pub headed : Refuses headedAnswer headed.Refused
+  pub lacking : Refuses lackingAnswer lacking.Refused
   pub read : Refuses readAnswer NoStep
   pub written : Refuses writtenAnswer NoStep
   pub content-written : Refuses contentAnswer NotWritten
@@ -126,6 +132,13 @@ pub record Told : Type 1 where
   pub network-ended : TellsValue (endedAnswer Done) 0
   pub rooms-held : (x : Networks) (bytes n : ℕ) → heldOf x bytes ≡ Rooms n → TellsValue (roomsAnswer (Rooms n)) n
   pub rooms-free : (x : Networks) (bytes n : ℕ) → freeOf x bytes ≡ Rooms n → TellsValue (roomsAnswer (Rooms n)) n
+  -- the slow gathering, of a buffer of bytes
+  pub taught-heading : (buffer : List ℕ) (used store : ℕ) → AreBytes buffer → (t : Heading) → teaching.headingOf buffer used store ≡ headed.By t
+      → TellsHeading (headedAnswer (headed.By t)) t
+  pub taught-missing : (buffer : List ℕ) (used store : ℕ) → AreBytes buffer → (n k : ℕ) → teaching.lackingOf buffer used store ≡ lacking.Of n k
+      → TellsValue (lackingAnswer (lacking.Of n k)) n
+  pub taught-out : (buffer : List ℕ) (used store : ℕ) → AreBytes buffer → (out : List ℕ) (n : ℕ) → teaching.handedOf buffer used store out ≡ Body n
+      → TellsValue (handAnswer (Body n)) n
   -- tables: 0 for an accepted body; the length of a body measured or written; so many entries or records as the tape or the list had room for
   pub accepted : (end : ℕ) → TellsValue (readAnswer (At end)) 0
   pub measured-length : {A : Type 0} (F : Format A) (pool tape : List ℕ) (n : ℕ) → measured F pool tape ≡ At n → TellsValue (writtenAnswer (At n)) n

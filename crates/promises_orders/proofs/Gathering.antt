@@ -34,7 +34,8 @@ use Rattle.promises_orders.specs.Order.{Line, _when_, None, AsListed}
 use Rattle.promises_orders.specs.Sections.{sectionLines}
 use Rattle.gathering_pack.specs.Packing.{packedBy, packedOf, packingOf}
 use Rattle.promises_orders.specs.Gathering.{isHeld, contradictsHeld, feedingLines, FedAsListed, completeLines, handingLines}
-use Rattle.promises_orders.proofs.Order.{Told, outcome, outcome-told, outcome-behind, first-not, rest-not, none-append, by-lines, Decided, one, none, decided}
+use Rattle.promises_orders.proofs.Order.{Told, outcome, outcome-told, outcome-behind, first-not, rest-not, none-append, by-lines}
+use Rattle.promises_orders.proofs.Fed.{fedValue, fed-refused, fed-taken, fed-held}
 
 -- ---- feeding
 
@@ -57,7 +58,7 @@ module _ (g : Gathering) (store s : List ℕ) where
   last = Contradiction when (contradictsHeld g store s || not (begins g (headingOf s)) && not (eqb (g .spoiled) 0))
 
   abbrev value : Answer
-  value = if isHeld g s then HeldAlready else Taken
+  value = fedValue (isHeld g s)
 
   -- what feeding decides behind them
   abbrev behind : Verdict
@@ -138,42 +139,13 @@ module _ (g : Gathering) (store s : List ℕ) where
       ∙ outcome-told answerBy Refuse NotFed (λ r. refl) beforeLast behind
       ∙ outcome-behind NotFed beforeLast last-line
 
-  listed : AsListed NotFed (λ a. a ≡ value) (feedingLines g store s) (fedOf g store s .answer)
-  listed = rw feeds (by-lines NotFed _ (record { same = λ r r′ e. cc; apart = λ r. apart r (isHeld g s) }) (feedingLines g store s) value refl)
-    where
-      apart : (r : Refusal) (held : Bool) → NotFed r ≡ (if held then HeldAlready else Taken) → ⊥
-      apart r true e = let z : _≡_ {A = ℕ} 0 1 = cc in omega arith
-      apart r false e = let z : _≡_ {A = ℕ} 0 1 = cc in omega arith
-
-  -- an answer that is no refusal is the value behind the lines
-  answered : (a : Answer) → ((r : Refusal) → NotFed r ≡ a → ⊥) → fedOf g store s .answer ≡ a → None (feedingLines g store s) × (value ≡ a)
-  answered a apart e = go (decided (feedingLines g store s))
-    where
-      go : Decided (feedingLines g store s) → None (feedingLines g store s) × (value ≡ a)
-      go (one r given) = absurd (apart r (sym (listed .refused-exactly r .1 given) ∙ e))
-      go (none n) = (n, sym (listed .value-exactly .1 n) ∙ e)
-
   pub feeding-as-listed : FedAsListed g store s
   feeding-as-listed =
       record {
-        refused-exactly = listed .refused-exactly;
-        taken-exactly = (
-          λ e. let a = answered Taken (λ r q. let z : _≡_ {A = ℕ} 0 1 = cc in omega arith) e in (a .0, new (isHeld g s) (a .1)),
-          λ n. listed .value-exactly .1 (n .0) ∙ rw (n .1),
-        );
-        held-exactly = (
-          λ e. let a = answered HeldAlready (λ r q. let z : _≡_ {A = ℕ} 0 1 = cc in omega arith) e in (a .0, repeated (isHeld g s) (a .1)),
-          λ n. listed .value-exactly .1 (n .0) ∙ rw (n .1),
-        );
+        refused-exactly = fed-refused (feedingLines g store s) (isHeld g s) _ feeds;
+        taken-exactly = fed-taken (feedingLines g store s) (isHeld g s) _ feeds;
+        held-exactly = fed-held (feedingLines g store s) (isHeld g s) _ feeds;
       }
-    where
-      new : (held : Bool) → (if held then HeldAlready else Taken) ≡ Taken → held ≡ false
-      new true e = let z : _≡_ {A = ℕ} 0 1 = cc in absurd (omega arith)
-      new false e = refl
-
-      repeated : (held : Bool) → (if held then HeldAlready else Taken) ≡ HeldAlready → held ≡ true
-      repeated true e = refl
-      repeated false e = let z : _≡_ {A = ℕ} 0 1 = cc in absurd (omega arith)
 
 -- ---- handing out
 

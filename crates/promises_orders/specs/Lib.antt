@@ -5,5 +5,6 @@ pub mod Cutter
 pub mod Packets
 pub mod Gathering
 pub mod Rooms
+pub mod Teaching
 pub mod Salvage
 pub mod Times

@@ -1,0 +1,2 @@
+-- The run that the checker computes.
+pub mod Examples
