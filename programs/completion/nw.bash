@@ -3,10 +3,13 @@
 
 # _nw_listed WHAT WORD..: the commands, topics or options that nw tells of after these words.
 _nw_listed() {
-    local pattern='s/^  \(--[a-z]*\).*/\1/p'
-    [ "$1" != commands ] || pattern='s/^  nw \([a-z-]*\) .*/\1/p'
-    [ "$1" != topics ] || pattern='s/.*nw help \([a-z]*\).*/\1/p'
-    "${@:2}" --help 2>/dev/null | sed -n "$pattern"
+    local told
+    told=$("${@:2}" --help 2>/dev/null)
+    case $1 in
+    commands) sed -n 's/^  nw \([a-z-]*\) .*/\1/p' <<<"$told" ;;
+    topics) tr -s '[:space:]' ' ' <<<"$told" | grep -o 'nw help [a-z][a-z]*' | sed 's/.* //' ;; # its lines may be broken anywhere
+    *) sed -n 's/^  \(--[a-z]*\).*/\1/p' <<<"$told" ;;
+    esac
 }
 
 _nw() {
