@@ -131,7 +131,7 @@ def check_messages(page, told):
     names = 'EBM_id', 'EBM_start_time', 'EBM_end_time', 'EBM_class', 'EBM_level'
     real = []
     for table in told['tables']:
-        fields = {field['path']: field['words'] for field in table['fields'] if table['kind'] == 'index' and not field['refusal']}
+        fields = {field['path']: 'refused' if field['refusal'] else field['words'] for field in table['fields'] if table['kind'] == 'index'}
         count = len({path.split('.')[0] for path in [f['path'] for f in table['fields']] if path.startswith('EBM[')}) if table['kind'] == 'index' else 0
         real += [[fields.get('EBM[%d].%s' % (i, name), 'not read') for name in names] for i in range(count)]
     part = page.of_id('messages')
@@ -140,7 +140,8 @@ def check_messages(page, told):
         return
     rows_told = [[cell.text() for cell in row.inside if isinstance(cell, html_tree.Element)] for row in part.one('tbody').all('tr')]
     expect('messages', [row[1:6] for row in rows_told], real)
-    starts = [row for row in real if row[1] != 'not read'][:60]
+    none = 'not read', 'refused'
+    starts = [row for row in real if row[1] not in none][:60]
     bars = list(part.all('rect', 'message'))
     expect('bars', len(bars), len(starts))
     ticks = list(part.all('text'))
@@ -148,8 +149,8 @@ def check_messages(page, told):
     for bar, row in zip(bars, starts):
         x, width = float(bar.get('x')[:-1]), float(bar.get('width')[:-1])
         points.append((moments(row[1])[0], x))
-        expect('a live end', 'live' in bar.classes(), row[2] in ('live', 'not read'))
-        if row[2] not in ('live', 'not read') and moments(row[2])[0] > moments(row[1])[0]:
+        expect('a live end', 'live' in bar.classes(), row[2] in ('live', *none))
+        if row[2] not in ('live', *none) and moments(row[2])[0] > moments(row[1])[0]:
             points.append((moments(row[2])[0], x + width))
     if not points:
         return

@@ -94,20 +94,29 @@ static void put_cell(const char *column, const char *value) {
     fputs("</td>", page);
 }
 
-static void put_time_cell(const char *column, bool has, uint64_t field) {
+// Why a message has no value of a field.
+static const char *no_value(const struct message *m, const char *name) {
+    return m->refused != NULL && strcmp(m->refused, name) == 0 ? "refused" : "not read";
+}
+
+static void put_text_cell(const struct message *m, const char *column, const char *name, const char *value) {
+    put_cell(column, value[0] == '\0' ? no_value(m, name) : value);
+}
+
+static void put_time_cell(const struct message *m, const char *column, const char *name, bool has, uint64_t field) {
     char text[256];
-    put_cell(column, has ? time_words(field, clock_, text, sizeof text) : "not read");
+    put_cell(column, has ? time_words(field, clock_, text, sizeof text) : no_value(m, name));
 }
 
 static void put_message(const struct tables *all, const struct message *m) {
     const struct table *content = m->table->whole ? content_of(all, m->table, m->number) : NULL;
     char name[64];
     fprintf(page, "<tr><th scope=\"row\"><a href=\"#table-%zu\">%" PRIu64 "</a></th>", m->place, m->number + 1);
-    put_cell("identifier", m->identifier[0] == '\0' ? "not read" : m->identifier);
-    put_time_cell("start", m->has_start, m->start);
-    put_time_cell("end", m->has_end, m->end);
-    put_cell("class", m->class_[0] == '\0' ? "not read" : m->class_);
-    put_cell("level", m->level[0] == '\0' ? "not read" : m->level);
+    put_text_cell(m, "identifier", "EBM_id", m->identifier);
+    put_time_cell(m, "start", "EBM_start_time", m->has_start, m->start);
+    put_time_cell(m, "end", "EBM_end_time", m->has_end, m->end);
+    put_text_cell(m, "class", "EBM_class", m->class_);
+    put_text_cell(m, "level", "EBM_level", m->level);
     fputs("<td data-is=\"content\">", page);
     if (content == NULL) fputs("none has come whole", page);
     else fprintf(page, "<a href=\"#table-%td\">%s</a>", content - all->list, table_name(content, name, sizeof name));

@@ -13,6 +13,7 @@ struct message {
     bool has_start, has_end;
     uint64_t start, end;      /* time fields */
     char class_[64], level[64];
+    const char *refused;      /* the standard's name of the field that is refused, or NULL */
 };
 
 struct messages {

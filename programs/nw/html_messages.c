@@ -34,8 +34,10 @@ static void leave(void *own, const struct walk *w) { (void)own, (void)w; }
 
 static void field(void *own, const struct walk *w, const struct field *f) {
     const struct search *s = own;
-    if (w->depth != 1 || s->to->full || f->refusal != NW_TAKEN) return;
+    if (w->depth != 1 || s->to->full) return;
     struct message *m = &s->to->list[s->to->count - 1];
+    if (f->refusal != NW_TAKEN) m->refused = f->name;
+    if (f->refusal != NW_TAKEN) return;
     if (strcmp(f->name, "EBM_id") == 0) snprintf(m->identifier, sizeof m->identifier, "%s", f->words);
     if (strcmp(f->name, "EBM_start_time") == 0) m->has_start = true, m->start = f->number;
     if (strcmp(f->name, "EBM_end_time") == 0) m->has_end = true, m->end = f->number;
