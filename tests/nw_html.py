@@ -5,6 +5,7 @@ The page is read strictly, by a parser of our own and, where Debian's html5lib i
 import datetime
 import json
 import os
+import random
 import re
 import subprocess
 import sys
@@ -155,10 +156,10 @@ def check_messages(page, told):
     if not points:
         return
     first, last = min(points), max(points)
-    span = (last[0] - first[0]).total_seconds()
+    span, wide = (last[0] - first[0]).total_seconds(), last[1] - first[1]
     for when, x in points:
-        at = first[1] + (last[1] - first[1]) * (when - first[0]).total_seconds() / span if span else x
-        if abs(at - x) > 0.8 and span > 3600:
+        at = first[1] + wide * (when - first[0]).total_seconds() / span if span else x
+        if abs(at - x) > 0.1 + (wide * 60 / span if span else 0):  # words have seconds, which are not read here
             wrong.append('%s stands at %.2f, and should at %.2f' % (when, x, at))
 
 
@@ -234,6 +235,22 @@ def days():
     return [[make.Message(make.RESOURCE + '20240229%04d' % i, *pair, 1, []) for i, pair in enumerate(pairs[some:to])] for some, to in ((0, 12), (5, 6), (7, 8))]
 
 
+def by_chance(chance):
+    """Bodies of all four kinds with bytes changed, cut anywhere, of which a section may be missing."""
+    texts = [('eng', 2, 'Go <on> foot & wait.\n' * 3, 'Office', [(9, b'picture')]), ('zho', 1, '请步行到集合点。', '', [])]
+    tables = [make.Index([make.DRILL, make.FLOOD], 0), make.Content(make.DRILL, texts, 1), make.Certificates([b'list'], [b'one', b''], 2),
+              make.Configuration(list(make.all_commands([make.RESOURCE])), 3)]
+    for table in tables:
+        body = bytearray(table.body())
+        for _ in range(chance.choice((0, 1, 1, 3))):
+            body[chance.randrange(len(body))] = chance.choice((0, 0x3C, 0xFF, chance.randrange(256)))
+        sections = make.cut(table.kind, table.extension, table.version, bytes(body), chance.choice((30, 100, 4084)))
+        if chance.random() < 0.2:
+            del sections[chance.randrange(len(sections))]
+        chance.shuffle(sections)
+        yield from sections
+
+
 def try_captures():
     for name, made in make.CAPTURES.items():
         data, words, _, _ = made()
@@ -251,6 +268,8 @@ def try_captures():
     check_page('junk', b'x' * 5000)
     check_page('80 tables', b''.join(make.section(make.CERTIFICATE, n, 0, 0, 0, b'\0\0\0\0') for n in range(80)))
     check_page('3000 events', (make.section(make.CERTIFICATE, 0, 0, 0, 0, b'\0\0\0\0') + b'x') * 3000)
+    for number in range(25):
+        check_page('by chance %d' % number, b''.join(by_chance(random.Random(number))), ['--offset', '+08:00'])
     for number, (data, *_) in enumerate(list(streams.streams())[::4]):
         check_page('stream %d' % (4 * number), data)
 
