@@ -1,0 +1,4 @@
+-- The laws that callers cite.
+pub mod Same
+pub mod Printed
+pub mod Listed

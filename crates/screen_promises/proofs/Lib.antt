@@ -1,0 +1,4 @@
+-- The proofs of what is promised.
+pub mod Least
+pub mod Words
+pub mod Promise
