@@ -348,23 +348,34 @@ static const char *why_impossible(const char *text) {
     return "in UTC, less the offset, the day is out of the range 01/03/1900 to 22/04/2038";
 }
 
-static bool read_time(struct drill *d, enum word w, uint64_t *field) {
+static bool is_typed(const struct line *l) { return l->number != 0 && *l->value != '\0'; }
+static bool is_live(const struct line *l) { return is_typed(l) && strcmp(l->value, "live") == 0; }
+
+// Says what is wrong with one of the times, if it is typed and is.
+static void judge_time(struct drill *d, enum word w) {
     const struct line *l = &d->first[w];
+    if (!is_typed(l) || (w == END && is_live(l))) return;
     nw_answer answer = nw_time_read_text((const uint8_t *)l->value, strlen(l->value), d->offset);
-    *field = nw_value(answer);
-    if (NW_REFUSAL(answer) == NW_TAKEN) return true;
+    if (NW_REFUSAL(answer) == NW_TAKEN) return;
     const char *more = w == END ? ", or the word live" : "";
     if (NW_REFUSAL(answer) == NW_IMPOSSIBLE_DAY) fault(d, l, "%s", why_impossible(l->value));
     else fault(d, l, "it has to be dd/mm/yyyy hh:mm:ss, day first, 19 characters%s", more);
-    return false;
 }
 
 static void read_times(struct drill *d) {
     const struct line *start = &d->first[START], *end = &d->first[END];
-    bool started = start->number != 0 && *start->value != '\0' && read_time(d, START, &d->start);
-    if (end->number == 0 || *end->value == '\0') return;
-    d->end = NW_LIVE;
-    if (strcmp(end->value, "live") == 0 || !read_time(d, END, &d->end) || !started) return;
+    uint64_t fields[2];
+    bool read = is_typed(start) && is_typed(end)
+        && NW_REFUSAL(nw_times_read_text((const uint8_t *)start->value, strlen(start->value), (const uint8_t *)end->value,
+                                         strlen(end->value), is_live(end), d->offset, fields)) == NW_TAKEN;
+    if (!read) {
+        judge_time(d, START);
+        judge_time(d, END);
+        return;
+    }
+    d->start = fields[0];
+    d->end = fields[1];
+    if (is_live(end)) return;
     if (d->end < d->start) fault(d, end, "it is before the start, %s", start->value);
     if (d->end == d->start) fault(d, end, "it is the start itself, so the message would never be shown");
 }

@@ -489,15 +489,22 @@ static void find_text(struct box *b, unsigned extension, const uint8_t *identifi
     if (!found) fault(b, "  text        none has come whole; its sections have extension %04X", extension);
 }
 
-// A time field at the offset; in UTC where the local day would be out of the range of days.
-static void show_time(const char *what, uint64_t field, int offset) {
+typedef nw_answer printer(uint64_t field, int32_t offset, uint8_t *out, size_t room);
+
+// A time field at the offset, as the library prints it; in UTC where the local day would be out of the range of days.
+static void show_time(const char *what, printer *print, uint64_t field, int offset) {
     static const char *const days[] = {"Monday", "Tuesday", "Wednesday", "Thursday", "Friday", "Saturday", "Sunday"};
+    uint8_t text[NW_TIME_TEXT];
+    nw_answer shown = print(field, offset, text, sizeof text);
+    bool outside = NW_REFUSAL(shown) != NW_TAKEN;
+    if (outside) shown = print(field, offset = 0, text, sizeof text);
+    printf("  %s%.*s", what, (int)nw_value(shown), (const char *)text);
     nw_time t = nw_time_unpack(field, offset);
-    bool outside = NW_REFUSAL(t) != NW_TAKEN;
-    if (outside) t = nw_time_unpack(field, offset = 0);
+    if (NW_REFUSAL(t) != NW_TAKEN) { // a live end
+        puts(", until it is called off");
+        return;
+    }
     nw_answer day = nw_day_of(nw_time_year(t), nw_time_month(t), nw_time_day(t));
-    printf("  %s%02u/%02u/%04u %02u:%02u:%02u", what, nw_time_day(t), nw_time_month(t), nw_time_year(t), nw_time_hour(t),
-           nw_time_minute(t), nw_time_second(t));
     printf(" %s, UTC", days[nw_value(nw_weekday((uint32_t)nw_value(day))) - 1]);
     if (offset != 0) printf("%c%02d:%02d", offset < 0 ? '-' : '+', abs(offset) / 60, abs(offset) % 60);
     puts(outside ? ": its local day is out of the range 01/03/1900 to 22/04/2038" : "");
@@ -523,9 +530,8 @@ static void show_message(struct box *b, const struct table *t, const nw_record *
     char digits[NW_IDENTIFIER_DIGITS + 1];
     nw_part identifier = nw_message_identifier(t->body, t->n, r->at, r->length);
     printf("message %s\n", nw_identifier_text(t->body + nw_part_start(identifier), digits));
-    show_time("start       ", r->start, b->offset);
-    if (r->end == NW_LIVE) puts("  end         live, until it is called off");
-    else show_time("end         ", r->end, b->offset);
+    show_time("start       ", nw_time_print_start, r->start, b->offset);
+    show_time("end         ", nw_time_print_end, r->end, b->offset);
     if (r->end <= r->start) puts("  (its end is not after its start: it is never shown)");
     printf("  class       %u, %s\n", (unsigned)r->class_, nw_class_text(r->class_));
     printf("  level       %u, %s\n", (unsigned)r->level, nw_level_text(r->level));

@@ -40,6 +40,29 @@ static void try_times(struct input *in) {
     must(NW_REFUSAL(nw_time_read_text((const uint8_t *)text, 18, offset)) == NW_NOT_OF_THE_FORM);
 }
 
+// What is printed is read as the field it was printed from; what is refused, or lies after it, stays.
+static void try_printing(struct input *in) {
+    uint64_t field = now_and_then(in, 8) ? NW_LIVE : take(in, now_and_then(in, 8) ? 8 : 5);
+    int32_t offset = (int32_t)upto(in, 1600) - 740;
+    struct lent out = lend(now_and_then(in, 4) ? upto(in, 30) : NW_TIME_TEXT, 0x5a), fields = lend(2 * sizeof(uint64_t), 0x5a);
+    nw_answer start = nw_time_print_start(field, offset, out.bytes, out.size);
+    must(taken(start) ? nw_value(start) == NW_TIME_TEXT && taken(nw_time_unpack(field, offset)) : NW_PLACE(start) == 0);
+    must(kept(&out, taken(start) ? NW_TIME_TEXT : 0));
+    if (taken(start)) {
+        nw_answer both = nw_times_read_text(out.bytes, NW_TIME_TEXT, out.bytes, (size_t)take(in, 1) % 20, field % 2 == 0, offset, (uint64_t *)fields.bytes);
+        uint64_t first;
+        memcpy(&first, fields.bytes, sizeof first);
+        must(taken(both) ? nw_value(both) == 0 && first == field : refused(both, NW_NOT_OF_THE_FORM) && kept(&fields, 0));
+    }
+    remember(&out);
+    nw_answer end = nw_time_print_end(field, offset, out.bytes, out.size);
+    must(field == NW_LIVE || end.packed == start.packed);
+    must(field != NW_LIVE || !taken(end) || (nw_value(end) == 4 && memcmp(out.bytes, "live", 4) == 0));
+    must(kept(&out, taken(end) ? nw_value(end) : 0));
+    give_back(&out);
+    give_back(&fields);
+}
+
 static void try_text(struct input *in) {
     size_t n = now_and_then(in, 4) ? upto(in, 40) : 19;
     static const char form[] = "03/11/2024 07:45:00";
@@ -84,6 +107,7 @@ int LLVMFuzzerTestOneInput(const uint8_t *data, size_t size) {
     must(nw_version() == NW_VERSION_NUMBER);
     try_days(&in);
     try_times(&in);
+    try_printing(&in);
     try_text(&in);
     try_showing(&in);
     try_digits(&in);

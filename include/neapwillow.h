@@ -60,6 +60,7 @@ uint32_t nw_version(void);
  *   30 to 34.
  * - nw_networks_start, _feed, _hand_out, _end, _held_rooms and _free_rooms are new, two networks over one
  *   store, and with them refusal 35.
+ * - nw_time_print_start, nw_time_print_end and nw_times_read_text are new: times for people.
  * - The stack that each function takes is stated. */
 
 /* ---- Answers ----------------------------------------------------------------------------------
@@ -244,7 +245,7 @@ nw_time nw_time_unpack(uint64_t field, int32_t offset);
 
 /* The UTC field of a local time in text: exactly dd/mm/yyyy hh:mm:ss, 19 bytes, day first.
  * Value: the field. Refusals, in this order: 19, the offset; 24, not of this form; 20, as for
- * nw_time_pack. 11/13/2024 is 20: it has no thirteenth month. Stack: 3,504 bytes. */
+ * nw_time_pack. 11/13/2024 is 20: it has no thirteenth month. Stack: 3,568 bytes. */
 nw_answer nw_time_read_text(const uint8_t *text, size_t n, int32_t offset);
 
 /* How a message with these start and end fields stands at a second of a day, both UTC.
@@ -254,6 +255,33 @@ nw_answer nw_time_read_text(const uint8_t *text, size_t n, int32_t offset);
  * Stack: 64 bytes. */
 nw_answer nw_time_showing(uint64_t start, uint64_t end, uint32_t day, uint32_t second);
 enum nw_showing { NW_BEFORE = 0, NW_ON = 1, NW_ENDED = 2 };
+
+/* ---- Times for people -------------------------------------------------------------------------
+ *
+ * What a form has and a screen shows: dd/mm/yyyy hh:mm:ss, local and day first. What was typed and
+ * accepted prints as it was typed, at the same offset: proved, over the whole road from a form to a
+ * screen (docs/PROMISES.md). */
+#define NW_TIME_TEXT 19u /* characters of a printed time, and the most that are printed */
+
+/* Prints a start field as local time at the start of out: 19 characters, with no NUL after them. Value:
+ * how many; bytes of out after them stay. Refusals, in this order, with nothing written: 19, the offset
+ * is outside its range, or the field has more than 40 bits; 18, a digit is above 9, so a live one; 20, the
+ * time is impossible, or its UTC or local day lies outside the range of days; 21, out is too small.
+ * Stack: 3,552 bytes. */
+nw_answer nw_time_print_start(uint64_t field, int32_t offset, uint8_t *out, size_t room);
+
+/* Prints an end field: NW_LIVE as the word live, four characters, any other as nw_time_print_start. A live
+ * one is refused with 19 for the offset and 21 alone. Stack: 3,552 bytes. */
+nw_answer nw_time_print_end(uint64_t field, int32_t offset, uint8_t *out, size_t room);
+
+/* Both times of a form, start and end, each in text as nw_time_read_text takes it. Where live is not 0 a
+ * live end is asked for, and the end's text is not looked at. Accepted, the value is 0, and fields has the
+ * start's field and then the end's, which is NW_LIVE if it was asked for. Refusals, in this order, with
+ * nothing written: 19, the offset; 24 and 20 of the start; 24 and 20 of the end. The word live that is
+ * typed is 24. That the end comes after the start is not looked at. fields is never NULL.
+ * Stack: 3,648 bytes. */
+nw_answer nw_times_read_text(const uint8_t *start, size_t n, const uint8_t *end, size_t m, uint32_t live,
+                             int32_t offset, uint64_t fields[2]);
 
 /* ---- Sections ---------------------------------------------------------------------------------
  *

@@ -149,6 +149,23 @@ static void call_time_read_text(const struct argument *a) {
     put_answer(nw_time_read_text(a[0].bytes, a[0].length, (int32_t)a[1].number));
 }
 
+static void call_time_print_start(const struct argument *a) {
+    put_answer(nw_time_print_start(a[0].wide, (int32_t)a[1].number, a[2].bytes, a[2].length));
+    put_bytes(a[2].bytes, a[2].length);
+}
+
+static void call_time_print_end(const struct argument *a) {
+    put_answer(nw_time_print_end(a[0].wide, (int32_t)a[1].number, a[2].bytes, a[2].length));
+    put_bytes(a[2].bytes, a[2].length);
+}
+
+static void call_times_read_text(const struct argument *a) {
+    if (a[4].length != 2) stop("two fields are lent");
+    put_answer(nw_times_read_text(a[0].bytes, a[0].length, a[1].bytes, a[1].length, (uint32_t)a[2].number,
+                                  (int32_t)a[3].number, a[4].tape));
+    put_tape(a[4].tape, a[4].length);
+}
+
 static void call_time_showing(const struct argument *a) {
     put_answer(nw_time_showing(a[0].wide, a[1].wide, (uint32_t)a[2].number, (uint32_t)a[3].number));
 }
@@ -698,6 +715,9 @@ static const struct call calls[] = {
     {"time_pack", "uuuuuui", call_time_pack},
     {"time_unpack", "wi", call_time_unpack},
     {"time_read_text", "bi", call_time_read_text},
+    {"time_print_start", "wio", call_time_print_start},
+    {"time_print_end", "wio", call_time_print_end},
+    {"times_read_text", "bbuil", call_times_read_text},
     {"time_showing", "wwuu", call_time_showing},
     {"section_read", "b", call_section_read},
     {"section_length", "b", call_section_length},

@@ -53,8 +53,8 @@ def without_comments(text):
 
 def parameter_in_c(kind):
     """What a parameter of the source is in C: a lent array is a pointer that the header writes with the array's length."""
-    array = re.fullmatch(r'&mut \[u8; (\S+)\]', kind)
-    return ['uint8_t [%s]' % array[1]] if array else IN_C[kind]
+    array = re.fullmatch(r'&mut \[(u8|u64); (\S+)\]', kind)
+    return ['%s [%s]' % (IN_C[array[1]][0], array[2])] if array else IN_C[kind]
 
 
 def result_in_c(kind, contract):
@@ -78,7 +78,7 @@ def in_c(declared):
     """A parameter's type without its name, one space before a star; an array with the source's name for its length."""
     array = re.fullmatch(r'(\w+) \w+\[(\w+)\]', declared.strip())
     if array:
-        return '%s [%s]' % (array[1], {**CONSTANTS, **LENT}.get(array[2]))
+        return '%s [%s]' % (array[1], array[2] if array[2].isdigit() else {**CONSTANTS, **LENT}.get(array[2]))
     kind = re.sub(r'\s*\*\s*', ' * ', declared.strip())
     kind = kind if kind.endswith('* ') else re.sub(r'\w+$', '', kind)
     return kind.strip()

@@ -2,6 +2,7 @@
 #include "plain_numbers.h"
 
 #include <stdio.h>
+#include <string.h>
 
 #include "plain_fields.h"
 
@@ -149,6 +150,40 @@ plain_answer plain_time_read_text(const uint8_t *text, size_t n, int32_t offset)
         }
     }
     return plain_time_pack(numbers[2], numbers[1], numbers[0], numbers[3], numbers[4], numbers[5], offset);
+}
+
+// ---- times for people
+
+static plain_answer print(const char *text, uint8_t *out, size_t room) {
+    size_t n = strlen(text);
+    if (room < n) return NW_OUTPUT_TOO_SMALL;
+    memcpy(out, text, n);
+    return value(n);
+}
+
+plain_answer plain_time_print_start(uint64_t field, int32_t offset, uint8_t *out, size_t room) {
+    char text[80];
+    plain_answer local = plain_time_unpack(field, offset);
+    if (refusal_of(local)) return local;
+    uint64_t t = value_of(local);
+    snprintf(text, sizeof text, "%02u/%02u/%04u %02u:%02u:%02u", (unsigned)(t >> 24 & 255), (unsigned)(t >> 32 & 255), (unsigned)(t >> 40),
+             (unsigned)(t >> 16 & 255), (unsigned)(t >> 8 & 255), (unsigned)(t & 255));
+    return print(text, out, room);
+}
+
+plain_answer plain_time_print_end(uint64_t field, int32_t offset, uint8_t *out, size_t room) {
+    if (plain_is_offset(offset) && field == NW_LIVE) return print("live", out, room);
+    return plain_time_print_start(field, offset, out, room);
+}
+
+plain_answer plain_times_read_text(const uint8_t *start, size_t n, const uint8_t *end, size_t m, uint32_t live,
+                                   int32_t offset, uint64_t fields[2]) {
+    plain_answer from = plain_time_read_text(start, n, offset), until = live ? value(NW_LIVE) : plain_time_read_text(end, m, offset);
+    if (refusal_of(from)) return from;
+    if (refusal_of(until)) return until;
+    fields[0] = value_of(from);
+    fields[1] = value_of(until);
+    return value(0);
 }
 
 // The seconds of a good field.

@@ -34,6 +34,10 @@ plain_answer plain_time_pack(uint32_t year, uint32_t month, uint32_t day, uint32
                              uint32_t second, int32_t offset);
 plain_answer plain_time_unpack(uint64_t field, int32_t offset);
 plain_answer plain_time_read_text(const uint8_t *text, size_t n, int32_t offset);
+plain_answer plain_time_print_start(uint64_t field, int32_t offset, uint8_t *out, size_t room);
+plain_answer plain_time_print_end(uint64_t field, int32_t offset, uint8_t *out, size_t room);
+plain_answer plain_times_read_text(const uint8_t *start, size_t n, const uint8_t *end, size_t m, uint32_t live,
+                                   int32_t offset, uint64_t fields[2]);
 plain_answer plain_time_showing(uint64_t start, uint64_t end, uint32_t day, uint32_t second);
 
 #endif

@@ -1,4 +1,8 @@
-"""The second program for times, which shares no code with the library: the calendar day after day, fields, text and showing."""
+"""The second program for times, which shares no code with the library: the calendar day after day, fields, text and showing.
+
+Times for people are Python's own datetime: a field's moment at an offset, printed.
+"""
+import datetime
 import math
 import re
 
@@ -88,6 +92,44 @@ def time_read_text(text, offset):
         raise Refused(24)
     day, month, *year_and_time = map(int, form.groups())
     return time_pack(year_and_time[0], month, day, *year_and_time[1:], offset)
+
+
+EPOCH = datetime.datetime(1858, 11, 17)
+
+
+def printed(characters, out):
+    if len(out) < len(characters):
+        raise Refused(21, out)
+    return len(characters), characters + out[len(characters):]
+
+
+def local_characters(field, offset, out):
+    """The field's moment and its local one by datetime; what is refused leaves the output."""
+    try:
+        east = seconds_of(offset)
+        moment = EPOCH + datetime.timedelta(seconds=read_field(field))
+        in_range(read_field(field) + east)
+    except Refused as refusal:
+        raise Refused(refusal.args[0], out) from None
+    return (moment + datetime.timedelta(seconds=east)).strftime('%d/%m/%Y %H:%M:%S').encode()
+
+
+def time_print_start(field, offset, out):
+    return printed(local_characters(field, offset, out), out)
+
+
+def time_print_end(field, offset, out):
+    if -720 <= offset <= 840 and field == LIVE:
+        return printed(b'live', out)
+    return time_print_start(field, offset, out)
+
+
+def times_read_text(start, end, live, offset, fields):
+    try:
+        first = time_read_text(start, offset)
+        return 0, [first, LIVE if live else time_read_text(end, offset)]
+    except Refused as refusal:
+        raise Refused(refusal.args[0], fields) from None
 
 
 def time_showing(start, end, day, second):

@@ -104,7 +104,27 @@ def showings():
         yield 'time_showing', start, end, *instant
 
 
+def printings():
+    """Fields good and bad at every offset around the range, with too little room, just enough and more, which stays as it was."""
+    for field, offset in itertools.product((*FIELDS, *BAD_FIELDS), (*OFFSETS, *WIDE_OFFSETS)):
+        yield chance.choice(('time_print_start', 'time_print_end')), field, offset, bytes([0xA5] * chance.choice((0, 3, 4, 18, 19, 20, 40)))
+    for field, offset, room in itertools.product((*FIELDS, *BAD_FIELDS), (-721, -720, 0, 480, 840, 841), range(22)):
+        yield 'time_print_start', field, offset, bytes(room)
+        yield 'time_print_end', field, offset, bytes(room)
+    for day in range(second.FIRST, second.LAST + 1, 7):
+        yield 'time_print_start', second.field_of(day * second.DAY + chance.randrange(second.DAY)), chance.choice(OFFSETS), bytes(19)
+
+
+def typings():
+    """Starts and ends good and bad, a live end asked for by 1 and by other numbers."""
+    texts = [*(text(*moment) for moment in MOMENTS), *OTHER_TEXTS, b'live', b'']
+    for start, end, live in itertools.product(texts, texts, (0, 1, 2, 256, 2**32 - 1)):
+        yield 'times_read_text', start, end, live, chance.choice((-720, 0, 480, 840, *OFFSETS)), [7, 2**64 - 1]
+    for moment, offset, live in itertools.product(MOMENTS, OFFSETS, (0, 1)):
+        yield 'times_read_text', text(*moment), text(*chance.choice(MOMENTS)), live, offset, [0, 0]
+
+
 for (call, *arguments), answer in DOCUMENT_01.items():
     assert calls.told(getattr(second, call), *arguments) == answer
-cases = [*DOCUMENT_01, *months(), *offsets(), *numbers(), *fields(), *texts(), *showings()]
+cases = [*DOCUMENT_01, *months(), *offsets(), *numbers(), *fields(), *texts(), *showings(), *printings(), *typings()]
 calls.compare('a second program', second, cases)

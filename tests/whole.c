@@ -204,18 +204,31 @@ static uint64_t some_field(void) {
     return one_in(10) ? field ^ UINT64_C(1) << below(42) : field;
 }
 
-static void try_text(void) {
-    char text[40];
+// A local time in text, mostly of the form: how many characters.
+static size_t some_text(char text[40]) {
     unsigned day = (unsigned)below(33), month = (unsigned)below(14), year = 1899 + (unsigned)below(141);
     unsigned hour = (unsigned)below(25), minute = (unsigned)below(61), second = (unsigned)below(61);
-    size_t n = (size_t)snprintf(text, sizeof text, "%02u/%02u/%04u %02u:%02u:%02u", day % 100, month % 100,
+    size_t n = (size_t)snprintf(text, 40, "%02u/%02u/%04u %02u:%02u:%02u", day % 100, month % 100,
                                 year % 10000, hour % 100, minute % 100, second % 100);
-    if (one_in(3)) damage((uint8_t *)text, &n, sizeof text);
+    if (one_in(3)) damage((uint8_t *)text, &n, 40);
     if (one_in(4)) text[below(19)] = "0123456789/: "[below(13)];
-    const uint8_t *s = lend(&input, text, n);
+    return n;
+}
+
+static void try_text(void) {
+    char text[40] = {0}, end[40] = {0};
+    size_t n = some_text(text), m = some_text(end), fields = 2 * sizeof(uint64_t);
+    const uint8_t *s = lend(&input, text, n), *e = lend(&tape_input, end, m);
     int32_t offset = some_offset();
     TRY(time_read_text, s, n, offset);
+    uint32_t live = one_in(3) ? (uint32_t)around(1) : 0;
+    trying = F_times_read_text;
+    lend_at(&output_library, noise(), fields, true);
+    lend_at(&output_plain, noise(), fields, true);
+    same_outputs(nw_times_read_text(s, n, e, m, live, offset, (void *)output_library.at).packed,
+                 plain_times_read_text(s, n, e, m, live, offset, (void *)output_plain.at));
     unchanged(&input, text);
+    unchanged(&tape_input, end);
 }
 
 static void try_times(void) {
@@ -227,6 +240,10 @@ static void try_times(void) {
         TRY(time_pack, date_year(date), date_month(date), date_day(date), hour, minute, second, offset);
         uint64_t start = some_field(), end = one_in(2) ? start + below(3) : some_field();
         TRY(time_unpack, start, offset);
+        size_t room = one_in(4) ? below(24) : NW_TIME_TEXT + below(3);
+        uint64_t until = one_in(8) ? NW_LIVE : end;
+        TRY_OUTPUT(time_print_start, room, 1, start, offset);
+        TRY_OUTPUT(time_print_end, room, 1, until, offset);
         if (one_in(2)) day = (uint32_t)(start >> 24);
         TRY(time_showing, start, end, day, of_day);
         try_text();

@@ -18,6 +18,7 @@
 #define FUNCTIONS(X)                                                                                                 \
     X(version, "") X(crc32, "") X(crc16, "") X(day_of, "20") X(date_of, "20") X(weekday, "20")                       \
     X(time_pack, "19 20") X(time_unpack, "18 19 20") X(time_read_text, "19 20 24") X(time_showing, "18 19 20")       \
+    X(time_print_start, "18 19 20 21") X(time_print_end, "18 19 20 21") X(times_read_text, "19 20 24")               \
     X(section_read, "1 2 3 4 5 6 7") X(section_length, "1 4") X(section_count, "14 22")                              \
     X(section_cut, "2 6 14 19 21 22") X(salvage, "21 36")                                                            \
     X(packet_pack, "1 2 3 4 5 6 7 19 21") X(packet_unpack, "21 30 31 32 33 34")                                      \

@@ -23,6 +23,10 @@ use Rattle.time_local.specs.Clock.{unpackOf}
 use Rattle.time_local.specs.declared.LocalTime.{LocalTime}
 use Rattle.time_local.specs.declared.Unpacked.{Unpacked}
 use Rattle.time_local.specs.declared.Unpacked.the-variants as unpacked
+use Rattle.time_printing.specs.declared.Printed.{Printed}
+use Rattle.time_printing.specs.declared.Printed.the-variants as printed
+use Rattle.time_printing.specs.declared.TypedTimes.{TypedTimes}
+use Rattle.time_printing.specs.declared.TypedTimes.the-variants as typed
 use Rattle.section_reader.specs.declared.Heading.{Heading}
 use Rattle.section_reader.specs.declared.Sectioned.{Sectioned}
 use Rattle.section_reader.specs.declared.Sectioned.the-variants as section
@@ -99,6 +103,21 @@ showingAnswer showing.Before = answerOf 0 0
 showingAnswer showing.On = answerOf 0 1
 showingAnswer showing.Ended = answerOf 0 2
 showingAnswer (showing.Refused why) = refusedOf why
+
+-- how many characters were printed
+abbrev pub printedAnswer : Printed → ℕ
+printedAnswer (printed.Characters n) = answerOf 0 n
+printedAnswer (printed.Refused why) = refusedOf why
+
+-- both times of a form: two fields of 40 bits do not fit one answer, which has no value of its own then,
+abbrev pub timesAnswer : TypedTimes → ℕ
+timesAnswer (typed.Fields start end) = answerOf 0 0
+timesAnswer (typed.Refused why) = refusedOf why
+
+-- but stand in the two numbers that are lent, the start's first; where they are refused, these stay
+abbrev pub fieldsAfter : TypedTimes → List ℕ → List ℕ
+fieldsAfter (typed.Fields start end) old = start ∷ end ∷ []
+fieldsAfter (typed.Refused why) old = old
 
 -- ---- sections
 

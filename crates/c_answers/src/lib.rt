@@ -23,12 +23,14 @@ use time_fields::Fielded;
 use time_fields::Showing;
 use time_local::LocalTime;
 use time_local::Unpacked;
+use time_printing::Printed;
+use time_printing::TypedTimes;
 ghost use mathlib.Core.Path.{_≡_};
 ghost use Prim.Native.Nat.{_≤_};
 ghost use Rattle.crc.specs.Crc.{digit};
 ghost use Rattle.c_answers.specs.Packing.{packed};
 ghost use Rattle.c_answers.specs.Version.{version};
-ghost use Rattle.c_answers.specs.Answers.{answerOf, refusedOf, dayAnswer, dateFields, dateAnswer, weekdayAnswer, fieldAnswer, timeFields, localAnswer, showingAnswer, headingFields, sectionAnswer, statedAnswer, countAnswer, lengthAnswer, feedAnswer, handAnswer, readAnswer, numberAnswer, partAnswer, writtenAnswer, contentAnswer, localFieldAnswer, salvagedAnswer, packAnswer, unpackAnswer};
+ghost use Rattle.c_answers.specs.Answers.{answerOf, refusedOf, dayAnswer, dateFields, dateAnswer, weekdayAnswer, fieldAnswer, timeFields, localAnswer, showingAnswer, headingFields, sectionAnswer, statedAnswer, countAnswer, lengthAnswer, feedAnswer, handAnswer, readAnswer, numberAnswer, partAnswer, writtenAnswer, contentAnswer, localFieldAnswer, salvagedAnswer, packAnswer, unpackAnswer, printedAnswer, timesAnswer, fieldsAfter};
 
 // What an answer holds above its low byte: 56 bits.
 const ABOVE: u64 = 0x0100_0000_0000_0000;
@@ -132,6 +134,29 @@ pub fn showing_answer(a: Showing) -> u64
         Showing::On => answered(1),
         Showing::Ended => answered(2),
         Showing::Refused(why) => refused(why),
+    }
+}
+
+pub fn printed_answer(a: Printed) -> u64
+    ensures { λ r. ⌜ r ≡ printedAnswer a ⌝ }
+{
+    match a {
+        Printed::Characters(n) => answered(n as u64),
+        Printed::Refused(why) => refused(why),
+    }
+}
+
+// Two fields do not fit one answer: they are left in the numbers lent, which stay where they are refused.
+pub fn times_answer(a: TypedTimes, fields: &mut [u64; 2]) -> u64
+    ensures { λ r. ⌜ r ≡ timesAnswer a ⌝ }
+    ensures { λ _. ⌜ now (fields .exit) ≡ fieldsAfter a (now (fields .entry)) ⌝ }
+{
+    match a {
+        TypedTimes::Fields(start, end) => {
+            *fields = [start, end];
+            answered(0)
+        }
+        TypedTimes::Refused(why) => refused(why),
     }
 }
 

@@ -15,4 +15,5 @@ mod c_salvage;
 mod c_section;
 mod c_time;
 mod c_time_days;
+mod c_time_printing;
 mod c_version;

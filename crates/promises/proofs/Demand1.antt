@@ -27,6 +27,11 @@ use Rattle.packet_reader.specs.Unpacking as unpacker
 use Rattle.packet_reader.specs.Answers as completed
 use Rattle.packet_reader.proofs.States.{state-means}
 use Rattle.packet_reader.specs.declared.Completed.the-variants.{Refused as NotCompleted}
+use Rattle.time_printing.specs.Printing as printer
+use Rattle.time_printing.specs.declared.Printed.the-variants.{Refused as NotPrinted}
+use Rattle.time_printing.specs.declared.TypedTimes.{TypedTimes}
+use Rattle.time_printing.specs.declared.TypedTimes.the-variants.{Fields, Refused as NotTyped}
+use Rattle.c_answers.specs.Answers.{fieldsAfter}
 use Rattle.gathering_state.specs.State.{possibleOf, nothingBegun, hasRoom, spoiledState}
 use Rattle.gathering_state.specs.declared.Gathering.{Gathering}
 use Rattle.gathering_state.proofs.State.{possible-fresh, possible-begun}
@@ -124,6 +129,15 @@ module _ (buffer : List ℕ) (used store : ℕ) (s : List ℕ) where
           (omega arith) (omega arith) (omega arith) (omega arith) (hasRoom store) s (accountIn store (take used buffer)) r e in
           absurd (omega arith)
 
+printed-keeps : (v : printer.Verdict) (out : List ℕ) (r : Refusal) → printer.answerBy v ≡ NotPrinted r → printer.outputBy v out ≡ out
+unfolding printer.answerBy printer.outputBy
+printed-keeps (printer.refuses r′) out r e = refl
+printed-keeps (printer.prints s) out r e = absurd-answer (cc)
+
+typed-keeps : (a : TypedTimes) (fields : List ℕ) (r : Refusal) → a ≡ NotTyped r → fieldsAfter a fields ≡ fields
+typed-keeps (NotTyped r′) fields r e = refl
+typed-keeps (Fields x y) fields r e = absurd-answer (cc)
+
 handed-keeps : (body out : List ℕ) (h : Handed) (r : Refusal) → h ≡ NotHanded r → outBy body out h ≡ out
 unfolding outBy
 handed-keeps body out (NotHanded r′) r e = refl
@@ -211,6 +225,8 @@ writes-nothing =
       packer = λ counter section out. pack-keeps (packer.packing (length out) counter section) out;
       unpacker = λ s p out r l e.
           (unpack-keeps (completed.verdictFor s p out) out r e, unpacker-keeps (completed.verdictFor s p out) s _ r (state-means s p out l) e);
+      printers = λ v out. printed-keeps (printer.fitting (length out) v) out;
+      typing = typed-keeps;
       feed = λ g store s. fed-keeps store (payloadOf s) (verdictOf g store s);
       hand-out = λ g store out. handed-keeps (bodyHeld g store) out (handedOf g store out);
       teaching-full = λ buffer used store s. taught-keeps buffer used store s TeachingBufferFull (omega arith);

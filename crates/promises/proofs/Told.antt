@@ -7,9 +7,10 @@ use mathlib.Core.Option.{Option, none, some}
 use native.Mathlib.Omega.{arith}
 use native.Mathlib.Nat.{pow-le-pow-right, lt-of-lt-of-le}
 use lib.ListN.{length, length-take}
-use lib.Dec.{leb, ltb}
+use lib.Dec.{leb, ltb, eqb}
 use lib.IntN.{ℤ}
 use borrow.Author.Tests.{leb-true}
+use Rattle.ground_choices.specs.Choice.{if_then_else_}
 use Rattle.ground_refusal.specs.declared.Refusal.{Refusal}
 use Rattle.ground_refusal.specs.declared.Refusal.the-variants.{OutsideSet, OutputTooSmall, TooLarge}
 use Rattle.crc_register.proofs.Laws.{crc-lt}
@@ -19,7 +20,7 @@ use Rattle.time_days.specs.declared.DayAnswer.{DayAnswer}
 use Rattle.time_days.specs.declared.DayAnswer.the-variants.{Day, Refused as NoDay}
 use Rattle.time_days.proofs.Answers.{weekday-accepted}
 use Rattle.time_days.proofs.Theorems.{date-of-day, day-within, date-within, DateWithin}
-use Rattle.time_fields.specs.Field.{readTime}
+use Rattle.time_fields.specs.Field.{liveMark, readTime}
 use Rattle.time_fields.specs.declared.Timed.{Timed}
 use Rattle.time_fields.specs.declared.Timed.the-variants.{At as TimedAt, Refused as NotTimed}
 use Rattle.time_fields.specs.declared.Fielded.the-variants.{Field, Refused as NotFielded}
@@ -27,7 +28,11 @@ use Rattle.time_fields.proofs.Reading.{accepted-only}
 use Rattle.time_offset.specs.Offset.{isOffset}
 use Rattle.time_local.specs.Clock.{isClock, packedAt, packOf, unpackedAt, unpackOf}
 use Rattle.time_local.specs.declared.LocalTime.{LocalTime}
+use Rattle.time_local.specs.Text.{textOf}
+use Rattle.time_local.specs.declared.Unpacked.{Unpacked}
 use Rattle.time_local.specs.declared.Unpacked.the-variants.{At as LocalAt, Refused as NotUnpacked}
+use Rattle.time_printing.specs.Printing as printer
+use Rattle.time_printing.specs.declared.Printed.the-variants.{Characters}
 use Rattle.time_local.proofs.Clocks.{ClockWithin, clock-within, no-day, on-day, pack-by, unpack-by}
 use Rattle.time_local.proofs.RoundTrip.{unpack-packed, pack-unpacked}
 use Rattle.time_local.proofs.Characters.{text-accepted}
@@ -149,6 +154,46 @@ local-told f offset t e = let w = time-within t offset f (pack-unpacked t offset
 local-field-told : (f after : ℕ) (offset : ℤ) (t : LocalTime) → unpackOf f offset ≡ LocalAt t → TellsTime (localFieldAnswer offset (Is f after)) t
 unfolding localFieldAnswer
 local-field-told f after offset t e = rw (unpacks f offset t e .offset-is, e) (local-told f offset t e)
+
+-- ---- printed times
+
+-- at most 19 characters are printed
+characters-told : (s : List ℕ) → length s ≤ 19 → (room n : ℕ)
+    → printer.answerBy (printer.fitting room (printer.prints s)) ≡ Characters n → TellsValue (answerOf 0 n) n
+unfolding printer.answerBy printer.fitting
+characters-told s m room n e = by (ltb room (length s)) e
+  where
+    by : (b : Bool) → printer.answerBy (if b then printer.refuses OutputTooSmall else printer.prints s) ≡ Characters n → TellsValue (answerOf 0 n) n
+    by true e = absurd (let z : _≡_ {A = ℕ} 0 1 = cc in omega arith)
+    by false e = let k : length s ≡ n = cc in value-told n (omega arith)
+
+not-characters : {A : Type 0} (r : Refusal) (room n : ℕ) → printer.answerBy (printer.fitting room (printer.refuses r)) ≡ Characters n → A
+unfolding printer.answerBy printer.fitting
+not-characters r room n e = absurd (let z : _≡_ {A = ℕ} 0 1 = cc in omega arith)
+
+local-printed : (u : Unpacked) (room n : ℕ)
+    → printer.answerBy (printer.fitting room (printer.localText u)) ≡ Characters n → TellsValue (answerOf 0 n) n
+unfolding printer.localText textOf
+local-printed (LocalAt t) room n e = characters-told (textOf t) (let l : length (textOf t) ≡ 19 = refl in omega arith) room n e
+local-printed (NotUnpacked r) room n e = not-characters r room n e
+
+start-printed : (f : ℕ) (offset : ℤ) (room n : ℕ)
+    → printer.answerBy (printer.fitting room (printer.startText f offset)) ≡ Characters n → TellsValue (answerOf 0 n) n
+unfolding printer.startText
+start-printed f offset room n e = local-printed (unpackOf f offset) room n e
+
+end-printed : (f : ℕ) (offset : ℤ) (room n : ℕ)
+    → printer.answerBy (printer.fitting room (printer.endText f offset)) ≡ Characters n → TellsValue (answerOf 0 n) n
+unfolding printer.endText printer.liveText
+end-printed f offset room n e = by (isOffset offset) (eqb f liveMark) e
+  where
+    by : (a b : Bool)
+        → printer.answerBy (printer.fitting room
+        (if a then (if b then printer.prints printer.liveText else printer.startText f offset) else printer.refuses (OutsideSet 0)))
+        ≡ Characters n → TellsValue (answerOf 0 n) n
+    by true true e = characters-told printer.liveText (omega arith) room n e
+    by true false e = start-printed f offset room n e
+    by false b e = not-characters (OutsideSet 0) room n e
 
 -- ---- sections and the gathering
 
@@ -346,6 +391,8 @@ refusals-told =
       field = refusal-told;
       local = refusal-told;
       showing = refusal-told;
+      printed = refusal-told;
+      typed = refusal-told;
       section = refusal-told;
       section-count = refusal-told;
       cut = refusal-told;
@@ -386,6 +433,10 @@ told =
       before = value-told 0 (omega arith);
       on = value-told 1 (omega arith);
       ended = value-told 2 (omega arith);
+      printed-start = λ f offset out. start-printed f offset (length out);
+      printed-end = λ f offset out. end-printed f offset (length out);
+      typed = λ a b. value-told 0 (omega arith);
+      typed-fields = λ a b old. refl;
       heading = heading-back;
       section-count = count-told;
       cut = cut-told;

@@ -18,6 +18,11 @@ use Rattle.packet_writer.specs.declared.Packed.the-variants.{Refused as NotPack
 use Rattle.packet_memory.specs.State.{stateBytes}
 use Rattle.packet_reader.specs.Answers.{completedOf, sectionsOver, stateAfter}
 use Rattle.packet_reader.specs.declared.Completed.the-variants.{Refused as NotCompleted}
+use Rattle.time_printing.specs.Printing.{Verdict, printedOf, outputOf}
+use Rattle.time_printing.specs.declared.Printed.the-variants.{Refused as NotPrinted}
+use Rattle.time_printing.specs.declared.TypedTimes.{TypedTimes}
+use Rattle.time_printing.specs.declared.TypedTimes.the-variants.{Refused as NotTyped}
+use Rattle.c_answers.specs.Answers.{fieldsAfter}
 use Rattle.gathering_state.specs.State.{possibleOf, spoiledState}
 use Rattle.gathering_state.specs.declared.Gathering.{Gathering}
 use Rattle.gathering_feed.specs.Feeding.{fedOf, storeAfter}
@@ -55,7 +60,8 @@ pub record Numbered : Type 0 where
 
 -- "[..] given exactly when the list says": for sections, the gathering, two networks, the cutter, salvaging, packets, local times and text `Lists` states it, list by list. For
 -- bodies and writers the order is that of the fields, and the list is the definition that the answer is equal to (`Offered`): `reading` and the
--- tables' formats, for content `variantRead`; `writing`, for content `variantWritten`. So it is for days and instants, which have 18 to 20 alone: `dayOf`, `dateOf`, `showing`.
+-- tables' formats, for content `variantRead`; `writing`, for content `variantWritten`. So it is for days and instants, which have 18 to 20 alone: `dayOf`, `dateOf`, `showing`;
+-- and for printed times (`startText`, `endText`, then 21) and both times of a form (`typedTimes`).
 
 -- "[..] and a refused call writes nothing": whatever the refusal r, the output, the store, the tape and the list of records or runs are left as they were
 pub record WritesNothing : Type 1 where
@@ -67,6 +73,9 @@ pub record WritesNothing : Type 1 where
   -- "A refused packet changes nothing, not even the counter"
   pub unpacker : (s p out : List ℕ) (r : Refusal) → length s ≡ stateBytes → completedOf s p out ≡ NotCompleted r
       → (sectionsOver s p out ≡ out) × (stateAfter s p out ≡ s)
+  -- of a start and of an end, `startText` and `endText`; and of both times of a form, the numbers lent for their fields
+  pub printers : (v : Verdict) (out : List ℕ) (r : Refusal) → printedOf v out ≡ NotPrinted r → outputOf v out ≡ out
+  pub typing : (a : TypedTimes) (fields : List ℕ) (r : Refusal) → a ≡ NotTyped r → fieldsAfter a fields ≡ fields
   pub feed : (g : Gathering) (store s : List ℕ) (r : Refusal) → fedOf g store s .answer ≡ NotFed r → storeAfter g store s ≡ store
   pub hand-out : (g : Gathering) (store out : List ℕ) (r : Refusal) → handedOf g store out ≡ NotHanded r → outAfter g store out ≡ out
   pub pack : (g : Gathering) (store : List ℕ) (r : Refusal) → packingOf g store .answer ≡ NotHanded r → storePacked g store ≡ store

@@ -10,6 +10,7 @@ pub mod Salvaging
 pub mod Packets
 pub mod Rooms
 pub mod Teaching
+pub mod Road
 pub mod Values
 pub mod Determined
 pub mod Offered

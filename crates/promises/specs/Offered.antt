@@ -1,8 +1,10 @@
 -- What each function offered to C promises: any two results that its contract allows are equal. A line is a contract in its own words, with x for
 -- `now (x .entry)` and x′ for `now (x .exit)`. Written by tools/offered from the contracts; tests/check-promises holds it to them.
 use Prim.Native.Nat.{ℕ}
+use mathlib.Core.Bool.{not}
 use mathlib.Core.List.{List, _++_}
 use mathlib.Core.Path.{_≡_}
+use lib.Dec.{eqb}
 use lib.IntN.{ℤ}
 use lib.ListN.{length, drop}
 use Rattle.crc.specs.Crc.{crc32Of, crc16Of}
@@ -10,6 +12,8 @@ use Rattle.time_days.specs.Calendar.{dayOf, dateOf, weekdayOf}
 use Rattle.time_fields.specs.Showing.{showing}
 use Rattle.time_local.specs.Clock.{packOf, unpackOf}
 use Rattle.time_local.specs.Text.{readText}
+use Rattle.time_printing.specs.Printing.{printedOf, startText, outputOf, endText}
+use Rattle.time_printing.specs.Typing.{typedTimes}
 use Rattle.section_reader.specs.Section.{readSection, statedLength}
 use Rattle.salvage.specs.Salvage.{salvageOf, outputAfter, listAfter}
 use Rattle.section_cutter.specs.Cutting.{countedOf, cutAnswer, cutOutput}
@@ -51,13 +55,13 @@ use Rattle.configuration_fields.specs.Asked.{period, volume, parameterCount, pa
 use Rattle.teaching_feed.specs.Feeding.{taughtOf, bufferAfter}
 use Rattle.teaching_hand_out.specs.Asking as teaching-hand-out
 use Rattle.teaching_hand_out.specs.Asking.{headingOf, lackingOf}
-use Rattle.c_answers.specs.Answers.{dayAnswer, dateAnswer, weekdayAnswer, fieldAnswer, localAnswer, showingAnswer, salvagedAnswer, sectionAnswer, statedAnswer}
-use Rattle.c_answers.specs.Answers.{countAnswer, lengthAnswer, packAnswer, unpackAnswer, feedAnswer, handAnswer, readAnswer, numberAnswer, partAnswer}
-use Rattle.c_answers.specs.Answers.{writtenAnswer, localFieldAnswer, contentAnswer}
+use Rattle.c_answers.specs.Answers.{dayAnswer, dateAnswer, weekdayAnswer, fieldAnswer, localAnswer, showingAnswer, printedAnswer, timesAnswer, fieldsAfter}
+use Rattle.c_answers.specs.Answers.{salvagedAnswer, sectionAnswer, statedAnswer, countAnswer, lengthAnswer, packAnswer, unpackAnswer, feedAnswer, handAnswer}
+use Rattle.c_answers.specs.Answers.{readAnswer, numberAnswer, partAnswer, writtenAnswer, localFieldAnswer, contentAnswer}
 use Rattle.c_answers.specs.Version.{version}
 use Rattle.c_rooms_answers.specs.Answers.{endedAnswer, roomsAnswer}
 use Rattle.c_teaching_answers.specs.Answers.{headedAnswer, lackingAnswer}
-use Rattle.promises.specs.Determined.{Determined, Determined₃, Determined₂}
+use Rattle.promises.specs.Determined.{Determined, Determined₂, Determined₃}
 
 pub record Offered : Type 0 where
   -- The two checksums for C.
@@ -73,6 +77,14 @@ pub record Offered : Type 0 where
   pub nw-time-read-text : (text : List ℕ) (offset : ℤ) → Determined (λ r. r ≡ fieldAnswer (readText text offset))
   pub nw-time-unpack : (field : ℕ) (offset : ℤ) → Determined (λ r. r ≡ localAnswer (unpackOf field offset))
   pub nw-time-showing : (start end day second : ℕ) → Determined (λ r. r ≡ showingAnswer (showing start end (record { day = day; second = second })))
+  -- Times for people, for C: a time field printed day first, or as the word live, and both times of a form typed together.
+  pub nw-time-print-start : (field : ℕ) (offset : ℤ) (out : List ℕ) →
+      Determined₂ (λ r out′. (r ≡ printedAnswer (printedOf (startText field offset) out)) × (out′ ≡ outputOf (startText field offset) out))
+  pub nw-time-print-end : (field : ℕ) (offset : ℤ) (out : List ℕ) →
+      Determined₂ (λ r out′. (r ≡ printedAnswer (printedOf (endText field offset) out)) × (out′ ≡ outputOf (endText field offset) out))
+  pub nw-times-read-text : (start end : List ℕ) (live : ℕ) (offset : ℤ) (fields : List ℕ) →
+      Determined₂ (λ r fields′. (r ≡ timesAnswer (typedTimes start (not (eqb live 0)) end offset)) ×
+      (fields′ ≡ fieldsAfter (typedTimes start (not (eqb live 0)) end offset) fields))
   -- A capture salvaged for C: its good sections, and the list of its runs.
   pub nw-salvage : (capture out runs : List ℕ) →
       Determined₃ (λ r out′ runs′. (r ≡ salvagedAnswer (salvageOf capture (length out) (length runs))) ×

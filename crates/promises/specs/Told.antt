@@ -2,7 +2,7 @@
 use Prim.Native.Nat.{ℕ, _+_, _^_, _≤_, _<_}
 use mathlib.Core.Path.{_≡_}
 use mathlib.Core.Bool.{true, false}
-use mathlib.Core.List.{List}
+use mathlib.Core.List.{List, [], _∷_}
 use mathlib.Core.Option.{Option}
 use lib.ListN.{length}
 use lib.IntN.{ℤ}
@@ -21,6 +21,9 @@ use Rattle.time_local.specs.Clock.{packOf, unpackOf}
 use Rattle.time_local.specs.Text.{readText}
 use Rattle.time_local.specs.declared.LocalTime.{LocalTime}
 use Rattle.time_local.specs.declared.Unpacked.the-variants.{At as LocalAt, Refused as NotUnpacked}
+use Rattle.time_printing.specs.Printing.{startText, endText, printedOf}
+use Rattle.time_printing.specs.declared.Printed.the-variants.{Characters, Refused as NotPrinted}
+use Rattle.time_printing.specs.declared.TypedTimes.the-variants.{Fields, Refused as NotTyped}
 use Rattle.section_reader.specs.Section.{readSection}
 use Rattle.section_reader.specs.declared.Heading.{Heading}
 use Rattle.section_reader.specs.declared.Sectioned.the-variants.{Good, Refused as NotGood}
@@ -58,7 +61,7 @@ use Rattle.body_formats.specs.declared.Part.the-variants.{Of, Refused as NoPart
 use Rattle.index_records.specs.Records.{bodyRecorded}
 use Rattle.content_writer.specs.Written.{variantWritten}
 use Rattle.content_writer.specs.declared.Written.the-variants.{Of as WrittenOf, Refused as NotWritten}
-use Rattle.c_answers.specs.Answers.{answerOf, dayAnswer, dateAnswer, weekdayAnswer, fieldAnswer, localAnswer, showingAnswer, sectionAnswer, countAnswer, lengthAnswer, salvagedAnswer, packAnswer, unpackAnswer, feedAnswer, handAnswer, readAnswer, numberAnswer, partAnswer, writtenAnswer, contentAnswer, localFieldAnswer}
+use Rattle.c_answers.specs.Answers.{answerOf, dayAnswer, dateAnswer, weekdayAnswer, fieldAnswer, localAnswer, showingAnswer, printedAnswer, timesAnswer, fieldsAfter, sectionAnswer, countAnswer, lengthAnswer, salvagedAnswer, packAnswer, unpackAnswer, feedAnswer, handAnswer, readAnswer, numberAnswer, partAnswer, writtenAnswer, contentAnswer, localFieldAnswer}
 use Rattle.c_rooms_answers.specs.Answers.{endedAnswer, roomsAnswer}
 use Rattle.c_teaching_answers.specs.Answers.{headedAnswer, lackingAnswer}
 use Rattle.c_answers.specs.Taking.{refusalTold, TellsRefusal, TellsValue, TellsDate, TellsTime, TellsHeading, TellsPart, TellsContent, TellsSalvaged}
@@ -74,6 +77,8 @@ pub record RefusalsTold : Type 0 where
   pub field : Refuses fieldAnswer NotFielded
   pub local : Refuses localAnswer NotUnpacked
   pub showing : Refuses showingAnswer showing.Refused
+  pub printed : Refuses printedAnswer NotPrinted
+  pub typed : Refuses timesAnswer NotTyped
   pub section : Refuses sectionAnswer NotGood
   pub section-count : Refuses countAnswer NotCounted
   pub cut : Refuses lengthAnswer NotCut
@@ -112,6 +117,13 @@ pub record Told : Type 1 where
   pub before : TellsValue (showingAnswer showing.Before) 0
   pub on : TellsValue (showingAnswer showing.On) 1
   pub ended : TellsValue (showingAnswer showing.Ended) 2
+  -- how many characters were printed; two typed times are accepted with 0, and both fields stand in the numbers lent
+  pub printed-start : (f : ℕ) (offset : ℤ) (out : List ℕ) (n : ℕ) → printedOf (startText f offset) out ≡ Characters n
+      → TellsValue (printedAnswer (Characters n)) n
+  pub printed-end : (f : ℕ) (offset : ℤ) (out : List ℕ) (n : ℕ) → printedOf (endText f offset) out ≡ Characters n
+      → TellsValue (printedAnswer (Characters n)) n
+  pub typed : (a b : ℕ) → TellsValue (timesAnswer (Fields a b)) 0
+  pub typed-fields : (a b : ℕ) (old : List ℕ) → fieldsAfter (Fields a b) old ≡ a ∷ b ∷ []
   -- sections and the gathering
   pub heading : (s : List ℕ) (h : Heading) (n : ℕ) → AreBytes s → readSection s ≡ Good h n → TellsHeading (sectionAnswer (Good h n)) h
   pub section-count : (bytes n : ℕ) → countedOf bytes ≡ Sections n → TellsValue (countAnswer (Sections n)) n

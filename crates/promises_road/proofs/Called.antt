@@ -128,11 +128,11 @@ can-take : (ss : List (List ℕ)) → AllGood ss → TakenOut (joined ss) ss
 unfolding joined
 can-take [] g = refl
 can-take (s ∷ ss) g = (
-    length s,
-    good-states s (joined ss) (g .0 .0) (g .0 .1) (g .0 .2),
-    sym (take-at s (joined ss) (length s) refl),
-    subst (λ (b : List ℕ). TakenOut b ss) (sym (drop-at s (joined ss) (length s) refl)) (can-take ss (g .1)),
-  )
+  length s,
+  good-states s (joined ss) (g .0 .0) (g .0 .1) (g .0 .2),
+  sym (take-at s (joined ss) (length s) refl),
+  subst (λ (b : List ℕ). TakenOut b ss) (sym (drop-at s (joined ss) (length s) refl)) (can-take ss (g .1)),
+)
 
 -- ---- together
 

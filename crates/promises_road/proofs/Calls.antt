@@ -107,7 +107,7 @@ all-packed c (s ∷ ss) stream l v =
     let rest = all-packed ((c + v .1 / packetBytes) % 16) ss (v .2) (omega arith) (v .5) in (
       (one-packed c s (v .0) (v .1) e .0, rest .0),
       v .4 ∙ ap₂ _++_ (one-bytes c s (v .0) (v .1) e) (rest .1 ∙ ap (λ (x : ℕ). laid (packedAll x ss)) (counted c s (v .0) (v .1) l e))
-      ∙ sym (laid-append (packed c s) (packedAll (after (length (packed c s)) c) ss)),
+          ∙ sym (laid-append (packed c s) (packedAll (after (length (packed c s)) c) ss)),
     )
 
 -- ---- the stream's packets
