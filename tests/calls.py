@@ -10,6 +10,12 @@ ECHOES = ['- 0 0 0 - -', '00ff0a 4294967295 -2147483648 18446744073709551615 7f8
           '7f 1 2147483647 1099511627776 - 0']
 
 
+def version():
+    """The version that the file VERSION has."""
+    with open(os.path.join(TESTS, os.pardir, 'VERSION'), encoding='ascii') as file:
+        return file.read().strip()
+
+
 def hexadecimal(data):
     """A byte string as a request has it: a last byte that stands there often is given once."""
     before = len(data.rstrip(data[-1:]))

@@ -21,7 +21,7 @@ FIELDS, TIMES = 'line field weekday', 'line time weekday'
 TAKEN = FIELDS + '\n1 ECC9074500 7\n'
 USAGE = {'nw-dates': 'usage: nw-dates [--fields] [--offset MINUTES] [FILE]; nw-dates --help says more',
          'nw-section': 'usage: nw-section [FILE]; nw-section --help says more'}
-VERSION = ' 0.2.0\n'
+VERSION = ' ' + calls.version() + '\n'
 
 RETURNS = 'lines that end with CR LF: %d, the first of them line %d; they are refused, as LF alone has to end a line'
 MARK = 'line 1 begins with a byte order mark, EF BB BF: it is refused, as a line has to begin with its digits'

@@ -96,13 +96,14 @@ def source_version():
     """The version by the file VERSION, the text and then each number, which the definition must have too."""
     text = read('VERSION').strip()
     numbers = [int(n) for n in re.search(r'^version = versionNumber (\d+) (\d+) (\d+)$', read('crates', 'c_answers', 'specs', 'Version.antt'), re.M).groups()]
-    return {'text': text, **dict(zip(['MAJOR', 'MINOR', 'PATCH'], map(int, text.split('.')))), 'defined': numbers}
+    return {'text': text, **dict(zip(['MAJOR', 'MINOR', 'PATCH'], map(int, text.split('.')))), 'defined': numbers, 'latest': text}
 
 
 def header_version(header):
-    """The same of the header's macros."""
+    """The same of the header's macros, and the version that CHANGELOG.md has first."""
     found = {name: int(number) for name, number in re.findall(r'^#define NW_VERSION_(MAJOR|MINOR|PATCH) (\d+)$', header, re.M)}
-    return {'text': re.search(r'^#define NW_VERSION "(.*)"$', header, re.M)[1], **found, 'defined': list(found.values())}
+    return {'text': re.search(r'^#define NW_VERSION "(.*)"$', header, re.M)[1], **found, 'defined': list(found.values()),
+            'latest': re.search(r'^## (\S+)$', read('CHANGELOG.md'), re.M)[1]}
 
 
 def source_constants(names):

@@ -5,6 +5,7 @@ import subprocess
 import sys
 import tempfile
 
+import calls
 import second_salvage as second
 from second_sections import printed
 
@@ -107,7 +108,7 @@ def try_words():
     for out, said in (('none/out', "none/out can't be opened: No such file or directory"), ('folder', "folder can't be opened: Is a directory"),
                       ('/dev/full', "/dev/full is not whole, it can't be written: No space left on device")):
         expect('--output ' + out, run(['--output', out], ONE), 2, '', 'nw-salvage: %s\n' % said)
-    expect('--version', run(['--version']), 0, 'nw-salvage 0.2.0\n', '')
+    expect('--version', run(['--version']), 0, 'nw-salvage %s\n' % calls.version(), '')
     status, output, said = run(['--help'])
     expect('--help', (status, output[:17], said), 0, 'usage: nw-salvage', '')
     for word in ('--output OUT', 'FILE', '--help', '--version', 'Exit status: 0, ', '; 1, ', '; 2, '):
