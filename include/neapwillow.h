@@ -15,9 +15,11 @@
  *
  * Stack: the most that a call takes of it, the return address included, stands with each function, or
  * with the first of those that share it; what memcpy, memmove and memset of the C library take comes
- * on top. A test finds it in the archive's code, along every way. No function calls itself.
+ * on top. A test finds it in the code of the archive for x86-64, along every way; another processor or
+ * compiler takes another. No function calls itself.
  *
- * Link with libneapwillow.a (x86-64 Linux). */
+ * Link with libneapwillow.a or libneapwillow.so. */
+/* SPDX-License-Identifier: MIT */
 #ifndef NEAPWILLOW_H
 #define NEAPWILLOW_H
 
