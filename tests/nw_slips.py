@@ -170,8 +170,8 @@ def try_refusals():
 def try_captures():
     for name, made in make.CAPTURES.items():
         data, words, status, lines = made()
-        if HOW == 'as shipped':
-            lines = [fact for fact in lines if '|' not in fact]  # the emulator's C library may have no conversions
+        if len(PROGRAM) > 1:
+            lines = [fact for fact in lines if '|' not in fact]  # an emulator's C library may have no conversions
         expect_lines(name, ['show', *words, '-'], data, status, lines)
         bytes_told = run(['show', '--bytes', *words, '-'], data)
         expect(name + ' in bytes', bytes_told, status, None, [])
