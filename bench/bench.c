@@ -2,6 +2,7 @@
 //
 // A new operation is its contenders, each a function of a byte string to a number that may write `output`, what fills
 // the input that they are given, and its line in `operations`.
+// SPDX-License-Identifier: MIT
 #define _POSIX_C_SOURCE 200809L
 #include <inttypes.h>
 #include <stdio.h>

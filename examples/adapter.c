@@ -23,6 +23,7 @@
 //
 // Exit status: 0, FILE is written. 1, the form is refused: each fault is told, and FILE stays as it was. 2, wrong usage, a
 // form that can't be read, or a FILE that can't be written.
+// SPDX-License-Identifier: MIT
 #include <errno.h>
 #include <neapwillow.h>
 #include <stdarg.h>

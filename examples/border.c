@@ -11,6 +11,7 @@
 // not so, and it is said what, or no table came from one of them. 2, wrong usage, a file that can't be read, or output that can't be written.
 //
 // Limits: files of 16 MiB, 64 tables of each network; no signature is checked, and of a table nothing is shown but its length: box.c shows one.
+// SPDX-License-Identifier: MIT
 #include <errno.h>
 #include <neapwillow.h>
 #include <stdarg.h>

@@ -23,6 +23,7 @@
 //
 // Limits: 16 tables, files of 64 MiB, no signature is checked, of certificate and configuration tables nothing is shown, and
 // sections that are not current are left out, which is said.
+// SPDX-License-Identifier: MIT
 #include <errno.h>
 #include <iconv.h>
 #include <inttypes.h>

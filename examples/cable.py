@@ -5,6 +5,7 @@ of three packets or more the second is lost, or marked with the error bit, by tu
 stand between. Sections: the last comes first, each comes twice, and one is damaged. It takes anything: of nothing it makes nothing, and bytes at
 the end that are no whole section are passed on.
 """
+# SPDX-License-Identifier: MIT
 import itertools
 import sys
 

@@ -3,6 +3,7 @@
 // The library unpacks, and does not say what it drops. Who judges a cable has to know: so the counters, and how much has come of the
 // section that is unfinished, are followed here beside it. A section's bytes are the library's alone. Where 16 packets in a row are lost,
 // or a multiple of it, the counters show nothing.
+// SPDX-License-Identifier: MIT
 #ifndef STREAM_H
 #define STREAM_H
 

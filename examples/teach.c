@@ -8,6 +8,7 @@
 //
 // Exit status: 0, both gave the same answers to the end, or until the teaching buffer was full, which is said. 1, they did not: that
 // would be a fault of the library. 2, wrong usage, or a file that can't be read.
+// SPDX-License-Identifier: MIT
 #include <neapwillow.h>
 #include <stdbool.h>
 #include <stdio.h>

@@ -1,4 +1,5 @@
 // The certificate table's target.
+// SPDX-License-Identifier: MIT
 #include "table.h"
 
 static void make(struct input *in, nw_form *f) {

@@ -1,4 +1,5 @@
 // The configuration table's target.
+// SPDX-License-Identifier: MIT
 #include "table.h"
 
 static void put_terminals(struct input *in, nw_form *f) {

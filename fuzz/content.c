@@ -1,4 +1,5 @@
 // The content table's target, in both variants.
+// SPDX-License-Identifier: MIT
 #include "table.h"
 
 static uint32_t variant;

@@ -1,4 +1,5 @@
 // What the targets of gatherings share: a body, and sections of it, good and not.
+// SPDX-License-Identifier: MIT
 #ifndef CUTS_H
 #define CUTS_H
 

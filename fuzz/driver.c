@@ -1,4 +1,5 @@
 // driver COUNT: calls a fuzz target on so many inputs made by chance, always the same ones: for a sanitizer without libFuzzer.
+// SPDX-License-Identifier: MIT
 #include "trial.h"
 
 // xorshift64: the next number of a run that never comes to zero.

@@ -1,4 +1,5 @@
 // The gathering's target: feeds, handings out and packings over one state and one store, beside the bodies that were cut.
+// SPDX-License-Identifier: MIT
 #include "cuts.h"
 
 enum { STORE = 4 * NW_MOST_PAYLOAD };

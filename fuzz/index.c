@@ -1,4 +1,5 @@
 // The index table's target.
+// SPDX-License-Identifier: MIT
 #include "table.h"
 
 static void put_time(struct input *in, nw_form *f, bool end) {

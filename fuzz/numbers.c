@@ -1,4 +1,5 @@
 // The target of checksums, days, times, and the header's own texts: digits, and the words of refusals.
+// SPDX-License-Identifier: MIT
 #include "trial.h"
 
 static void try_checksums(const uint8_t *data, size_t n) {

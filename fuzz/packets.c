@@ -1,4 +1,5 @@
 // The target of transport packets: any state, any packets, and sections packed and unpacked again.
+// SPDX-License-Identifier: MIT
 #include "trial.h"
 
 enum { ROOM = NW_MOST_COMPLETED_BYTES };

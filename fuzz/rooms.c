@@ -1,5 +1,6 @@
 // The target of two networks over one store: calls for either, beside two gatherings with stores of their own, which have to be answered the
 // same but where every room is held.
+// SPDX-License-Identifier: MIT
 #include "cuts.h"
 
 enum { MOST_ROOMS = 7 };

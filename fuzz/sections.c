@@ -1,4 +1,5 @@
 // The target of sections, read and cut, and of captures, salvaged.
+// SPDX-License-Identifier: MIT
 #include "trial.h"
 
 static void try_reading(const uint8_t *data, size_t n) {

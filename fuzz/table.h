@@ -1,4 +1,5 @@
 // What every table's target tries: a body that is read, laid and written again, and a form that is written and read again.
+// SPDX-License-Identifier: MIT
 #ifndef TABLE_H
 #define TABLE_H
 

@@ -1,4 +1,5 @@
 // The slow gathering's target: feeds to it and to the quick one side by side, and buffers of any bytes with any number in use.
+// SPDX-License-Identifier: MIT
 #include "trial.h"
 
 enum { LAST = 3, STORE = NW_STORE_BYTES(LAST), BUFFER = 24 * 1024, FEEDS = 16 };

@@ -2,6 +2,7 @@
 //
 // A target is a function LLVMFuzzerTestOneInput: libFuzzer calls it on inputs that reach new code (tests/check-fuzz),
 // driver.c on inputs made by chance (tests/check-sanitizers). What must hold and does not ends the program.
+// SPDX-License-Identifier: MIT
 #ifndef TRIAL_H
 #define TRIAL_H
 

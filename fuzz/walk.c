@@ -1,5 +1,6 @@
 // The target of nw's walk through a body: its fields stand in a row and are all of the body, and the one that is marked as refused is
 // the reader's.
+// SPDX-License-Identifier: MIT
 #include "trial.h"
 
 #include "../programs/nw/sha256.c"

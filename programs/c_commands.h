@@ -1,5 +1,6 @@
 /* c_commands.h: what the commands call of libc_commands.a, each proved in crates/c_commands to do what is said here.
  * tests/check-header holds the declarations and the numbers to the source. */
+/* SPDX-License-Identifier: MIT */
 #ifndef COMMANDLINES_H
 #define COMMANDLINES_H
 

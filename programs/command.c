@@ -1,4 +1,5 @@
 // command.c: what the commands share: the input read whole, the output written whole, what goes wrong said.
+// SPDX-License-Identifier: MIT
 #include "command.h"
 #include <errno.h>
 #include <limits.h>

@@ -1,4 +1,5 @@
 /* command.h: what the commands share: the input read whole, the output written whole, what goes wrong said. */
+/* SPDX-License-Identifier: MIT */
 #ifndef COMMAND_H
 #define COMMAND_H
 

@@ -3,6 +3,7 @@
 //
 // In UTC the report is the proved nw_dates_report's. At another offset, and from fields, each line is answered by proved
 // functions of the library, and this file takes the lines apart and prints the answers.
+// SPDX-License-Identifier: MIT
 #include "dates.h"
 #include <neapwillow.h>
 #include <stdarg.h>

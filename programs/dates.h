@@ -1,4 +1,5 @@
 /* dates.h: the date program, as the command nw-dates and as nw dates. */
+/* SPDX-License-Identifier: MIT */
 #ifndef DATES_H
 #define DATES_H
 

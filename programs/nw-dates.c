@@ -1,4 +1,5 @@
 // nw-dates: the date program as a command of its own.
+// SPDX-License-Identifier: MIT
 #include "dates.h"
 #include <locale.h>
 

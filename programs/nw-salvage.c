@@ -1,6 +1,7 @@
 // nw-salvage [--output OUT] [FILE]: reads a damaged capture, all of FILE or of standard input, and writes its good sections back to
 // back and the list of the runs of bytes that were kept and skipped. Both are made by proved functions, nw_salvage and
 // nw_salvage_list; this file reads, writes and says what is wrong.
+// SPDX-License-Identifier: MIT
 #include "command.h"
 #include <errno.h>
 #include <locale.h>

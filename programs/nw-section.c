@@ -1,4 +1,5 @@
 // nw-section: the section program as a command of its own.
+// SPDX-License-Identifier: MIT
 #include "section.h"
 #include <locale.h>
 

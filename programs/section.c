@@ -1,5 +1,6 @@
 // section.c: one section, all of FILE or of standard input, becomes the line of its number and its payload's length, or of its
 // refusal. The line is made by the proved nw_section_line; this file reads, writes and says what is wrong.
+// SPDX-License-Identifier: MIT
 #include "section.h"
 #include <neapwillow.h>
 #include <string.h>

@@ -1,4 +1,5 @@
 /* section.h: the section program, as the command nw-section and as nw section. */
+/* SPDX-License-Identifier: MIT */
 #ifndef SECTION_H
 #define SECTION_H
 

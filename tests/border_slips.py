@@ -1,4 +1,5 @@
 """Slips in what the box at a border is called with, and pairs of captures for it: the words it has to say, and its status."""
+# SPDX-License-Identifier: MIT
 from file_slips import DRILL, LONG, ONE, TWO
 
 USAGE = 'usage: border [--rooms N] FILE1 FILE2; border --help says more'

@@ -3,6 +3,7 @@
 The browser sees the elements that a strict parser sees; nothing is wider than the window, no text of a picture is cut off or lies over another, texts
 stand out from what is behind them (4.5 to 1, as WCAG 2 asks), and nothing is loaded.
 """
+# SPDX-License-Identifier: MIT
 import collections
 import html
 import json

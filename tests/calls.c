@@ -4,6 +4,7 @@
 // hexadecimal, tapes as numbers with a comma between two, lists of records so too, with six numbers for each, `-` for
 // what is empty. So are answers. In a request `005a*20` is 00 and then 5a twenty times over. A new call is a function and
 // its line in `calls`.
+// SPDX-License-Identifier: MIT
 #define _POSIX_C_SOURCE 200809L
 #include <errno.h>
 #include <inttypes.h>

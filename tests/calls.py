@@ -1,4 +1,5 @@
 """Puts requests to the library through tests/calls.c, and holds its answers to those of a second program."""
+# SPDX-License-Identifier: MIT
 import os
 import subprocess
 import sys

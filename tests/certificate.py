@@ -1,4 +1,5 @@
 """Certificate bodies and forms, good, damaged, too large, by chance: as the library takes them and a second program."""
+# SPDX-License-Identifier: MIT
 import itertools
 import random
 

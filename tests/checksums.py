@@ -1,4 +1,5 @@
 """CRC_32 and CRC-16 of 1,000 byte strings: the library's, a plain bit-by-bit register's, and crcmod's."""
+# SPDX-License-Identifier: MIT
 import random
 
 import calls

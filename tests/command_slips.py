@@ -1,4 +1,5 @@
 """What nw-dates and nw-section write, say and end with, slip by slip: command_slips.py HOW FOLDER RUNNER.."""
+# SPDX-License-Identifier: MIT
 import os
 import random
 import subprocess

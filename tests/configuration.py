@@ -1,4 +1,5 @@
 """Configuration bodies, forms, fields asked for, good, damaged, by chance: as the library and a second program do."""
+# SPDX-License-Identifier: MIT
 import random
 
 import configuration_cases

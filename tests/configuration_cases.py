@@ -1,4 +1,5 @@
 """Configuration bodies and calls made by hand, with what 01's words say of them; every refusal that can be met."""
+# SPDX-License-Identifier: MIT
 from table_checks import on_tape, pairs
 
 KIND = 0xFB

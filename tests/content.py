@@ -1,4 +1,5 @@
 """Content bodies, forms, fields asked for, good, damaged, by chance: as the library takes them and a second program."""
+# SPDX-License-Identifier: MIT
 import functools
 import random
 

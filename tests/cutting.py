@@ -1,4 +1,5 @@
 """Bodies counted and cut into sections: the library's answers and outputs, a second program's, and crcmod's check."""
+# SPDX-License-Identifier: MIT
 import itertools
 import random
 import sys

@@ -1,4 +1,5 @@
 """The date program's whole output on generated inputs, beside a second program's."""
+# SPDX-License-Identifier: MIT
 import random
 
 import calls

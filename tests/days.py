@@ -1,4 +1,5 @@
 """Every 16-bit day number, and every date, possible or not, of 1899 to 2039: the library's calendar and Python's."""
+# SPDX-License-Identifier: MIT
 import datetime
 import itertools
 

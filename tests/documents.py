@@ -1,4 +1,5 @@
 """What the README and the man page say, and what is fuzzed, beside the installed library and the examples: documents.py FOLDER."""
+# SPDX-License-Identifier: MIT
 import glob
 import os
 import re

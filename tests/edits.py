@@ -11,6 +11,7 @@ faults, an edit names for each of them the declaration that can't be admitted be
 The log must have an error of that declaration in that file which is its own: not one that says no more than that another declaration was not admitted.
 Where a function's proof is the prover's own, the declaration is the one that would stand in the function's proof file.
 """
+# SPDX-License-Identifier: MIT
 import glob
 import os
 import re

@@ -1,4 +1,5 @@
 """The extensions of 10,000 identifiers: the library's, and those of a program that divides whole numbers as polynomials."""
+# SPDX-License-Identifier: MIT
 import binascii
 import random
 

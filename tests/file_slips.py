@@ -1,4 +1,5 @@
 """Slips in a file of sections and in the box's call, with the sentences and the status that have to come: by hand, from the rules."""
+# SPDX-License-Identifier: MIT
 import binascii
 import random
 import re

@@ -1,4 +1,5 @@
 """Slips in a form and in the adapter's call, with the sentences and the status that have to come: by hand, from the rules."""
+# SPDX-License-Identifier: MIT
 
 # The good form, a line to a number from 1 on.
 LINES = (

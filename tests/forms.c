@@ -1,4 +1,5 @@
 // forms: a certificate table put together with the header's form helpers is written as its bytes are by hand, and a form without room is refused.
+// SPDX-License-Identifier: MIT
 #include <stdio.h>
 #include <string.h>
 

@@ -1,4 +1,5 @@
 """Gatherings by chance and by hand: the library's answers, states, stores and bodies, and a second program's."""
+# SPDX-License-Identifier: MIT
 import collections
 import itertools
 import random

@@ -1,4 +1,5 @@
 """The C headers against the source: exports' parameters and shapes of answer, lent structs, refusals, what takes answers apart."""
+# SPDX-License-Identifier: MIT
 import glob
 import os
 import re

@@ -1,4 +1,5 @@
 """HTML read strictly: every element is closed in its order, and each attribute is quoted and stands once; no code is shared with nw."""
+# SPDX-License-Identifier: MIT
 import html.parser
 import re
 

@@ -1,4 +1,5 @@
 """Index bodies and calls made by hand, with what document 01's words say of them; every refusal that can be met."""
+# SPDX-License-Identifier: MIT
 from make_fields import checked
 from table_checks import on_tape, pairs
 

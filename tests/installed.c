@@ -1,4 +1,5 @@
 /* installed: what a C or a C++ program sees of the installed library: its version, how a state lies, a call, and every number of a byte, and some larger ones, as a refusal in words. */
+/* SPDX-License-Identifier: MIT */
 #include <neapwillow.h>
 #include <stddef.h>
 #include <stdio.h>

@@ -7,6 +7,7 @@ adaptation fields fill packets up or stand alone, and packets are sent twice. Of
 itself, and Birch's line loses and spoils packets. Cedar's capture is a transport stream, from which packets are missing.
 What has to be said is worked out here from the same values that the bytes are made of.
 """
+# SPDX-License-Identifier: MIT
 import datetime
 import hashlib
 import os

@@ -1,4 +1,5 @@
 """Configuration tables by chance, as values, bodies and forms, good and damaged; all from a seed."""
+# SPDX-License-Identifier: MIT
 import datetime
 import itertools
 

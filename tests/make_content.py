@@ -1,4 +1,5 @@
 """Content tables by chance, as values, bodies of both variants and forms, good and damaged; all from a seed."""
+# SPDX-License-Identifier: MIT
 import binascii
 import functools
 import itertools

@@ -1,4 +1,5 @@
 """What the generators of tables share: parts by chance, damage to bodies and forms, whole readings and writings."""
+# SPDX-License-Identifier: MIT
 import collections
 import datetime
 import itertools

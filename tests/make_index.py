@@ -1,4 +1,5 @@
 """Index tables by chance, as values, bodies and forms, good and damaged; all from a seed."""
+# SPDX-License-Identifier: MIT
 import make_fields as make
 from make_fields import END, LIVE, MOST_BODY, SHORT, TOP
 

@@ -1,4 +1,5 @@
 """Forms measured: a good one needs the room that is told, and of one with one field spoiled that field's entry is told."""
+# SPDX-License-Identifier: MIT
 import random
 
 import calls

@@ -4,6 +4,7 @@ Sections of some tables in several versions, repeated, out of order, not current
 added between and inside them; or in transport packets, of which some are lost, repeated, marked with the error bit or of another PID. The model
 finds the sections, gathers them and says which bytes were skipped, which sections refused, and where the counters show a gap.
 """
+# SPDX-License-Identifier: MIT
 import json
 import random
 import subprocess

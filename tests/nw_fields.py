@@ -3,6 +3,7 @@
 Of a good body the fields are those that the generator laid down, with the standard's names, places, widths and values; of a damaged
 one the refusal and its place are a second program's, the marked field begins there, and together the fields are the whole body.
 """
+# SPDX-License-Identifier: MIT
 import datetime
 import hashlib
 import json

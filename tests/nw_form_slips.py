@@ -1,4 +1,5 @@
 """What `nw make`, `nw form`, `nw compare` of a form and `nw salvage` say and write, slip by slip: nw_form_slips.py HOW PROGRAM.."""
+# SPDX-License-Identifier: MIT
 import os
 import re
 import subprocess

@@ -3,6 +3,7 @@
 `nw make` of the form that a second program prints makes the generator's bodies; `nw form` of those bodies, cut at any places, prints that form.
 Of texts that the second program does not tell, the form is made again and printed again.
 """
+# SPDX-License-Identifier: MIT
 import os
 import random
 import subprocess

@@ -2,6 +2,7 @@
 
 The page is read strictly, by a parser of our own and, where Debian's html5lib is there, by that too; it runs nothing and loads nothing.
 """
+# SPDX-License-Identifier: MIT
 import datetime
 import json
 import os

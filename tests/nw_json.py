@@ -1,4 +1,5 @@
 """What `nw show --json` writes, beside its schema and the man page, which have each member: nw_json.py HOW PROGRAM.."""
+# SPDX-License-Identifier: MIT
 import json
 import os
 import re

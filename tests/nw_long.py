@@ -3,6 +3,7 @@
 A capture of so many megabytes is handed to nw through a pipe, under a limit of memory: SPARE megabytes more than what nw takes for a short one. What it
 tells of both is the same but for the counts.
 """
+# SPDX-License-Identifier: MIT
 import os
 import pty
 import re

@@ -1,4 +1,5 @@
 """What `nw` says, writes and ends with, slip by slip, and on captures of invented head ends: nw_slips.py HOW PROGRAM.."""
+# SPDX-License-Identifier: MIT
 import copy
 import json
 import os

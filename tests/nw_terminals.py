@@ -2,6 +2,7 @@
 
 FOLDER has the locales. What has to be shown is worked out by Python's codecs: a character of the terminal's set in its bytes, any other as \\u{..}.
 """
+# SPDX-License-Identifier: MIT
 import os
 import subprocess
 import sys

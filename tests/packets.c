@@ -5,6 +5,7 @@
 // what it holds. K, a counter, a length, a room and a section: it is packed; the answer is the refusal, a length and so many
 // bytes. Lengths and rooms are two bytes, the high one first. A refusal that changes the state, or a byte written behind what
 // is answered, ends the program.
+// SPDX-License-Identifier: MIT
 #include <stdio.h>
 #include <stdlib.h>
 #include <string.h>

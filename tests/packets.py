@@ -4,6 +4,7 @@ A hundred thousand streams of a few packets are made of sections and damaged: pa
 scrambled, of another PID, with adaptation fields, with pointers anywhere; some begin in a state of any bytes. After each packet the refusal, the
 sections and what is held are compared.
 """
+# SPDX-License-Identifier: MIT
 import collections
 import multiprocessing
 import os

@@ -3,6 +3,7 @@
 The second muxer puts sections one right behind the other, with adaptation fields and other PIDs between. Of a stream that ffmpeg makes the packets
 of its tables are taken, with nothing changed but their PID. Each time the library completes the sections that were sent, and tshark finds these.
 """
+# SPDX-License-Identifier: MIT
 import os
 import random
 import shutil

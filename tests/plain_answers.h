@@ -1,4 +1,5 @@
 // plain_answers.h: an answer in plain C: the 64 bits of the header's structs, taken apart without the header.
+// SPDX-License-Identifier: MIT
 #ifndef PLAIN_ANSWERS_H
 #define PLAIN_ANSWERS_H
 

@@ -1,4 +1,5 @@
 // plain_certificate: the certificate table in plain C, made from document 01 and the header alone.
+// SPDX-License-Identifier: MIT
 #include "plain_certificate.h"
 
 #include "plain_tables.h"

@@ -1,4 +1,5 @@
 // plain_certificate.h: the header's certificate functions in plain C, each with the library's contract.
+// SPDX-License-Identifier: MIT
 #ifndef PLAIN_CERTIFICATE_H
 #define PLAIN_CERTIFICATE_H
 

@@ -1,4 +1,5 @@
 // plain_configuration: the configuration table in plain C, made from document 01 and the header, to measure by.
+// SPDX-License-Identifier: MIT
 #include "plain_configuration.h"
 
 #include "plain_numbers.h"

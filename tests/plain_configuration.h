@@ -1,4 +1,5 @@
 // plain_configuration.h: the header's configuration functions in plain C, each with the library's contract.
+// SPDX-License-Identifier: MIT
 #ifndef PLAIN_CONFIGURATION_H
 #define PLAIN_CONFIGURATION_H
 

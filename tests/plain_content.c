@@ -1,4 +1,5 @@
 // plain_content: the content table in plain C, made from document 01 and the header alone, to measure the library by.
+// SPDX-License-Identifier: MIT
 #include "plain_content.h"
 
 #include "plain_numbers.h"

@@ -1,4 +1,5 @@
 // plain_content.h: the header's content functions in plain C, each with the library's contract (see neapwillow.h).
+// SPDX-License-Identifier: MIT
 #ifndef PLAIN_CONTENT_H
 #define PLAIN_CONTENT_H
 

@@ -1,4 +1,5 @@
 // plain_fields.h: what the tables in plain C share: fields read, laid, judged on a form, written and asked for.
+// SPDX-License-Identifier: MIT
 #ifndef PLAIN_FIELDS_H
 #define PLAIN_FIELDS_H
 

@@ -1,4 +1,5 @@
 // plain_index: the index table in plain C, made from document 01 and the header alone, to measure the library by.
+// SPDX-License-Identifier: MIT
 #include "plain_index.h"
 
 #include "plain_numbers.h"

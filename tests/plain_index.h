@@ -1,4 +1,5 @@
 // plain_index.h: the header's index functions in plain C, each with the library's contract (see neapwillow.h).
+// SPDX-License-Identifier: MIT
 #ifndef PLAIN_INDEX_H
 #define PLAIN_INDEX_H
 

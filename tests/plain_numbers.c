@@ -1,4 +1,5 @@
 // plain_numbers: the version, checksums, days and times in plain C, made from document 01 and the header alone.
+// SPDX-License-Identifier: MIT
 #include "plain_numbers.h"
 
 #include <stdio.h>

@@ -1,4 +1,5 @@
 // plain_numbers.h: the header's checksums, days and times in plain C, each with the library's contract.
+// SPDX-License-Identifier: MIT
 #ifndef PLAIN_NUMBERS_H
 #define PLAIN_NUMBERS_H
 

@@ -1,5 +1,6 @@
 // plain_packets.c: packing and unpacking as a C programmer would write them, with memcpy, memmove and memcmp, and the same checks: of the
 // packet, of the counter and of the state, which may hold anything.
+// SPDX-License-Identifier: MIT
 #include "plain_packets.h"
 
 #include <stdbool.h>

@@ -1,4 +1,5 @@
 // plain_packets.h: the header's transport packets in plain C, each with the library's contract.
+// SPDX-License-Identifier: MIT
 #ifndef PLAIN_PACKETS_H
 #define PLAIN_PACKETS_H
 

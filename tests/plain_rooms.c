@@ -1,4 +1,5 @@
 // plain_rooms: two networks over one store of rooms, in plain C, made from request M-109 and the header alone.
+// SPDX-License-Identifier: MIT
 #include "plain_rooms.h"
 
 #include <stdbool.h>

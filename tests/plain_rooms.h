@@ -1,4 +1,5 @@
 // plain_rooms.h: the header's two networks over one store in plain C, each function with the library's contract.
+// SPDX-License-Identifier: MIT
 #ifndef PLAIN_ROOMS_H
 #define PLAIN_ROOMS_H
 

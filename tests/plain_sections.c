@@ -1,4 +1,5 @@
 // plain_sections: sections read and cut, and the gathering, in plain C, made from document 01 and the header alone.
+// SPDX-License-Identifier: MIT
 #include "plain_sections.h"
 
 #include <stdbool.h>

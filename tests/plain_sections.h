@@ -1,4 +1,5 @@
 // plain_sections.h: the header's sections and gathering in plain C, each with the library's contract.
+// SPDX-License-Identifier: MIT
 #ifndef PLAIN_SECTIONS_H
 #define PLAIN_SECTIONS_H
 

@@ -1,4 +1,5 @@
 // plain_tables.h: what every table in plain C does with a whole body and a whole form.
+// SPDX-License-Identifier: MIT
 #ifndef PLAIN_TABLES_H
 #define PLAIN_TABLES_H
 

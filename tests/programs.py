@@ -1,4 +1,5 @@
 """Runs a program of this repository on inputs, and holds its whole output to a second program's."""
+# SPDX-License-Identifier: MIT
 import subprocess
 import sys
 import time

@@ -1,4 +1,5 @@
 // real_day.h: the day in a message identifier, which whatever makes an identifier in C as a good one puts there.
+// SPDX-License-Identifier: MIT
 #ifndef REAL_DAY_H
 #define REAL_DAY_H
 

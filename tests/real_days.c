@@ -2,6 +2,7 @@
 //
 // For a year and a month, a line: for each day from 00 to 99 a letter. `.` is a day that every call takes; `x` one that every call that
 // judges an identifier refuses with 20, each at its place, and the others don't; `?` anything else.
+// SPDX-License-Identifier: MIT
 #include <inttypes.h>
 #include <stdio.h>
 #include <stdlib.h>

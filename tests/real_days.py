@@ -1,4 +1,5 @@
 """Every date of 1899 to 2039 and every month and day from 00 to 99 in an identifier: what the library takes, and Python's calendar."""
+# SPDX-License-Identifier: MIT
 import datetime
 import os
 import subprocess

@@ -4,6 +4,7 @@
 // END TYPE CLASS LEVEL RESOURCES..`, of which some have a content table, `content MESSAGE`, with `language LETTERS SET TEXT AGENCY FILES..`
 // for each language, where a file is its type and its data; then `go`. Bytes are in hexadecimal, - for none; a live end is the word live.
 // What is shown is printed in the same words, from the bodies that were handed out alone, so that a screen has the characters of its form.
+// SPDX-License-Identifier: MIT
 #include <inttypes.h>
 #include <stdio.h>
 #include <stdlib.h>

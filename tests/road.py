@@ -3,6 +3,7 @@
 Of 10,000 forms every offset of the range has some, and so have both ends of the days, live ends, both variants, and content tables of 200 sections.
 Days and times are Python's own datetime.
 """
+# SPDX-License-Identifier: MIT
 import datetime
 import os
 import random

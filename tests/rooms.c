@@ -10,6 +10,7 @@
 // All is done twice, for one box and for another whose networks are exchanged: a call for 1 is there one for 2. Answers that differ, states
 // that are not each other's exchanged ones, stores that differ, a refusal that changes something but that a contradiction spoils, or a
 // byte written behind what is answered end the program.
+// SPDX-License-Identifier: MIT
 #include <stdio.h>
 #include <stdlib.h>
 #include <string.h>

@@ -4,6 +4,7 @@ Runs of calls for either network in any interleaving, over tight and roomy store
 damaged; ends, begun or not, whole or not; handings out. Each is put to the library twice, with the networks exchanged (tests/rooms.c). Then states
 that no call left, each of them 12 exactly if the second program finds it impossible.
 """
+# SPDX-License-Identifier: MIT
 import collections
 import multiprocessing
 import os

@@ -3,6 +3,7 @@
 A name is `crate.name`, a definition, law, function or type; `crate.Record.field`, a part of a record or a case of a type; `crate/fault`, a
 fault of an edit in the crate's must-fail/; or the path of a file. What docs/PROMISES.md and docs/DECISIONS.md name is looked for too.
 """
+# SPDX-License-Identifier: MIT
 import glob
 import os
 import re

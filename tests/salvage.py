@@ -1,4 +1,5 @@
 """Captures whole, with pieces cut out, bits changed and sections in payloads: salvaged as a second program does it."""
+# SPDX-License-Identifier: MIT
 import random
 
 import calls

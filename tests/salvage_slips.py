@@ -1,4 +1,5 @@
 """What nw-salvage writes, says and ends with, slip by slip: salvage_slips.py HOW FOLDER RUNNER.."""
+# SPDX-License-Identifier: MIT
 import os
 import random
 import subprocess

@@ -4,6 +4,7 @@ Its code may call what docs/PROMISES.md lists and does not mark as inner, and wh
 by a promise of its own; and it may name the types in which they answer. Its definitions and proofs may cite any definition (`specs`) of the library,
 since the promises are stated in them, and of its proofs those of `promises` alone.
 """
+# SPDX-License-Identifier: MIT
 import glob
 import os
 import re

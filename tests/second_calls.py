@@ -1,4 +1,5 @@
 """What the second programs' answers to calls share, in the order of calls.c: parts, lent outputs, fields asked for."""
+# SPDX-License-Identifier: MIT
 from calls import Refused
 from second_fields import MOST_BODY, Reader, refuse
 

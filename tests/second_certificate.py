@@ -1,4 +1,5 @@
 """The second program for the certificate table, which shares no code with the library: a body read, asked for its fields, written."""
+# SPDX-License-Identifier: MIT
 import itertools
 
 from calls import Refused

@@ -1,4 +1,5 @@
 """The second program for the configuration table, no code shared with the library: read, written, laid."""
+# SPDX-License-Identifier: MIT
 import datetime
 import re
 

@@ -1,4 +1,5 @@
 """The second program's answers to the configuration table's calls, no code shared with the library."""
+# SPDX-License-Identifier: MIT
 import functools
 
 import second_configuration

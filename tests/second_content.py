@@ -1,4 +1,5 @@
 """The second program for the content table, no code shared with the library: read, written, laid on a tape."""
+# SPDX-License-Identifier: MIT
 from second_fields import Reader, Tape, counted, digits, entries, opaque, part, places, refuse, within
 
 KIND = 0xFE

@@ -1,4 +1,5 @@
 """What the second programs for index, content and configuration share: bodies by fields, tapes by entries."""
+# SPDX-License-Identifier: MIT
 import datetime
 
 from calls import Refused

@@ -2,6 +2,7 @@
 
 Texts of GB/T 2312 and GB/T 18030 are told here for ASCII and common characters alone: of other bytes the C library says what they are.
 """
+# SPDX-License-Identifier: MIT
 import datetime
 
 import second_content

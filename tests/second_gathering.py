@@ -1,4 +1,5 @@
 """The second program for the gathering, which shares no code with the library: a state and a store, fed, handed out, packed and shown."""
+# SPDX-License-Identifier: MIT
 import functools
 import struct
 import zlib

@@ -1,4 +1,5 @@
 """The second program's answers to the index table's calls, no code shared with the library, in calls.c's order."""
+# SPDX-License-Identifier: MIT
 import functools
 
 import second_content

@@ -3,6 +3,7 @@
 What the unpacker holds is a section begun, the last packet taken and whether its repeat was ignored. `held` reads that out of the 4,286 bytes
 that a caller lends: a mark, two bytes of length, the last packet, the section begun; their layout is taken from the library.
 """
+# SPDX-License-Identifier: MIT
 import calls
 
 PACKET, PID, LONGEST, STATE = 188, 0x21, 4096, 4286

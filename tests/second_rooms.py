@@ -4,6 +4,7 @@ and rooms are numbers of a set of free ones.
 From request M-109's words: rooms of 4,084 bytes, at most 512; one taken for each section whose number isn't yet held; given back when a
 network ends its own gathering or a takeover does, which gives its rooms back before it takes one. Order: 19, 12, 1 to 7, 8, 9, 11, 35.
 """
+# SPDX-License-Identifier: MIT
 import struct
 
 import second_gathering

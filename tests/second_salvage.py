@@ -1,4 +1,5 @@
 """The second program for salvaging, which shares no code with the library: the runs of a capture, and what is kept of it."""
+# SPDX-License-Identifier: MIT
 from calls import Refused
 from second_sections import section_length, section_read
 

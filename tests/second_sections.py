@@ -1,4 +1,5 @@
 """The second program for sections, which shares no code with the library: one printed, read, counted and cut."""
+# SPDX-License-Identifier: MIT
 import zlib
 
 from calls import Refused

@@ -3,6 +3,7 @@
 Written from documents 01 and 02. Kept strings are rows of an eight-byte length and a string. Their account is a heading and the sections of its table
 from the latest takeover on, in the order of their feeding; every answer is told by it.
 """
+# SPDX-License-Identifier: MIT
 import functools
 
 import second_sections

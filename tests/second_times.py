@@ -2,6 +2,7 @@
 
 Times for people are Python's own datetime: a field's moment at an offset, printed.
 """
+# SPDX-License-Identifier: MIT
 import datetime
 import math
 import re

@@ -1,4 +1,5 @@
 """The section program's output on sections, damaged ones and other inputs, beside a second program's."""
+# SPDX-License-Identifier: MIT
 import random
 
 import calls

@@ -1,4 +1,5 @@
 """Sections good, damaged in one or two ways, and made by chance: read and measured as a second program does it."""
+# SPDX-License-Identifier: MIT
 import itertools
 import random
 

@@ -1,4 +1,5 @@
 """Wrong uses of an answer, which must not compile, and right ones, which must: shapes.py COMPILER.. (with its language and warnings)."""
+# SPDX-License-Identifier: MIT
 import os
 import re
 import subprocess

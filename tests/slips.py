@@ -1,4 +1,5 @@
 """What adapter, boxes and cable say of slips in forms, files and calls, and their status: slips.py CABLE HOW FOLDER RUNNER.."""
+# SPDX-License-Identifier: MIT
 import os
 import subprocess
 import sys

@@ -11,6 +11,7 @@ largest limit of its functions.
 
 Last the check is put to itself: the module that the archive is compiled from, with a buffer planted in it that a limit has to show.
 """
+# SPDX-License-Identifier: MIT
 import collections
 import os
 import re

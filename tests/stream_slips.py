@@ -2,6 +2,7 @@
 
 The packets are a second program's (second_packets); the byte of a packet is 188 times its place, where nothing else is said.
 """
+# SPDX-License-Identifier: MIT
 from file_slips import EXTENSION, LONG, NEWER, NO_TEXT, ONE, SHOWN, TWO, UNKNOWN, changed, content, faults, language
 from second_packets import PACKET, packed
 

@@ -1,4 +1,5 @@
 """What the tests of tables share: the library held to a second program, what must be met."""
+# SPDX-License-Identifier: MIT
 import collections
 import types
 

@@ -8,6 +8,7 @@
 // fed; the answer is 64 bits, the number in use and the CRC-32 of the buffer. H and a room: the body is handed out; the answer
 // is 64 bits, a length and so many bytes. A: the heading, 64 bits. M: what is missing, 64 bits. Numbers have eight bytes, the
 // high one first. A byte that is written where none may be ends the program.
+// SPDX-License-Identifier: MIT
 #include <inttypes.h>
 #include <stdio.h>
 #include <stdlib.h>

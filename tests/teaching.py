@@ -5,6 +5,7 @@ headings, missing numbers and bodies have to be the same. Some thousands of runs
 and to a second program (second_teaching), which in turn is held to the second program of the quick one. What the requests and readings say of single calls
 stands here by hand.
 """
+# SPDX-License-Identifier: MIT
 import collections
 import multiprocessing
 import os

@@ -1,4 +1,5 @@
 """Times as numbers, fields and text, and messages at instants: the library's answers and a second program's."""
+# SPDX-License-Identifier: MIT
 import itertools
 import random
 

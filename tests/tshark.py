@@ -1,4 +1,5 @@
 """Sections that the library cuts, whole and with a bit changed, in a transport stream: as tshark reads them and the library."""
+# SPDX-License-Identifier: MIT
 import collections
 import os
 import random

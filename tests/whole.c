@@ -1,4 +1,5 @@
 // whole: the whole header against plain C, on many inputs made by chance: long and short, valid and damaged.
+// SPDX-License-Identifier: MIT
 #define _DEFAULT_SOURCE
 #include <inttypes.h>
 #include <signal.h>

@@ -1,4 +1,5 @@
 // whole.h: what the parts of `whole` share: chance, memory lent between walls, and the two answers compared.
+// SPDX-License-Identifier: MIT
 #ifndef WHOLE_H
 #define WHOLE_H
 

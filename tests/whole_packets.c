@@ -1,4 +1,5 @@
 // whole_packets.c: packets by chance, packed and unpacked by the library and by plain C, state after state.
+// SPDX-License-Identifier: MIT
 #include <string.h>
 
 #include "whole.h"

@@ -1,4 +1,5 @@
 // whole_rooms.c: two networks over one store, by the library and by plain C: calls by chance for either, state after state.
+// SPDX-License-Identifier: MIT
 #include <string.h>
 
 #include "whole.h"

@@ -1,4 +1,5 @@
 // whole_tables: the part of `whole` that makes forms and bodies of the four tables by chance, damages and tries them.
+// SPDX-License-Identifier: MIT
 #include <inttypes.h>
 #include <stdio.h>
 #include <string.h>

@@ -1,4 +1,5 @@
 // words: the header's digits to and from text, and its names of classes, levels and character sets, as made by hand.
+// SPDX-License-Identifier: MIT
 #include <stdio.h>
 #include <string.h>
 

@@ -1,4 +1,5 @@
 /* body.h: a body told to a person, in one of several ways. */
+/* SPDX-License-Identifier: MIT */
 #ifndef BODY_H
 #define BODY_H
 

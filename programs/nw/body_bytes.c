@@ -1,4 +1,5 @@
 // body_bytes.c: a body told byte by byte: where each field stands, its bytes, its name in the standard and its value.
+// SPDX-License-Identifier: MIT
 #include "body.h"
 #include <inttypes.h>
 #include <stdio.h>

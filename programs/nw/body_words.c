@@ -1,4 +1,5 @@
 // body_words.c: a body told in plain words, field by field.
+// SPDX-License-Identifier: MIT
 #include "body.h"
 #include "text.h"
 #include <inttypes.h>

@@ -1,4 +1,5 @@
 // capture.c: a capture of sections or of transport packets read through a window of bounded size, and the sections in it found.
+// SPDX-License-Identifier: MIT
 #include "capture.h"
 #include "progress.h"
 #include <string.h>

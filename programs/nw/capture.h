@@ -1,4 +1,5 @@
 /* capture.h: a capture of sections or of transport packets read through a window of bounded size, and the sections in it found. */
+/* SPDX-License-Identifier: MIT */
 #ifndef CAPTURE_H
 #define CAPTURE_H
 

@@ -1,4 +1,5 @@
 // compare.c: `nw compare [--auxiliary BITS] [--offset OFFSET] A B`: which field of which message of two captures or forms differs, in words.
+// SPDX-License-Identifier: MIT
 #include "compare.h"
 #include "load.h"
 #include "notes.h"

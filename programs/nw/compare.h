@@ -1,4 +1,5 @@
 /* compare.h: `nw compare`. */
+/* SPDX-License-Identifier: MIT */
 #ifndef COMPARE_H
 #define COMPARE_H
 

@@ -1,4 +1,5 @@
 /* content.h: what is asked of a content table beside its fields in a row. */
+/* SPDX-License-Identifier: MIT */
 #ifndef CONTENT_H
 #define CONTENT_H
 

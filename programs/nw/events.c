@@ -1,4 +1,5 @@
 // events.c: what was not simply taken of a capture, in a sentence each.
+// SPDX-License-Identifier: MIT
 #include "events.h"
 #include <inttypes.h>
 #include <stdarg.h>

@@ -1,4 +1,5 @@
 /* events.h: what was not simply taken of a capture, in a sentence each. */
+/* SPDX-License-Identifier: MIT */
 #ifndef EVENTS_H
 #define EVENTS_H
 

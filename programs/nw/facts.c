@@ -1,4 +1,5 @@
 // facts.c: what is told of a table beside its body, and of a capture all in all.
+// SPDX-License-Identifier: MIT
 #include "facts.h"
 #include "content.h"
 #include <inttypes.h>

@@ -1,4 +1,5 @@
 /* facts.h: what is told of a table beside its body, and of a capture all in all. */
+/* SPDX-License-Identifier: MIT */
 #ifndef FACTS_H
 #define FACTS_H
 

@@ -1,4 +1,5 @@
 /* form.h: tables as a written form: read and made into sections, and printed. */
+/* SPDX-License-Identifier: MIT */
 #ifndef FORM_H
 #define FORM_H
 

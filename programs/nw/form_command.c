@@ -1,4 +1,5 @@
 // form_command.c: `nw form [--auxiliary BITS] [--offset OFFSET] CAPTURE`: the tables of a capture as a written form.
+// SPDX-License-Identifier: MIT
 #include "form_command.h"
 #include "form.h"
 #include "load.h"

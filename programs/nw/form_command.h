@@ -1,4 +1,5 @@
 /* form_command.h: `nw form`. */
+/* SPDX-License-Identifier: MIT */
 #ifndef FORM_COMMAND_H
 #define FORM_COMMAND_H
 

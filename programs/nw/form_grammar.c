@@ -1,4 +1,5 @@
 // form_grammar.c: which lines stand in the written form of a table, in the order of the library's tapes (neapwillow.h has them).
+// SPDX-License-Identifier: MIT
 #include "form_grammar.h"
 
 #define COUNTED(items) items, sizeof items / sizeof *items

@@ -1,5 +1,6 @@
 /* form_grammar.h: which lines stand in the written form of a table, in the order of the library's tapes. Both ways go by it: `nw make`
  * reads a form with it and `nw form` prints one. */
+/* SPDX-License-Identifier: MIT */
 #ifndef FORM_GRAMMAR_H
 #define FORM_GRAMMAR_H
 

@@ -1,4 +1,5 @@
 // form_lines.c: the lines of a written form, one at hand, and the faults in them told by line and column.
+// SPDX-License-Identifier: MIT
 #include "form_lines.h"
 #include <errno.h>
 #include <stdarg.h>

@@ -1,4 +1,5 @@
 /* form_lines.h: the lines of a written form, one at hand, and the faults in them told by line and column. */
+/* SPDX-License-Identifier: MIT */
 #ifndef FORM_LINES_H
 #define FORM_LINES_H
 

@@ -1,4 +1,5 @@
 // form_print.c: a table printed as a written form, by the grammar, from the tape on which the library lays its body.
+// SPDX-License-Identifier: MIT
 #include "form.h"
 #include "form_strings.h"
 #include <inttypes.h>

@@ -1,4 +1,5 @@
 // form_read.c: a written form read by its grammar, line by line, onto the library's tapes, and its tables made and cut into sections.
+// SPDX-License-Identifier: MIT
 #include "form.h"
 #include <inttypes.h>
 #include <stdlib.h>

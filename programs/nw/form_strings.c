@@ -1,4 +1,5 @@
 // form_strings.c: bytes of a character set as characters of a written form, and back.
+// SPDX-License-Identifier: MIT
 #include "form_strings.h"
 #include <iconv.h>
 #include <langinfo.h>

@@ -1,5 +1,6 @@
 /* form_strings.h: bytes of a character set as characters of a written form, and back. Each way undoes the other, byte for byte: what has no
  * character, or one that can't be seen or would steer a terminal, is written as \xNN. */
+/* SPDX-License-Identifier: MIT */
 #ifndef FORM_STRINGS_H
 #define FORM_STRINGS_H
 

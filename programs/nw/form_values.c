@@ -1,4 +1,5 @@
 // form_values.c: what stands after a line's word, read whole; what is wrong with it is told.
+// SPDX-License-Identifier: MIT
 #include "form_values.h"
 #include "form_strings.h"
 #include "load.h"

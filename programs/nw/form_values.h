@@ -1,4 +1,5 @@
 /* form_values.h: what stands after a line's word, read whole; what is wrong with it is told. Each answers whether it is good. */
+/* SPDX-License-Identifier: MIT */
 #ifndef FORM_VALUES_H
 #define FORM_VALUES_H
 

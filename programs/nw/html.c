@@ -1,4 +1,5 @@
 // html.c: a capture told as one HTML page that needs nothing else: the verdict first, pictures, tables in words, and their bytes.
+// SPDX-License-Identifier: MIT
 #include "html.h"
 #include "events.h"
 #include "facts.h"

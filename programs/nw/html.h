@@ -1,4 +1,5 @@
 /* html.h: the parts of the page that `nw show --html` writes. */
+/* SPDX-License-Identifier: MIT */
 #ifndef HTML_H
 #define HTML_H
 

@@ -1,4 +1,5 @@
 // html_body.c: a body on an HTML page, in plain words and byte by byte.
+// SPDX-License-Identifier: MIT
 #include "body.h"
 #include "html.h"
 #include "page.h"

@@ -1,4 +1,5 @@
 // html_capture.c: the sections that came and went in a capture, drawn on an HTML page from its first byte to its last.
+// SPDX-License-Identifier: MIT
 #include "html.h"
 #include "page.h"
 #include <inttypes.h>

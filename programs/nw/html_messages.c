@@ -1,4 +1,5 @@
 // html_messages.c: the messages of a capture on an HTML page, drawn from the first start to the last end.
+// SPDX-License-Identifier: MIT
 #include "html.h"
 #include "page.h"
 #include "words.h"

@@ -1,4 +1,5 @@
 // html_style.c: how the page of `nw show --html` looks, on a screen, on a phone and on paper.
+// SPDX-License-Identifier: MIT
 #include "html.h"
 
 const char html_style[] =

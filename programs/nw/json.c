@@ -1,4 +1,5 @@
 // json.c: a capture told for scripts, as one JSON text of ASCII characters; nw(1) says what stands in it.
+// SPDX-License-Identifier: MIT
 #include "report.h"
 #include "text.h"
 #include "words.h"

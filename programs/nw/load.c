@@ -1,4 +1,5 @@
 // load.c: the words that commands over captures have in common: a capture or a form by its name, options.
+// SPDX-License-Identifier: MIT
 #include "load.h"
 #include "form.h"
 #include "progress.h"

@@ -1,4 +1,5 @@
 /* load.h: the words that commands over captures have in common: a capture or a form by its name, options. */
+/* SPDX-License-Identifier: MIT */
 #ifndef LOAD_H
 #define LOAD_H
 

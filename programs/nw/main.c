@@ -1,5 +1,6 @@
 // nw COMMAND ..: the bench volunteer's program: captures of emergency tables shown, compared, written down as forms and made from them, and the
 // small programs under one roof.
+// SPDX-License-Identifier: MIT
 #include "../dates.h"
 #include "../section.h"
 #include "compare.h"

@@ -1,4 +1,5 @@
 // make.c: `nw make [--auxiliary BITS] [--replace] FORM STREAM`: the tables of a written form as sections or transport packets.
+// SPDX-License-Identifier: MIT
 #include "make.h"
 #include "form.h"
 #include "load.h"

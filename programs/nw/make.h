@@ -1,4 +1,5 @@
 /* make.h: `nw make`. */
+/* SPDX-License-Identifier: MIT */
 #ifndef MAKE_H
 #define MAKE_H
 

@@ -1,4 +1,5 @@
 // notes.c: the fields of a body by name and value, to hold two bodies against each other.
+// SPDX-License-Identifier: MIT
 #include "notes.h"
 #include "sha256.h"
 #include "text.h"

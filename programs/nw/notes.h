@@ -1,4 +1,5 @@
 /* notes.h: the fields of a body by name and value, to hold two bodies against each other. */
+/* SPDX-License-Identifier: MIT */
 #ifndef NOTES_H
 #define NOTES_H
 

@@ -1,4 +1,5 @@
 // output.c: a file written whole or not at all.
+// SPDX-License-Identifier: MIT
 #define _POSIX_C_SOURCE 200809L
 #include "output.h"
 #include <errno.h>

@@ -1,5 +1,6 @@
 /* output.h: a file written whole or not at all: what stands there already is not replaced unless that is asked for, and then once the new
  * file is whole. */
+/* SPDX-License-Identifier: MIT */
 #ifndef OUTPUT_H
 #define OUTPUT_H
 

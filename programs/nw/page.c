@@ -1,4 +1,5 @@
 // page.c: the file that an HTML page is written to, whole or not at all, and what stands in it put safely.
+// SPDX-License-Identifier: MIT
 #include "page.h"
 #include "output.h"
 #include "text.h"

@@ -1,4 +1,5 @@
 /* page.h: the file that an HTML page is written to, whole or not at all, and what stands in it put safely. */
+/* SPDX-License-Identifier: MIT */
 #ifndef PAGE_H
 #define PAGE_H
 

@@ -1,4 +1,5 @@
 // plain.c: a capture told in plain words: what was skipped and refused, its tables, and all in all.
+// SPDX-License-Identifier: MIT
 #include "body.h"
 #include "events.h"
 #include "facts.h"

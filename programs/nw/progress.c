@@ -1,4 +1,5 @@
 // progress.c: how much of a capture above 10 MB is read, told on standard error where that is a terminal, or where it is asked for.
+// SPDX-License-Identifier: MIT
 #include "progress.h"
 #include <inttypes.h>
 #include <stdio.h>

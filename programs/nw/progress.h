@@ -1,4 +1,5 @@
 /* progress.h: how much of a capture above 10 MB is read, told on standard error where that is a terminal, or where it is asked for. */
+/* SPDX-License-Identifier: MIT */
 #ifndef PROGRESS_H
 #define PROGRESS_H
 

@@ -1,4 +1,5 @@
 /* report.h: what `nw show` tells of a capture, in the order in which it becomes known, to one of several reporters. */
+/* SPDX-License-Identifier: MIT */
 #ifndef REPORT_H
 #define REPORT_H
 

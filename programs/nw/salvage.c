@@ -1,4 +1,5 @@
 // salvage.c: `nw salvage [--replace] IN OUT`: the good sections of a damaged capture of any length, window by window by the proved nw_salvage.
+// SPDX-License-Identifier: MIT
 #include "salvage.h"
 #include "capture.h"
 #include "load.h"

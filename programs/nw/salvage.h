@@ -1,4 +1,5 @@
 /* salvage.h: `nw salvage`. */
+/* SPDX-License-Identifier: MIT */
 #ifndef SALVAGE_H
 #define SALVAGE_H
 

@@ -1,4 +1,5 @@
 // sha256.c: the SHA-256 digest (FIPS 180-4) of a byte string.
+// SPDX-License-Identifier: MIT
 #include "sha256.h"
 #include <stdio.h>
 #include <string.h>

@@ -1,4 +1,5 @@
 /* sha256.h: the SHA-256 digest (FIPS 180-4) of bytes that are told by it and not shown. */
+/* SPDX-License-Identifier: MIT */
 #ifndef SHA256_H
 #define SHA256_H
 

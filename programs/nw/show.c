@@ -1,4 +1,5 @@
 // show.c: `nw show [--bytes | --json | --html FILE [--replace]] [--auxiliary BITS] [--offset OFFSET] CAPTURE`: every table of a capture told to a person.
+// SPDX-License-Identifier: MIT
 #include "show.h"
 #include "events.h"
 #include "load.h"

@@ -1,4 +1,5 @@
 /* show.h: `nw show`. */
+/* SPDX-License-Identifier: MIT */
 #ifndef SHOW_H
 #define SHOW_H
 

@@ -1,4 +1,5 @@
 /* steps.h: the steps that a walk through a body is made of; each answers whether to go on, which a refusal ends. */
+/* SPDX-License-Identifier: MIT */
 #ifndef STEPS_H
 #define STEPS_H
 

@@ -1,4 +1,5 @@
 // tables.c: the sections of a capture gathered into tables, each by the library's gathering; what came of them is kept.
+// SPDX-License-Identifier: MIT
 #include "tables.h"
 #include "content.h"
 #include <stdlib.h>

@@ -1,4 +1,5 @@
 /* tables.h: the sections of a capture gathered into tables, each by the library's gathering; what came of them is kept. */
+/* SPDX-License-Identifier: MIT */
 #ifndef TABLES_H
 #define TABLES_H
 

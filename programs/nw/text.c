@@ -1,4 +1,5 @@
 // text.c: texts of a capture, decoded from their character set and shown so that nothing in them steers a terminal.
+// SPDX-License-Identifier: MIT
 #include "text.h"
 #include <iconv.h>
 #include <limits.h>

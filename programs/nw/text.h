@@ -1,4 +1,5 @@
 /* text.h: texts of a capture, decoded from their character set and shown so that nothing in them steers a terminal. */
+/* SPDX-License-Identifier: MIT */
 #ifndef TEXT_H
 #define TEXT_H
 

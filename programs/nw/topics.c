@@ -1,4 +1,5 @@
 // topics.c: what `nw help` tells beside how the commands are used: each refusal, and what to look at; and what stands in a form.
+// SPDX-License-Identifier: MIT
 #include "topics.h"
 #include <neapwillow.h>
 #include <stdio.h>

@@ -1,4 +1,5 @@
 /* topics.h: what `nw help` tells beside how the commands are used. */
+/* SPDX-License-Identifier: MIT */
 #ifndef TOPICS_H
 #define TOPICS_H
 

@@ -1,4 +1,5 @@
 // walk.c: the steps of a walk through a body, and the walk itself.
+// SPDX-License-Identifier: MIT
 #include "sha256.h"
 #include "steps.h"
 #include "words.h"

@@ -3,6 +3,7 @@
  * Each field is asked of the library, which judges it; the walk adds the field's name in the standard's tables, its place and
  * width, and its value in words. In a body that is refused it goes up to the refused field, which it marks, and tells what
  * bytes are left unread after it. */
+/* SPDX-License-Identifier: MIT */
 #ifndef WALK_H
 #define WALK_H
 

@@ -1,4 +1,5 @@
 // walk_certificate.c: the way through a certificate table (GD/J 086-2018, table 6).
+// SPDX-License-Identifier: MIT
 #include "steps.h"
 
 static bool authorization(struct walk *w, uint64_t i, uint64_t count) {

@@ -1,4 +1,5 @@
 // walk_configuration.c: the way through a configuration table (GD/J 086-2018, tables 7 to 15).
+// SPDX-License-Identifier: MIT
 #include "steps.h"
 #include "words.h"
 #include <stdio.h>

@@ -1,4 +1,5 @@
 // walk_content.c: the way through a content table (GD/J 086-2018, table 4), and all else that is asked of one.
+// SPDX-License-Identifier: MIT
 #include "content.h"
 #include "steps.h"
 

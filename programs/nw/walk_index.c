@@ -1,4 +1,5 @@
 // walk_index.c: the way through an index table (GD/J 086-2018, table 1).
+// SPDX-License-Identifier: MIT
 #include "steps.h"
 #include "words.h"
 

@@ -1,4 +1,5 @@
 // words.c: values of the standard in words.
+// SPDX-License-Identifier: MIT
 #include "words.h"
 #include <stdio.h>
 #include <stdlib.h>

@@ -1,4 +1,5 @@
 /* words.h: values of the standard in words. */
+/* SPDX-License-Identifier: MIT */
 #ifndef WORDS_H
 #define WORDS_H
 
