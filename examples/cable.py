@@ -1,8 +1,8 @@
 """What happens on the way, from standard input to standard output, to transport packets or, if they are bare, to sections.
 
-Packets: each section is sent twice, as head ends do, with counters that go on. On its first way every third packet comes twice, and of a section
-of three packets or more the second is lost, or marked with the error bit, by turns; of a shorter one a bit is damaged. Packets of another PID
-stand between. Sections: the last comes first, each comes twice, and one is damaged. It takes anything: of nothing it makes nothing, and bytes at
+Packets: each two neighbouring sections change places, and each section is sent twice, as head ends do, with counters that go on. On its first
+way every third packet comes twice, and of a section of three packets or more the second is lost, or marked with the error bit, by turns; of a
+shorter one a bit is damaged. Packets of another PID stand between. Sections: the last comes first, each comes twice, and one is damaged. It takes anything: of nothing it makes nothing, and bytes at
 the end that are no whole section are passed on.
 """
 # SPDX-License-Identifier: MIT
@@ -27,6 +27,11 @@ def sections_in(packets):
     return found
 
 
+def exchanged(sections):
+    """Each two neighbours in the other order."""
+    return [section for at in range(0, len(sections), 2) for section in sections[at:at + 2][::-1]]
+
+
 def first_way(packets, loses):
     """What comes of a section's packets."""
     for number, packet in enumerate(packets):
@@ -41,7 +46,7 @@ def first_way(packets, loses):
 
 def packets_through(packets):
     counter, loses = itertools.count(), itertools.cycle((True, False))
-    for section in sections_in(packets):
+    for section in exchanged(sections_in(packets)):
         sent = [[packet[:3] + bytes([packet[3] & 0xF0 | next(counter) % 16]) + packet[4:] for packet in section] for _ in range(2)]
         yield from first_way(sent[0], len(section) >= 3 and next(loses))
         yield NULL

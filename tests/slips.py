@@ -224,11 +224,12 @@ def try_cable():
 
 
 def try_cable_of_packets():
-    """One packet of a section is damaged, of the next that are longer one is lost and one marked, by turns; all come again, with counters that go on."""
+    """Neighbours change places; of longer sections one packet is lost and one marked, by turns, of a short one one is damaged; all come again, with
+    counters that go on."""
     short, long = files.ONE, files.content(files.language(b'Go.\n' * 160))[0]
-    first, second, third, fourth = (streams.sent(long, first=number) for number in (2, 6, 10, 14))
-    passed = [streams.byte(streams.sent(short)[0], 16, short[11] ^ 1), streams.NULL, *streams.sent(short, first=1)]
-    passed += [first[0], streams.NULL, first[2], first[2], first[3], streams.NULL, *second]
+    first, second, third, fourth = (streams.sent(long, first=number) for number in (0, 4, 10, 14))
+    passed = [first[0], streams.NULL, first[2], first[2], first[3], streams.NULL, *second]
+    passed += [streams.byte(streams.sent(short, first=8)[0], 16, short[11] ^ 1), streams.NULL, *streams.sent(short, first=9)]
     passed += [third[0], streams.marked(third[1]), third[2], third[2], third[3], streams.NULL, *fourth]
     got = run('cable', [], b''.join(streams.sent(short, long, long)))
     expect('the cable on packets', (got[0], b'', got[2]), 0, exactly=[])
