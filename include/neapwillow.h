@@ -48,6 +48,7 @@ uint32_t nw_version(void);
  * - nw_gathering_pack is new: a whole table becomes its body at the front of its store.
  * - nw_teaching_feed, nw_teaching_hand_out, nw_teaching_heading and nw_teaching_missing are new, a slow
  *   gathering to teach with, and with them refusal 37.
+ * - nw_crc16 answers in 32 bits: compile anew.
  * - The extension of a content table is the CRC-16 of its identifier's 140 bits, without the four
  *   reserved bits before them: no longer nw_crc16 of the 18 bytes. nw_message_extension, which is new,
  *   and nw_content_extension tell it; a table that is sent with the old one is refused (23).
@@ -208,7 +209,7 @@ uint32_t nw_crc32(const uint8_t *s, size_t n);
 /* CRC-16 of the n bytes at s: polynomial 0x1021, register of all ones at the start. Of an identifier's
  * 18 bytes it is NOT the extension of the content table, which leaves out the four reserved bits:
  * nw_message_extension, nw_content_extension and nw_content_write tell that one. Stack: 16 bytes. */
-uint16_t nw_crc16(const uint8_t *s, size_t n);
+uint32_t nw_crc16(const uint8_t *s, size_t n);
 
 /* ---- Days -------------------------------------------------------------------------------------
  *

@@ -9,6 +9,5 @@ s/ "\(target-cpu\|target-features\|tune-cpu\)"="[^"]*"//g
 /^attributes #[1-9]/d
 # Hints that older versions do not know. Each only lets a compiler assume more.
 s/\(= trunc\|= getelementptr inbounds\) nuw /\1 /
-# Results narrower than a register are made wide as C's callers expect it: x86-64's clang wants it of 16 bits, riscv64 of both.
+# Results of 32 bits are made wide as C's callers on riscv64 expect it.
 s/^define noundef i32 @nw_/define noundef signext i32 @nw_/
-s/^define noundef i16 @nw_/define noundef zeroext i16 @nw_/
