@@ -8,8 +8,8 @@
 
 // ---- the fields of a body taken
 
-static unsigned take_authorization(struct reader *r) { return take_opaque(r, 2); }
-static unsigned take_certificate(struct reader *r) { return take_opaque(r, 1); }
+static unsigned take_authorization(struct reader *r) { return skip_part(r, 2); }
+static unsigned take_certificate(struct reader *r) { return skip_part(r, 1); }
 
 static unsigned take_body(struct reader *r) {
     unsigned no = take_several(r, 0, 0, 0xFF, take_authorization);
@@ -70,29 +70,29 @@ plain_answer plain_certificate_write(const uint8_t *pool, size_t pool_bytes, con
 // ---- fields asked for: what stands before them is passed by its length
 
 plain_answer plain_certificate_authorization_count(const uint8_t *body, size_t n) {
-    struct reader r = {body, n, n, 0, 0};
+    struct reader r = {body, n, n, 0};
     return asked_number(&r, 1);
 }
 
 plain_answer plain_certificate_authorization(const uint8_t *body, size_t n, uint64_t i) {
-    struct reader r = {body, n, n, 0, 0};
+    struct reader r = {body, n, n, 0};
     return asked_part_of_list(&r, i, 2);
 }
 
 plain_answer plain_certificate_certificate_count(const uint8_t *body, size_t n) {
-    struct reader r = {body, n, n, 0, 0};
+    struct reader r = {body, n, n, 0};
     plain_answer no = skip_list(&r, 2);
     return no ? no : asked_number(&r, 1);
 }
 
 plain_answer plain_certificate_certificate(const uint8_t *body, size_t n, uint64_t i) {
-    struct reader r = {body, n, n, 0, 0};
+    struct reader r = {body, n, n, 0};
     plain_answer no = skip_list(&r, 2);
     return no ? no : asked_part_of_list(&r, i, 1);
 }
 
 plain_answer plain_certificate_signature(const uint8_t *body, size_t n) {
-    struct reader r = {body, n, n, 0, 0};
+    struct reader r = {body, n, n, 0};
     plain_answer no;
     if ((no = skip_list(&r, 2)) || (no = skip_list(&r, 1))) return no;
     return asked_part(&r, 2);

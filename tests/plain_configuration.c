@@ -69,7 +69,6 @@ static unsigned take_return(struct reader *r) {
 }
 
 static unsigned take_parameter(struct reader *r) {
-    r->entries++;
     return take(r, 1);
 }
 
@@ -77,17 +76,16 @@ static unsigned take_parameter(struct reader *r) {
 static unsigned take_head(struct reader *r, unsigned tag) {
     unsigned no;
     switch (tag) {
-    case NW_CLOCK: r->entries += 6; return (no = take_day(r)) ? no : take_time(r);
-    case NW_CODE: r->entries += 4; return (no = skip_part(r, 1)) ? no : take_digits(r, RESOURCE_BYTES);
+    case NW_CLOCK: return (no = take_day(r)) ? no : take_time(r);
+    case NW_CODE: return (no = skip_part(r, 1)) ? no : take_digits(r, RESOURCE_BYTES);
     case NW_FREQUENCY:
-        r->entries += 3;
         if ((no = take(r, 4)) || (no = take(r, 4))) return no;
         return take_small(r, 0, 0, MOST_MAPPING);
-    case NW_RETURN: r->entries += 3; return take_return(r);
-    case NW_PERIOD: r->entries++; return take(r, 4);
-    case NW_VOLUME: r->entries++; return take_small(r, 0, 0, MOST_VOLUME);
+    case NW_RETURN: return take_return(r);
+    case NW_PERIOD: return take(r, 4);
+    case NW_VOLUME: return take_small(r, 0, 0, MOST_VOLUME);
     case NW_QUERY: return take_several(r, 0, 0, 0xFF, take_parameter);
-    default: r->entries += 2; r->at = r->end; return 0;
+    default: r->at = r->end; return 0;
     }
 }
 
@@ -111,7 +109,6 @@ static unsigned take_command(struct reader *r) {
     size_t length;
     unsigned no = take(r, 1);
     if (no || (no = take_content_length(r, r->s[r->at - 1], &length))) return no;
-    r->entries++;
     return take_filled(r, length, take_content);
 }
 
@@ -226,7 +223,7 @@ static void put_numbers(struct writer *w, size_t width, uint64_t count) {
 static void put_head(struct writer *w, uint64_t tag) {
     switch (tag) {
     case NW_CLOCK: put_number(w, 2, 0); put_numbers(w, 1, 5); return;
-    case NW_CODE: put_opaque(w, 1); put_digits(w); return;
+    case NW_CODE: put_opaque(w, 1); put_resource(w); return;
     case NW_FREQUENCY: put_numbers(w, 4, 2); put_numbers(w, 1, 1); return;
     case NW_RETURN: put_number(w, 1, 0); put_opaque(w, 1); return;
     case NW_PERIOD: put_number(w, 4, 0); return;
@@ -242,7 +239,7 @@ static void put_command(struct writer *w) {
     uint8_t *length = w->to;
     w->to += 2;
     put_head(w, tag);
-    if (has_terminals(tag)) put_several(w, 0, put_digits);
+    if (has_terminals(tag)) put_several(w, 0, put_resource);
     put_length(w, length, 2, 0);
 }
 
@@ -282,7 +279,7 @@ static plain_answer skip_commands(struct reader *r, uint64_t count) {
 }
 
 plain_answer plain_configuration_command(const uint8_t *body, size_t n, uint64_t i) {
-    struct reader r = {body, n, n, FIRST_AT, 0};
+    struct reader r = {body, n, n, FIRST_AT};
     plain_answer no;
     if (n == 0) return PAST_BODY;
     if (i >= body[0]) return OUTSIDE;
@@ -292,7 +289,7 @@ plain_answer plain_configuration_command(const uint8_t *body, size_t n, uint64_t
 }
 
 plain_answer plain_configuration_signature(const uint8_t *body, size_t n) {
-    struct reader r = {body, n, n, FIRST_AT, 0};
+    struct reader r = {body, n, n, FIRST_AT};
     if (n == 0) return PAST_BODY;
     plain_answer no = skip_commands(&r, body[0]);
     return no ? no : asked_part(&r, 2);
@@ -309,7 +306,7 @@ static plain_answer enter(struct reader *r, const uint8_t *body, size_t n, size_
     plain_answer tag = plain_command_tag(body, n, p);
     if (refusal_of(tag)) return tag;
     size_t length;
-    *r = (struct reader){body, n, n, p + 1, 0};
+    *r = (struct reader){body, n, n, p + 1};
     unsigned no = take_content_length(r, (unsigned)value_of(tag), &length);
     r->end = r->at + (no ? 0 : length);
     return no ? refused(no, r->at) : 0;

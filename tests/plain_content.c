@@ -33,7 +33,6 @@ static unsigned take_letters(struct reader *r) {
 }
 
 INLINED unsigned take_file(struct reader *r, size_t width) {
-    r->entries += 3;
     unsigned no = take(r, 1);
     return no ? no : skip_part(r, width);
 }
@@ -41,7 +40,6 @@ BOTH(take_file, reader, width)
 
 INLINED unsigned take_language_fields(struct reader *r, taker *file) {
     unsigned no;
-    r->entries += 7;
     if ((no = take_letters(r)) || (no = take_small(r, 0xF8, 0, MOST_SET)) || (no = skip_part(r, 2)) ||
         (no = skip_part(r, 1)))
         return no;
@@ -58,7 +56,6 @@ BOTH(take_language, reader, take_language_fields)
 
 INLINED unsigned take_body(struct reader *r, taker *language) {
     unsigned no = take_identifier(r);
-    r->entries += 2;
     if (no || (no = take_several(r, 0xF0, 1, MOST_LANGUAGES, language))) return no;
     return take_signature(r);
 }
@@ -139,7 +136,7 @@ BOTH_DO(put_file, writer, width)
 INLINED void put_language(struct writer *w, putting *file) {
     uint8_t *length = w->to;
     w->to += 4;
-    put_span(w);
+    put_fixed(w, LETTERS);
     put_number(w, 1, 0xF8);
     put_opaque(w, 2);
     put_opaque(w, 1);
@@ -149,7 +146,7 @@ INLINED void put_language(struct writer *w, putting *file) {
 BOTH_DO(put_language, writer, put_file)
 
 INLINED void put_body(struct writer *w, putting *language) {
-    put_digits(w);
+    put_identifier(w);
     put_several(w, 0xF0, language);
     put_opaque(w, 2);
 }
@@ -187,7 +184,7 @@ plain_answer plain_content_write(uint32_t variant, const uint8_t *pool, size_t p
 // ---- fields of a body asked for: what stands before them is passed by its length, and not judged
 
 plain_answer plain_content_identifier(const uint8_t *body, size_t n) {
-    struct reader r = {body, n, n, 0, 0};
+    struct reader r = {body, n, n, 0};
     return asked_identifier(&r);
 }
 
@@ -201,13 +198,13 @@ plain_answer plain_content_extension(const uint8_t *body, size_t n) {
 }
 
 plain_answer plain_content_language_count(const uint8_t *body, size_t n) {
-    struct reader r = {body, n, n, COUNT_AT, 0};
+    struct reader r = {body, n, n, COUNT_AT};
     return asked_small(&r, 0xF0, 1, MOST_LANGUAGES);
 }
 
 // The part that stands after some languages.
 static plain_answer part_after(const uint8_t *body, size_t n, uint64_t languages, size_t width) {
-    struct reader r = {body, n, n, LANGUAGES_AT, 0};
+    struct reader r = {body, n, n, LANGUAGES_AT};
     plain_answer no = skip_parts(&r, languages, 4);
     return no ? no : asked_part(&r, width);
 }

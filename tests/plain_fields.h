@@ -41,11 +41,18 @@ static inline uint64_t big_endian(const uint8_t *s, size_t width) {
 // Not 0 where one of the 4-bit digits of x is above 9: its 8 stands with its 4 or its 2.
 static inline uint64_t above_nine(uint64_t x) { return x >> 3 & (x >> 2 | x >> 1) & UINT64_C(0x1111111111111111); }
 
-// The first four bits are reserved and no digit. No way out at the first bad one, so that the loop can run wide.
+static inline uint64_t eight_bytes(const uint8_t *s) {
+    uint64_t x;
+    memcpy(&x, s, sizeof x);
+    return x;
+}
+
+// Sixteen digits at once; the last eight bytes once more where they are not eight. The first four bits are reserved and no digit.
 INLINED int bad_digits(const uint8_t *s, size_t width) {
-    uint8_t bad = (uint8_t)above_nine(s[0] & 15u);
-    for (size_t i = 1; i < width; i++) bad |= (uint8_t)(s[i] >> 3 & (s[i] >> 2 | s[i] >> 1) & 0x11);
-    return bad != 0;
+    static const uint8_t first[8] = {0x0F, 0xFF, 0xFF, 0xFF, 0xFF, 0xFF, 0xFF, 0xFF};
+    uint64_t bad = above_nine(eight_bytes(s) & eight_bytes(first));
+    for (size_t i = 8; i + 8 < width; i += 8) bad |= above_nine(eight_bytes(s + i));
+    return (bad | above_nine(eight_bytes(s + width - 8))) != 0;
 }
 
 static inline unsigned digit_of(const uint8_t *s, size_t i) { return i % 2 ? s[(i + 1) / 2] >> 4 : s[i / 2] & 15u; }
@@ -79,7 +86,6 @@ INLINED unsigned day_fault(const uint8_t *s) {
 struct reader {
     const uint8_t *s;
     size_t n, end, at;
-    unsigned entries; // of the form that asks for what was passed; as a size_t gcc adds it together with `at`, slowly
 };
 
 static inline unsigned need(const struct reader *r, size_t width) {
@@ -109,12 +115,15 @@ static inline unsigned take_small(struct reader *r, unsigned mask, unsigned leas
     return 0;
 }
 
+// What is wrong is looked for only where something is.
 INLINED unsigned take_digits(struct reader *r, size_t width) {
+    const uint8_t *s = r->s + r->at;
+    if (r->at + width <= r->end && s[0] >= 0xF0 && !bad_digits(s, width)) {
+        r->at += width;
+        return 0;
+    }
     unsigned no = reserved(r, 0xF0);
-    if (no || (no = need(r, width))) return no;
-    if (bad_digits(r->s + r->at, width)) return DIGIT;
-    r->at += width;
-    return 0;
+    return no || (no = need(r, width)) ? no : DIGIT;
 }
 
 INLINED unsigned take_identifier(struct reader *r) {
@@ -141,17 +150,8 @@ static inline unsigned skip_part(struct reader *r, size_t width) {
     return no;
 }
 
-static inline unsigned take_opaque(struct reader *r, size_t width) {
-    r->entries += 2;
-    return skip_part(r, width);
-}
-
-static inline unsigned take_signature(struct reader *r) { return take_opaque(r, 2); }
-
-static inline unsigned take_resource(struct reader *r) {
-    r->entries += 2;
-    return take_digits(r, RESOURCE_BYTES);
-}
+static inline unsigned take_signature(struct reader *r) { return skip_part(r, 2); }
+static inline unsigned take_resource(struct reader *r) { return take_digits(r, RESOURCE_BYTES); }
 
 typedef unsigned taker(struct reader *r);
 
@@ -159,7 +159,6 @@ typedef unsigned taker(struct reader *r);
 INLINED unsigned take_several(struct reader *r, unsigned mask, unsigned least, unsigned most, taker *one) {
     unsigned no = take_small(r, mask, least, most);
     if (no) return no;
-    r->entries++;
     for (unsigned left = r->s[r->at - 1] & ~mask; left > 0; left--)
         if ((no = one(r))) return no;
     return 0;
@@ -178,21 +177,28 @@ INLINED unsigned take_filled(struct reader *r, size_t length, taker *fields) {
 
 // ---- an accepted body laid onto a tape
 
-// What is still to be laid, and where the next entry goes.
+// What is still to be laid, and how many entries are: those below the room stand on the tape.
 struct layer {
     const uint8_t *s;
     size_t at;
-    uint64_t *to;
+    uint64_t *tape;
+    size_t room, laid;
 };
 
-static inline void lay_number(struct layer *l, size_t width, uint64_t mask) {
-    *l->to++ = big_endian(l->s + l->at, width) & mask;
+static inline uint64_t lay_entry(struct layer *l, uint64_t x) {
+    if (l->laid < l->room) l->tape[l->laid] = x;
+    l->laid++;
+    return x;
+}
+
+static inline uint64_t lay_number(struct layer *l, size_t width, uint64_t mask) {
     l->at += width;
+    return lay_entry(l, big_endian(l->s + l->at - width, width) & mask);
 }
 
 static inline void lay_span(struct layer *l, size_t length) {
-    *l->to++ = l->at;
-    *l->to++ = length;
+    lay_entry(l, l->at);
+    lay_entry(l, length);
     l->at += length;
 }
 
@@ -207,8 +213,7 @@ static inline void lay_resource(struct layer *l) { lay_span(l, RESOURCE_BYTES); 
 
 // A count in the low bits of a byte, and so many things.
 INLINED void lay_several(struct layer *l, uint64_t mask, void (*one)(struct layer *l)) {
-    lay_number(l, 1, mask);
-    for (uint64_t left = l->to[-1]; left > 0; left--) one(l);
+    for (uint64_t left = lay_number(l, 1, mask); left > 0; left--) one(l);
 }
 
 // ---- a form judged and measured
@@ -305,11 +310,20 @@ static inline void put_span(struct writer *w) {
     w->t += 2;
 }
 
-static inline void put_digits(struct writer *w) {
-    uint8_t *first = w->to;
-    put_span(w);
-    *first |= 0xF0;
+// Bytes of a form that was judged to have so many: the copy is a few moves.
+INLINED void put_fixed(struct writer *w, size_t width) {
+    memcpy(w->to, w->pool + w->t[0], width);
+    w->to += width;
+    w->t += 2;
 }
+
+INLINED void put_digits(struct writer *w, size_t width) {
+    put_fixed(w, width);
+    w->to[-(ptrdiff_t)width] |= 0xF0;
+}
+
+static inline void put_resource(struct writer *w) { put_digits(w, RESOURCE_BYTES); }
+static inline void put_identifier(struct writer *w) { put_digits(w, IDENTIFIER_BYTES); }
 
 static inline void put_opaque(struct writer *w, size_t width) {
     put(w->to, w->t[1], width);
@@ -333,7 +347,7 @@ INLINED void put_several(struct writer *w, uint64_t fixed, void (*one)(struct wr
 // A reader at a place of the part of a body from `begin` to `end`; 0 where there is no such part.
 static inline int stands(struct reader *r, const uint8_t *body, size_t n, size_t begin, size_t length, size_t place) {
     if (begin > n || length > n - begin) return 0;
-    *r = (struct reader){body, n, begin + length, begin + place, 0};
+    *r = (struct reader){body, n, begin + length, begin + place};
     return 1;
 }
 

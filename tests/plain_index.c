@@ -65,13 +65,11 @@ INLINED unsigned take_repeated(struct reader *r, size_t length, taker *one) {
     for (r->end = r->at + length; r->at < r->end;)
         if ((no = one(r))) return no;
     r->end = outer;
-    r->entries++;
     return 0;
 }
 
 static inline unsigned take_descriptor(struct reader *r) {
     r->at++;
-    r->entries += 3;
     return skip_part(r, 1);
 }
 
@@ -83,7 +81,6 @@ static inline unsigned take_descriptors(struct reader *r) {
 
 static inline unsigned take_stream(struct reader *r) {
     r->at++;
-    r->entries += 2;
     unsigned no = take_pid(r);
     return no ? no : take_descriptors(r);
 }
@@ -98,7 +95,6 @@ static unsigned take_channel(struct reader *r) {
     unsigned no;
     for (int i = 0; i < 3; i++) // network, stream and program, each a field
         if ((no = take(r, 2))) return no;
-    r->entries += 4;
     if ((no = take_pid(r)) || (no = take_descriptors(r))) return no;
     return take_streams(r);
 }
@@ -111,7 +107,6 @@ static unsigned take_message_fields(struct reader *r) {
     if (!in_set(r->s[r->at] >> 4) || !in_set(r->s[r->at] & 15u)) return OUTSIDE;
     r->at++;
     if ((no = take_several(r, 0, 0, 0xFF, take_resource)) || (no = take_small(r, 0xFE, 0, 1))) return no;
-    r->entries += 10;
     return r->s[r->at - 1] & 1 ? take_channel(r) : 0;
 }
 
@@ -130,10 +125,11 @@ static unsigned take_body(struct reader *r) {
 
 // The count of things that fill a part, whose length is in the low bits of two bytes, and each.
 INLINED void lay_repeated(struct layer *l, size_t mask, void (*one)(struct layer *l)) {
-    size_t end = l->at + 2 + (big_endian(l->s + l->at, 2) & mask);
-    uint64_t *count = l->to++;
-    l->at += 2;
-    for (*count = 0; l->at < end; ++*count) one(l);
+    size_t end = l->at + 2 + (big_endian(l->s + l->at, 2) & mask), place = l->laid;
+    uint64_t count = 0;
+    lay_entry(l, 0);
+    for (l->at += 2; l->at < end; count++) one(l);
+    if (place < l->room) l->tape[place] = count;
 }
 
 static void lay_descriptor(struct layer *l) {
@@ -161,11 +157,10 @@ static void lay_message(struct layer *l) {
     lay_number(l, 5, NW_LIVE);
     lay_number(l, 5, NW_LIVE);
     lay_span(l, TYPE_BYTES);
-    *l->to++ = l->s[l->at] >> 4;
+    lay_entry(l, l->s[l->at] >> 4);
     lay_number(l, 1, 15);
     lay_several(l, 0xFF, lay_resource);
-    lay_number(l, 1, 1);
-    if (l->to[-1]) lay_channel(l);
+    if (lay_number(l, 1, 1)) lay_channel(l);
 }
 
 static void lay_body(struct layer *l) {
@@ -271,14 +266,14 @@ static void put_channel(struct writer *w) {
 static void put_message(struct writer *w) {
     uint8_t *length = w->to;
     w->to += 2;
-    put_digits(w);
+    put_identifier(w);
     put_number(w, 2, 0);
     put_number(w, 5, 0);
     put_number(w, 5, 0);
-    put_span(w);
+    put_fixed(w, TYPE_BYTES);
     *w->to++ = (uint8_t)(w->t[0] << 4 | w->t[1]);
     w->t += 2;
-    put_several(w, 0, put_digits);
+    put_several(w, 0, put_resource);
     uint64_t flag = *w->t;
     put_number(w, 1, 0xFE);
     if (flag) put_channel(w);
@@ -327,12 +322,12 @@ plain_answer plain_index_write(const uint8_t *pool, size_t pool_bytes, const uin
 plain_answer plain_index_message_count(const uint8_t *body, size_t n) { return n == 0 ? PAST_BODY : value(body[0]); }
 
 plain_answer plain_index_message(const uint8_t *body, size_t n, uint64_t i) {
-    struct reader r = {body, n, n, 0, 0};
+    struct reader r = {body, n, n, 0};
     return asked_part_of_list(&r, i, 2);
 }
 
 plain_answer plain_index_signature(const uint8_t *body, size_t n) {
-    struct reader r = {body, n, n, 0, 0};
+    struct reader r = {body, n, n, 0};
     plain_answer no = skip_list(&r, 2);
     return no ? no : asked_part(&r, 2);
 }
@@ -418,7 +413,7 @@ plain_answer plain_message_resource(const uint8_t *body, size_t n, size_t at, si
     plain_answer count = plain_message_resource_count(body, n, at, length);
     if (refusal_of(count)) return count;
     if (i >= value_of(count)) return OUTSIDE;
-    struct reader r = {body, n, at + length, at + RESOURCES_AT + RESOURCE_BYTES * i, 0};
+    struct reader r = {body, n, at + length, at + RESOURCES_AT + RESOURCE_BYTES * i};
     return asked_digits(&r, RESOURCE_BYTES);
 }
 
@@ -431,7 +426,7 @@ plain_answer plain_message_resource_digit(const uint8_t *body, size_t n, size_t 
 static plain_answer flag_of(struct reader *r, const uint8_t *body, size_t n, size_t at, size_t length) {
     plain_answer count = plain_message_resource_count(body, n, at, length);
     if (refusal_of(count)) return count;
-    *r = (struct reader){body, n, at + length, at + RESOURCES_AT + RESOURCE_BYTES * value_of(count), 0};
+    *r = (struct reader){body, n, at + length, at + RESOURCES_AT + RESOURCE_BYTES * value_of(count)};
     unsigned no = reserved(r, 0xFE);
     return no ? refused(no, r->at) : value(body[r->at] & 1);
 }
@@ -484,7 +479,7 @@ plain_answer plain_message_descriptors(const uint8_t *body, size_t n, size_t at,
 plain_answer plain_message_streams(const uint8_t *body, size_t n, size_t at, size_t length) {
     plain_answer descriptors = plain_message_descriptors(body, n, at, length);
     if (refusal_of(descriptors)) return descriptors;
-    struct reader r = {body, n, at + length, part_start(descriptors) + part_length(descriptors), 0};
+    struct reader r = {body, n, at + length, part_start(descriptors) + part_length(descriptors)};
     return asked_part(&r, 2);
 }
 

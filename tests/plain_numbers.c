@@ -15,12 +15,18 @@ uint32_t plain_version(void) {
 // ---- checksums
 
 static uint32_t slices[8][256];
+static uint16_t crc16_steps[256];
+
+// A register after eight more bits that are 0.
+static uint32_t stepped(uint32_t held, uint32_t top, uint32_t polynomial) {
+    for (int bit = 0; bit < 8; bit++) held = held << 1 ^ (held & top ? polynomial : 0);
+    return held;
+}
 
 void plain_fill_tables(void) {
     for (uint32_t i = 0; i < 256; i++) {
-        uint32_t held = i << 24;
-        for (int bit = 0; bit < 8; bit++) held = held << 1 ^ (held >> 31 ? 0x04C11DB7u : 0);
-        slices[0][i] = held;
+        slices[0][i] = stepped(i << 24, UINT32_C(1) << 31, 0x04C11DB7);
+        crc16_steps[i] = (uint16_t)stepped(i << 8, UINT32_C(1) << 15, 0x1021);
     }
     for (int k = 1; k < 8; k++)
         for (uint32_t i = 0; i < 256; i++) slices[k][i] = slices[k - 1][i] << 8 ^ slices[0][slices[k - 1][i] >> 24];
@@ -33,30 +39,31 @@ static uint32_t by_bytes(uint32_t held, const uint8_t *s, size_t n) {
 
 uint32_t plain_crc32_byte_table(const uint8_t *s, size_t n) { return by_bytes(UINT32_MAX, s, n); }
 
+static uint32_t four_bytes(const uint8_t *s) { return (uint32_t)s[0] << 24 | (uint32_t)s[1] << 16 | (uint32_t)s[2] << 8 | s[3]; }
+
+// The second word's lookups do not wait for the register.
 uint32_t plain_crc32(const uint8_t *s, size_t n) {
     uint32_t held = UINT32_MAX;
-    for (; n >= 8; s += 8, n -= 8)
-        held = slices[7][held >> 24 ^ s[0]] ^ slices[6][(held >> 16 & 0xff) ^ s[1]] ^
-               slices[5][(held >> 8 & 0xff) ^ s[2]] ^ slices[4][(held & 0xff) ^ s[3]] ^
-               slices[3][s[4]] ^ slices[2][s[5]] ^ slices[1][s[6]] ^ slices[0][s[7]];
+    for (; n >= 8; s += 8, n -= 8) {
+        uint32_t first = held ^ four_bytes(s), second = four_bytes(s + 4);
+        held = slices[3][second >> 24] ^ slices[2][second >> 16 & 0xFF] ^ slices[1][second >> 8 & 0xFF] ^ slices[0][second & 0xFF] ^
+               slices[7][first >> 24] ^ slices[6][first >> 16 & 0xFF] ^ slices[5][first >> 8 & 0xFF] ^ slices[4][first & 0xFF];
+    }
     return by_bytes(held, s, n);
 }
 
-// CRC-16 of the half bytes of s from `first` on, up to `end`, the high half of a byte first.
-static uint16_t by_halves(const uint8_t *s, size_t first, size_t end) {
-    static const uint16_t steps[16] = {0x0000, 0x1021, 0x2042, 0x3063, 0x4084, 0x50A5, 0x60C6, 0x70E7,
-                                       0x8108, 0x9129, 0xA14A, 0xB16B, 0xC18C, 0xD1AD, 0xE1CE, 0xF1EF};
-    unsigned held = 0xFFFF;
-    for (size_t i = first; i < end; i++) {
-        unsigned next = i % 2 ? s[i / 2] & 15u : s[i / 2] >> 4;
-        held = (held << 4 & 0xFFFF) ^ steps[held >> 12 ^ next];
-    }
+static uint16_t crc16_by_bytes(unsigned held, const uint8_t *s, size_t n) {
+    for (size_t i = 0; i < n; i++) held = (held << 8 & 0xFFFF) ^ crc16_steps[held >> 8 ^ s[i]];
     return (uint16_t)held;
 }
 
-uint16_t plain_crc16(const uint8_t *s, size_t n) { return by_halves(s, 0, 2 * n); }
+uint16_t plain_crc16(const uint8_t *s, size_t n) { return crc16_by_bytes(0xFFFF, s, n); }
 
-uint16_t plain_extension(const uint8_t *identifier) { return by_halves(identifier, 1, 36); }
+// The first digit is half a byte, the others are bytes.
+uint16_t plain_extension(const uint8_t *identifier) {
+    unsigned held = 0xFFF0 ^ crc16_steps[0xF ^ (identifier[0] & 15u)];
+    return crc16_by_bytes(held, identifier + 1, IDENTIFIER_BYTES - 1);
+}
 
 // ---- days
 

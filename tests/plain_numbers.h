@@ -6,7 +6,7 @@
 #include "neapwillow.h"
 #include "plain_answers.h"
 
-// Fills the tables of CRC_32, once, before it is first asked for.
+// Fills the tables of CRC_32 and CRC-16, once, before one is first asked for.
 void plain_fill_tables(void);
 
 // By its text.

@@ -30,7 +30,7 @@ plain_answer plain_packet_pack(const uint8_t *section, size_t n, uint32_t counte
         p[3] = (uint8_t)(0x10 | counter);
         p[4] = 0;
         memcpy(p + at, section, take);
-        memset(p + at + take, 0xFF, PACKET - at - take);
+        if (at + take < PACKET) memset(p + at + take, 0xFF, PACKET - at - take);
         section += take;
         n -= take;
         counter = (counter + 1) % 16;

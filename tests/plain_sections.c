@@ -107,26 +107,18 @@ plain_answer plain_section_cut(const uint8_t *body, size_t n, uint32_t kind, uin
 
 // ---- gathering
 
-// Counted afresh: the bytes that are held, and the sections of the table that are missing.
-static unsigned count_bytes(const nw_gathering *g) {
-    unsigned bytes = 0;
-    for (size_t k = 0; k < 256; k++) bytes += g->held[k] ? g->held[k] - 1u : 0;
-    return bytes;
-}
-
-static unsigned count_missing(const nw_gathering *g) {
-    unsigned missing = 0;
-    for (size_t k = 0; k <= g->last; k++) missing += g->held[k] == 0;
-    return missing;
-}
-
+// In one way over the lengths: with none above the last section, what is missing is what is not present.
 int plain_possible(const nw_gathering *g) {
-    unsigned most = 0, above = 0;
-    for (size_t k = 0; k < 256; k++) most = g->held[k] > most ? g->held[k] : most;
-    if (g->kind == 0) return (most | g->extension | g->version | g->last | g->spoiled | g->missing | g->bytes) == 0;
+    unsigned sum = 0, present = 0, over = 0, above = 0;
+    for (size_t k = 0; k < 256; k++) {
+        sum += g->held[k];
+        present += g->held[k] != 0;
+        over |= g->held[k] > NW_MOST_PAYLOAD + 1;
+    }
+    if (g->kind == 0) return (sum | g->extension | g->version | g->last | g->spoiled | g->missing | g->bytes) == 0;
     for (size_t k = g->last + (size_t)1; k < 256; k++) above |= g->held[k];
-    return is_kind(g->kind) && g->version <= MOST_VERSION && g->spoiled <= 1 && most > 0 &&
-           most <= NW_MOST_PAYLOAD + 1 && above == 0 && g->missing == count_missing(g) && g->bytes == count_bytes(g);
+    return is_kind(g->kind) && g->version <= MOST_VERSION && g->spoiled <= 1 && present > 0 && !over && above == 0 &&
+           g->missing == g->last + 1u - present && g->bytes == sum - present;
 }
 
 int plain_other_heading(const nw_gathering *g, plain_answer read) {
@@ -142,14 +134,15 @@ static int is_newer(const nw_gathering *g, plain_answer read) {
 
 int plain_begins(const nw_gathering *g, plain_answer read) { return g->kind == 0 || is_newer(g, read); }
 
+// The kept numbers go on from what they were: a fresh state misses all.
 void plain_hold(nw_gathering *g, plain_answer read, size_t length) {
+    g->missing = (uint16_t)(g->kind == 0 ? heading_last(read) : g->missing - 1u);
+    g->bytes += (uint32_t)length;
     g->extension = (uint16_t)heading_extension(read);
     g->kind = (uint8_t)heading_kind(read);
     g->version = (uint8_t)heading_version(read);
     g->last = (uint8_t)heading_last(read);
     g->held[heading_number(read)] = (uint16_t)(length + 1);
-    g->missing = (uint16_t)count_missing(g);
-    g->bytes = count_bytes(g);
 }
 
 plain_answer plain_gathering_feed(nw_gathering *g, uint8_t *store, size_t store_bytes, const uint8_t *s, size_t n) {
@@ -180,12 +173,10 @@ plain_answer plain_whole_body(const nw_gathering *g, size_t store_bytes) {
     if (g->kind == 0) return NW_MISSING;
     if (store_bytes < NW_STORE_BYTES(g->last)) return NW_STORE_TOO_SHORT;
     if (g->spoiled) return NW_CONTRADICTION;
-    size_t length = 0;
-    for (size_t k = 0; k <= g->last; k++) {
-        if (g->held[k] == 0) return refused(NW_MISSING, k);
-        length += g->held[k] - (size_t)1;
-    }
-    return value(length);
+    if (g->missing == 0) return value(g->bytes);
+    size_t first = 0;
+    while (g->held[first] != 0) first++;
+    return refused(NW_MISSING, first);
 }
 
 plain_answer plain_gathering_hand_out(const nw_gathering *g, const uint8_t *store, size_t store_bytes, uint8_t *out,

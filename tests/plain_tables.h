@@ -5,7 +5,7 @@
 
 #include "plain_fields.h"
 
-// A table: what passes, lays, judges and writes all its fields.
+// A table: what passes all its fields, lays them, judges them on a form and writes them.
 struct table {
     uint32_t kind;
     unsigned (*take)(struct reader *r);
@@ -14,7 +14,6 @@ struct table {
     void (*put)(struct writer *w);
 };
 
-// Judges a body; the reader then has the entries of its form.
 INLINED plain_answer judge(const struct table *t, uint32_t kind, struct reader *r) {
     if (kind != t->kind) return NW_OTHER_KIND;
     if (r->n > NW_MOST_BODY) return NW_TOO_LARGE;
@@ -24,18 +23,19 @@ INLINED plain_answer judge(const struct table *t, uint32_t kind, struct reader *
 }
 
 INLINED plain_answer read_table(const struct table *t, uint32_t kind, const uint8_t *body, size_t n) {
-    struct reader r = {body, n, n, 0, 0};
+    struct reader r = {body, n, n, 0};
     return judge(t, kind, &r);
 }
 
 INLINED plain_answer lay_table(const struct table *t, uint32_t kind, const uint8_t *body, size_t n, uint64_t *tape,
                                size_t entries) {
-    struct reader r = {body, n, n, 0, 0};
-    plain_answer got = judge(t, kind, &r);
+    plain_answer got = read_table(t, kind, body, n);
     if (refusal_of(got)) return got;
-    if (r.entries > entries) return NW_OUTPUT_TOO_SMALL;
-    t->lay(&(struct layer){body, 0, tape});
-    return value(r.entries);
+    struct layer counting = {body, 0, NULL, 0, 0}, laying = {body, 0, tape, entries, 0};
+    t->lay(&counting);
+    if (counting.laid > entries) return NW_OUTPUT_TOO_SMALL;
+    t->lay(&laying);
+    return value(laying.laid);
 }
 
 // What is wrong with a form, or its body's length.
