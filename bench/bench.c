@@ -82,7 +82,7 @@ struct wishes {
 
 static void usage(const char *typed, const char *wrong) {
     fprintf(stderr, "benchmark: %s: %s\n", typed, wrong);
-    fprintf(stderr, "usage: benchmark [--runs N] [--before TABLE.md] [--table FILE.md] [--plot FILE.svg] [WORD]\n");
+    fprintf(stderr, "usage: benchmark [--runs N] [--before TABLE.md] [--table FILE.md] [--plot FILE.svg] [WORD], or benchmark [--runs N] --page\n");
     exit(2);
 }
 
@@ -152,9 +152,9 @@ int main(int count, char **words) {
     struct wishes w = wishes_of(count, words);
     size_t measured = rows_of(w.word, rows);
     FILE *before = w.before ? opened(w.before, "r") : NULL, *kept = w.kept ? opened(w.kept, "a+") : NULL;
-    FILE *table = w.table ? opened(w.table, "w") : NULL, *plot = w.plot ? opened(w.plot, "w") : NULL;
-    if (before) read_table(before, rows, measured, 1);
+    if (before && read_table(before, rows, measured, 1) == 0) usage(w.before, "it has no time of what is measured");
     if (kept) read_table(kept, rows, measured, 0);
+    FILE *table = w.table ? opened(w.table, "w") : NULL, *plot = w.plot ? opened(w.plot, "w") : NULL;
     plain_fill_tables();
     measure_on_one_processor();
     printf("%s\n", w.about);

@@ -37,8 +37,8 @@ void print_row(const struct row *r);
 // Rows that were measured, after a line about the machine, with the times before or without.
 void write_table(FILE *to, const char *about, const struct row *rows, size_t count, int with_before);
 
-// The times of earlier tables, of several the least: as those before, or as those by which the rows begin.
-void read_table(FILE *from, struct row *rows, size_t count, int as_before);
+// The times of earlier tables, of several the least: as those before, or as those by which the rows begin. Gives back how many are of these rows.
+size_t read_table(FILE *from, struct row *rows, size_t count, int as_before);
 
 void write_plot(FILE *to, const char *about, const struct row *rows, size_t count);
 
