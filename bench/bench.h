@@ -64,6 +64,14 @@ work teaching_feed_slow, teaching_feed_quick, teaching_hand_out_slow, teaching_h
 
 extern uint8_t input[512 * NW_MOST_SECTION], output[256 * NW_MOST_PACKED];
 
+// What contenders lend to calls: the same memory for each. An unpacker's state is written and read again at once, and where it begins can cost either more than
+// twice the time: so each turn has another place.
+extern uint8_t *lent_state;
+void place_state(int turn);
+extern uint8_t lent_store[NW_ROOMS_BYTES(NW_MOST_ROOMS)];
+extern uint32_t lent_list[NW_SALVAGE_NUMBERS(NW_MOST_CAPTURE)];
+extern nw_record lent_records[NW_MOST_MESSAGES];
+
 // A state that holds the second section of two, for one network and for each of two; and one that holds a whole table, to be packed.
 extern nw_gathering half, whole;
 extern nw_networks halves;

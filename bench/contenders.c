@@ -50,8 +50,7 @@ uint64_t BY(section_cut)(const uint8_t *s, size_t n) {
 }
 
 uint64_t BY(salvage)(const uint8_t *s, size_t n) {
-    static uint32_t list[NW_SALVAGE_NUMBERS(NW_MOST_CAPTURE)];
-    return CALL(salvage, s, n, output, sizeof output, list, sizeof list / sizeof list[0]);
+    return CALL(salvage, s, n, output, sizeof output, lent_list, sizeof lent_list / sizeof lent_list[0]);
 }
 
 // ---- full sections packed one after the other, the packets unpacked, and a table gathered from them
@@ -67,28 +66,27 @@ uint64_t BY(packets_of)(const uint8_t *s, size_t n) {
 
 // The bytes of all sections, which stand in the output.
 uint64_t BY(sections_of)(const uint8_t *s, size_t n) {
-    static uint8_t state[NW_UNPACKER_BYTES];
     uint64_t used = 0;
-    memset(state, 0, sizeof state);
+    memset(lent_state, 0, NW_UNPACKER_BYTES);
     for (size_t at = 0; at < n; at += NW_PACKET_BYTES)
-        used += value_of(CALL(packet_unpack, state, s + at, NW_PACKET_BYTES, output + used, sizeof output - used));
+        used += value_of(CALL(packet_unpack, lent_state, s + at, NW_PACKET_BYTES, output + used, sizeof output - used));
     return used;
 }
 
 // The length of the body, which stands in the output. The answers to sections that are taken are 0.
 uint64_t BY(table_of)(const uint8_t *s, size_t n) {
-    static uint8_t state[NW_UNPACKER_BYTES], sections[NW_MOST_COMPLETED_BYTES], store[NW_MOST_BODY];
+    uint8_t sections[NW_MOST_COMPLETED_BYTES];
     nw_gathering g = {0};
     uint64_t answers = 0;
-    memset(state, 0, sizeof state);
+    memset(lent_state, 0, NW_UNPACKER_BYTES);
     for (size_t at = 0; at < n; at += NW_PACKET_BYTES) {
-        size_t got = value_of(CALL(packet_unpack, state, s + at, NW_PACKET_BYTES, sections, sizeof sections));
+        size_t got = value_of(CALL(packet_unpack, lent_state, s + at, NW_PACKET_BYTES, sections, sizeof sections));
         for (size_t p = 0, length; p < got; p += length) {
             length = value_of(CALL(section_length, sections + p, got - p));
-            answers += CALL(gathering_feed, &g, store, sizeof store, sections + p, length);
+            answers += CALL(gathering_feed, &g, lent_store, NW_MOST_BODY, sections + p, length);
         }
     }
-    return answers + value_of(CALL(gathering_hand_out, &g, store, sizeof store, output, sizeof output));
+    return answers + value_of(CALL(gathering_hand_out, &g, lent_store, NW_MOST_BODY, output, sizeof output));
 }
 
 // ---- the gathering: one section fed; a table of full sections, which come one right after the other, gathered and handed out; a table packed
@@ -100,11 +98,10 @@ uint64_t BY(feed)(const uint8_t *s, size_t n) {
 
 // The sum of all answers: of a section that is taken it is 0.
 uint64_t BY(gather)(const uint8_t *s, size_t n) {
-    static uint8_t store[NW_MOST_BODY];
     nw_gathering g = {0};
     uint64_t answers = 0;
-    for (size_t at = 0; at < n; at += NW_MOST_SECTION) answers += CALL(gathering_feed, &g, store, sizeof store, s + at, NW_MOST_SECTION);
-    return answers + CALL(gathering_hand_out, &g, store, sizeof store, output, sizeof output);
+    for (size_t at = 0; at < n; at += NW_MOST_SECTION) answers += CALL(gathering_feed, &g, lent_store, NW_MOST_BODY, s + at, NW_MOST_SECTION);
+    return answers + CALL(gathering_hand_out, &g, lent_store, NW_MOST_BODY, output, sizeof output);
 }
 
 // The store is the output. Of each payload the first byte and the last are its own.
@@ -124,14 +121,13 @@ uint64_t BY(feed_two)(const uint8_t *s, size_t n) {
 }
 
 uint64_t BY(gather_two)(const uint8_t *s, size_t n) {
-    static uint8_t store[NW_ROOMS_BYTES(NW_MOST_ROOMS)];
     nw_networks x;
-    uint64_t answers = plain_networks_start(&x, sizeof store);
+    uint64_t answers = plain_networks_start(&x, sizeof lent_store);
     for (size_t at = 0; at < n; at += NW_MOST_SECTION)
         for (uint32_t network = 1; network <= 2; network++)
-            answers = answers * 31 + CALL(networks_feed, &x, network, store, sizeof store, s + at, NW_MOST_SECTION);
+            answers = answers * 31 + CALL(networks_feed, &x, network, lent_store, sizeof lent_store, s + at, NW_MOST_SECTION);
     for (uint32_t network = 1; network <= 2; network++)
-        answers = answers * 31 + CALL(networks_hand_out, &x, network, store, sizeof store, output, sizeof output);
+        answers = answers * 31 + CALL(networks_hand_out, &x, network, lent_store, sizeof lent_store, output, sizeof output);
     return answers;
 }
 
@@ -218,11 +214,10 @@ static void ask_message(struct asked *a, size_t at, size_t length) {
 }
 
 uint64_t BY(index_asked)(const uint8_t *s, size_t n) {
-    static nw_record list[NW_MOST_MESSAGES];
-    plain_answer got = CALL(index_records, NW_INDEX, s, n, list, NW_MOST_MESSAGES);
+    plain_answer got = CALL(index_records, NW_INDEX, s, n, lent_records, NW_MOST_MESSAGES);
     struct asked a = {s, n, got};
     if (refusal_of(got)) return got;
-    for (const nw_record *r = list; r < list + value_of(got); r++) ask_message(&a, r->at, r->length);
+    for (const nw_record *r = lent_records; r < lent_records + value_of(got); r++) ask_message(&a, r->at, r->length);
     return a.so_far;
 }
 

@@ -8,10 +8,18 @@
 #include "plain_rooms.h"
 #include "plain_sections.h"
 
-uint8_t input[512 * NW_MOST_SECTION], output[256 * NW_MOST_PACKED];
+_Alignas(64) uint8_t input[512 * NW_MOST_SECTION];
+_Alignas(64) uint8_t output[256 * NW_MOST_PACKED];
+static _Alignas(64) uint8_t states[NW_UNPACKER_BYTES + 4096];
+uint8_t *lent_state = states;
+_Alignas(64) uint8_t lent_store[NW_ROOMS_BYTES(NW_MOST_ROOMS)];
+_Alignas(64) uint32_t lent_list[NW_SALVAGE_NUMBERS(NW_MOST_CAPTURE)];
+_Alignas(64) nw_record lent_records[NW_MOST_MESSAGES];
 nw_gathering half, whole;
 nw_networks halves;
 uint8_t half_store[NW_STORE_BYTES(1)], halves_store[NW_ROOMS_BYTES(4)];
+
+void place_state(int turn) { lent_state = states + turn * 112 % 4096; }
 
 void fill_bytes(size_t n) {
     uint32_t chance = 86;

@@ -76,5 +76,8 @@ void measure(struct row *r) {
         calls[i] = run ? calls_of(run, r->bytes) : 0;
     }
     double began = now();
-    for (int turn = 0; turn < TURNS && (turn < LEAST_TURNS || now() - began < LONG); turn++) take_turn(r, calls);
+    for (int turn = 0; turn < TURNS && (turn < LEAST_TURNS || now() - began < LONG); turn++) {
+        place_state(turn);
+        take_turn(r, calls);
+    }
 }

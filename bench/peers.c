@@ -12,13 +12,12 @@ uint64_t crc32_byte_table(const uint8_t *s, size_t n) { return plain_crc32_byte_
 typedef uint32_t checksum(const uint8_t *s, size_t n);
 
 static inline __attribute__((always_inline)) uint64_t copied(checksum *crc32, const uint8_t *s, size_t n) {
-    static uint8_t store[NW_MOST_BODY];
     size_t sections = n / NW_MOST_SECTION;
     for (; n > 0; s += NW_MOST_SECTION, n -= NW_MOST_SECTION) {
         if (crc32(s, NW_MOST_SECTION) != 0) return NW_CHECK_NOT_ZERO;
-        memcpy(store + (size_t)s[6] * NW_MOST_PAYLOAD, s + 8, NW_MOST_PAYLOAD);
+        memcpy(lent_store + (size_t)s[6] * NW_MOST_PAYLOAD, s + 8, NW_MOST_PAYLOAD);
     }
-    memcpy(output, store, sections * NW_MOST_PAYLOAD);
+    memcpy(output, lent_store, sections * NW_MOST_PAYLOAD);
     return (uint64_t)sections * NW_MOST_PAYLOAD << 8;
 }
 
