@@ -1,10 +1,11 @@
-# make proves and builds the library and its commands; `make help` lists what else it can do.
+# make proves and builds the library, the screen box above it and the commands; `make help` lists what else it can do.
 # SPDX-License-Identifier: MIT
 # What is built is for x86-64. Elsewhere it is cross-built, and what is run runs under the kit's emulator.
 
-# The archives of the crates that tools/kit lists, and the library that some of them make together, which alone is installed.
+# The archives of the crates that tools/kit lists, and the library that some of them make together, which is installed with the package above it.
 ARCHIVE = target/library/libneapwillow.a
-ARCHIVES := $(ARCHIVE) $(patsubst %,target/staticlib/lib%.a,$(shell sed -n 's/^exporting=(\(.*\))/\1/p' tools/kit))
+SCREEN_ARCHIVE = target/staticlib/libneapwillow_screen.a
+ARCHIVES := $(ARCHIVE) $(patsubst %,target/staticlib/lib%.a,$(shell sed -n 's/^\(exporting\|above\)=(\(.*\))/\2/p' tools/kit))
 SOURCES := crates.txt $(shell find crates -type f)
 include install.mk
 .DEFAULT_GOAL := all
@@ -21,8 +22,8 @@ $(PROGRAMS:%=target/bin/%) &: $(ARCHIVES) $(wildcard programs/* programs/nw/* in
 	tools/build
 
 help:
-	@echo 'make            proves and builds the library and the commands $(PROGRAMS)'
-	@echo 'make install    puts them down below PREFIX ($(PREFIX)), with header, man pages, completion and pkg-config file; DESTDIR stages'
+	@echo 'make            proves and builds the library, the screen box above it and the commands $(PROGRAMS)'
+	@echo 'make install    puts them down below PREFIX ($(PREFIX)), with headers, man pages, completion and pkg-config files; DESTDIR stages'
 	@echo 'make uninstall  removes them again'
 	@echo 'make check      runs the tests through C, without the proofs; ./test is the whole gate'
 	@echo 'make dist       makes a tarball in target/dist, from which clang alone builds the library and the commands'

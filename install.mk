@@ -1,6 +1,6 @@
 # What `make install` puts down and `make uninstall` removes: one list, for the source tree's Makefile and for a release's.
 # SPDX-License-Identifier: MIT
-# A Makefile that includes it says which libraries were built: ARCHIVE, and SHARED where there is one.
+# A Makefile that includes it says which libraries were built: ARCHIVE, the screen box's SCREEN_ARCHIVE, and SHARED where there are shared ones.
 VERSION := $(shell cat VERSION)
 # While the first number is 0, a new second number may change the ABI, so the soname has both.
 SOVERSION := $(basename $(VERSION))
@@ -16,6 +16,8 @@ BASHDIR ?= $(PREFIX)/share/bash-completion/completions
 ZSHDIR ?= $(PREFIX)/share/zsh/site-functions
 INSTALL ?= install
 PROGRAMS = nw nw-dates nw-salvage nw-section
+# The library, and the package above it: of each an archive, a header, a pkg-config file and a man page.
+LIBRARIES = neapwillow neapwillow-screen
 DOCUMENTS := $(wildcard README.md CHANGELOG.md SECURITY.md LICENSE PROVED docs/*.md docs/*.svg)
 EXAMPLES := $(wildcard examples/*)
 
@@ -33,14 +35,20 @@ install: all
 	    $(INSTALL) -m 755 "target/bin/$$name" "$(DESTDIR)$(BINDIR)/" && \
 	    $(FILL) "man/$$name.1.in" >"$(DESTDIR)$(MANDIR)/man1/$$name.1" || exit 1; \
 	done
-	$(INSTALL) -m 644 $(ARCHIVE) $(SHARED) "$(DESTDIR)$(LIBDIR)/"
+	$(INSTALL) -m 644 $(ARCHIVE) "$(DESTDIR)$(LIBDIR)/libneapwillow.a"
+	$(INSTALL) -m 644 $(SCREEN_ARCHIVE) "$(DESTDIR)$(LIBDIR)/libneapwillow-screen.a"
 ifneq ($(SHARED),)
-	ln -sf libneapwillow.so.$(VERSION) "$(DESTDIR)$(LIBDIR)/libneapwillow.so.$(SOVERSION)"
-	ln -sf libneapwillow.so.$(SOVERSION) "$(DESTDIR)$(LIBDIR)/libneapwillow.so"
+	$(INSTALL) -m 644 $(SHARED) "$(DESTDIR)$(LIBDIR)/"
+	for name in $(LIBRARIES); do \
+	    ln -sf "lib$$name.so.$(VERSION)" "$(DESTDIR)$(LIBDIR)/lib$$name.so.$(SOVERSION)" && \
+	    ln -sf "lib$$name.so.$(SOVERSION)" "$(DESTDIR)$(LIBDIR)/lib$$name.so" || exit 1; \
+	done
 endif
-	$(INSTALL) -m 644 include/neapwillow.h "$(DESTDIR)$(INCLUDEDIR)/"
-	$(FILL) neapwillow.pc.in >"$(DESTDIR)$(LIBDIR)/pkgconfig/neapwillow.pc"
-	$(FILL) man/neapwillow.3.in >"$(DESTDIR)$(MANDIR)/man3/neapwillow.3"
+	for name in $(LIBRARIES); do \
+	    $(INSTALL) -m 644 "include/$$name.h" "$(DESTDIR)$(INCLUDEDIR)/" && \
+	    $(FILL) "$$name.pc.in" >"$(DESTDIR)$(LIBDIR)/pkgconfig/$$name.pc" && \
+	    $(FILL) "man/$$name.3.in" >"$(DESTDIR)$(MANDIR)/man3/$$name.3" || exit 1; \
+	done
 	$(INSTALL) -m 644 docs/nw-show.schema.json "$(DESTDIR)$(DATADIR)/"
 	$(INSTALL) -m 644 programs/completion/nw.bash "$(DESTDIR)$(BASHDIR)/nw"
 	$(INSTALL) -m 644 programs/completion/_nw "$(DESTDIR)$(ZSHDIR)/"
@@ -50,10 +58,12 @@ endif
 # Each file that install writes, and the folders that are the library's own.
 uninstall:
 	for name in $(PROGRAMS); do rm -f "$(DESTDIR)$(BINDIR)/$$name" "$(DESTDIR)$(MANDIR)/man1/$$name.1"; done
-	rm -f "$(DESTDIR)$(LIBDIR)/libneapwillow.a" "$(DESTDIR)$(LIBDIR)/libneapwillow.so" "$(DESTDIR)$(LIBDIR)/libneapwillow.so.$(SOVERSION)" \
-	    "$(DESTDIR)$(LIBDIR)/libneapwillow.so.$(VERSION)" "$(DESTDIR)$(LIBDIR)/pkgconfig/neapwillow.pc" \
-	    "$(DESTDIR)$(INCLUDEDIR)/neapwillow.h" "$(DESTDIR)$(MANDIR)/man3/neapwillow.3" "$(DESTDIR)$(DATADIR)/nw-show.schema.json" \
-	    "$(DESTDIR)$(BASHDIR)/nw" "$(DESTDIR)$(ZSHDIR)/_nw"
+	for name in $(LIBRARIES); do \
+	    rm -f "$(DESTDIR)$(LIBDIR)/lib$$name.a" "$(DESTDIR)$(LIBDIR)/lib$$name.so" "$(DESTDIR)$(LIBDIR)/lib$$name.so.$(SOVERSION)" \
+	        "$(DESTDIR)$(LIBDIR)/lib$$name.so.$(VERSION)" "$(DESTDIR)$(LIBDIR)/pkgconfig/$$name.pc" \
+	        "$(DESTDIR)$(INCLUDEDIR)/$$name.h" "$(DESTDIR)$(MANDIR)/man3/$$name.3"; \
+	done
+	rm -f "$(DESTDIR)$(DATADIR)/nw-show.schema.json" "$(DESTDIR)$(BASHDIR)/nw" "$(DESTDIR)$(ZSHDIR)/_nw"
 	for name in $(notdir $(EXAMPLES)); do rm -f "$(DESTDIR)$(DOCDIR)/examples/$$name"; done
 	for name in $(notdir $(DOCUMENTS)); do rm -f "$(DESTDIR)$(DOCDIR)/$$name"; done
 	for folder in "$(DESTDIR)$(DOCDIR)/examples" "$(DESTDIR)$(DOCDIR)" "$(DESTDIR)$(DATADIR)"; do [ ! -d "$$folder" ] || rmdir "$$folder"; done

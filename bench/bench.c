@@ -60,6 +60,7 @@ static const struct operation operations[] = {
     {"index read", fill_index, {BOTH(index_read, "C")}, TABLE_SIZES},
     {"index written", fill_index, {BOTH(index_write, "C")}, TABLE_SIZES},
     {"index asked", fill_index, {BOTH(index_asked, "C")}, TABLE_SIZES},
+    {"screen, 255 messages", fill_screen, {BOTH(screen_choose, "C")}, {SCREEN_BYTES}},
     {"content 24, read", fill_content_24, {BOTH(content_read, "C")}, TABLE_SIZES},
     {"content 32, read", fill_content_32, {BOTH(content_read, "C")}, TABLE_SIZES},
     {"content 24, written", fill_content_24, {BOTH(content_write, "C")}, TABLE_SIZES},

@@ -6,7 +6,7 @@
 #ifndef BENCH_H
 #define BENCH_H
 
-#include "neapwillow.h"
+#include "neapwillow-screen.h"
 #include "plain_answers.h"
 
 enum { MOST_CONTENDERS = 6, MOST_SIZES = 5, MOST_TABLE = 1000000 };
@@ -35,7 +35,7 @@ struct operation {
     X(crc32) X(section_read) X(section_cut) X(salvage) X(time_read_text) X(time_unpack)                              \
     X(packets_of) X(sections_of) X(table_of)                                                                         \
     X(feed) X(gather) X(gathering_pack) X(feed_two) X(gather_two)                                                    \
-    X(certificate_read) X(certificate_write) X(index_read) X(index_write) X(index_asked)                             \
+    X(certificate_read) X(certificate_write) X(index_read) X(index_write) X(index_asked) X(screen_choose)            \
     X(content_read) X(content_write) X(content_asked)                                                                \
     X(configuration_read) X(configuration_write) X(configuration_asked)
 #define DECLARED(name) work name##_library, name##_plain;
@@ -83,12 +83,16 @@ extern uint64_t tape[NW_INDEX_ENTRIES(MOST_TABLE)];
 extern size_t entries;
 extern uint32_t content_variant, content_extension;
 
+// A box's code, and a moment at which every message that lists it is on; an index body of 255 messages without streams.
+extern uint8_t screen_code[NW_SCREEN_CODE_DIGITS];
+enum { SCREEN_DAY = 0xECC9, SCREEN_SECOND = 8 * 3600, SCREEN_BYTES = 1 + 255 * (2 + 130) + 2 };
+
 // An offset of time, of Beijing.
 enum { EAST = 480 };
 
 typedef void filler(size_t n);
 filler fill_bytes, fill_text, fill_field, fill_section, fill_false, fill_feeding, fill_feeding_two, fill_packing;
 filler fill_in_order, fill_reversed, fill_shuffled, fill_twice, fill_packets, fill_teaching_feed, fill_teaching_body;
-filler fill_certificate, fill_index, fill_content_24, fill_content_32, fill_configuration;
+filler fill_certificate, fill_index, fill_screen, fill_content_24, fill_content_32, fill_configuration;
 
 #endif

@@ -10,6 +10,7 @@
 #include "plain_numbers.h"
 #include "plain_packets.h"
 #include "plain_rooms.h"
+#include "plain_screen.h"
 #include "plain_sections.h"
 
 // A work by its contender's name, and a call's answer as its 64 bits.
@@ -136,6 +137,9 @@ uint64_t BY(gather_two)(const uint8_t *s, size_t n) {
 uint64_t BY(certificate_read)(const uint8_t *s, size_t n) { return CALL(certificate_read, NW_CERTIFICATE, s, n); }
 uint64_t BY(index_read)(const uint8_t *s, size_t n) { return CALL(index_read, NW_INDEX, s, n); }
 uint64_t BY(configuration_read)(const uint8_t *s, size_t n) { return CALL(configuration_read, NW_CONFIGURATION, s, n); }
+uint64_t BY(screen_choose)(const uint8_t *s, size_t n) {
+    return CALL(screen_choose, NW_INDEX, s, n, screen_code, NW_SCREEN_CODE_DIGITS, SCREEN_DAY, SCREEN_SECOND);
+}
 uint64_t BY(content_read)(const uint8_t *s, size_t n) {
     return CALL(content_read, NW_CONTENT, content_variant, content_extension, s, n);
 }

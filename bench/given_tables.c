@@ -111,6 +111,30 @@ void fill_index(size_t n) {
     hold_form(plain_index_lay(NW_INDEX, input, n, tape, ENTRIES), index_write_plain, n);
 }
 
+// The code is the last of each message's, and each starts before those that stand before it: every code is compared, every message takes over, and the last
+// is shown.
+enum { SCREEN_MESSAGES = 255, START_MINUTE = 23, LAST_RESOURCE = 37 + 12 * (RESOURCES - 1) };
+_Static_assert(SCREEN_BYTES == 1 + SCREEN_MESSAGES * (2 + MESSAGE_BYTES) + 2, "messages, each after its length, and no signature");
+
+uint8_t screen_code[NW_SCREEN_CODE_DIGITS];
+
+void fill_screen(size_t n) {
+    static const uint8_t own[NW_RESOURCE_BYTES] = {0xF3, 0x65, 0x43, 0x20, 0x00, 0x00, 0x00, 0x30, 0x30, 0x10, 0x10, 0x30};
+    fill_bytes(n);
+    uint8_t *to = input;
+    *to++ = SCREEN_MESSAGES;
+    for (unsigned left = SCREEN_MESSAGES; left > 0; left--) {
+        uint8_t *message = to + 2;
+        to = put_message(to, 0);
+        memcpy(message + LAST_RESOURCE, own, sizeof own);
+        message[START_MINUTE] = (uint8_t)(left / 60 % 10);
+        message[START_MINUTE + 1] = (uint8_t)(left % 60 / 10 << 4 | left % 10);
+    }
+    put_two(to, 0);
+    for (size_t i = 0; i < sizeof screen_code; i++) screen_code[i] = i % 2 ? own[(i + 1) / 2] >> 4 : own[i / 2] & 15u;
+    if (screen_choose_plain(input, n) >> 48 != (1 << 8 | (SCREEN_MESSAGES - 1))) abort();
+}
+
 // ---- a content body of either variant
 
 enum { LANGUAGES = 5, FILES = 2, AGENCY_BYTES = 20, MOST_TEXT = 65535 };

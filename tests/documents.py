@@ -1,4 +1,4 @@
-"""What the README and the man page say, and what is fuzzed, beside the installed library and the examples: documents.py FOLDER."""
+"""What the README and the man pages say, and what is fuzzed, beside the installed library and the examples: documents.py FOLDER."""
 # SPDX-License-Identifier: MIT
 import glob
 import os
@@ -8,6 +8,7 @@ import sys
 ROOT = os.path.join(os.path.dirname(os.path.abspath(__file__)), os.pardir)
 FOLDER = sys.argv[1]
 DRILL, DATES, SHOW = './run drill', './run dates', 'nw show --offset +08:00 received.ts'
+SCREEN = "screen index.body 36543200000000303010103 480 '03/11/2024 07:00:00' 7200"
 faults = []
 
 
@@ -63,15 +64,19 @@ def main():
     expect("the README's dates", shown_after(readme, DATES), read(FOLDER, 'dates'))
     begin = shown_after(readme, SHOW)  # the README shows how the output begins
     expect("the README's nw show", begin or 'nothing', read(FOLDER, 'told')[:len(begin)])
-    missing, functions = unnamed(page, header)
-    faults.extend('the man page does not name %s' % name for name in missing)
+    expect("the README's screen", shown_after(readme, SCREEN), read(FOLDER, 'screened'))
+    functions = set()
+    for name in ['neapwillow', 'neapwillow-screen']:
+        missing, declared = unnamed(read(FOLDER, name + '.3'), read(ROOT, 'include', name + '.h'))
+        faults.extend('the man page %s does not name %s' % (name, function) for function in missing)
+        functions |= declared
     tried = ' '.join(read(path) for path in glob.glob(os.path.join(ROOT, 'fuzz', '*.[ch]')))
     faults.extend('no fuzz target calls %s' % name for name in sorted(functions - set(re.findall(r'\bnw_\w+', tried))))
     if len({line.split(' ', 1)[1] for line in refusals}) != len(listed) or len(functions) < 40:
         faults.append('two refusals have the same words, or few functions are declared')
     if faults:
         sys.exit('\n'.join(faults))
-    print('%d functions and %d refusals as the man page has them; the README shows what is shown' % (len(functions), len(listed) - 1))
+    print('%d functions and %d refusals as the man pages have them; the README shows what is shown' % (len(functions), len(listed) - 1))
 
 
 main()

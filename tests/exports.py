@@ -1,4 +1,4 @@
-"""What a shared library exports, read from its bytes: the header's functions alone, its soname and its version's name: exports.py LIBRARY."""
+"""What the shared libraries export, read from their bytes: their headers' functions alone, the soname and the version's name: exports.py FOLDER."""
 # SPDX-License-Identifier: MIT
 import os
 import re
@@ -55,18 +55,20 @@ class Elf:
         return found
 
 
-def main():
-    with open(sys.argv[1], 'rb') as file:
+def look(name, least):
+    """One library: it exports what its header declares, at least so many functions."""
+    with open(os.path.join(sys.argv[1], 'lib%s.so' % name), 'rb') as file:
         library = Elf(file.read())
     series = '.'.join(read('VERSION').split('.')[:2])
-    soname, version = 'libneapwillow.so.' + series, 'NEAPWILLOW_' + series
-    header = re.sub(r'/\*.*?\*/', '', read('include', 'neapwillow.h'), flags=re.S)
+    soname, version = 'lib%s.so.%s' % (name, series), '%s_%s' % (name.upper().replace('-', '_'), series)
+    header = re.sub(r'/\*.*?\*/', '', read('include', name + '.h'), flags=re.S)
     declared = sorted(re.findall(r'^\w+ (nw_\w+)\(', header, flags=re.M))
-    exported = [name for name in library.exported() if name != version]
+    exported = [symbol for symbol in library.exported() if symbol != version]
     wrong = sorted(set(exported) ^ set(declared))
-    if wrong or library.soname() != soname or library.versions() != [soname, version] or len(declared) < 40:
+    if wrong or library.soname() != soname or library.versions() != [soname, version] or len(declared) < least:
         sys.exit('soname %s, versions %s; not both exported and declared: %s' % (library.soname(), library.versions(), ' '.join(wrong)))
-    print('%s exports the %d functions of the header and nothing else' % (soname, len(exported)))
+    print('%s exports the %d functions of its header and nothing else' % (soname, len(exported)))
 
 
-main()
+look('neapwillow', 40)
+look('neapwillow-screen', 1)

@@ -10,6 +10,8 @@ RECORDS = 'crates/index_records/src/lib.rt'
 
 # The headers, and the crates that each declares.
 HEADERS = {'include/neapwillow.h': ['neapwillow', 'neapwillow_rooms', 'neapwillow_teaching'], 'programs/c_commands.h': ['c_commands']}
+# The package above the library, and its header.
+SCREEN, SCREEN_HEADER = 'neapwillow_screen', 'include/neapwillow-screen.h'
 
 # What the commands' header calls a constant of the source.
 CONSTANTS = {'NW_MOST_INPUT': 'program_printing::MOST_INPUT', 'NW_MOST_REPORT': 'program_date_lines::MOST_OUTPUT',
@@ -35,11 +37,13 @@ IN_C = {
 
 # The shape of an answer in C, by the definition that an export's contract cites; a number for every other one.
 SHAPES = {'partAnswer': 'nw_part', 'dateAnswer': 'nw_date', 'localAnswer': 'nw_time', 'localFieldAnswer': 'nw_time',
-          'sectionAnswer': 'nw_heading', 'headedAnswer': 'nw_heading', 'contentAnswer': 'nw_written', 'salvagedAnswer': 'nw_salvaged'}
+          'sectionAnswer': 'nw_heading', 'headedAnswer': 'nw_heading', 'contentAnswer': 'nw_written', 'salvagedAnswer': 'nw_salvaged',
+          'choiceAnswer': 'nw_choice'}
 
-# The shape that each record of c_answers' Taking says the fields of; and how many bits a type has.
+# The shape that each record of c_answers' Taking says the fields of, and of the screen box's Told; and how many bits a type has.
 RECORDS_OF = {'TellsDate': 'nw_date', 'TellsTime': 'nw_time', 'TellsHeading': 'nw_heading', 'TellsPart': 'nw_part',
               'TellsContent': 'nw_written', 'TellsSalvaged': 'nw_salvaged'}
+SCREEN_RECORDS = {'TellsChoice': 'nw_choice'}
 BITS = {'unsigned': 32, 'size_t': 64, 'uint64_t': 64}
 
 
@@ -157,11 +161,11 @@ def header_refusals(header):
     return {name: int(number) for name, number in re.findall(r'(NW_\w+) = (\d+)', body) if number != '0'}
 
 
-def source_fields_told():
+def source_fields_told(records, *path):
     """What takes each field of a value: the shape it is of, how many bits stand below it in the 64, and how many it has."""
-    found = {'nw_value': ('nw_answer', 8, 64)}
-    for record, shape in RECORDS_OF.items():
-        body = re.search(r'pub record %s .*?(?=\npub |\Z)' % record, read('crates', 'c_answers', 'specs', 'Taking.antt'), re.S).group(0)
+    found = {}
+    for record, shape in records.items():
+        body = re.search(r'pub record %s .*?(?=\npub |\Z)' % record, read('crates', *path), re.S).group(0)
         for field, below, width in re.findall(r'pub (\S+) : fieldTold (\d+) (\d+) a', body):
             found['%s_%s' % (shape, re.sub('-(is|are)$', '', field))] = shape, 8 + int(below), int(width)
     return found
@@ -191,16 +195,20 @@ def shapes(header):
 
 def main():
     header, commands = (without_comments(read(path)) for path in HEADERS)
+    screen = without_comments(read(SCREEN_HEADER))
     functions = [('function of ' + ' and '.join(crates), {name: said for crate in crates for name, said in exports(crate).items()}, declarations(text))
                  for crates, text in zip(HEADERS.values(), (header, commands))]
     pairs = [functions[0], ('version', source_version(), header_version(header)), ('refusal', source_refusals(), header_refusals(header)),
              ('struct', {lent: source_fields(path, name) for lent, path, name in STRUCTS},
               {lent: header_fields(header, lent) for lent, _, _ in STRUCTS}),
-             ('shape', dict.fromkeys(['nw_answer', *SHAPES.values()], 'uint64_t packed;'), shapes(header)),
-             ('field told', source_fields_told(), header_fields_told(header)), ('macro', MACROS, header_macros(header)),
+             ('shape', dict.fromkeys(['nw_answer', *SHAPES.values()], 'uint64_t packed;'), {**shapes(header), **shapes(screen)}),
+             ('field told', {'nw_value': ('nw_answer', 8, 64), **source_fields_told(RECORDS_OF, 'c_answers', 'specs', 'Taking.antt')},
+              header_fields_told(header)), ('macro', MACROS, header_macros(header)),
              ('variant', source_variants(), header_variants(header)), functions[1],
              ('constant', source_constants(CONSTANTS), header_constants(commands)),
-             ('length of what is lent', source_constants(LENT), {name: header_constants(header).get(name) for name in LENT})]
+             ('length of what is lent', source_constants(LENT), {name: header_constants(header).get(name) for name in LENT}),
+             ('function of ' + SCREEN, exports(SCREEN), declarations(screen)),
+             ('field of a choice', source_fields_told(SCREEN_RECORDS, SCREEN, 'specs', 'Told.antt'), header_fields_told(screen))]
     wrong = 0
     for what, source, declared in pairs:
         for name in sorted(source.keys() | declared.keys()):

@@ -6,12 +6,13 @@ import subprocess
 import sys
 
 ROOT = os.path.join(os.path.dirname(os.path.abspath(__file__)), os.pardir)
-HEADER = os.path.join(ROOT, 'include', 'neapwillow.h')
+HEADERS = [os.path.join(ROOT, 'include', name) for name in ('neapwillow.h', 'neapwillow-screen.h')]
 
 # Some function that answers with each shape.
 CALLS = {'nw_answer': 'nw_section_count(1)', 'nw_part': 'nw_index_signature(0, 0)', 'nw_date': 'nw_date_of(60000)',
          'nw_time': 'nw_time_unpack(0, 0)', 'nw_heading': 'nw_section_read(0, 0)',
-         'nw_written': 'nw_content_write(NW_AUXILIARY_24, 0, 0, 0, 0, 0, 0)', 'nw_salvaged': 'nw_salvage(0, 0, 0, 0, 0, 0)'}
+         'nw_written': 'nw_content_write(NW_AUXILIARY_24, 0, 0, 0, 0, 0, 0)', 'nw_salvaged': 'nw_salvage(0, 0, 0, 0, 0, 0)',
+         'nw_choice': 'nw_screen_choose(NW_INDEX, 0, 0, 0, 0, 0, 0)'}
 
 
 def accessors(header):
@@ -37,16 +38,18 @@ def uses(header):
 
 def refused(statements):
     """The statements that the compiler refuses, each in a function on a line of its own, and what it says."""
-    lines = ['#include "neapwillow.h"'] + ['void f%d(void); void f%d(void) { %s }' % (i, i, s) for i, s in enumerate(statements)]
-    run = subprocess.run([*sys.argv[1:], '-fsyntax-only', '-I', os.path.dirname(HEADER), '-'], input='\n'.join(lines) + '\n',
+    lines = ['#include "neapwillow-screen.h"'] + ['void f%d(void); void f%d(void) { %s }' % (i, i, s) for i, s in enumerate(statements)]
+    run = subprocess.run([*sys.argv[1:], '-fsyntax-only', '-I', os.path.dirname(HEADERS[0]), '-'], input='\n'.join(lines) + '\n',
                          stderr=subprocess.PIPE, encoding='utf-8', env={**os.environ, 'LC_ALL': 'C'})
     at = {int(line) - 2 for line in re.findall(r'^<stdin>:(\d+):.*?error:', run.stderr, re.M)}
     return [s for i, s in enumerate(statements) if i in at], run.stderr
 
 
 def main():
-    with open(HEADER, encoding='utf-8') as file:
-        header = file.read()
+    header = ''
+    for path in HEADERS:
+        with open(path, encoding='utf-8') as file:
+            header += file.read()
     right = [s for s, good in uses(header) if good]
     wrong = [s for s, good in uses(header) if not good]
     said = refused(right)[1]

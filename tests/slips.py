@@ -1,4 +1,4 @@
-"""What adapter, boxes and cable say of slips in forms, files and calls, and their status: slips.py CABLE HOW FOLDER RUNNER.."""
+"""What adapter, boxes, screen and cable say of slips in forms, files and calls, and their status: slips.py CABLE HOW FOLDER RUNNER.."""
 # SPDX-License-Identifier: MIT
 import os
 import subprocess
@@ -9,6 +9,7 @@ import unicodedata
 import border_slips as border
 import file_slips as files
 import form_slips as forms
+import screen_slips as screen
 import stream_slips as streams
 
 CABLE, HOW, FOLDER = sys.argv[1:4]
@@ -134,6 +135,48 @@ def try_border():
         expect('border %r on %d and %d bytes' % (words, len(one), len(two)), run('border', [*words, 'one', 'two']), status, wanted)
 
 
+# ---- the screen box
+
+
+def try_screen():
+    write('table', screen.TABLE)
+    for words, sentence in screen.CALLS:
+        expect('screen %r' % words, run('screen', words), 2, exactly=['screen: ' + sentence, screen.USAGE])
+    expect('screen --help', run('screen', ['--help']), 0, ['usage: screen FILE CODE MINUTES [TIME SECONDS]'])
+    for name, why in ('none', 'No such file or directory'), ('folder', 'Is a directory'):
+        expect('screen ' + name, run('screen', [name, screen.OWN, *screen.EIGHT, '1']), 2, exactly=["screen: %s can't be read: %s" % (name, why)])
+    for words, table, status, lines in screen.TABLES:
+        write('table', table)
+        expect('screen %r' % words, run('screen', ['table', *words]), status, exactly=lines)
+    with open('/dev/full', 'wb') as full:
+        expect('screen without room', run('screen', ['table', screen.OWN, *screen.EIGHT, '1'], stdout=full), 2,
+               exactly=["screen: the output can't be written: No space left on device"])
+
+
+def try_screen_by_the_clock():
+    """The table is put in its place, replaced and spoiled while the box runs. It says each once, and goes on until it is stopped."""
+    tables = [None, screen.body(), screen.body(screen.LASTING), screen.BROKEN, screen.body(screen.LASTING), None]
+    wanted = ["nothing, the file can't be read: No such file or directory", 'nothing to show', 'message %s, level 4' % screen.LASTING['identifier'],
+              'nothing, the table is refused: the body ends too early (refusal 14, at byte 1)']
+    wanted += [wanted[2], wanted[0]]
+    box = subprocess.Popen([*RUNNER, os.path.join(FOLDER, 'screen'), 'now', screen.OWN, '0'], stdout=subprocess.PIPE, encoding='ascii')
+    lines = []
+    for table in tables:
+        if table is None:
+            if os.path.exists('now'):
+                os.remove('now')
+        else:
+            write('next', table)
+            os.rename('next', 'now')
+        lines.append(box.stdout.readline())
+    box.terminate()
+    box.wait()
+    said = ''.join(lines).encode()
+    if len(lines) != len(wanted) or not all((' UTC: ' + want) in line for want, line in zip(wanted, lines)):
+        wrong.append('the screen by the clock says %r' % lines)
+    expect('the screen by the clock', (box.returncode, said, box.stdout.read().encode()), box.returncode, exactly=said.decode().splitlines())
+
+
 # ---- the box
 
 
@@ -242,7 +285,7 @@ def try_cable_of_packets():
 with tempfile.TemporaryDirectory() as scratch:
     os.chdir(scratch)
     os.mkdir('folder')
-    for part in try_forms, try_adapter_calls, try_files, try_box_calls, try_border, try_cable, try_cable_of_packets:
+    for part in try_forms, try_adapter_calls, try_files, try_box_calls, try_border, try_screen, try_screen_by_the_clock, try_cable, try_cable_of_packets:
         part()
     os.chdir('/')
 if wrong or tried < 200:

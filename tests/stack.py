@@ -266,6 +266,7 @@ PLANTED = [
     ('neapwillow', 'gathering_verdict::decide', 524, 'a second copy of the state', ['nw_gathering_feed']),
     ('neapwillow', 'gathering_hand_out::complete', 524, 'a second copy of the state', ['nw_gathering_hand_out', 'nw_gathering_pack']),
     ('neapwillow_rooms', 'rooms_feed::take_free', 1036, "a second copy of a network's part", ['nw_networks_feed']),
+    ('neapwillow_screen', 'screen_choice::walked', 255 * 24, 'a list of messages', ['nw_screen_choose']),
 ]
 
 
@@ -303,7 +304,7 @@ def main(objdump, header, page, clang, folder, *crates):
                 print(heading)
             print(f'  {name:36} {found[name][0]:5} of {limit}, by {" ".join(found[name][1][1:]) or "itself"}')
         wrong = list(faults({name: deep for name, (deep, _) in found.items()}, stated, page))
-        for crate, function, size, what, readers in PLANTED:
+        for crate, function, size, what, readers in (one for one in PLANTED if one[0] in crates):
             deep = too_deep(objdump, clang, os.path.join(folder, 'native', f'{crate}.bc'), function, size, header)
             print(f'planted in {function}, {what}: {len(deep)} functions pass their limits')
             wrong += [f'{what} in {function} is not seen at {name}' for name in readers if name not in deep]

@@ -13,9 +13,10 @@
 #include "plain_numbers.h"
 #include "plain_packets.h"
 #include "plain_rooms.h"
+#include "plain_screen.h"
 #include "plain_sections.h"
 
-// Every function of the header, and the refusals that it can give: each must be met, and no other.
+// Every function of the headers, and the refusals that it can give: each must be met, and no other.
 #define FUNCTIONS(X)                                                                                                 \
     X(version, "") X(crc32, "") X(crc16, "") X(day_of, "20") X(date_of, "20") X(weekday, "20")                       \
     X(time_pack, "19 20") X(time_unpack, "18 19 20") X(time_read_text, "19 20 24") X(time_showing, "18 19 20")       \
@@ -65,7 +66,8 @@
     X(command_volume, "14 15 19") X(command_parameter_count, "14 15 19") X(command_parameter, "14 15 19")            \
     X(command_terminal_count, "14 15 19") X(command_terminal, "14 15 17 18 19")                                      \
     X(command_terminal_digit, "14 15 17 18 19") X(configuration_write, "15 18 19 20 21 22")                          \
-    X(configuration_lay, "2 14 15 16 17 18 19 20 21 22")
+    X(configuration_lay, "2 14 15 16 17 18 19 20 21 22")                                                             \
+    X(screen_choose, "2 14 15 16 17 18 19 20 22")
 
 #define NUMBERED(name, refusals) F_##name,
 enum { FUNCTIONS(NUMBERED) COUNT_OF_FUNCTIONS };

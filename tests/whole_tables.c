@@ -421,6 +421,20 @@ static void ask_message(const uint8_t *body, size_t n, size_t at, size_t length)
     ask_channel(body, n, at, length);
 }
 
+// What a box shows that has the code of some message, mostly, while this or another one is on.
+static void ask_screen(uint32_t kind, const uint8_t *body, size_t n, plain_answer message) {
+    uint8_t code[NW_SCREEN_CODE_DIGITS + 1] = {0};
+    size_t digits = one_in(40) ? below(sizeof code + 1) : NW_SCREEN_CODE_DIGITS;
+    plain_answer own = refusal_of(message) ? message : plain_message_resource(body, n, part_start(message), part_length(message), 0);
+    plain_answer start = refusal_of(message) ? message : plain_message_start(body, n, part_start(message), part_length(message));
+    for (size_t i = 0; i < NW_SCREEN_CODE_DIGITS; i++)
+        code[i] = (uint8_t)(refusal_of(own) ? below(10) : i % 2 ? body[part_start(own) + (i + 1) / 2] >> 4 : body[part_start(own) + i / 2] & 15);
+    if (one_in(10)) code[below(sizeof code)] = (uint8_t)below(12);
+    uint32_t day = refusal_of(start) || one_in(10) ? (uint32_t)around(40000) : (uint32_t)(value_of(start) >> 24) + (uint32_t)below(2);
+    uint32_t second = (uint32_t)below(86500);
+    TRY(screen_choose, kind, body, n, code, digits, day, second);
+}
+
 static void ask_index(const uint8_t *body, size_t n) {
     uint32_t kind = mostly(NW_INDEX);
     TRY(index_read, kind, body, n);
@@ -430,7 +444,9 @@ static void ask_index(const uint8_t *body, size_t n) {
     TRY(index_signature, body, n);
     for (int left = 4; left > 0; left--) {
         uint64_t i = one_of(count);
-        ask_near(ask_message, body, n, TRY(index_message, body, n, i));
+        plain_answer message = TRY(index_message, body, n, i);
+        ask_near(ask_message, body, n, message);
+        ask_screen(kind, body, n, message);
     }
     ask_anywhere(ask_message, body, n);
 }

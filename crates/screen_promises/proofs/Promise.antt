@@ -1,12 +1,13 @@
 -- What is promised: of an accepted body by the message that leads, of all others by the order of refusals.
-use Prim.Native.Nat.{ℕ, zero, suc, _+_}
+use Prim.Native.Nat.{ℕ, _+_}
 use mathlib.Core.Path.{_≡_, refl, sym, ap, _∙_, subst}
-use mathlib.Core.Bool.{true}
-use mathlib.Core.List.{List, [], _∷_}
-use native.Mathlib.Nat.{add-zero}
+use mathlib.Core.Bool.{Bool, true, false, cond, false≢true}
+use mathlib.Core.List.{List}
 use native.Mathlib.Omega.{arith}
 use lib.ListN.{length}
+use Rattle.ground_refusal.specs.Numbers.{refusalNumber}
 use Rattle.ground_refusal.specs.declared.Refusal.{Refusal}
+use Rattle.ground_refusal.specs.declared.Refusal.the-variants.{DigitAboveNine, ImpossibleDay, OutputTooSmall}
 use Rattle.crc.specs.Crc.{AreBytes}
 use Rattle.time_fields.specs.Field.{isInstant}
 use Rattle.time_fields.specs.declared.Moment.{Moment}
@@ -14,32 +15,21 @@ use Rattle.body_formats.specs.Reading.{Reading, found, refused}
 use Rattle.body_formats.specs.Answers.{stepOf}
 use Rattle.body_formats.specs.Body.{reading, bodyRead}
 use Rattle.body_formats.specs.declared.Part.the-variants.{Of}
-use Rattle.body_formats.specs.declared.Step.the-variants.{At, Refused as NoStep}
-use Rattle.body_asking.specs.Agreement.{InTurn}
+use Rattle.body_formats.specs.declared.Step.the-variants.{Refused as NoStep}
 use Rattle.index.specs.Index.{Message, Index, index, indexKind}
 use Rattle.index_fields.specs.Asked.{messagePart}
-use Rattle.index_fields.specs.Agreement.{MessageAsked}
 use Rattle.promises.specs.Demand2.{Holds}
 use Rattle.promises.proofs.Demand2.{demand2}
 use Rattle.screen_code.specs.Code.{isCode}
 use Rattle.screen_choice.specs.Choice.{eligible, Numbered, Shown, Leader, nobody, leads, leader, shownAs, answerOf, chosenIn, choiceOf}
+use Rattle.screen_choice.specs.declared.Choice.{Choice}
 use Rattle.screen_choice.specs.declared.Choice.the-variants.{Shows, Nothing, Refused}
 use Rattle.screen_choice.proofs.Chosen as chosen
-use Rattle.screen_promises.specs.Promise.{Chooses, Promise}
+use Rattle.screen_promises.specs.Promise.{Allowed, Chooses, Within, isGiven, Promise}
 use Rattle.screen_promises.proofs.Least.{LeadsOf, leads-all, leads-shown, seen, only-one}
 use Rattle.screen_promises.proofs.Words.{words}
-
--- ---- each message has its part
-
-part-of : (s : List ℕ) (ms : List Message) (i p q : ℕ) → InTurn (MessageAsked s) i ms p q → (k : ℕ) (m : Message) → Numbered ms k m
-    → (at : ℕ) × (n : ℕ) × (messagePart s (i + k) ≡ Of at n)
-unfolding InTurn Numbered
-part-of s [] i p q t k m h = absurd h
-part-of s (x ∷ xs) i p q t zero m h = (p + 2, t .1 .size, ap (messagePart s) (add-zero i) ∙ t .1 .part-follows .is)
-part-of s (x ∷ xs) i p q t (suc k) m h =
-    let r = part-of s xs (suc i) (t .0) q (t .2) k m h in
-    let z : i + suc k ≡ suc i + k = omega arith in
-    (r .0, r .1, ap (messagePart s) z ∙ r .2)
+use Rattle.screen_promises.proofs.Numbers.{read-given}
+use Rattle.screen_promises.proofs.Within.{Parted, parted, few}
 
 -- ---- of an accepted body
 
@@ -52,12 +42,11 @@ module _ (kind : ℕ) (s code : List ℕ) (present : Moment) (t : Index) (b : Ar
   unfolding choiceOf
   choice-is = rw (c, i, demand2 .indexes .reads-exactly kind s t b .1 h)
 
+  part : (k : ℕ) (m : Message) → Numbered ms k m → Parted s k
+  part k m p = let z : 0 + k ≡ k = omega arith in subst (Parted s) z (parted s b ms 0 1 (chosen.stand kind s b t h) k m p)
+
   has-part : (k : ℕ) (m : Message) → Numbered ms k m → (at : ℕ) × (n : ℕ) × (messagePart s k ≡ Of at n)
-  has-part k m p =
-      let st = chosen.stand kind s b t h in
-      let r = part-of s ms 0 1 (st .end) (st .in-turn) k m p in
-      let z : 0 + k ≡ k = omega arith in
-      (r .0, r .1, sym (ap (messagePart s) z) ∙ r .2)
+  has-part k m p = let r = part k m p in (r .at, r .size, r .is)
 
   -- what is answered of the one that leads
   shown-then : (l : Leader) → LeadsOf code present ms (length ms) l → (k at n : ℕ) → answerOf s l ≡ Shows k at n
@@ -107,6 +96,29 @@ module _ (kind : ℕ) (s code : List ℕ) (present : Moment) (t : Index) (b : Ar
         has-part = has-part;
         none-exactly = ((λ e. none-then l f (sym choice-is ∙ e)), (λ x. choice-is ∙ then-none l f x));
         accepted = λ r e. never-refused l f r (sym choice-is ∙ e);
+        determined = λ x y p q. sym (allowed-is x p) ∙ allowed-is y q;
+      }
+    where
+      allowed-is : (x : Choice) → Allowed s code present t x → choiceOf kind s code present ≡ x
+      allowed-is (Shows k at n) p = choice-is ∙ then-shown (leader code present nobody 0 ms) (leads-all code present ms) k at n (p .0) (p .1)
+      allowed-is Nothing p = choice-is ∙ then-none (leader code present nobody 0 ms) (leads-all code present ms) p
+      allowed-is (Refused r) p = absurd p
+
+  -- what is shown lies in the body
+  shown-within : (k at n : ℕ) → choiceOf kind s code present ≡ Shows k at n → Within s k at n
+  shown-within k at n e =
+      let x = chooses .shows-exactly k at n .0 e in
+      let m = x .0 .message in
+      let r = part k m (x .0 .is-there) in
+      let g : Of (r .at) (r .size) ≡ Of at n = sym (r .is) ∙ x .1 in
+      let y : r .at ≡ at = cc in
+      let z : r .size ≡ n = cc in
+      let below = seen code present ms k m (x .0 .is-there) (x .0 .may) .below in
+      record {
+        number = omega (arith, below, few kind s t h);
+        in-body = omega (arith, y, z, r .in-body);
+        body = let l = h .formed .short in let w = ap length (h .body-is) in omega (arith, l, w);
+        part = omega (arith, z, r .short);
       }
 
 -- ---- the refusals
@@ -125,11 +137,38 @@ reader-refused kind s code present b c i r e = go (reading index indexKind kind 
         let h = chosen.holds kind s b q (sym (ap stepOf f)) in
         absurd (chooses kind s code present (h .0) b c i (h .2) .accepted r e)
 
+-- what is shown was read, by a code and at an instant
+within : (kind : ℕ) (s code : List ℕ) (present : Moment) → AreBytes s → (k at n : ℕ) → choiceOf kind s code present ≡ Shows k at n → Within s k at n
+unfolding choiceOf bodyRead
+within kind s code present b k at n e = go (isCode code) (isInstant present) (reading index indexKind kind s) refl refl refl e
+  where
+    go : (c i : Bool) (x : Reading Index) → isCode code ≡ c → isInstant present ≡ i → reading index indexKind kind s ≡ x
+        → cond c (cond i (chosenIn code s present x) (Refused (ImpossibleDay 0))) (Refused (DigitAboveNine 0)) ≡ Shows k at n → Within s k at n
+    go false i x c y f z = absurd (let w : _≡_ {A = ℕ} 0 1 = cc in omega arith)
+    go true false x c y f z = absurd (let w : _≡_ {A = ℕ} 0 1 = cc in omega arith)
+    go true true (refused r) c y f z = absurd (let w : _≡_ {A = ℕ} 0 1 = cc in omega arith)
+    go true true (found t q) c y f z =
+        let h = chosen.holds kind s b q (sym (ap stepOf f)) in
+        shown-within kind s code present (h .0) b c y (h .2) k at n e
+
+given : (kind : ℕ) (s code : List ℕ) (present : Moment) → AreBytes s → (r : Refusal) → choiceOf kind s code present ≡ Refused r
+    → isGiven (refusalNumber r) ≡ true
+given kind s code present b r e = go (isCode code) (isInstant present) refl refl
+  where
+    same : (q : Refusal) → Refused q ≡ Refused r → isGiven (refusalNumber q) ≡ true → isGiven (refusalNumber r) ≡ true
+    same q f h = let z : q ≡ r = cc in sym (ap (λ (x : Refusal). isGiven (refusalNumber x)) z) ∙ h
+
+    go : (c i : Bool) → isCode code ≡ c → isInstant present ≡ i → isGiven (refusalNumber r) ≡ true
+    go false i c y = same (DigitAboveNine 0) (chosen.choice-no-code kind s code present c ∙ e) refl
+    go true false c y = same (ImpossibleDay 0) (chosen.choice-no-instant kind s code present c y ∙ e) refl
+    go true true c y = read-given kind s r (reader-refused kind s code present b c y r e)
+
 pub promise : Promise
 promise =
     record {
       words = words;
       chooses = chooses;
+      within = within;
       only-one = only-one;
       no-code = λ kind s code present e. sym (chosen.choice-no-code kind s code present e);
       no-instant = λ kind s code present c e. sym (chosen.choice-no-instant kind s code present c e);
@@ -137,5 +176,6 @@ promise =
         reader-refused kind s code present b c i r,
         (λ e. sym (chosen.choice-refused kind s code present c i r (sym e))),
       );
-      determined = λ kind s code present x y e f. e ∙ sym f;
+      given = given;
+      never-21 = λ kind s code present b e. false≢true (given kind s code present b OutputTooSmall e);
     }
