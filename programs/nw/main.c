@@ -30,18 +30,13 @@ static const struct command me = {
     "Exit status: 0, all is well; 1, something is refused, missing or skipped; 2, wrong usage, a\n"
     "file that can't be read, or output that can't be written.\n"};
 
-static int show_words(const struct command *name, int words, char **word) {
-    (void)name;
-    return show(words, word);
-}
-
 // The commands by their names.
 static const struct {
     const char *name;
     const struct command *about;
     int (*run)(const struct command *about, int words, char **word);
 } commands[] = {
-    {"show", &show_command, show_words}, {"compare", &compare_command, compare}, {"form", &form_command, form},
+    {"show", &show_command, show}, {"compare", &compare_command, compare}, {"form", &form_command, form},
     {"make", &make_command, make},       {"salvage", &salvage_command, salvage}, {"dates", &nw_dates, dates},
     {"section", &nw_section, section},
 };

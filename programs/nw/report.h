@@ -3,17 +3,7 @@
 #ifndef REPORT_H
 #define REPORT_H
 
-#include "capture.h"
-#include "tables.h"
-
-/* What came of a capture, all in all. */
-struct sum {
-    struct captured capture;
-    uint64_t taken, held, refused;                               /* refused: good sections that are not taken */
-    uint64_t skipped, losses;                                    /* bytes that are skipped; what a transport stream lost */
-    uint64_t whole, accepted;                                    /* tables */
-    uint64_t messages_without_content, contents_without_message; /* of whole tables */
-};
+#include "sum.h"
 
 struct report {
     void (*begin)(const char *name); /* of the capture */

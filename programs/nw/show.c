@@ -51,9 +51,7 @@ static void note_begin(void *own) {
 static void note_section(void *own, uint64_t at, const uint8_t *s, size_t n, nw_heading heading) {
     struct work *w = own;
     struct arrival a = tables_feed(&w->tables, at, s, n, heading);
-    if (a.outcome == TOOK || a.outcome == TOOK_OVER) w->sum.taken++;
-    else if (a.outcome == HELD) w->sum.held++;
-    else w->sum.refused++;
+    sum_arrival(&w->sum, &a);
     if (is_event(&a)) progress_clear();
     w->report->arrival(&a);
 }
@@ -72,23 +70,6 @@ static void note_lost(void *own, const struct stream_loss *loss) {
     w->report->lost(loss);
 }
 
-// What a table adds to the sum.
-static void count_table(struct work *w, const struct table *t) {
-    if (!t->whole) return;
-    uint64_t message;
-    w->sum.whole++;
-    w->sum.accepted += NW_REFUSAL(t->verdict) == NW_TAKEN;
-    if (t->state.kind == NW_CONTENT) w->sum.contents_without_message += index_of(&w->tables, t, &message) == NULL;
-    for (uint64_t i = 0; t->state.kind == NW_INDEX && i < message_count(t); i++)
-        w->sum.messages_without_content += content_of(&w->tables, t, i) == NULL;
-}
-
-static bool is_faultless(const struct work *w) {
-    const struct sum *s = &w->sum;
-    return w->tables.count != 0 && s->accepted == w->tables.count && s->refused == 0 && s->skipped == 0 && s->losses == 0 &&
-           s->messages_without_content == 0 && s->contents_without_message == 0;
-}
-
 // Ends the page, and says so.
 static bool tell_page(const struct work *w, bool faultless) {
     if (!page_close(true)) return false;
@@ -99,11 +80,9 @@ static bool tell_page(const struct work *w, bool faultless) {
 static int tell(struct work *w) {
     tables_finish(&w->tables, w->variant);
     w->report->tables();
-    for (size_t i = 0; i < w->tables.count; i++) {
-        count_table(w, &w->tables.list[i]);
-        w->report->table(&w->tables, &w->tables.list[i], w->clock);
-    }
-    bool faultless = is_faultless(w);
+    for (size_t i = 0; i < w->tables.count; i++) w->report->table(&w->tables, &w->tables.list[i], w->clock);
+    sum_tables(&w->sum, &w->tables);
+    bool faultless = is_faultless(&w->sum, &w->tables);
     w->report->end(&w->tables, &w->sum, faultless);
     if (w->page != NULL && !tell_page(w, faultless)) return UNUSABLE;
     return finish_output(&show_command, faultless ? TAKEN : REFUSED);
@@ -135,9 +114,8 @@ static bool take_page(struct work *w, const char *file) {
 }
 
 // Takes a word, and perhaps the one after it. Answers how many were taken, or 0 where they are wrong, which is said.
-static int take(struct work *w, char **word, bool *options) {
-    bool option = *options && word[0][0] == '-' && word[0][1] != '\0';
-    if (*options && strcmp(word[0], "--") == 0) return *options = false, 1;
+static int take(void *own, char **word, bool option) {
+    struct work *w = own;
     if (option && strcmp(word[0], "--bytes") == 0) return take_report(w, word[0], &bytes_report) ? 1 : 0;
     if (option && strcmp(word[0], "--json") == 0) return take_report(w, word[0], &json_report) ? 1 : 0;
     if (option && strcmp(word[0], "--html") == 0) return take_page(w, word[1]) ? 2 : 0;
@@ -151,17 +129,13 @@ static int take(struct work *w, char **word, bool *options) {
     return 1;
 }
 
-int show(int words, char **word) {
+int show(const struct command *name, int words, char **word) {
     struct work w = {0};
-    bool options = true;
-    for (int i = 0, taken; i < words; i += taken) {
-        if (options && strcmp(word[i], "--help") == 0) return help(&show_command);
-        taken = take(&w, word + i, &options);
-        if (taken == 0) return UNUSABLE;
-    }
-    if (w.name == NULL) return misused(&show_command, "CAPTURE", " is wanted: a file's name, or - for standard input");
-    if (w.replace && w.page == NULL) return misused(&show_command, "--replace", ": it goes with --html");
-    if (w.page != NULL && is_one_file(w.name, w.page)) return misused(&show_command, w.page, ": this is the CAPTURE, and it would be lost");
+    int status = each_word(name, words, word, take, &w);
+    if (status != GO_ON) return status;
+    if (w.name == NULL) return misused(name, "CAPTURE", " is wanted: a file's name, or - for standard input");
+    if (w.replace && w.page == NULL) return misused(name, "--replace", ": it goes with --html");
+    if (w.page != NULL && is_one_file(w.name, w.page)) return misused(name, w.page, ": this is the CAPTURE, and it would be lost");
     if (w.report == NULL) w.report = &plain_report;
     if (w.variant == 0) w.variant = NW_AUXILIARY_24;
     return run(&w);

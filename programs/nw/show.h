@@ -8,6 +8,6 @@
 extern const struct command show_command;
 
 /* The words after `show`. Answers the exit status. */
-int show(int words, char **word);
+int show(const struct command *name, int words, char **word);
 
 #endif
