@@ -4,6 +4,7 @@ import copy
 import json
 import os
 import re
+import shlex
 import subprocess
 import sys
 import tempfile
@@ -66,7 +67,7 @@ def try_usage():
     command = 'nw: %s: there is no such command'
     for words, said in [([], ['nw: COMMAND is wanted', USAGE]), (['shwo'], [command % 'shwo', USAGE]), ([''], [command % '(an empty word)', USAGE]),
                         (['--halp'], [command % '--halp', USAGE]), (['\x1B[2J'], [command % '\\x1B[2J', USAGE]),
-                        (['help', 'shwo'], ['nw: shwo: there is no such topic; there are show, compare, form, make, salvage, dates, section and refusals', USAGE]),
+                        (['help', 'shwo'], ['nw: shwo: there is no such topic; there are show, screen, compare, form, make, salvage, dates, section and refusals', USAGE]),
                         (['help', 'show', 'more'], ['nw: more: one TOPIC is told of at a time', USAGE]),
                         (['show'], ['nw show: CAPTURE is wanted: a file\'s name, or - for standard input', SHOW_USAGE]),
                         (['show', '--byte', 'good'], ['nw show: --byte: there is no such word', SHOW_USAGE]),
@@ -123,7 +124,7 @@ def try_help():
     expect('version', run(['--version']), 0, b'nw ' + VERSION.encode(), [])
     expect('help show', run(['help', 'show']), 0, run(['show', '--help'])[1], [])
     expect('help', run(['help']), 0, run(['--help'])[1], [])
-    for words, needed in ((['--help'], ['nw show CAPTURE', 'nw compare A B', 'nw form CAPTURE', 'nw make FORM STREAM', 'nw salvage IN OUT', 'nw dates', 'nw section', 'nw help TOPIC',
+    for words, needed in ((['--help'], ['nw show CAPTURE', 'nw screen CAPTURE', 'nw compare A B', 'nw form CAPTURE', 'nw make FORM STREAM', 'nw salvage IN OUT', 'nw dates', 'nw section', 'nw help TOPIC',
                                         'nw help form', 'nw help refusals', '--version']),
                           (['show', '--help'], ['CAPTURE', '--bytes', '--json', '--html FILE', '--replace', '--progress', '--offset OFFSET', '-720 to 840', '+08:00'])):
         output = ' '.join(run(words)[1].decode().split())
@@ -148,7 +149,7 @@ def try_small():
             (['section', '-x'], b'', 2, b'', ['nw section: -x: there is no such word', 'usage: nw section [FILE]; nw section --help says more']),
             (['section', '--version'], b'', 0, b'nw section ' + VERSION.encode(), [])):
         expect('%r' % words, run(words, data), status, output, said)
-    for name in 'dates', 'section', 'compare':
+    for name in 'dates', 'section', 'compare', 'screen':
         expect('help ' + name, run(['help', name]), 0, run([name, '--help'])[1], [])
 
 
@@ -191,7 +192,7 @@ def try_bench():
     for block in blocks[1:]:  # the first writes the samples
         if block.startswith('nw '):
             words, _, kept = block[3:].partition(' > ')
-            output = run(words.split())[1].decode()
+            output = run(shlex.split(words))[1].decode()
             if kept:
                 with open(kept.strip(), 'w', encoding='utf-8') as file:
                     file.write(output)

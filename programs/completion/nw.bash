@@ -17,7 +17,8 @@ _nw() {
     if [ "$COMP_CWORD" -eq 1 ]; then words=$(_nw_listed commands "$nw")
     elif [ "${COMP_WORDS[1]}" = help ]; then words=$(_nw_listed commands "$nw" | grep -v -e '^-' -e '^help$'; _nw_listed topics "$nw")
     elif [ "$before" = --auxiliary ]; then words='24 32'
-    elif [ "$before" = --offset ]; then words=
+    elif [ "$before" = --at ]; then words=now
+    elif [ "$before" = --offset ] || [ "$before" = --code ]; then words=
     else files=yes; fi
     for word in "${COMP_WORDS[@]:2:COMP_CWORD-2}"; do [ "$word" != -- ] || files=only; done
     if [ $files = yes ] && [[ $current == -* ]]; then words=$(_nw_listed options "$nw" "${COMP_WORDS[1]}"); fi

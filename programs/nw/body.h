@@ -5,9 +5,10 @@
 
 #include "walk.h"
 
-/* In plain words; and byte by byte, with each field's name in the standard. */
+/* In plain words; byte by byte, with each field's name in the standard; and of an accepted content table the languages alone, in plain words. */
 void body_in_words(const struct body *b, struct clock clock);
 void body_in_bytes(const struct body *b, struct clock clock);
+void texts_in_words(const struct body *content, struct clock clock);
 
 /* Whether a field is told in words where it is taken: counts of things that follow, lengths and reserved bits go without saying; a text is told
  * in lines of its own. */

@@ -124,3 +124,12 @@ void body_in_words(const struct body *b, struct clock clock) {
     struct plain p = {false, false};
     body_walk(b, clock, (struct visitor){enter_plain, leave_plain, field_plain, &p});
 }
+
+static void field_of_language(void *own, const struct walk *w, const struct field *f) {
+    if (w->depth != 0) field_plain(own, w, f);
+}
+
+void texts_in_words(const struct body *content, struct clock clock) {
+    struct plain p = {false, false};
+    body_walk(content, clock, (struct visitor){enter_plain, leave_plain, field_of_language, &p});
+}

@@ -31,6 +31,7 @@ struct work {
     struct clock clock;
     unsigned variant; // 0 while it is not given
     struct tables tables[2];
+    struct sum sums[2];
     uint64_t fields, differences;
 };
 
@@ -149,7 +150,7 @@ static int tell(struct work *w) {
 
 static int run(struct work *w) {
     bool read = true;
-    for (unsigned i = 0; i < 2 && read; i++) read = load_tables(&compare_command, w->names[i], w->variant, &w->tables[i], &w->is_form[i]);
+    for (unsigned i = 0; i < 2 && read; i++) read = load_tables(&compare_command, w->names[i], w->variant, &w->tables[i], &w->sums[i], &w->is_form[i]);
     int status = read ? tell(w) : UNUSABLE;
     for (unsigned i = 0; i < 2; i++) tables_free(&w->tables[i]);
     return status;

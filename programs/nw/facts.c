@@ -54,6 +54,9 @@ void facts_before(const struct table *t, struct teller teller) {
          t->state.bytes, t->repeats, t->refused);
     tell_versions(t, teller);
     if (t->state.missing != 0) teller.fact(teller.own, "missing", missing_words(&t->state, missing, sizeof missing));
+}
+
+void facts_front(const struct table *t, struct teller teller) {
     if (!t->whole && t->body.n != 0)
         tell(teller, "front of the body", "%zu bytes, those before section %" PRIu64 ", as far as they can be read:", t->body.n,
              NW_PLACE(t->packed));
@@ -108,14 +111,15 @@ static void tell_message_of(const struct tables *all, const struct table *conten
              index->state.version);
 }
 
+void facts_verdict(const struct table *t, struct teller teller) {
+    if (t->whole) tell_verdict(t, teller);
+    else tell_not_whole(t, teller);
+}
+
 void facts_after(const struct tables *all, const struct table *t, struct teller teller) {
-    if (!t->whole) {
-        tell_not_whole(t, teller);
-        return;
-    }
-    if (t->state.kind == NW_INDEX) tell_contents(all, t, teller);
-    if (t->state.kind == NW_CONTENT) tell_message_of(all, t, teller);
-    tell_verdict(t, teller);
+    if (t->whole && t->state.kind == NW_INDEX) tell_contents(all, t, teller);
+    if (t->whole && t->state.kind == NW_CONTENT) tell_message_of(all, t, teller);
+    facts_verdict(t, teller);
 }
 
 // ---- all in all
@@ -129,18 +133,22 @@ static void tell_packets(const struct captured *c, uint64_t losses, struct telle
          c->ours, c->repeats, c->others, c->errors, c->refused, losses);
 }
 
-void facts_in_all(const struct tables *all, const struct sum *sum, struct teller teller) {
+void facts_tables(const struct tables *all, const struct sum *sum, struct teller teller) {
     uint64_t count = all->count;
-    tell(teller, "",
-         "all in all: %" PRIu64 " byte%s; sections: %" PRIu64 " taken, %" PRIu64 " held already, %" PRIu64 " refused; %" PRIu64
-         " byte%s skipped",
-         sum->capture.bytes, plural(sum->capture.bytes), sum->taken, sum->held, sum->refused, sum->skipped, plural(sum->skipped));
-    if (sum->capture.is_stream) tell_packets(&sum->capture, sum->losses, teller);
     tell(teller, "", "tables: %" PRIu64 ", of which %" PRIu64 " whole and %" PRIu64 " accepted", count, sum->whole, sum->accepted);
     if (sum->messages_without_content != 0)
         tell(teller, "", "messages without their content table: %" PRIu64, sum->messages_without_content);
     if (sum->contents_without_message != 0)
         tell(teller, "", "content tables without their message: %" PRIu64, sum->contents_without_message);
+}
+
+void facts_in_all(const struct tables *all, const struct sum *sum, struct teller teller) {
+    tell(teller, "",
+         "all in all: %" PRIu64 " byte%s; sections: %" PRIu64 " taken, %" PRIu64 " held already, %" PRIu64 " refused; %" PRIu64
+         " byte%s skipped",
+         sum->capture.bytes, plural(sum->capture.bytes), sum->taken, sum->held, sum->refused, sum->skipped, plural(sum->skipped));
+    if (sum->capture.is_stream) tell_packets(&sum->capture, sum->losses, teller);
+    facts_tables(all, sum, teller);
     if (sum->capture.bytes == 0) tell(teller, "", "the capture is empty");
-    else if (count == 0) tell(teller, "", "no table has come");
+    else if (all->count == 0) tell(teller, "", "no table has come");
 }

@@ -16,11 +16,15 @@ struct teller {
 /* What a table is called, as `index table 0000, version 5`. Answers the text. */
 char *table_name(const struct table *t, char *text, size_t room);
 
-/* Before its body: sections, versions and what is missing; and after it: what belongs to it, and the verdict of its reader. */
+/* Before its body: sections, versions and what is missing, and that a front of it follows; and after it: what belongs to it, and the verdict, which
+ * is that of its reader or that it is not whole. */
 void facts_before(const struct table *t, struct teller teller);
+void facts_front(const struct table *t, struct teller teller);
 void facts_after(const struct tables *all, const struct table *t, struct teller teller);
+void facts_verdict(const struct table *t, struct teller teller);
 
-/* All in all, a value for each line, without labels. */
+/* All in all, a value for each line, without labels; and of it the tables alone. */
 void facts_in_all(const struct tables *all, const struct sum *sum, struct teller teller);
+void facts_tables(const struct tables *all, const struct sum *sum, struct teller teller);
 
 #endif

@@ -24,6 +24,7 @@ struct work {
     struct clock clock;
     unsigned variant; // 0 while it is not given
     struct tables tables;
+    struct sum sum;
 };
 
 // Why a table is not in the form, or NULL.
@@ -59,7 +60,7 @@ static int print_tables(const struct work *w) {
 
 static int run(struct work *w) {
     bool is_form;
-    int status = load_tables(&form_command, w->name, w->variant, &w->tables, &is_form) ? print_tables(w) : UNUSABLE;
+    int status = load_tables(&form_command, w->name, w->variant, &w->tables, &w->sum, &is_form) ? print_tables(w) : UNUSABLE;
     tables_free(&w->tables);
     return status;
 }

@@ -3,6 +3,7 @@
 #include "form_values.h"
 #include "form_strings.h"
 #include "load.h"
+#include "words.h"
 #include <errno.h>
 #include <inttypes.h>
 #include <stdlib.h>
@@ -84,29 +85,11 @@ bool value_digits(struct lines *l, size_t bytes, uint8_t *out) {
 
 enum { TIME_TEXT = 19 };
 
-static unsigned days_of(unsigned month, unsigned year) {
-    bool leap = year % 4 == 0 && (year % 100 != 0 || year % 400 == 0);
-    if (month == 2) return leap ? 29 : 28;
-    return month == 4 || month == 6 || month == 9 || month == 11 ? 30 : 31;
-}
-
-// Why the library refuses a time that is of the form, in words.
-static const char *why_impossible(const char *text) {
-    unsigned day, month, year, hour, minute, second;
-    int got = sscanf(text, "%2u/%2u/%4u %2u:%2u:%2u", &day, &month, &year, &hour, &minute, &second);
-    if (got != 6) return "it can't be read";
-    if (month < 1 || month > 12) return "there is no such month (the day comes first, then the month)";
-    if (day < 1 || day > days_of(month, year)) return "there is no such day in the calendar";
-    if (hour > 23 || minute > 59 || second > 59) return "there is no such time of day";
-    if (NW_REFUSAL(nw_day_of(year, month, day)) != NW_TAKEN) return "the day is out of the range 01/03/1900 to 22/04/2038";
-    return "in UTC, less the offset, the day is out of the range 01/03/1900 to 22/04/2038";
-}
-
 static bool read_time(struct lines *l, size_t n, int offset, const char *wanted, uint64_t *out) {
     nw_answer answer = nw_time_read_text((const uint8_t *)l->value, n, offset);
     *out = nw_value(answer);
     if (NW_REFUSAL(answer) == NW_TAKEN) return true;
-    if (NW_REFUSAL(answer) == NW_IMPOSSIBLE_DAY) fault(FAULT_VALUE(l), "%s", why_impossible(l->value));
+    if (NW_REFUSAL(answer) == NW_IMPOSSIBLE_DAY) fault(FAULT_VALUE(l), "%s", impossible_words(l->value));
     else fault(FAULT_VALUE(l), "%s", wanted);
     return false;
 }

@@ -18,7 +18,11 @@ static struct clock clock_;
 
 // ---- the capture, as it is read
 
-static void begin(const char *name) { snprintf(capture, sizeof capture, "%s", name); }
+static void begin(const char *name) {
+    snprintf(capture, sizeof capture, "%s", name);
+    event_count = 0;
+    picture_begin();
+}
 
 static void note_event(const char *text) {
     char *kept = event_count < MOST_EVENTS ? malloc(strlen(text) + 1) : NULL;
@@ -177,6 +181,7 @@ static void put_table(const struct tables *all, size_t i) {
     picture_of_sections(t);
     fputs("<dl>\n", page);
     facts_before(t, teller);
+    facts_front(t, teller);
     if (t->whole || t->body.n != 0) html_body_in_words(&t->body, clock_, i);
     facts_after(all, t, teller);
     fprintf(page, "</dl>\n<p><a href=\"#bytes-%zu\">its bytes</a></p>\n</section>\n", i);

@@ -30,7 +30,8 @@ void messages_find(struct messages *m, const struct tables *all);
 void picture_of_messages(const struct messages *m, struct clock clock);
 void picture_of_capture(const struct sum *sum);
 
-/* What the picture of the capture is drawn from, in the order of the capture. */
+/* What the picture of the capture is drawn from, in the order of the capture: first that it begins. */
+void picture_begin(void);
 void picture_skipped(const struct stretch *bad);
 void picture_lost(const struct stream_loss *loss);
 void picture_arrival(const struct arrival *a);

@@ -36,11 +36,20 @@ struct lane {
 // Bounded, however long the capture is: the bins grow with it.
 static struct lane lanes[MOST_TABLES];
 static size_t lane_count;
-static uint64_t width = 16, not_drawn; // bytes of a bin; sections without a lane
+static uint64_t width, not_drawn; // bytes of a bin; sections without a lane
 static uint32_t skipped_in[BINS], lost_in[BINS];
 static bool any_skipped, any_lost;
 
 // ---- what came
+
+void picture_begin(void) {
+    lane_count = 0;
+    width = 16;
+    not_drawn = 0;
+    memset(skipped_in, 0, sizeof skipped_in);
+    memset(lost_in, 0, sizeof lost_in);
+    any_skipped = any_lost = false;
+}
 
 // Doubles the bins' width.
 static void fold(void) {

@@ -31,17 +31,30 @@ bool load(const struct command *c, const char *name, struct finder finder, struc
     return read;
 }
 
+// Where what is read goes.
+struct loaded {
+    struct tables *all;
+    struct sum *sum;
+};
+
 static void note_begin(void *own) { (void)own; }
 
-static void note_section(void *own, uint64_t at, const uint8_t *s, size_t n, nw_heading heading) { tables_feed(own, at, s, n, heading); }
+static void note_section(void *own, uint64_t at, const uint8_t *s, size_t n, nw_heading heading) {
+    const struct loaded *to = own;
+    struct arrival a = tables_feed(to->all, at, s, n, heading);
+    sum_arrival(to->sum, &a);
+}
 
-static void note_skipped(void *own, const struct stretch *bad) { (void)own, (void)bad; }
+static void note_skipped(void *own, const struct stretch *bad) { ((const struct loaded *)own)->sum->skipped += bad->bytes; }
 
-static void note_lost(void *own, const struct stream_loss *loss) { (void)own, (void)loss; }
+static void note_lost(void *own, const struct stream_loss *loss) {
+    (void)loss;
+    ((const struct loaded *)own)->sum->losses++;
+}
 
-bool load_tables(const struct command *c, const char *name, unsigned variant, struct tables *all, bool *is_form) {
+bool load_tables(const struct command *c, const char *name, unsigned variant, struct tables *all, struct sum *sum, bool *is_form) {
     static struct form f;
-    struct captured got;
+    struct loaded to = {all, sum};
     FILE *in = strcmp(name, "-") == 0 ? NULL : fopen(name, "rb"); // where it can't be opened, reading the capture says so
     *is_form = in != NULL && form_is(in);
     bool read = true;
@@ -51,8 +64,9 @@ bool load_tables(const struct command *c, const char *name, unsigned variant, st
         form_free(&f);
     }
     if (in != NULL) fclose(in);
-    if (!*is_form) read = load(c, name, (struct finder){note_begin, note_section, note_skipped, note_lost, all}, &got);
+    if (!*is_form) read = load(c, name, (struct finder){note_begin, note_section, note_skipped, note_lost, &to}, &sum->capture);
     tables_finish(all, variant);
+    sum_tables(sum, all);
     return read;
 }
 

@@ -7,6 +7,7 @@
 #include "form_command.h"
 #include "make.h"
 #include "salvage.h"
+#include "screen.h"
 #include "show.h"
 #include "topics.h"
 #include <locale.h>
@@ -16,6 +17,7 @@ static const struct command me = {
     "nw", "nw COMMAND ..",
     "The emergency tables of GD/J 086-2018 on the bench.\n"
     "  nw show CAPTURE      tells every table in a capture: sections, versions, refusals, fields\n"
+    "  nw screen CAPTURE    tells which message a box shows at a time, and why\n"
     "  nw compare A B       tells in which tables and fields two captures or forms differ\n"
     "  nw form CAPTURE      writes the tables of a capture as a form, which can be changed\n"
     "  nw make FORM STREAM  makes a stream of a form\n"
@@ -28,7 +30,7 @@ static const struct command me = {
     "  nw --help            says this\n"
     "  nw --version         says the version\n"
     "Exit status: 0, all is well; 1, something is refused, missing or skipped; 2, wrong usage, a\n"
-    "file that can't be read, or output that can't be written.\n"};
+    "file that can't be read, or output that can't be written; 3, of nw screen, no message is shown.\n"};
 
 // The commands by their names.
 static const struct {
@@ -36,9 +38,9 @@ static const struct {
     const struct command *about;
     int (*run)(const struct command *about, int words, char **word);
 } commands[] = {
-    {"show", &show_command, show}, {"compare", &compare_command, compare}, {"form", &form_command, form},
-    {"make", &make_command, make},       {"salvage", &salvage_command, salvage}, {"dates", &nw_dates, dates},
-    {"section", &nw_section, section},
+    {"show", &show_command, show},       {"screen", &screen_command, screen},    {"compare", &compare_command, compare},
+    {"form", &form_command, form},       {"make", &make_command, make},          {"salvage", &salvage_command, salvage},
+    {"dates", &nw_dates, dates},         {"section", &nw_section, section},
 };
 
 enum { COMMANDS = sizeof commands / sizeof *commands };
@@ -58,7 +60,7 @@ static int help_on(int words, char **word) {
     if (strcmp(word[0], "form") == 0) return tell_form(&me, &form_command);
     size_t i = named(word[0]);
     return i < COMMANDS ? help(commands[i].about)
-                        : misused(&me, word[0], ": there is no such topic; there are show, compare, form, make, salvage, dates, section and refusals");
+                        : misused(&me, word[0], ": there is no such topic; there are show, screen, compare, form, make, salvage, dates, section and refusals");
 }
 
 int main(int words, char **word) {

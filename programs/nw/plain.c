@@ -41,6 +41,7 @@ static void tell_table(const struct tables *all, const struct table *t, struct c
     char name[64];
     printf("\n%s (table_id 0x%02X, extension 0x%04X)\n", table_name(t, name, sizeof name), t->state.kind, t->state.extension);
     facts_before(t, teller);
+    facts_front(t, teller);
     if (t->whole || t->body.n != 0) tell_body(&t->body, clock);
     facts_after(all, t, teller);
 }

@@ -32,6 +32,23 @@ const char *time_words(uint64_t field, struct clock clock, char *text, size_t ro
     return text;
 }
 
+static unsigned days_of(unsigned month, unsigned year) {
+    bool leap = year % 4 == 0 && (year % 100 != 0 || year % 400 == 0);
+    if (month == 2) return leap ? 29 : 28;
+    return month == 4 || month == 6 || month == 9 || month == 11 ? 30 : 31;
+}
+
+const char *impossible_words(const char *text) {
+    unsigned day, month, year, hour, minute, second;
+    int got = sscanf(text, "%2u/%2u/%4u %2u:%2u:%2u", &day, &month, &year, &hour, &minute, &second);
+    if (got != 6) return "it can't be read";
+    if (month < 1 || month > 12) return "there is no such month (the day comes first, then the month)";
+    if (day < 1 || day > days_of(month, year)) return "there is no such day in the calendar";
+    if (hour > 23 || minute > 59 || second > 59) return "there is no such time of day";
+    if (NW_REFUSAL(nw_day_of(year, month, day)) != NW_TAKEN) return "the day is out of the range 01/03/1900 to 22/04/2038";
+    return "in UTC, less the offset, the day is out of the range 01/03/1900 to 22/04/2038";
+}
+
 const char *command_words(uint64_t tag) {
     static const char *const texts[] = {"set the clock",          "set the resource code",  "set the locked frequency",
                                         "set the return address", "set the return period",  "set the default volume",

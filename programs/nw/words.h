@@ -9,6 +9,9 @@
  * Answers the text. */
 const char *time_words(uint64_t field, struct clock clock, char *text, size_t room);
 
+/* Why the library refuses a text of the form dd/mm/yyyy hh:mm:ss as a time. */
+const char *impossible_words(const char *text);
+
 /* The weekday of a date of the calendar. */
 const char *weekday_words(uint32_t year, uint32_t month, uint32_t day);
 
