@@ -9,13 +9,14 @@
 // Exit status: 0, both gave the same answers to the end, or until the teaching buffer was full, which is said. 1, they did not: that
 // would be a fault of the library. 2, wrong usage, or a file that can't be read.
 // SPDX-License-Identifier: MIT
+#include <errno.h>
 #include <neapwillow.h>
 #include <stdbool.h>
 #include <stdio.h>
 #include <stdlib.h>
 #include <string.h>
 
-enum { LESSON = 40, TEACHING_BUFFER = LESSON * 4104, STORE = 256 * 4084 };
+enum { LESSON = 40, SHOWN = 60, TEACHING_BUFFER = LESSON * 4104, STORE = 256 * 4084 };
 enum { SAME = 0, DIFFERENT = 1, UNUSABLE = 2 }; // exit statuses
 
 // The quick one remembers what it needs: a state and a store. The slow one remembers what it heard.
@@ -98,6 +99,15 @@ static void say_missing(void) {
     if (NW_REFUSAL(missing) != NW_TAKEN || nw_value(missing) != l.quick.missing) differ("what is missing");
 }
 
+// The first bytes of a body; those that are no printed ASCII as dots, so that none steers the terminal.
+static const char *shown(const uint8_t *s, size_t n) {
+    static char text[SHOWN + 3];
+    size_t first = n > SHOWN ? SHOWN : n;
+    for (size_t i = 0; i < first; i++) text[i] = s[i] >= 0x20 && s[i] < 0x7F ? (char)s[i] : '.';
+    strcpy(text + first, n > SHOWN ? ".." : "");
+    return text;
+}
+
 static void say_body(void) {
     static uint8_t quick[NW_MOST_BODY], slow[NW_MOST_BODY];
     nw_answer one = nw_gathering_hand_out(&l.quick, l.store, sizeof l.store, quick, sizeof quick);
@@ -106,8 +116,7 @@ static void say_body(void) {
     switch (NW_REFUSAL(one)) {
     case NW_TAKEN:
         if (memcmp(quick, slow, (size_t)nw_value(one)) != 0) differ("the body");
-        printf("   The table is whole: both hand out %u bytes, \"%.*s\"%s\n", (unsigned)nw_value(one), nw_value(one) > 60 ? 60 : (int)nw_value(one),
-               (const char *)slow, nw_value(one) > 60 ? ".." : ".");
+        printf("   The table is whole: both hand out %u bytes, \"%s\".\n", (unsigned)nw_value(one), shown(slow, (size_t)nw_value(one)));
         break;
     case NW_CONTRADICTION: printf("   Nothing is handed out, 11, until a newer version comes.\n"); break;
     default: printf("   Nothing is handed out, 13: the smallest missing number is %u.\n", (unsigned)NW_PLACE(one));
@@ -181,17 +190,30 @@ static void own_lesson(void) {
     }
 }
 
-static int of_file(const char *name) {
-    static uint8_t capture[NW_MOST_CAPTURE], sections[NW_MOST_CAPTURE];
-    static uint32_t list[NW_SALVAGE_NUMBERS(NW_MOST_CAPTURE)];
+// A capture, as far as it is looked at.
+struct capture {
+    uint8_t s[NW_MOST_CAPTURE];
+    size_t n;
+    bool more;
+};
+
+// Reads a file, before anything is said of the lesson. False where it can't be read, which is said.
+static bool read_file(const char *name, struct capture *c) {
     FILE *file = fopen(name, "rb");
-    if (file == NULL) return fprintf(stderr, "teach: %s can't be opened\n", name), UNUSABLE;
-    size_t n = fread(capture, 1, sizeof capture, file);
-    bool failed = ferror(file) != 0, more = fgetc(file) != EOF;
+    if (file == NULL) return fprintf(stderr, "teach: %s can't be opened: %s\n", name, strerror(errno)), false;
+    c->n = fread(c->s, 1, sizeof c->s, file);
+    c->more = fgetc(file) != EOF;
+    bool failed = ferror(file) != 0;
+    if (failed) fprintf(stderr, "teach: %s can't be read: %s\n", name, strerror(errno));
     fclose(file);
-    if (failed) return fprintf(stderr, "teach: %s can't be read\n", name), UNUSABLE;
-    if (more) printf("Only the first %zu bytes of %s are looked at.\n", n, name);
-    nw_salvaged a = nw_salvage(capture, n, sections, sizeof sections, list, sizeof list / sizeof list[0]);
+    return !failed;
+}
+
+static int of_file(const char *name, const struct capture *c) {
+    static uint8_t sections[NW_MOST_CAPTURE];
+    static uint32_t list[NW_SALVAGE_NUMBERS(NW_MOST_CAPTURE)];
+    if (c->more) printf("Only the first %zu bytes of %s are looked at.\n", c->n, name);
+    nw_salvaged a = nw_salvage(c->s, c->n, sections, sizeof sections, list, sizeof list / sizeof list[0]);
     if (NW_REFUSAL(a) != NW_TAKEN) return fprintf(stderr, "teach: %s: %s\n", name, nw_refusal_text(NW_REFUSAL(a))), UNUSABLE;
     const uint8_t *s = sections, *end = sections + nw_salvaged_bytes(a);
     for (unsigned i = 0; i < LESSON && s < end; i++) {
@@ -204,11 +226,13 @@ static int of_file(const char *name) {
 }
 
 int main(int count, char **words) {
+    static struct capture c;
     if (count > 2) return fprintf(stderr, "usage: teach [FILE]\n"), UNUSABLE;
+    if (count == 2 && !read_file(words[1], &c)) return UNUSABLE;
     printf("The quick gathering keeps a state of %zu bytes and a store. The slow one keeps what it hears, each string with eight bytes before it.\n",
            sizeof l.quick);
     int status = SAME;
-    if (count == 2) status = of_file(words[1]);
+    if (count == 2) status = of_file(words[1], &c);
     else own_lesson();
     if (status == SAME) printf("\nBoth answered %s.\n", l.same ? "the same, step by step" : "differently");
     if (fflush(stdout) != 0 || ferror(stdout)) return UNUSABLE;

@@ -14,6 +14,7 @@ import re
 import struct
 import subprocess
 import sys
+import tempfile
 import zlib
 
 from calls import Refused
@@ -196,6 +197,22 @@ def lesson():
     return len(page)
 
 
+def lesson_slips():
+    """A file that can't be read is named with the system's reason before anything is taught; bytes of a file do not steer the terminal."""
+    with tempfile.TemporaryDirectory() as folder:
+        path = os.path.join(folder, 'file')
+        with open(path, 'wb') as file:
+            file.write(printed(0xFE, 0x1234, 3, 1, 0, 0, b'\x1B[2J\0\x07well\xFF'))
+        for name, wanted in ((folder, (2, b'', "teach: %s can't be read: Is a directory\n" % folder)),
+                             (path + '.none', (2, b'', "teach: %s.none can't be opened: No such file or directory\n" % path)), (path, (0, None, ''))):
+            done = subprocess.run([os.path.join(ROOT, 'tools', 'c-side'), os.path.join(ROOT, 'examples', 'teach.c'), name], capture_output=True, check=False)
+            told = done.returncode, wanted[1] if wanted[1] is None else done.stdout, done.stderr.decode()
+            if told != wanted or any(byte < 0x20 and byte != 0x0A or byte > 0x7E for byte in done.stdout):
+                raise Differs('teach %s: %r and not %r; it says %r' % (name, told, wanted, done.stdout))
+        if b'both hand out 11 bytes, ".[2J..well.".' not in done.stdout:
+            raise Differs('teach on a file says %r' % done.stdout)
+
+
 # ---- by chance
 
 def damaged(s):
@@ -291,6 +308,7 @@ def main(program):
             raise Differs('%s: not every refusal is met, or another: %s' % (name, counted))
     a.hold('the second program')
     steps = lesson()
+    lesson_slips()
     feeds, answers = lockstep(program)
     print('%d feeds to both gatherings: the same answers, headings, missing numbers and bodies; answers by refusal, 256 for held already: %s' %
           (feeds, ', '.join('%d: %d' % pair for pair in sorted(answers.items()))))
