@@ -12,17 +12,19 @@
 
 #define WORDS " [--fields] [--offset MINUTES] [FILE]"
 #define MORE \
-    "Reads lines dd/mm/yyyy hh:mm:ss, day first, from FILE or else from standard input, at most\n" \
-    "65536 bytes. Writes for each its number, its time field of GD/J 086-2018 and its weekday,\n" \
-    "1 for Monday to 7 for Sunday; or its number, the word refused and the refusal's number.\n" \
-    "  --fields          reads fields, ten hexadecimal digits to a line, and writes times with\n" \
-    "                    their weekdays\n" \
-    "  --offset MINUTES  times are local, at so many minutes east of UTC, -720 to 840; without\n" \
-    "                    it they are UTC\n" \
+    "Reads lines dd/mm/yyyy hh:mm:ss, day first, from FILE or else from standard\n" \
+    "input, at most 65536 bytes. Writes for each its number, its time field of GD/J\n" \
+    "086-2018 and its weekday, 1 for Monday to 7 for Sunday; or its number, the word\n" \
+    "refused and the refusal's number.\n" \
+    "  --fields          reads fields, ten hexadecimal digits to a line, and writes\n" \
+    "                    times with their weekdays\n" \
+    "  --offset MINUTES  times are local, at so many minutes east of UTC, -720 to\n" \
+    "                    840; without it they are UTC\n" \
     "  --help            says this\n" \
     "  --version         says the version\n" \
-    "Exit status: 0, each line is taken; 1, something is refused, and the output says what;\n" \
-    "2, wrong usage, a FILE that can't be read, or output that can't be written.\n"
+    "Exit status: 0, each line is taken; 1, something is refused, and the output\n" \
+    "says what; 2, wrong usage, a FILE that can't be read, or output that can't be\n" \
+    "written.\n"
 
 const struct command nw_dash_dates = {"nw-dates", "nw-dates" WORDS, MORE}, nw_dates = {"nw dates", "nw dates" WORDS, MORE};
 

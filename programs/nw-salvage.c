@@ -12,15 +12,18 @@
 
 static const struct command me = {
     "nw-salvage", "nw-salvage [--output OUT] [FILE]",
-    "Reads a capture from which pieces may be missing, all of FILE or else of standard input, at\n"
-    "most 65536 bytes. Writes its good sections of GD/J 086-2018, unchanged and back to back, to\n"
-    "standard output, and on standard error a line for each run of bytes: the word kept or\n"
-    "skipped, its first offset and its length. A good section is one run.\n"
-    "  --output OUT  writes the sections to the file OUT, and the lines to standard output\n"
+    "Reads a capture from which pieces may be missing, all of FILE or else of\n"
+    "standard input, at most 65536 bytes. Writes its good sections of GD/J 086-2018,\n"
+    "unchanged and back to back, to standard output, and on standard error a line\n"
+    "for each run of bytes: the word kept or skipped, its first offset and its\n"
+    "length. A good section is one run.\n"
+    "  --output OUT  writes the sections to the file OUT, and the lines to standard\n"
+    "                   output\n"
     "  --help        says this\n"
     "  --version     says the version\n"
-    "Exit status: 0, every byte is kept; 1, bytes are skipped, or the capture is too long and is\n"
-    "refused; 2, wrong usage, a FILE that can't be read, or output that can't be written.\n"};
+    "Exit status: 0, every byte is kept; 1, bytes are skipped, or the capture is too\n"
+    "long and is refused; 2, wrong usage, a FILE that can't be read, or output that\n"
+    "can't be written.\n"};
 
 // The names of OUT and of FILE, or NULL.
 struct work {

@@ -6,13 +6,13 @@
 #include <string.h>
 
 #define MORE \
-    "Reads one section of GD/J 086-2018, all of FILE or else of standard input, and writes its\n" \
-    "number and its payload's length in bytes; or the word refused and the refusal's number,\n" \
-    "and on standard error what that means.\n" \
+    "Reads one section of GD/J 086-2018, all of FILE or else of standard input, and\n" \
+    "writes its number and its payload's length in bytes; or the word refused and\n" \
+    "the refusal's number, and on standard error what that means.\n" \
     "  --help     says this\n" \
     "  --version  says the version\n" \
-    "Exit status: 0, the section is good; 1, it is refused; 2, wrong usage, a FILE that can't be\n" \
-    "read, or output that can't be written.\n"
+    "Exit status: 0, the section is good; 1, it is refused; 2, wrong usage, a FILE\n" \
+    "that can't be read, or output that can't be written.\n"
 
 const struct command nw_dash_section = {"nw-section", "nw-section [FILE]", MORE}, nw_section = {"nw section", "nw section [FILE]", MORE};
 

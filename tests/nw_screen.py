@@ -23,7 +23,8 @@ USAGE = 'usage: nw screen --code DIGITS --at TIME [--auxiliary BITS] [--offset O
 OWN, OTHER = make.RESOURCE, make.NEIGHBOUR
 NOW = datetime.datetime(2024, 11, 2, 23, 50)
 EPOCH = datetime.datetime(1858, 11, 17)
-NOT_WELL = 'not everything is whole and accepted: nw show says all of it, and a box may show something else'
+NOT_WELL = 'not everything is whole and accepted: a box may show something else'
+UNTOLD = "no index table is whole and accepted: what is shown can't be told"
 chance = random.Random(108)
 wrong, tried = [], 0
 
@@ -245,13 +246,13 @@ def try_damage():
              'all in all: %d bytes; sections: 2 taken, 0 held already, 0 refused; 4 bytes skipped' % len(b'junk' + b''.join(sent)), *ends])
     pieces = index.sections(60)
     lines_in('an index table in pieces, twice', b''.join(pieces * 2 + content.sections()), [shown, *ends])
-    missing = ['index table 0000, version 3: it can\'t be told which message is shown', line(0, 'sections', '1 of 2, 60 bytes; 0 repeats, 0 refused'),
+    missing = ['index table 0000, version 3: what is shown can\'t be told', line(0, 'sections', '1 of 2, 60 bytes; 0 repeats, 0 refused'),
                line(0, 'versions seen', '3'), line(0, 'missing', '1'), line(0, 'verdict', 'not whole: a section is missing (refusal 13, number 1)'),
-               'no index table has come that is whole and accepted: it can\'t be told what is shown', NOT_WELL]
+               UNTOLD, NOT_WELL]
     lines_in('a section is missing', b''.join([pieces[0], *content.sections()]), missing)
     body = index.body()
     refused = b''.join(make.cut(make.INDEX, 0, 3, body[:23] + b'\0' * 5 + body[28:]) + content.sections())
-    lines_in('a refused index table', refused, ['index table 0000, version 3: it can\'t be told which message is shown', line(
+    lines_in('a refused index table', refused, ['index table 0000, version 3: what is shown can\'t be told', line(
         0, 'verdict', 'refused: the day or the time is impossible or out of range (refusal 20 at byte 23 of the body)'), NOT_WELL])
     other = make.Index([m], 4, 7)
     lines_in('one refused, one good', refused + b''.join(other.sections()), ['index table 0007, version 4: message 1 of 1 is shown', *ends])
@@ -266,9 +267,9 @@ def try_damage():
     older, newer = make.Index([], 2), make.Index([m], 3)
     lines_in('a newer version', b''.join(older.sections() + newer.sections() + content.sections()), [
         'index table 0000, version 3: message 1 of 1 is shown', line(0, 'versions seen', '2 (whole), then 3'), 'message %s is shown' % m.identifier], 0)
-    lines_in('nothing', b'', ['the capture is empty', 'no index table has come that is whole and accepted: it can\'t be told what is shown', NOT_WELL])
+    lines_in('nothing', b'', ['the capture is empty', UNTOLD, NOT_WELL])
     lines_in('no index table', b''.join(make.Certificates([], [], 0).sections()), ['tables: 1, of which 1 whole and 1 accepted',
-             'no index table has come that is whole and accepted: it can\'t be told what is shown'])
+             UNTOLD])
 
 
 def try_packets():

@@ -131,6 +131,10 @@ def try_help():
         for word in [*needed, 'Exit status: 0, ', '; 1, ', '2, wrong usage']:
             if word not in output:
                 wrong.append('%r does not say %s' % (words, word))
+    names = re.findall(r'^  nw ([a-z]+) ', run(['--help'])[1].decode(), re.M)
+    for words in ['--help'], *(['help', name] for name in (*names, 'refusals') if name != 'help'):
+        wide = [part for part in run(words)[1].decode().split('\n') if len(part) > 80 and not part.startswith('usage: ')]
+        expect('%r on a terminal of 80 columns' % words, (0, '\n'.join(wide).encode(), b''), 0, b'', [])
 
 
 def try_small():

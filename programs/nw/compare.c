@@ -9,20 +9,23 @@
 
 const struct command compare_command = {
     "nw compare", "nw compare [--auxiliary BITS] [--offset OFFSET] A B",
-    "Reads two captures as nw show does, - for standard input, or forms by their names, as nw make\n"
-    "does, and tells in which tables and fields they differ. A table of one is held against the\n"
-    "table of the other with the same kind and extension, in their newest versions, or but for\n"
-    "content tables with the only one of its kind; a message against the one with the same\n"
-    "identifier, a text line by line.\n"
-    "How the tables were cut, repeated and ordered makes no difference, nor do damaged bytes\n"
-    "or lost packets whose section came whole elsewhere.\n"
-    "  --auxiliary BITS the length of an auxiliary file has 24 bits, as without it, or 32\n"
-    "  --offset OFFSET  times are also local, so far east of UTC: minutes, -720 to 840, or hours\n"
-    "                   and minutes with their sign, as +08:00; without it they are UTC alone\n"
+    "Reads two captures as nw show does, - for standard input, or forms by their\n"
+    "names, as nw make does, and tells in which tables and fields they differ. A\n"
+    "table of one is held against the table of the other with the same kind and\n"
+    "extension, in their newest versions, or but for content tables with the only\n"
+    "one of its kind; a message against the one with the same identifier, a text\n"
+    "line by line. How the tables were cut, repeated and ordered makes no\n"
+    "difference, nor do damaged bytes or lost packets whose section came whole\n"
+    "elsewhere.\n"
+    "  --auxiliary BITS the length of an auxiliary file has 24 bits, as without it,\n"
+    "                   or 32\n"
+    "  --offset OFFSET  times are also local, so far east of UTC: minutes, -720 to\n"
+    "                   840, or hours and minutes with their sign, as +08:00;\n"
+    "                   without it they are UTC alone\n"
     "  --help           says this\n"
-    "Exit status: 0, every table of both is whole, and nothing differs; 1, something does, or\n"
-    "can't be told; 2, wrong usage, a capture or form that can't be read, a form with faults, or\n"
-    "output that can't be written.\n"};
+    "Exit status: 0, every table of both is whole, and nothing differs; 1, something\n"
+    "does, or can't be told; 2, wrong usage, a capture or form that can't be read, a\n"
+    "form with faults, or output that can't be written.\n"};
 
 struct work {
     const char *names[2];

@@ -7,17 +7,19 @@
 
 const struct command form_command = {
     "nw form", "nw form [--auxiliary BITS] [--offset OFFSET] CAPTURE",
-    "Reads CAPTURE as nw show does, or a form by its name, and writes its tables as a form, from\n"
-    "which nw make makes the same tables again. The form of a form is the same, but that it has no\n"
-    "remarks, one way of writing each value, and index tables first. nw help form says what\n"
-    "stands in a form.\n"
-    "  --auxiliary BITS the length of an auxiliary file has 24 bits, as without it, or 32\n"
-    "  --offset OFFSET  times are local, so far east of UTC: minutes, -720 to 840, or hours and\n"
-    "                   minutes with their sign, as +08:00; without it they are at +00:00\n"
+    "Reads CAPTURE as nw show does, or a form by its name, and writes its tables as\n"
+    "a form, from which nw make makes the same tables again. The form of a form is\n"
+    "the same, but that it has no remarks, one way of writing each value, and index\n"
+    "tables first. nw help form says what stands in a form.\n"
+    "  --auxiliary BITS the length of an auxiliary file has 24 bits, as without it,\n"
+    "                   or 32\n"
+    "  --offset OFFSET  times are local, so far east of UTC: minutes, -720 to 840,\n"
+    "                   or hours and minutes with their sign, as +08:00; without it\n"
+    "                   they are at +00:00\n"
     "  --help           says this\n"
-    "Exit status: 0, all tables are in the form; 1, one that is not whole or not accepted is left\n"
-    "out, which standard error says, or no table came; 2, wrong usage, a CAPTURE that can't be\n"
-    "read, or output that can't be written.\n"};
+    "Exit status: 0, all tables are in the form; 1, one that is not whole or not\n"
+    "accepted is left out, which standard error says, or no table came; 2, wrong\n"
+    "usage, a CAPTURE that can't be read, or output that can't be written.\n"};
 
 struct work {
     const char *name; // the CAPTURE's, or NULL

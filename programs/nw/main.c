@@ -16,21 +16,26 @@
 static const struct command me = {
     "nw", "nw COMMAND ..",
     "The emergency tables of GD/J 086-2018 on the bench.\n"
-    "  nw show CAPTURE      tells every table in a capture: sections, versions, refusals, fields\n"
+    "  nw show CAPTURE      tells every table in a capture: sections, versions,\n"
+    "                       refusals, fields\n"
     "  nw screen CAPTURE    tells which message a box shows at a time, and why\n"
-    "  nw compare A B       tells in which tables and fields two captures or forms differ\n"
-    "  nw form CAPTURE      writes the tables of a capture as a form, which can be changed\n"
+    "  nw compare A B       tells in which tables and fields two captures or forms\n"
+    "                       differ\n"
+    "  nw form CAPTURE      writes the tables of a capture as a form, which can be\n"
+    "                       changed\n"
     "  nw make FORM STREAM  makes a stream of a form\n"
     "  nw salvage IN OUT    takes the good sections out of a damaged capture\n"
-    "  nw dates [FILE]      turns day-first times into time fields with their weekdays, and back\n"
+    "  nw dates [FILE]      turns day-first times into time fields with their\n"
+    "                       weekdays, and back\n"
     "  nw section FILE      judges one section\n"
-    "  nw help TOPIC        says how a command is used, as nw COMMAND --help does; or what stands\n"
-    "                       in a form: nw help form; or what each refusal's number means: nw help\n"
-    "                       refusals\n"
+    "  nw help TOPIC        says how a command is used, as nw COMMAND --help does;\n"
+    "                       or what stands in a form: nw help form; or what each\n"
+    "                       refusal's number means: nw help refusals\n"
     "  nw --help            says this\n"
     "  nw --version         says the version\n"
-    "Exit status: 0, all is well; 1, something is refused, missing or skipped; 2, wrong usage, a\n"
-    "file that can't be read, or output that can't be written; 3, of nw screen, no message is shown.\n"};
+    "Exit status: 0, all is well; 1, something is refused, missing or skipped; 2,\n"
+    "wrong usage, a file that can't be read, or output that can't be written; 3, of\n"
+    "nw screen, no message is shown.\n"};
 
 // The commands by their names.
 static const struct {

@@ -11,16 +11,19 @@
 
 const struct command make_command = {
     "nw make", "nw make [--auxiliary BITS] [--replace] FORM STREAM",
-    "Reads the tables of the written FORM, or of standard input where it is -, and writes their\n"
-    "sections to the file STREAM: in transport packets on PID 0x0021 if its name ends with .ts,\n"
-    "else one right after the other. Tells what it wrote, and what a box would make little of.\n"
-    "nw help form says what stands in a form; nw form gives it back.\n"
-    "  --auxiliary BITS the length of an auxiliary file has 24 bits, as without it, or 32\n"
-    "  --replace        replaces a STREAM that is there already, once the new one is whole\n"
+    "Reads the tables of the written FORM, or of standard input where it is -, and\n"
+    "writes their sections to the file STREAM: in transport packets on PID 0x0021 if\n"
+    "its name ends with .ts, else one right after the other. Tells what it wrote,\n"
+    "and what a box would make little of. nw help form says what stands in a form;\n"
+    "nw form gives it back.\n"
+    "  --auxiliary BITS the length of an auxiliary file has 24 bits, as without it,\n"
+    "                   or 32\n"
+    "  --replace        replaces a STREAM that is there already, once the new one is\n"
+    "                   whole\n"
     "  --help           says this\n"
-    "Exit status: 0, STREAM is written; 1, the form is refused, each fault by its line and column,\n"
-    "and nothing is written; 2, wrong usage, a FORM that can't be read, or a STREAM that can't be\n"
-    "written.\n"};
+    "Exit status: 0, STREAM is written; 1, the form is refused, each fault by its\n"
+    "line and column, and nothing is written; 2, wrong usage, a FORM that can't be\n"
+    "read, or a STREAM that can't be written.\n"};
 
 struct work {
     const char *form, *stream; // names, or NULL

@@ -10,15 +10,18 @@
 
 const struct command salvage_command = {
     "nw salvage", "nw salvage [--replace] IN OUT",
-    "Reads the capture IN, or standard input where it is -, from which pieces may be missing, and\n"
-    "writes its good sections of GD/J 086-2018, unchanged and back to back, to the file OUT. Tells\n"
-    "each run of bytes in a line: the word kept or skipped, its first offset and its length. A good\n"
-    "section is one run. A capture may have any length; above 65536 bytes it is read in windows.\n"
-    "A transport stream is refused: its sections stand in packets, which nw show and nw form read.\n"
+    "Reads the capture IN, or standard input where it is -, from which pieces may be\n"
+    "missing, and writes its good sections of GD/J 086-2018, unchanged and back to\n"
+    "back, to the file OUT. Tells each run of bytes in a line: the word kept or\n"
+    "skipped, its first offset and its length. A good section is one run. A capture\n"
+    "may have any length; above 65536 bytes it is read in windows. A transport\n"
+    "stream is refused: its sections stand in packets, which nw show and nw form\n"
+    "read.\n"
     "  --replace  replaces an OUT that is there already, once the new one is whole\n"
     "  --help     says this\n"
-    "Exit status: 0, every byte is kept; 1, bytes are skipped, or IN is a transport stream; 2, wrong\n"
-    "usage, an IN that can't be read, or output that can't be written.\n"};
+    "Exit status: 0, every byte is kept; 1, bytes are skipped, or IN is a transport\n"
+    "stream; 2, wrong usage, an IN that can't be read, or output that can't be\n"
+    "written.\n"};
 
 struct work {
     const char *in, *out; // names, or NULL

@@ -11,21 +11,27 @@
 
 const struct command screen_command = {
     "nw screen", "nw screen --code DIGITS --at TIME [--auxiliary BITS] [--offset OFFSET] CAPTURE",
-    "Reads CAPTURE as nw show does, or a form by its name, and tells which message a box would show:\n"
-    "of each index table the message that lists the box's code and is on at that time; of several\n"
-    "the one with the smallest level number, of these the earliest start, of these the first in\n"
-    "the table. Tells its texts, and of every other message why it is not the one.\n"
+    "Reads CAPTURE as nw show does, or a form by its name, and tells which message a\n"
+    "box would show: of each index table the message that lists the box's code and\n"
+    "is on at that time; of several the one with the smallest level number, of these\n"
+    "the earliest start, of these the first in the table. Tells its texts, and of\n"
+    "every other message why it is not the one. What is damaged is said too, and all\n"
+    "of it by nw show.\n"
     "  --code DIGITS    the box's resource code, 23 digits\n"
-    "  --at TIME        day first and in quotes, as '03/11/2024 07:50:00': local time with --offset,\n"
-    "                   else UTC; or the word now, for this computer's clock\n"
-    "  --auxiliary BITS the length of an auxiliary file has 24 bits, as without it, or 32\n"
-    "  --offset OFFSET  TIME is local, so far east of UTC: minutes, -720 to 840, or hours and\n"
-    "                   minutes with their sign, as +08:00; times are then told in local time too\n"
+    "  --at TIME        day first and in quotes, as '03/11/2024 07:50:00': local\n"
+    "                   time with --offset, else UTC; or the word now, for this\n"
+    "                   computer's clock\n"
+    "  --auxiliary BITS the length of an auxiliary file has 24 bits, as without it,\n"
+    "                   or 32\n"
+    "  --offset OFFSET  TIME is local, so far east of UTC: minutes, -720 to 840, or\n"
+    "                   hours and minutes with their sign, as +08:00; times are then\n"
+    "                   told in local time too\n"
     "  --help           says this\n"
-    "Exit status: 0, a message is shown, and everything is whole and accepted as nw show says it;\n"
-    "3, no message is shown, and everything is; 1, something is not, so that a box may show\n"
-    "something else, or no index table came; 2, wrong usage, a CAPTURE that can't be read, a form\n"
-    "with faults, or output that can't be written.\n"};
+    "Exit status: 0, a message is shown, and everything is whole and accepted as nw\n"
+    "show says it; 3, no message is shown, and everything is; 1, something is not,\n"
+    "so that a box may show something else, or no index table came; 2, wrong usage,\n"
+    "a CAPTURE that can't be read, a form with faults, or output that can't be\n"
+    "written.\n"};
 
 enum { NOTHING_SHOWN = 3 }; // an exit status
 
@@ -160,7 +166,7 @@ static void tell_table(struct work *w, const struct table *t) {
     printf("\n%s", table_name(t, name, sizeof name));
     if (is_good(t)) tell_index(w, t, teller);
     else {
-        puts(t->state.kind == NW_INDEX ? ": it can't be told which message is shown" : "");
+        puts(t->state.kind == NW_INDEX ? ": what is shown can't be told" : "");
         facts_before(t, teller);
         facts_verdict(t, teller);
     }
@@ -182,12 +188,12 @@ static void put_question(const struct work *w) {
 static int put_verdict(const struct work *w) {
     bool faultless = is_faultless(&w->sum, &w->tables);
     if (w->chosen_from > 1) printf("index tables: %" PRIu64 "; which of them a box takes, the standard does not say\n", w->chosen_from);
-    if (w->chosen_from == 0) puts("no index table has come that is whole and accepted: it can't be told what is shown");
+    if (w->chosen_from == 0) puts("no index table is whole and accepted: what is shown can't be told");
     else if (w->shown == 0) puts("nothing is shown");
     else if (w->shown == 1) printf("message %s is shown\n", w->identifier);
     else printf("a message is shown of %" PRIu64 " index tables\n", w->shown);
     if (!faultless && w->is_form) puts("messages and content tables do not all belong together");
-    else if (!faultless) puts(NOT_ALL_WELL ": nw show says all of it, and a box may show something else");
+    else if (!faultless) puts(NOT_ALL_WELL ": a box may show something else");
     return !faultless || w->chosen_from == 0 ? REFUSED : w->shown == 0 ? NOTHING_SHOWN : TAKEN;
 }
 

@@ -11,24 +11,30 @@
 
 const struct command show_command = {
     "nw show", "nw show [--bytes | --json | --html FILE [--replace]] [--auxiliary BITS] [--offset OFFSET] CAPTURE",
-    "Reads the sections of GD/J 086-2018 in CAPTURE, or in standard input where it is -, damage\n"
-    "among them or not, or in the packets on PID 0x0021 where it is a transport stream, gathers\n"
-    "them into tables, and tells all that came: what was skipped, lost or refused and why, which\n"
-    "sections are missing, and each field of every table.\n"
-    "  --bytes          tells the bodies byte by byte, with each field's name in the standard\n"
+    "Reads the sections of GD/J 086-2018 in CAPTURE, or in standard input where it\n"
+    "is -, damage among them or not, or in the packets on PID 0x0021 where it is a\n"
+    "transport stream, gathers them into tables, and tells all that came: what was\n"
+    "skipped, lost or refused and why, which sections are missing, and each field of\n"
+    "every table.\n"
+    "  --bytes          tells the bodies byte by byte, with each field's name in the\n"
+    "                   standard\n"
     "  --json           tells the same for scripts; nw(1) says how\n"
-    "  --html FILE      writes all of it to FILE, or to standard output where it is -, as one page\n"
-    "                   for a browser, with pictures\n"
-    "  --replace        replaces a FILE that is there already, once the new one is whole\n"
-    "  --auxiliary BITS the length of an auxiliary file has 24 bits, as without it, or 32\n"
-    "  --offset OFFSET  times are also local, so far east of UTC: minutes, -720 to 840, or hours\n"
-    "                   and minutes with their sign, as +08:00; without it they are UTC alone\n"
-    "  --progress       says on standard error how much of a capture above 10 MB is read, as it\n"
-    "                   does on a terminal without this\n"
+    "  --html FILE      writes all of it to FILE, or to standard output where it is\n"
+    "                   -, as one page for a browser, with pictures\n"
+    "  --replace        replaces a FILE that is there already, once the new one is\n"
+    "                   whole\n"
+    "  --auxiliary BITS the length of an auxiliary file has 24 bits, as without it,\n"
+    "                   or 32\n"
+    "  --offset OFFSET  times are also local, so far east of UTC: minutes, -720 to\n"
+    "                   840, or hours and minutes with their sign, as +08:00;\n"
+    "                   without it they are UTC alone\n"
+    "  --progress       says on standard error how much of a capture above 10 MB is\n"
+    "                   read, as it does on a terminal without this\n"
     "  --help           says this\n"
-    "Exit status: 0, every table is whole and accepted, nothing was skipped, lost or refused, and\n"
-    "messages and contents belong together; 1, something of that is not so, or no table came;\n"
-    "2, wrong usage, a CAPTURE that can't be read, or output that can't be written.\n"};
+    "Exit status: 0, every table is whole and accepted, nothing was skipped, lost or\n"
+    "refused, and messages and contents belong together; 1, something of that is not\n"
+    "so, or no table came; 2, wrong usage, a CAPTURE that can't be read, or output\n"
+    "that can't be written.\n"};
 
 struct work {
     const char *name; // the CAPTURE's, or NULL

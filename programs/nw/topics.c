@@ -23,13 +23,13 @@ static const char *const looks[] = {
     [NW_LEFT_OVER] = "signature_length, or a table that was filled up",
     [NW_RESERVED_BIT_ZERO] = "a head end that sets reserved bits to 0",
     [NW_DIGIT_ABOVE_NINE] = "binary where the standard has decimal digits, as in a time",
-    [NW_OUTSIDE_SET] = "class and level 1 to 4, letters a to z, character set 0 to 4, volume to 100",
+    [NW_OUTSIDE_SET] = "class, level 1 to 4, letters a to z, character set 0 to 4, volume to 100",
     [NW_IMPOSSIBLE_DAY] = "day and month in the wrong order, hour 24, a field of zeros",
     [NW_OTHER_CHECKSUM] = "the CRC-16 of EBM_id's 140 bits, without the four reserved ones",
     [NW_NOT_OF_THE_FORM] = "dd/mm/yyyy hh:mm:ss, day first, and nothing else in the line",
     [NW_NOT_A_PACKET] = "the capture ends or was cut here",
     [NW_NO_SYNC_BYTE] = "bytes lost or added between packets, or damage in the first byte of one",
-    [NW_SCRAMBLED] = "a multiplexer that scrambles PID 0x0021: emergency tables have to be in the clear",
+    [NW_SCRAMBLED] = "a multiplexer that scrambles PID 0x0021, which has to be in the clear",
     [NW_PAST_PACKET] = "damage in a packet's header, or a multiplexer that points past the packet"};
 
 enum { NUMBERS = 256, KNOWN = sizeof looks / sizeof *looks };
@@ -48,17 +48,18 @@ int tell_refusals(const struct command *c) {
 
 // A form, line by line: each word, in its order, and what stands after it.
 static const char *const form_lines[] = {
-    "A form is UTF-8 text. A line is a word, a space and a value; spaces at its ends don't matter, nor",
-    "do empty lines and remarks, which begin with #. Lines stand in the order given here; those with *",
-    "may be missing or stand more than once. All of it is one table after the other.",
+    "A form is UTF-8 text. A line is a word, a space and a value; spaces at its",
+    "ends don't matter, nor do empty lines and remarks, which begin with #. Lines",
+    "stand in the order given here; those with * may be missing or stand more than",
+    "once. All of it is one table after the other.",
     "",
     "table index",
     "  extension 0x0000      0 to 65535; numbers are decimal, or hexadecimal after 0x",
     "  version 5             0 to 31",
     "  message* DIGITS       its identifier, 35 digits; 0 to 255 messages",
     "    network 1           0 to 65535",
-    "    start 03/11/2024 07:45:00 +08:00    local time, day first, and its offset from UTC",
-    "    end 03/11/2024 08:15:00 +08:00      the same, or the word live",
+    "    start 03/11/2024 07:45:00 +08:00  local, day first, its offset from UTC",
+    "    end 03/11/2024 08:15:00 +08:00    the same, or the word live",
     "    type 11A01          five ASCII characters",
     "    class 3             1 to 4",
     "    level 4             1 to 4",
@@ -93,16 +94,16 @@ static const char *const form_lines[] = {
     "  signature BYTES",
     "table configuration",
     "  extension 0x0000",
-    "  version 5             then 0 to 255 commands in any order, each with its lines:",
-    "  clock* 03/11/2024 07:45:09            day first; its six numbers are sent as they are",
+    "  version 5             then 0 to 255 commands in any order, with their lines:",
+    "  clock* 03/11/2024 07:45:09  day first; its six numbers are sent as they are",
     "  code* BYTES           a terminal's address, up to 255",
     "    resource DIGITS     23 digits",
     "  frequency* 355000     kHz, up to 32 bits; so are rate and period",
     "    rate 6875           kBd",
     "    mapping 3           0 to 5",
-    "    terminal* DIGITS    23 digits; 0 to 255; so in return, period, volume and query, last",
+    "    terminal* DIGITS    23 digits; 0 to 255; last, as in the next four too",
     "  return* 3             the kind of address",
-    "    address back.example.org:8080       1: 11 digits; 2: as 192.0.2.7:8080; 3: name and port",
+    "    address back.example.org:8080  1: 11 digits; 2: as 192.0.2.7:8080; 3: so",
     "  period* 86400         seconds",
     "  volume* 50            0 to 100",
     "  query*",
@@ -111,10 +112,12 @@ static const char *const form_lines[] = {
     "    data BYTES          up to 65535",
     "  signature BYTES",
     "",
-    "BYTES are hexadecimal digits, two for each byte, more of them in lines with the word hex after it;",
-    "or the word none; or the word from and the name of a file whose bytes they are.",
-    "STRING is text, \\xNN for a byte that can't be typed or seen, or is a space at an end, and \\\\ for a",
-    "backslash. It is converted to the language's set where the C library can."};
+    "BYTES are hexadecimal digits, two for each byte, more of them in lines with the",
+    "word hex after it; or the word none; or the word from and the name of a file",
+    "whose bytes they are.",
+    "STRING is text, \\xNN for a byte that can't be typed or seen, or is a space at an",
+    "end, and \\\\ for a backslash. It is converted to the language's set where the C",
+    "library can."};
 
 int tell_form(const struct command *c, const struct command *form) {
     printf("usage: %s\n%s\n", form->usage, form->more);
