@@ -11,7 +11,7 @@ import second_salvage
 
 HOW, PROGRAM = sys.argv[1], sys.argv[2:]
 ROOT = os.path.join(os.path.dirname(os.path.abspath(__file__)), os.pardir)
-CONVERTS = HOW != 'as shipped'  # the emulator's C library may have no conversions
+CONVERTS = len(PROGRAM) == 1  # an emulator's C library may have no conversions
 wrong, tried = [], 0
 MAKE_USAGE = 'usage: nw make [--auxiliary BITS] [--replace] FORM STREAM; nw make --help says more'
 FORM_USAGE = 'usage: nw form [--auxiliary BITS] [--offset OFFSET] CAPTURE; nw form --help says more'
