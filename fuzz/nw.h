@@ -84,7 +84,13 @@ static inline int call(command_of_nw *command, const struct command *about, cons
     return status;
 }
 
+// What looks at an output is no code to be reached.
+#define LOOKING _Pragma("clang attribute push(__attribute__((no_sanitize(\"coverage\"))), apply_to = function)")
+#define LOOKED _Pragma("clang attribute pop")
+
 // ---- what a terminal gets
+
+LOOKING
 
 // The next character of UTF-8; what is none must not be.
 static inline uint32_t next_character(const uint8_t **s, const uint8_t *end) {
@@ -109,10 +115,7 @@ static inline void hold_plain(const struct written *w) {
     }
 }
 
-static inline void throw_away(struct written *out, struct written *said) {
-    free(out->s);
-    free(said->s);
-}
+LOOKED
 
 // Calls a command whose output and sentences a terminal gets, and holds them to it. Its output is the caller's to free.
 static inline int call_plain(command_of_nw *command, const struct command *about, const char **word, struct written *out) {

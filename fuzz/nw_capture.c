@@ -85,6 +85,8 @@ static void ask(struct input *in, const struct made *m, char code[24], char at[2
 
 // ---- JSON
 
+LOOKING
+
 static void hold_json(const struct written *w) {
     char open[8];
     size_t depth = 0;
@@ -172,6 +174,8 @@ static void hold_page(struct written *w) {
     must(depth == 0);
 }
 
+LOOKED
+
 // ---- the commands
 
 static void try_forms(const char *name, const char *bits, const char *offset) {
@@ -194,7 +198,9 @@ static void try_capture(const char *name, const char *other, const char *bits, c
     must(call(show, &show_command, (const char *[]){"--html", "-", "--auxiliary", bits, "--offset", offset, name, NULL}, &page, &said) == status);
     must(said.n == 0);
     hold_page(&page);
-    throw_away(&json, &page);
+    free(json.s);
+    free(page.s);
+    free(said.s);
     int shown = STATUS(screen, "--auxiliary", bits, "--code", code, "--at", at, name);
     must(shown != 2 && (shown == 1 || status == 0));
     must(STATUS(compare, "--auxiliary", bits, "--offset", offset, name, other) <= 1 && STATUS(salvage, name, "/dev/null") <= 1);

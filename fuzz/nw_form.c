@@ -25,7 +25,8 @@ int LLVMFuzzerTestOneInput(const uint8_t *data, size_t size) {
         must(STATUS(compare, "--auxiliary", bits, typed.name, printed.name) == 0);
         must(STATUS(screen, "--auxiliary", bits, "--code", "36543200000000303010103", "--at", "03/11/2024 07:50:00", typed.name) != 2);
         close(printed.at);
-        throw_away(&first, &again);
+        free(first.s);
+        free(again.s);
     }
     close(typed.at);
     return 0;
