@@ -64,8 +64,6 @@ static void put_item(void *own, const char *label, const char *value) {
     fputs("</li>\n", page);
 }
 
-static bool is_good(const struct table *t) { return t->whole && NW_REFUSAL(t->verdict) == NW_TAKEN; }
-
 static const char *short_verdict(const struct table *t) { return !t->whole ? "not whole" : is_good(t) ? "accepted" : "refused"; }
 
 static void put_head(bool faultless) {

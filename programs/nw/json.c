@@ -199,7 +199,7 @@ static void put_relations(const struct tables *all, const struct table *t) {
 
 static void put_body(const struct table *t, struct clock clock) {
     unsigned number = NW_REFUSAL(t->verdict);
-    printf(",\n \"accepted\": %s, \"refusal\": %u, \"place\": %" PRIu64 ", \"words\": ", truth(t->whole && number == NW_TAKEN), number,
+    printf(",\n \"accepted\": %s, \"refusal\": %u, \"place\": %" PRIu64 ", \"words\": ", truth(is_good(t)), number,
            number == NW_TAKEN ? 0 : NW_PLACE(t->verdict));
     put_ascii(nw_refusal_text(number));
     fputs(",\n \"fields\": [", stdout);

@@ -99,7 +99,7 @@ static bool read_back(const struct form *f, struct tables *all, unsigned variant
     form_feed(f, all);
     tables_finish(all, variant);
     bool good = all->count == f->count;
-    for (size_t i = 0; i < all->count; i++) good = good && all->list[i].whole && NW_REFUSAL(all->list[i].verdict) == NW_TAKEN;
+    for (size_t i = 0; i < all->count; i++) good = good && is_good(&all->list[i]);
     if (!good) say(&make_command, "the tables can't be read back: nothing is written");
     return good;
 }

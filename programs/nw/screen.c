@@ -113,8 +113,6 @@ static void put_messages(struct work *w, const struct body *index, const nw_reco
 
 // ---- the message that is shown
 
-static bool is_good(const struct table *t) { return t->whole && NW_REFUSAL(t->verdict) == NW_TAKEN; }
-
 // The texts of a message, or why there are none.
 static void put_content(const struct work *w, const struct table *index, uint64_t message) {
     const struct table *content = content_of(&w->tables, index, message);

@@ -12,7 +12,7 @@ static void sum_table(struct sum *s, const struct tables *all, const struct tabl
     if (!t->whole) return;
     uint64_t message;
     s->whole++;
-    s->accepted += NW_REFUSAL(t->verdict) == NW_TAKEN;
+    s->accepted += is_good(t);
     if (t->state.kind == NW_CONTENT) s->contents_without_message += index_of(all, t, &message) == NULL;
     for (uint64_t i = 0; t->state.kind == NW_INDEX && i < message_count(t); i++) s->messages_without_content += content_of(all, t, i) == NULL;
 }

@@ -137,6 +137,8 @@ void tables_free(struct tables *all) {
     free(all->list);
 }
 
+bool is_good(const struct table *t) { return t->whole && NW_REFUSAL(t->verdict) == NW_TAKEN; }
+
 // ---- which message a content table belongs to
 
 uint64_t message_count(const struct table *index) {

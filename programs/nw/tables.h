@@ -50,6 +50,9 @@ void tables_finish(struct tables *all, unsigned variant);
 
 void tables_free(struct tables *all);
 
+/* Whether a table is whole, and its reader accepts it. */
+bool is_good(const struct table *t);
+
 /* The content table of a message of an index table, or NULL; and the message that a content table belongs to, or NULL. Both are
  * found by the extension and the identifier. */
 const struct table *content_of(const struct tables *all, const struct table *index, uint64_t message);
