@@ -20,6 +20,8 @@ PROGRAMS = nw nw-dates nw-salvage nw-section
 LIBRARIES = neapwillow neapwillow-screen
 DOCUMENTS := $(wildcard README.md CHANGELOG.md SECURITY.md LICENSE PROVED docs/*.md docs/*.svg)
 EXAMPLES := $(wildcard examples/*)
+# The pages of section 3 that are made from the header, one for each group of functions.
+PAGES := $(shell tools/manpages --list)
 
 # Below the prefix a folder is told by it, so that the installed tree can be moved as a whole.
 below = $(subst $(PREFIX)/,$${prefix}/,$(1))
@@ -49,6 +51,7 @@ endif
 	    $(FILL) "$$name.pc.in" >"$(DESTDIR)$(LIBDIR)/pkgconfig/$$name.pc" && \
 	    $(FILL) "man/$$name.3.in" >"$(DESTDIR)$(MANDIR)/man3/$$name.3" || exit 1; \
 	done
+	tools/manpages "$(DESTDIR)$(MANDIR)/man3" "$(VERSION)"
 	$(INSTALL) -m 644 docs/nw-show.schema.json "$(DESTDIR)$(DATADIR)/"
 	$(INSTALL) -m 644 programs/completion/nw.bash "$(DESTDIR)$(BASHDIR)/nw"
 	$(INSTALL) -m 644 programs/completion/_nw "$(DESTDIR)$(ZSHDIR)/"
@@ -64,6 +67,7 @@ uninstall:
 	        "$(DESTDIR)$(INCLUDEDIR)/$$name.h" "$(DESTDIR)$(MANDIR)/man3/$$name.3"; \
 	done
 	rm -f "$(DESTDIR)$(DATADIR)/nw-show.schema.json" "$(DESTDIR)$(BASHDIR)/nw" "$(DESTDIR)$(ZSHDIR)/_nw"
+	for name in $(PAGES); do rm -f "$(DESTDIR)$(MANDIR)/man3/$$name.3"; done
 	for name in $(notdir $(EXAMPLES)); do rm -f "$(DESTDIR)$(DOCDIR)/examples/$$name"; done
 	for name in $(notdir $(DOCUMENTS)); do rm -f "$(DESTDIR)$(DOCDIR)/$$name"; done
 	for folder in "$(DESTDIR)$(DOCDIR)/examples" "$(DESTDIR)$(DOCDIR)" "$(DESTDIR)$(DATADIR)"; do [ ! -d "$$folder" ] || rmdir "$$folder"; done

@@ -45,6 +45,34 @@ def unnamed(page, header):
     return sorted(f for f in functions if not any(f == n or (n.endswith('_') and f.startswith(n)) for n in names)), functions
 
 
+def bare(text):
+    """The words of a page or of a comment: without roff's commands and fonts, its signs as they are shown, and without a comment's stars."""
+    text = re.sub(r'^\.B ', '', text, flags=re.M)
+    text = re.sub(r'\\&|\\f[BIRP]|`|\\\(ga', '', re.sub(r'^\..*$|^/\*|^ \*|\*/$', ' ', text, flags=re.M))
+    for sign, shown in [('\\-', '-'), ('\\(aq', "'"), ('\\(ha', '^'), ('\\(ti', '~'), ('\\e', '\\')]:
+        text = text.replace(sign, shown)
+    return ' '.join(word for word in text.split() if word != '-')
+
+
+def pages_of_groups(header):
+    """Each function of the header stands in the synopsis of one page alone, as it is declared, and each comment whole on a page."""
+    pages = {os.path.basename(path): read(path) for path in glob.glob(os.path.join(FOLDER, 'neapwillow*.3'))}
+    synopses = {name: bare(page[page.index('.SH SYNOPSIS'):page.index('.SH DESCRIPTION')]) for name, page in pages.items()}
+    declared = re.findall(r'^((?:static inline )?[a-z][\w *]*?\b(nw_\w+)\([^)]*\))', header, flags=re.M)
+    for declaration, function in declared:
+        having = [name for name, synopsis in synopses.items() if bare(declaration) + ';' in synopsis]
+        if len(having) != 1:
+            faults.append('%s stands on %d man pages: %s' % (function, len(having), ' '.join(having)))
+    said = ' | '.join(map(bare, pages.values()))
+    parts = header[header.index('/* ----'):]
+    for comment in re.findall(r'^/\*.*?\*/$', re.sub(r'^/\* ---- .*$', '/*', parts, flags=re.M), flags=re.M | re.S):
+        if bare(comment) not in said:
+            faults.append('no man page has the comment %.70s..' % bare(comment))
+    listed = set(re.findall(r'^\.BR (neapwillow\S*) \(3\)', pages['neapwillow.3'], flags=re.M))
+    expect("neapwillow(3)'s SEE ALSO", ' '.join(sorted(name.replace('\\', '') + '.3' for name in listed)), ' '.join(sorted(set(pages) - {'neapwillow.3'})))
+    return len(declared)
+
+
 def main():
     readme, version = read(ROOT, 'README.md'), read(ROOT, 'VERSION')
     page, header = read(FOLDER, 'neapwillow.3'), read(ROOT, 'include', 'neapwillow.h')
@@ -70,13 +98,15 @@ def main():
         missing, declared = unnamed(read(FOLDER, name + '.3'), read(ROOT, 'include', name + '.h'))
         faults.extend('the man page %s does not name %s' % (name, function) for function in missing)
         functions |= declared
+    on_pages = pages_of_groups(header)
     tried = ' '.join(read(path) for path in glob.glob(os.path.join(ROOT, 'fuzz', '*.[ch]')))
     faults.extend('no fuzz target calls %s' % name for name in sorted(functions - set(re.findall(r'\bnw_\w+', tried))))
-    if len({line.split(' ', 1)[1] for line in refusals}) != len(listed) or len(functions) < 40:
+    if len({line.split(' ', 1)[1] for line in refusals}) != len(listed) or len(functions) < 40 or on_pages < 150:
         faults.append('two refusals have the same words, or few functions are declared')
     if faults:
         sys.exit('\n'.join(faults))
-    print('%d functions and %d refusals as the man pages have them; the README shows what is shown' % (len(functions), len(listed) - 1))
+    print('%d functions and %d refusals as the man pages have them, each of %d functions on one page; the README shows what is shown' % (
+        len(functions), len(listed) - 1, on_pages))
 
 
 main()
