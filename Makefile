@@ -1,6 +1,7 @@
 # make proves and builds the library, the screen box above it and the commands; `make help` lists what else it can do.
 # SPDX-License-Identifier: MIT
-# What is built is for x86-64. Elsewhere it is cross-built, and what is run runs under the kit's emulator.
+# What is built is for x86-64. Elsewhere it is cross-built, and what is run runs under the kit's emulator. CC, CPPFLAGS, CFLAGS and LDFLAGS
+# are for the commands; the library is compiled by the kit.
 
 # The archives of the crates that tools/kit lists, and the library that some of them make together, which is installed with the package above it.
 ARCHIVE = target/library/libneapwillow.a
