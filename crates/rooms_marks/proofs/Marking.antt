@@ -1,6 +1,6 @@
 -- Laws of the loops that set marks and look at them: where each starts, one turn, where it ends.
-use Prim.Native.Nat.{ℕ, suc, _+_, _-_, _≤_, _<_, min}
-use mathlib.Core.Path.{_≡_, _∙_, ap}
+use Prim.Native.Nat.{ℕ, zero, suc, _+_, _-_, _≤_, _<_, min}
+use mathlib.Core.Path.{_≡_, refl, sym, _∙_, ap}
 use mathlib.Core.Bool.{true, false}
 use mathlib.Core.List.{List}
 use native.Mathlib.Numerals.{add-one}
@@ -8,7 +8,7 @@ use native.Mathlib.Omega.{arith}
 use borrow.Author.Tests.{eq-eqb, ne-eqb, le-leb, lt-leb}
 use lib.ListN.{length, getD, set, drop, drop-of-length-le}
 use lib.Seq.{drop-cons, set-out}
-use Rattle.rooms_marks.specs.Marks.{marked, freeMark, allOnce}
+use Rattle.rooms_marks.specs.Marks.{raisedAt, marked, freeMark, allOnce}
 
 -- ---- the first free room
 
@@ -45,9 +45,18 @@ module _ (marks : List ℕ) (n r : ℕ) where
 
 -- ---- marking
 
+pub raised-none : (marks : List ℕ) (r : ℕ) → r ≡ 0 → raisedAt marks r ≡ marks
+unfolding raisedAt
+raised-none marks r e = rw e
+
+pub raised-some : (marks : List ℕ) (r : ℕ) → 0 < r → raisedAt marks r ≡ set marks r (min 2 (getD marks r 0 + 1))
+unfolding raisedAt
+raised-some marks zero h = absurd (omega arith)
+raised-some marks (suc r) h = refl
+
 module _ (rooms : List ℕ) (k : ℕ) where
   pub mark-turn : (marks : List ℕ) → k < length rooms
-      → marked marks (drop k rooms) ≡ marked (set marks (getD rooms k 0) (min 2 (getD marks (getD rooms k 0) 0 + 1))) (drop (k + 1) rooms)
+      → marked marks (drop k rooms) ≡ marked (raisedAt marks (getD rooms k 0)) (drop (k + 1) rooms)
   unfolding marked
   mark-turn marks h = rw (add-one k, drop-cons rooms k 0 h)
 
@@ -55,14 +64,19 @@ module _ (rooms : List ℕ) (k : ℕ) where
   unfolding marked
   mark-end marks h = rw (drop-of-length-le rooms h)
 
-  -- one turn, by the mark that was set; where the room is past the marks none is
+  -- one turn, by the mark that was set; for no room and for one past the marks none is
   module _ (marks₀ marks : List ℕ) (h : k < length rooms) (i : marked marks₀ rooms ≡ marked marks (drop k rooms)) where
-    pub mark-set : (r v : ℕ) → r ≡ getD rooms k 0 → v ≡ min 2 (getD marks r 0 + 1) → (marks′ : List ℕ) → marks′ ≡ set marks r v
-        → marked marks₀ rooms ≡ marked marks′ (drop (k + 1) rooms)
-    mark-set r v e f marks′ m = rw (m, f, e) (i ∙ mark-turn marks h)
+    turned : (r : ℕ) → r ≡ getD rooms k 0 → (marks′ : List ℕ) → raisedAt marks r ≡ marks′ → marked marks₀ rooms ≡ marked marks′ (drop (k + 1) rooms)
+    turned r e marks′ m = i ∙ mark-turn marks h ∙ ap (λ (x : ℕ). marked (raisedAt marks x) (drop (k + 1) rooms)) (sym e)
+        ∙ ap (λ (x : List ℕ). marked x (drop (k + 1) rooms)) m
 
-    pub mark-past : (r : ℕ) → r ≡ getD rooms k 0 → length marks ≤ r → (marks′ : List ℕ) → marks′ ≡ marks
+    pub mark-set : (r v : ℕ) → r ≡ getD rooms k 0 → 0 < r → v ≡ min 2 (getD marks r 0 + 1) → (marks′ : List ℕ) → marks′ ≡ set marks r v
         → marked marks₀ rooms ≡ marked marks′ (drop (k + 1) rooms)
-    mark-past r e l marks′ m =
-        rw m (i ∙ mark-turn marks h ∙ ap (λ (m : List ℕ). marked m (drop (k + 1) rooms))
-        (set-out marks (getD rooms k 0) _ (rw e at l)))
+    mark-set r v e p f marks′ m = turned r e marks′ (raised-some marks r p ∙ ap (set marks r) (sym f) ∙ sym m)
+
+    pub mark-past : (r : ℕ) → r ≡ getD rooms k 0 → 0 < r → length marks ≤ r → (marks′ : List ℕ) → marks′ ≡ marks
+        → marked marks₀ rooms ≡ marked marks′ (drop (k + 1) rooms)
+    mark-past r e p l marks′ m = turned r e marks′ (raised-some marks r p ∙ set-out marks r _ l ∙ sym m)
+
+    pub mark-none : (r : ℕ) → r ≡ getD rooms k 0 → r ≡ 0 → (marks′ : List ℕ) → marks′ ≡ marks → marked marks₀ rooms ≡ marked marks′ (drop (k + 1) rooms)
+    mark-none r e z marks′ m = turned r e marks′ (raised-none marks r z ∙ sym m)

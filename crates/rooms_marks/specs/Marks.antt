@@ -6,12 +6,17 @@ use lib.Dec.{eqb, leb}
 use lib.ListN.{getD, set, replicate}
 use Rattle.ground_choices.specs.Choice.{if_then_else_}
 
--- one mark more at each room of the list; a number past the marks has none
+-- one mark more at a room; 0, which stands for no room, and a number past the marks have none
+unfoldable pub raisedAt : List ℕ → ℕ → List ℕ
+raisedAt marks zero = marks
+raisedAt marks (suc r) = set marks (suc r) (min 2 (getD marks (suc r) 0 + 1))
+
+-- at each room of the list
 unfoldable pub marked : List ℕ → List ℕ → List ℕ
 marked marks [] = marks
-marked marks (r ∷ rs) = marked (set marks r (min 2 (getD marks r 0 + 1))) rs
+marked marks (r ∷ rs) = marked (raisedAt marks r) rs
 
--- the marks of both networks' rooms; mark 0 stands for no room
+-- the marks of both networks' rooms
 unfoldable pub marksOf : List ℕ → List ℕ → List ℕ
 marksOf one two = marked (marked (replicate 513 0) one) two
 

@@ -5,7 +5,7 @@ ghost use lib.ListN.{length};
 ghost use Rattle.rooms_marks.specs.Rooms.{heldRooms, noneTwice, freeRoom};
 ghost use Rattle.rooms_marks.specs.Marks.{marked, marksOf, freeMark, allOnce};
 
-// A mark for each of the 512 rooms, and one for no room.
+// A mark for each of the 512 rooms, and before them one that is not set.
 struct Marks {
     of: [u8; 513],
 }
@@ -23,15 +23,17 @@ fn raised(m: u8) -> u8
     if m == 0 { 1 } else { 2 }
 }
 
-// One mark more at each room of the list.
+// One mark more at each room of the list. No room is passed by: most numbers have none, and each mark at one place would wait for the one before.
 fn mark(marks: &mut [u8], rooms: &[u16])
     ensures { λ _. ⌜ now (marks .exit) ≡ marked (now (marks .entry)) (now (rooms .entry)) ⌝ }
 {
     let mut k = 0;
     while k < rooms.len() {
         let r = wide(rooms[k]);
-        if r < marks.len() {
-            marks[r] = raised(marks[r]);
+        if 0 < r {
+            if r < marks.len() {
+                marks[r] = raised(marks[r]);
+            }
         }
         k += 1;
     }

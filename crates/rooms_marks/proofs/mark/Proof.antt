@@ -7,7 +7,7 @@ use borrow.Author.Needs.{needs}
 use denote.Ref.{now}
 use lib.ListN.{length, drop, length-set}
 use Rattle.rooms_marks.specs.Marks.{marked}
-use Rattle.rooms_marks.proofs.Marking.{mark-end, mark-set, mark-past}
+use Rattle.rooms_marks.proofs.Marking.{mark-end, mark-set, mark-past, mark-none}
 use Rattle.rooms_marks.proofs.mark.Statement.{statement}
 use Rattle.rooms_marks.proofs.mark.Tie as tie
 
@@ -47,14 +47,17 @@ loop-less c = omega arith
 loop-again : tie.Need-loop-again Inv-loop μ-loop
 loop-again c =
     let turn = c .before .before .before .before in
-    let rooms = now (turn .before .before .before .args .rooms) in (
+    let rooms = now (turn .before .before .before .args .rooms) in
+    let marks = turn .loop .marks in
+    let room = c .before .wide .ensures in (
       omega arith,
-      ⊎-elim (λ w. ap length (w .3) ∙ simp length-set (turn .loop .inv .1)) (λ w. ap length (w .1) ∙ turn .loop .inv .1) (c .if1 .came),
+      ⊎-elim (λ w. ap length (w .4) ∙ simp length-set (turn .loop .inv .1))
+          (⊎-elim (λ w. ap length (w .2) ∙ turn .loop .inv .1) (λ w. ap length (w .1) ∙ turn .loop .inv .1)) (c .if1 .came),
       ⊎-elim
-          (λ w. mark-set rooms (turn .loop .k) _ (turn .loop .marks) (omega arith) (turn .loop .inv .2)
-          _ _ (c .before .wide .ensures) (w .2 .ensures) (c .if1 .marks) (w .3))
-          (λ w. mark-past rooms (turn .loop .k) _ (turn .loop .marks) (omega arith) (turn .loop .inv .2)
-          _ (c .before .wide .ensures) (omega arith) (c .if1 .marks) (w .1))
+          (λ w. mark-set rooms (turn .loop .k) _ marks (omega arith) (turn .loop .inv .2) _ _ room (omega arith) (w .3 .ensures) (c .if1 .marks) (w .4))
+          (⊎-elim
+          (λ w. mark-past rooms (turn .loop .k) _ marks (omega arith) (turn .loop .inv .2) _ room (omega arith) (omega arith) (c .if1 .marks) (w .2))
+          (λ w. mark-none rooms (turn .loop .k) _ marks (omega arith) (turn .loop .inv .2) _ room (omega arith) (c .if1 .marks) (w .1)))
           (c .if1 .came),
     )
 
