@@ -1,7 +1,7 @@
 """docs/RULES.md against the tree: each name that it gives is there, and each refusal and heading of document 01 has its rows.
 
 A name is `crate.name`, a definition, law, function or type; `crate.Record.field`, a part of a record or a case of a type; `crate/fault`, a
-fault of an edit in the crate's must-fail/; or the path of a file. What docs/PROMISES.md and docs/DECISIONS.md name is looked for too.
+fault of an edit in the crate's must-fail/; or the path of a file. What docs/PROMISES.md, DECISIONS.md and COVERAGE.md name is looked for too.
 """
 # SPDX-License-Identifier: MIT
 import glob
@@ -10,7 +10,7 @@ import re
 import sys
 
 ROOT = os.path.join(os.path.dirname(os.path.abspath(__file__)), os.pardir)
-RULES, PROMISES, DECISIONS = (os.path.join('docs', name + '.md') for name in ['RULES', 'PROMISES', 'DECISIONS'])
+RULES, PROMISES, DECISIONS, COVERAGE = (os.path.join('docs', name + '.md') for name in ['RULES', 'PROMISES', 'DECISIONS', 'COVERAGE'])
 
 # 01's headings, in its order, and the parts that the page takes apart: each has rows.
 HEADINGS = [
@@ -189,7 +189,7 @@ def names_of(path):
 def main():
     rows, names, refusals = rules()
     each_refusal(refusals)
-    others = edits_of_promises() + names_of(PROMISES) + names_of(DECISIONS)
+    others = edits_of_promises() + sum(map(names_of, [PROMISES, DECISIONS, COVERAGE]))
     if faults:
         print(*faults, sep='\n')
         sys.exit('%d faults' % len(faults))
