@@ -25,6 +25,7 @@ NOW = datetime.datetime(2024, 11, 2, 23, 50)
 EPOCH = datetime.datetime(1858, 11, 17)
 NOT_WELL = 'not everything is whole and accepted: a box may show something else'
 UNTOLD = "no index table is whole and accepted: what is shown can't be told"
+CHINESE = '这是演练。' if len(PROGRAM) == 1 else 'A drill.'  # an emulator's C library may have no such locale
 chance = random.Random(108)
 wrong, tried = [], 0
 
@@ -217,7 +218,7 @@ def try_tables():
     try_whole('two that do not', [make.Index([], 3), make.Index([two], 4, 7)], [texts(two)], wanted=[None, None])
     try_whole('no texts', [make.Index([one], 3)], wanted=[0])
     try_whole('texts that no message has', [make.Index([one], 3)], [texts(one), texts(two)], wanted=[0])
-    try_whole('two languages', [make.Index([one], 3)], [texts(one, ('zho', 2, '\x1B[2J演练'.replace('\x1B', ''), '县', [(9, b'picture')]))], wanted=[0])
+    try_whole('two languages', [make.Index([one], 3)], [texts(one, ('zho', 2, CHINESE, CHINESE, [(9, b'picture')]))], wanted=[0])
     many = [message(n, level=1 + n % 4, start=-n) for n in range(255)]
     try_whole('255 messages', [make.Index(many, 0)], list(map(texts, many)), wanted=[252])
 
@@ -264,6 +265,9 @@ def try_damage():
     lines_in('texts that are refused', b''.join(index.sections() + make.cut(make.CONTENT, content.extension, 1, spoiled)), [
         shown, line(0, 'content', 'content table %04X, version 1, is refused, as is said below' % content.extension), content.name(),
         line(0, 'verdict', 'refused: a reserved bit is wrong (refusal 17 at byte %d of the body)' % (spoiled.index(b'eng\x0A') + 3)), *ends])
+    nasty = make.Content(m, [('eng', 2, 'a\x1B[2J\x9B\u202Eb', '', [])], 1)
+    lines_in('texts that would steer a terminal', b''.join(make.Index([m], 3).sections() + nasty.sections()), [
+        '      | a\\u{1B}[2J\\u{9B}\\u{202E}b', 'message %s is shown' % m.identifier], 0)
     older, newer = make.Index([], 2), make.Index([m], 3)
     lines_in('a newer version', b''.join(older.sections() + newer.sections() + content.sections()), [
         'index table 0000, version 3: message 1 of 1 is shown', line(0, 'versions seen', '2 (whole), then 3'), 'message %s is shown' % m.identifier], 0)
@@ -275,7 +279,7 @@ def try_damage():
 def try_packets():
     """The same in a transport stream; with a packet lost."""
     m = message(1)
-    index, content = make.Index([m], 3), texts(m, ('zho', 2, '这是演练。' * 90, '', []))
+    index, content = make.Index([m], 3), texts(m, ('zho', 2, CHINESE * 90, '', []))
     packets = []
     for section in index.sections() + content.sections():
         packets += packed(section, len(packets) % 16)
@@ -304,7 +308,7 @@ def try_words():
             (['--code', OWN[:11] + ' ' + OWN[12:]], '%s %s: a resource code is 23 digits and nothing else' % (OWN[:11], OWN[12:])),
             (['--code', ''], '(an empty word): a resource code is 23 digits and nothing else'),
             (['--code', '\x1B[2J'], '\\x1B[2J: a resource code is 23 digits and nothing else'),
-            (['--code', '٣' * 23], '%s: a resource code is 23 digits and nothing else' % ('٣' * 23)),
+            (['--code', '\x80' * 23], '%s: a resource code is 23 digits and nothing else' % ('\\xC2\\x80' * 23)),
             (['--at', '02/11/2024', '23:50:00', 'good'], '02/11/2024' + times), (['--at', 'NOW'], 'NOW' + times), (['--at', ''], '(an empty word)' + times),
             (['--at', '2/11/2024 23:50:00'], '2/11/2024 23:50:00' + times), (['--at', '2024-11-02 23:50:00'], '2024-11-02 23:50:00' + times),
             (['--at', '02/11/2024 23:50:00 '], '02/11/2024 23:50:00 ' + times), (['--at', '02/11/2024 23:50'], '02/11/2024 23:50' + times),
