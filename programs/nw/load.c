@@ -66,7 +66,6 @@ bool load_tables(const struct command *c, const char *name, unsigned variant, st
     if (in != NULL) fclose(in);
     if (!*is_form) read = load(c, name, (struct finder){note_begin, note_section, note_skipped, note_lost, &to}, &sum->capture);
     tables_finish(all, variant);
-    sum_tables(sum, all);
     return read;
 }
 

@@ -10,8 +10,8 @@
 /* Reads a capture by its name, - for standard input. False where it can't be read, which is said. */
 bool load(const struct command *c, const char *name, struct finder finder, struct captured *got);
 
-/* Reads the tables of a capture, or of a form that is a file, content tables of a variant, counts what came, and tells which of the two it is.
- * False where it can't be read or the form has faults, which is said. */
+/* Reads the tables of a capture, or of a form that is a file, content tables of a variant, counts what came but for the tables, and tells which of
+ * the two it is. False where it can't be read or the form has faults, which is said. */
 bool load_tables(const struct command *c, const char *name, unsigned variant, struct tables *all, struct sum *sum, bool *is_form);
 
 /* What is said of a capture's name and how many of its sections found no table. */

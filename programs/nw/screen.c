@@ -197,6 +197,7 @@ static int put_verdict(const struct work *w) {
 
 static int tell(struct work *w) {
     struct teller lines = {put_line, NULL};
+    sum_tables(&w->sum, &w->tables);
     put_question(w);
     for (size_t i = 0; i < w->tables.count; i++) tell_table(w, &w->tables.list[i]);
     putchar('\n');

@@ -127,16 +127,6 @@ static bool put_in_order(struct tables *all) {
     return true;
 }
 
-void tables_finish(struct tables *all, unsigned variant) {
-    for (size_t i = 0; i < all->count; i++) pack(&all->list[i], variant);
-    put_in_order(all); // where there is no memory, they stay as they came
-}
-
-void tables_free(struct tables *all) {
-    for (size_t i = 0; i < all->count; i++) free(all->list[i].store);
-    free(all->list);
-}
-
 bool is_good(const struct table *t) { return t->whole && NW_REFUSAL(t->verdict) == NW_TAKEN; }
 
 // ---- which message a content table belongs to
@@ -146,27 +136,35 @@ uint64_t message_count(const struct table *index) {
     return index->whole && NW_REFUSAL(count) == NW_TAKEN ? nw_value(count) : 0;
 }
 
-static bool message_part(const struct table *index, uint64_t i, nw_part *part) {
-    *part = nw_index_message(index->body.s, index->body.n, i);
-    return NW_REFUSAL(*part) == NW_TAKEN;
+static struct message_key find_key(const struct table *index, uint64_t i) {
+    const struct body *b = &index->body;
+    nw_part part = nw_index_message(b->s, b->n, i);
+    nw_part own = nw_message_identifier(b->s, b->n, nw_part_start(part), nw_part_length(part));
+    nw_answer extension = nw_message_extension(b->s, b->n, nw_part_start(part), nw_part_length(part));
+    bool known = NW_REFUSAL(part) == NW_TAKEN && NW_REFUSAL(own) == NW_TAKEN && NW_REFUSAL(extension) == NW_TAKEN;
+    return known ? (struct message_key){(unsigned)nw_value(extension), b->s + nw_part_start(own)} : (struct message_key){0, NULL};
 }
 
+// Each key is looked for once: to find a message the library goes over all that stand before it.
+static void keep_keys(struct table *index) {
+    uint64_t count = message_count(index);
+    index->keys = malloc((size_t)count * sizeof *index->keys);
+    for (uint64_t i = 0; index->keys != NULL && i < count; i++) index->keys[i] = find_key(index, i);
+}
+
+static struct message_key key_of(const struct table *index, uint64_t i) { return index->keys != NULL ? index->keys[i] : find_key(index, i); }
+
 bool message_extension(const struct table *index, uint64_t i, unsigned *extension) {
-    nw_part part;
-    if (!message_part(index, i, &part)) return false;
-    nw_answer own = nw_message_extension(index->body.s, index->body.n, nw_part_start(part), nw_part_length(part));
-    *extension = (unsigned)nw_value(own);
-    return NW_REFUSAL(own) == NW_TAKEN;
+    struct message_key key = key_of(index, i);
+    *extension = key.extension;
+    return key.identifier != NULL;
 }
 
 static bool belongs(const struct table *index, uint64_t i, const struct table *content) {
-    unsigned extension;
-    nw_part part;
-    const uint8_t *its = content->whole ? content_identifier(&content->body) : NULL;
-    if (its == NULL || !message_extension(index, i, &extension) || extension != content->state.extension) return false;
-    if (!message_part(index, i, &part)) return false;
-    nw_part own = nw_message_identifier(index->body.s, index->body.n, nw_part_start(part), nw_part_length(part));
-    return memcmp(index->body.s + nw_part_start(own), its, NW_IDENTIFIER_BYTES) == 0;
+    struct message_key key = key_of(index, i);
+    if (key.identifier == NULL || key.extension != content->state.extension || !content->whole) return false;
+    const uint8_t *its = content_identifier(&content->body);
+    return its != NULL && memcmp(key.identifier, its, NW_IDENTIFIER_BYTES) == 0;
 }
 
 const struct table *content_of(const struct tables *all, const struct table *index, uint64_t message) {
@@ -183,4 +181,22 @@ const struct table *index_of(const struct tables *all, const struct table *conte
             if (belongs(t, *message, content)) return t;
     }
     return NULL;
+}
+
+// ---- the end of the capture
+
+void tables_finish(struct tables *all, unsigned variant) {
+    for (size_t i = 0; i < all->count; i++) {
+        pack(&all->list[i], variant);
+        if (all->list[i].state.kind == NW_INDEX) keep_keys(&all->list[i]);
+    }
+    put_in_order(all); // where there is no memory, they stay as they came
+}
+
+void tables_free(struct tables *all) {
+    for (size_t i = 0; i < all->count; i++) {
+        free(all->list[i].store);
+        free(all->list[i].keys);
+    }
+    free(all->list);
 }

@@ -13,6 +13,12 @@ struct version {
     bool spoiled;
 };
 
+/* By what the content table of a message is found; the identifier is NULL where it can't be read. */
+struct message_key {
+    unsigned extension;
+    const uint8_t *identifier;
+};
+
 struct table {
     nw_gathering state; /* as it stood when the last section was fed */
     uint8_t *store;
@@ -23,6 +29,7 @@ struct table {
     bool whole;
     struct body body;         /* of a table that is not whole the front, up to the first section that is missing */
     nw_answer packed, verdict; /* why it is not whole; and what its reader says of the body */
+    struct message_key *keys;  /* of a whole index table's messages, or NULL where there is no memory for them */
 };
 
 struct tables {
