@@ -132,7 +132,7 @@ fitting-step room (found a n) = go (leb n room)
 fitting-step room (refused r) = refl
 
 module _ {A : Type 0} (F : Format A) (pool tape out : List ℕ) where
-  fitted-is : stepFitting (length out) (measured F pool tape) ≡ stepOf (writing F pool tape (length out))
+  pub fitted-is : stepFitting (length out) (measured F pool tape) ≡ stepOf (writing F pool tape (length out))
   unfolding measured writing
   fitted-is = fitting-step (length out) (measuring F pool tape)
 

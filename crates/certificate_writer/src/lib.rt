@@ -1,4 +1,6 @@
 // The certificate table: written from a form.
+mod inking;
+
 use body_formats::Step;
 use body_pen::Pen;
 ghost use mathlib.Core.Path.{_≡_};
@@ -57,7 +59,7 @@ pub fn write(pool: &[u8], tape: &[u64], out: &mut [u8]) -> Step
     match body_pen::fitted(measure(pool, tape), out.len()) {
         Step::Refused(r) => Step::Refused(r),
         Step::At(size) => {
-            put_certificate(pool, tape, Pen::At(0, 0), out, true);
+            inking::ink_certificate(pool, tape, out);
             Step::At(size)
         }
     }

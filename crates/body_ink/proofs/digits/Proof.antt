@@ -1,0 +1,37 @@
+-- `body_ink::digits` meets its contract: the first byte is written with its reserved bits set, and after it the other bytes of the pool.
+use Prim.Native.Nat.{_+_, _%_}
+use mathlib.Core.Path.{ap}
+use native.Mathlib.Omega.{arith}
+use borrow.Author.Needs.{needs}
+use Rattle.body_ink.proofs.Strings.{digits-ready, digits-inked}
+use Rattle.body_ink.proofs.digits.Statement.{statement}
+use Rattle.body_ink.proofs.digits.Tie as tie
+
+pub digits-spec : {M : Type 1} → statement M
+digits-spec =
+    tie.close
+    (tie.spec
+    (λ c. let start = c .before .before .before in let r = digits-ready _ (start .pre) in omega arith)
+    (λ c. let start = c .before .before .before .before in let r = digits-ready _ (start .pre) in omega arith)
+    (λ c. let start = c .before .before .before .before .before .before in let r = digits-ready _ (start .pre) in omega arith)
+    (λ c κs. search needs)
+    (λ c. search needs)
+    (λ c κs. let start = c .before .before .before .before .before .before .before in let r = digits-ready _ (start .pre) in omega arith)
+    (λ c.
+    let start = c .before .before .before .before .before .before .before .before .before .before in
+    let r = digits-ready _ (start .pre) in
+    omega arith)
+    (λ c.
+    let start = c .before .before .before .before .before .before .before .before .before .before .before in
+    let r = digits-ready _ (start .pre) in
+    omega arith)
+    (λ c κs.
+    let start = c .before .before .before .before .before .before .before .before .before .before .before in
+    let r = digits-ready _ (start .pre) in
+    (omega arith, omega arith))
+    (λ c. search needs)
+    (λ c.
+    let copy = c .before .before in
+    let number = copy .before .before .before .before in
+    let wide = number .before in
+    digits-inked _ (ap (λ b. 240 + b % 16) (wide .wide .ensures .0)) (number .number .ensures) (copy .copy .ensures)))

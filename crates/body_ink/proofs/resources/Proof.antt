@@ -1,0 +1,75 @@
+-- `body_ink::resources` meets its contract: their count, and as many of them as it says.
+use mathlib.Core.Path.{_≡_, refl}
+use lib.ListN.{length, getD}
+use native.Mathlib.Omega.{arith}
+use borrow.Author.Needs.{needs}
+use Rattle.body_formats.specs.Resource.{resource}
+use Rattle.body_ink.proofs.Pairs.{moved}
+use Rattle.body_ink.proofs.Numbers.{a-count, numeral-ready, numeral-inked}
+use Rattle.body_ink.proofs.Strings.{digits-ready}
+use Rattle.body_ink.proofs.Lists.{Underway, list-count, list-ready, list-inked, times-start, times-next, times-turn, times-done}
+use Rattle.body_ink.proofs.resources.Statement.{statement}
+use Rattle.body_ink.proofs.resources.Tie as tie
+
+abbrev Inv-loop : tie.InvT-loop
+Inv-loop pool tape k out₀ at n past₀ entry₀ left₀ out past entry left =
+    (length out ≡ length out₀) × Underway resource pool tape left₀ past₀ entry₀ out₀ left past entry out
+
+abbrev μ-loop : tie.MeasureT-loop
+μ-loop pool tape k out₀ at n past₀ entry₀ left₀ out past entry left = left
+
+pub resources-spec : {M : Type 1} → statement M
+resources-spec =
+    tie.close
+    (tie.spec
+    Inv-loop
+    μ-loop
+    (λ c. let start = c .before .before .before in let r = numeral-ready (a-count 1) (list-count (a-count 1) resource (start .pre)) in omega arith)
+    (λ c.
+    let start = c .before .before .before .before in
+    let r = numeral-ready (a-count 1) (list-count (a-count 1) resource (start .pre)) in
+    omega arith)
+    (λ c κs.
+    let start = c .before .before .before .before .before in
+    let r = numeral-ready (a-count 1) (list-count (a-count 1) resource (start .pre)) in
+    omega arith)
+    (λ c.
+    let start = c .before .before .before .before .before .before .before .before in
+    let r = numeral-ready (a-count 1) (list-count (a-count 1) resource (start .pre)) in
+    omega arith)
+    (λ c.
+    let start = c .before .before .before .before .before .before .before .before in
+    let r = numeral-ready (a-count 1) (list-count (a-count 1) resource (start .pre)) in
+    omega arith)
+    (λ c.
+    let start = c .before .before .before .before .before .before .before .before in
+    (refl, times-start (moved (list-ready (a-count 1) resource (start .pre)) refl refl (search needs))))
+    (λ c κs. let loop-test = c .before in let loop = loop-test .before in times-next (loop .loop .inv .1) (loop-test .loop-test .taken))
+    (λ c.
+    let loop-test = c .before .before .before .before in
+    let loop = loop-test .before in
+    let r = digits-ready _ (times-next (loop .loop .inv .1) (loop-test .loop-test .taken)) in
+    omega arith)
+    (λ c.
+    let loop-test = c .before .before .before .before in
+    let loop = loop-test .before in
+    let r = digits-ready _ (times-next (loop .loop .inv .1) (loop-test .loop-test .taken)) in
+    omega arith)
+    (λ c.
+    let loop-test = c .before .before .before .before in
+    let loop = loop-test .before in
+    let start = loop .before .before .before .before .before .before .before .before .before in
+    let r = digits-ready _ (times-next (loop .loop .inv .1) (loop-test .loop-test .taken)) in
+    omega (arith, start .good .1 .0 .1))
+    (λ c. search needs)
+    (λ c. search needs)
+    (λ c.
+    let digits = c .before .before in
+    let loop-test = digits .before .before in
+    let loop = loop-test .before in
+    (search needs, times-turn (loop .loop .inv .1) (loop-test .loop-test .taken) (digits .digits .ensures)))
+    (λ c. search needs)
+    (λ c.
+    let loop = c .before in
+    let number = loop .before .before .before in
+    list-inked (a-count 1) resource (numeral-inked (a-count 1) (number .number .ensures) refl refl) (times-done (loop .loop .inv .1) (omega arith))))
