@@ -92,7 +92,7 @@ module _ {w : ℕ} {face : ℕ → ℕ} {C : Format ℕ} (n : Numeral w face C) 
   numeral-length v = ap length (n .prints v) ∙ length-bytes w (face v)
 
 pub numeral-fixed : {w : ℕ} {face : ℕ → ℕ} {C : Format ℕ} → Numeral w face C → Fixed w 1 C
-numeral-fixed n = record { ends = λ pool tape k v j h. (numeral-length n v, n .entry pool tape k v j h .2) }
+numeral-fixed n = record { ends = λ pool tape k v j h. let e = n .entry pool tape k v j h in (numeral-length n v, e .2, omega (arith, e .0)) }
 
 module _ {w : ℕ} {face : ℕ → ℕ} {C : Format ℕ} (n : Numeral w face C) {pool tape : List ℕ} {at k : ℕ} where
   pub numeral-ready : {room : ℕ} → Ready C pool tape at k room → (k < length tape) × (at + w ≤ room) × (at + w ≤ bodyMost)
@@ -170,16 +170,17 @@ module _ (lo hi : ℕ) where
         let e = nibbles-are pool tape k (g .value) (g .next) (g .laid) in
         (e .0, g .fits, g .short, omega (arith, e .1, e .4), omega (arith, e .2, e .5))
 
-    pub nibbles-inked : {out : List ℕ} {at′ k′ : ℕ} {out′ : List ℕ} → out′ ≡ placed out at (bytesOf 1 (getD tape k 0 * 16 + getD tape (k + 1) 0))
+    pub nibbles-inked : {out : List ℕ} {l at′ k′ : ℕ} {out′ : List ℕ} → l ≡ k + 1 → out′ ≡ placed out at (bytesOf 1 (getD tape k 0 * 16 + getD tape l 0))
         → at′ ≡ at + 1 → k′ ≡ k + 2 → Inked (nibblesAmong lo hi) pool tape at k out at′ k′ out′
     unfolding only nibbles
-    nibbles-inked {out} e a b =
+    nibbles-inked {out} next e a b =
         record {
           written = λ x j h room.
               let f = nibbles-are pool tape k x j h in
               let v = x .0 * 16 + x .1 in (
                 a,
                 b ∙ sym (f .3),
-                e ∙ ap (placed out at) (ap₂ (λ m n. bytesOf 1 (m * 16 + n)) (sym (f .1)) (sym (f .2)) ∙ one-byte v (omega (arith, f .4, f .5))),
+                e ∙ ap (placed out at)
+                    (ap₂ (λ m n. bytesOf 1 (m * 16 + n)) (sym (f .1)) (ap (λ m. getD tape m 0) next ∙ sym (f .2)) ∙ one-byte v (omega (arith, f .4, f .5))),
               );
         }

@@ -25,6 +25,10 @@ pub ended : {A : Type 0} {F : Format A} {pool tape : List ℕ} {at k : ℕ} {out
     → Inked F pool tape at k out at′ k′ out′ → at′ ≡ at″ → k′ ≡ k″ → Inked F pool tape at k out at″ k″ out′
 ended i e f = rw (e, f) at i
 
+-- what is ready begins within its room
+pub inside : {A : Type 0} {F : Format A} {pool tape : List ℕ} {at k room : ℕ} → Ready F pool tape at k room → (at ≤ room) × (at ≤ bodyMost)
+inside g = (omega (arith, g .fits), omega (arith, g .short))
+
 -- what is inked ends within its room
 pub reaches : {A : Type 0} {F : Format A} {pool tape : List ℕ} {at k : ℕ} {out : List ℕ} {at′ k′ : ℕ} {out′ : List ℕ} → Ready F pool tape at k (length out)
     → Inked F pool tape at k out at′ k′ out′ → (at ≤ at′) × (at′ ≤ length out) × (at′ ≤ bodyMost)
@@ -96,9 +100,9 @@ under-none F (suc n) z at k out = absurd (omega arith)
 
 -- the same, for each
 module _ {A : Type 0} {F : Format A} {pool tape : List ℕ} {at k : ℕ} where
-  pub view-ready : {B : Type 0} (f : A → B) (g : B → A) → ((a : A) → g (f a) ≡ a) → {room : ℕ} → Ready (view f g F) pool tape at k room
+  pub view-ready : {B : Type 0} (f : A → B) (g : B → A) {room : ℕ} → Ready (view f g F) pool tape at k room → ((a : A) → g (f a) ≡ a)
       → Ready F pool tape at k room
-  view-ready f g gf r = like-ready (view-like F pool tape f g gf) r
+  view-ready f g r gf = like-ready (view-like F pool tape f g gf) r
 
   pub exact-ready : (leftOver : ℕ → Refusal) {room : ℕ} → Ready (exact leftOver F) pool tape at k room → Ready F pool tape at k room
   exact-ready leftOver r = like-ready (exact-like F pool tape leftOver) r
@@ -184,7 +188,8 @@ module _ {A B : Type 0} {F : Format A} {G : Format B} {pool tape : List ℕ} {at
 -- ---- fields of a fixed number of bytes and of entries
 
 pub record Fixed {A : Type 0} (bytes entries : ℕ) (F : Format A) : Type 0 where
-  pub ends : (pool tape : List ℕ) (k : ℕ) (a : A) (j : ℕ) → F .form pool tape k ≡ found a j → (length (F .print a) ≡ bytes) × (j ≡ k + entries)
+  pub ends : (pool tape : List ℕ) (k : ℕ) (a : A) (j : ℕ) → F .form pool tape k ≡ found a j
+      → (length (F .print a) ≡ bytes) × (j ≡ k + entries) × (k + entries ≤ length tape)
 
 pub only-fixed : {A : Type 0} {bytes entries : ℕ} {F : Format A} → Fixed bytes entries F → (fault : A → ℕ → Fault) → Fixed bytes entries (only fault F)
 unfolding only
@@ -197,3 +202,19 @@ after-fixed {A} {B} {bytes} {entries} {F} f {G} {pool} {tape} {at} {k} g =
     let p = apart F (λ a. G) g in
     let e = f .ends pool tape k (p .0) (p .1) (p .2) in
     moved (p .4) (ap (λ n. at + n) (e .0)) (e .1) refl
+
+pub fixed-ready : {A : Type 0} {bytes entries : ℕ} {F : Format A} → Fixed bytes entries F → {pool tape : List ℕ} {at k room : ℕ} → Ready F pool tape at k room
+    → (k + entries ≤ length tape) × (at + bytes ≤ room) × (at + bytes ≤ bodyMost)
+fixed-ready f {pool} {tape} {at} {k} g =
+    let e = f .ends pool tape k (g .value) (g .next) (g .laid) in
+    (e .2, omega (arith, e .0, g .fits), omega (arith, e .0, g .short))
+
+pub both-fixed : {A B : Type 0} {b₁ e₁ b₂ e₂ : ℕ} {F : Format A} {G : Format B} → Fixed b₁ e₁ F → Fixed b₂ e₂ G → Fixed (b₁ + b₂) (e₁ + e₂) (F ▷ G)
+both-fixed {A} {B} {b₁} {e₁} {b₂} {e₂} {F} {G} f g =
+    record {
+      ends = λ pool tape k x i h.
+          let p = form-parts F (λ a. G) pool tape k x i h in
+          let one = f .ends pool tape k (x .0) (p .0) (p .1) in
+          let two = g .ends pool tape (p .0) (x .1) i (p .2) in
+          (omega (arith, bytes-both F (λ a. G) x, one .0, two .0), omega (arith, one .1, two .1), omega (arith, one .1, two .2));
+    }

@@ -206,7 +206,7 @@ module _ (h : ℕ) {pool tape : List ℕ} {at k : ℕ} where
       }
 
 pub digits-fixed : (h : ℕ) → Fixed (h + 1) 2 (digits h)
-digits-fixed h = record { ends = λ pool tape k ds j e. (digits-length h pool tape k ds j e, digits-are h pool tape k ds j e .2) }
+digits-fixed h = record { ends = λ pool tape k ds j e. let d = digits-are h pool tape k ds j e in (digits-length h pool tape k ds j e, d .2, d .0) }
 
 pub bytes-fixed : (n : ℕ) → Fixed n 2 (bytes n)
 bytes-fixed n =
@@ -214,5 +214,5 @@ bytes-fixed n =
       ends = λ pool tape k xs j e.
           let f = bytes-are n pool tape k xs j e in
           let s = span-is pool tape k xs j (f .0) in
-          (bytes-print n xs ∙ s .4 ∙ f .1, s .3);
+          (bytes-print n xs ∙ s .4 ∙ f .1, s .3, s .0);
     }

@@ -13,16 +13,16 @@ unfolding certificate fields
 ink-certificate-spec =
     tie.close
     (tie.spec
-    (λ c κs. let start = c .before .before .before .before in first _ _ (view-ready named unnamed (λ a. refl) (exact-ready LeftOver (start .pre))))
+    (λ c κs. let start = c .before .before .before .before in first _ _ (view-ready named unnamed (exact-ready LeftOver (start .pre)) (λ a. refl)))
     (λ c κs.
     let ink-list = c .before .before .before in
     let start = ink-list .before .before .before .before .before in
-    first _ _ (second (ink-list .ink-list .ensures) (view-ready named unnamed (λ a. refl) (exact-ready LeftOver (start .pre)))))
+    first _ _ (second (ink-list .ink-list .ensures) (view-ready named unnamed (exact-ready LeftOver (start .pre)) (λ a. refl))))
     (λ c κs.
     let ink-list2 = c .before .before .before in
     let ink-list = ink-list2 .before .before .before .before in
     let start = ink-list .before .before .before .before .before in
-    second (ink-list2 .ink-list2 .ensures) (second (ink-list .ink-list .ensures) (view-ready named unnamed (λ a. refl) (exact-ready LeftOver (start .pre)))))
+    second (ink-list2 .ink-list2 .ensures) (second (ink-list .ink-list .ensures) (view-ready named unnamed (exact-ready LeftOver (start .pre)) (λ a. refl))))
     (λ c. search needs)
     (λ c.
     let part = c .before .before in

@@ -1,0 +1,123 @@
+-- `index_writer::inking::ink_channel` meets its contract: its fields one after the other, under their names.
+use mathlib.Core.Path.{refl}
+use native.Mathlib.Omega.{arith}
+use borrow.Author.Needs.{needs}
+use Rattle.body_ink.proofs.Pairs.{moved, view-inked, pair-inked}
+use Rattle.body_ink.proofs.Numbers.{a-number, after-bits, numeral-inked}
+use Rattle.index.specs.Index.{channelFields, channel}
+use Rattle.index_writer.proofs.Inkings.{channel-ready}
+use Rattle.index_writer.proofs.inking.ink_channel.Statement.{statement}
+use Rattle.index_writer.proofs.inking.ink_channel.Tie as tie
+
+pub ink-channel-spec : {M : Type 1} → statement M
+unfolding channel channelFields
+ink-channel-spec =
+    tie.close
+    (tie.spec
+    (λ c. let start = c .before .before .before .before in let r = channel-ready (start .pre) in omega (arith, start .good .1 .0 .1))
+    (λ c. let start = c .before .before .before .before .before in let r = channel-ready (start .pre) in omega (arith, start .good .1 .0 .1))
+    (λ c κs. let start = c .before .before .before .before .before in let r = channel-ready (start .pre) in omega (arith, start .good .1 .0 .1))
+    (λ c.
+    let start = c .before .before .before .before .before .before .before .before .before in
+    let r = channel-ready (start .pre) in
+    omega (arith, start .good .1 .0 .1))
+    (λ c.
+    let start = c .before .before .before .before .before .before .before .before .before in
+    let r = channel-ready (start .pre) in
+    omega (arith, start .good .1 .0 .1))
+    (λ c.
+    let start = c .before .before .before .before .before .before .before .before .before in
+    let r = channel-ready (start .pre) in
+    omega (arith, start .good .1 .0 .1))
+    (λ c.
+    let start = c .before .before .before .before .before .before .before .before .before .before in
+    let r = channel-ready (start .pre) in
+    omega (arith, start .good .1 .0 .1))
+    (λ c κs.
+    let start = c .before .before .before .before .before .before .before .before .before .before in
+    let r = channel-ready (start .pre) in
+    omega (arith, start .good .1 .0 .1))
+    (λ c.
+    let earlier = c .before .before .before .before .before .before .before .before .before .before in
+    let start = earlier .before .before .before .before in
+    let r = channel-ready (start .pre) in
+    omega (arith, start .good .1 .0 .1))
+    (λ c.
+    let earlier = c .before .before .before .before .before .before .before .before .before .before in
+    let start = earlier .before .before .before .before in
+    let r = channel-ready (start .pre) in
+    omega (arith, start .good .1 .0 .1))
+    (λ c.
+    let earlier = c .before .before .before .before .before .before .before .before .before .before in
+    let start = earlier .before .before .before .before in
+    let r = channel-ready (start .pre) in
+    omega (arith, start .good .1 .0 .1))
+    (λ c.
+    let earlier = c .before .before .before .before .before .before .before .before .before .before in
+    let start = earlier .before .before .before .before .before in
+    let r = channel-ready (start .pre) in
+    omega (arith, start .good .1 .0 .1))
+    (λ c κs.
+    let earlier = c .before .before .before .before .before .before .before .before .before .before in
+    let start = earlier .before .before .before .before .before in
+    let r = channel-ready (start .pre) in
+    omega (arith, start .good .1 .0 .1))
+    (λ c.
+    let earlier = c .before .before .before .before .before .before .before .before .before .before in
+    let start = earlier .before .before .before .before .before .before .before .before .before in
+    let r = channel-ready (start .pre) in
+    omega (arith, start .good .1 .0 .1))
+    (λ c.
+    let earlier = c .before .before .before .before .before .before .before .before .before .before in
+    let start = earlier .before .before .before .before .before .before .before .before .before in
+    let r = channel-ready (start .pre) in
+    omega (arith, start .good .1 .0 .1))
+    (λ c.
+    let earlier = c .before .before .before .before .before .before .before .before .before .before in
+    let start = earlier .before .before .before .before .before .before .before .before .before in
+    let r = channel-ready (start .pre) in
+    omega (arith, start .good .1 .0 .1))
+    (λ c.
+    let earlier = c .before .before .before .before .before .before .before .before .before .before in
+    let start = earlier .before .before .before .before .before .before .before .before .before .before in
+    let r = channel-ready (start .pre) in
+    omega (arith, start .good .1 .0 .1))
+    (λ c.
+    let earlier = c .before .before .before .before .before .before .before .before .before .before in
+    let start = earlier .before .before .before .before .before .before .before .before .before .before in
+    let r = channel-ready (start .pre) in
+    omega (arith, start .good .1 .0 .1))
+    (λ c κs.
+    let earlier = c .before .before .before .before .before .before .before .before .before .before in
+    let start = earlier .before .before .before .before .before .before .before .before .before .before in
+    let r = channel-ready (start .pre) in
+    omega (arith, start .good .1 .0 .1))
+    (λ c.
+    let earlier = c .before .before .before .before .before .before .before .before .before .before in
+    let earlier2 = earlier .before .before .before .before .before .before .before .before .before .before in
+    let start = earlier2 .before .before .before in
+    let r = channel-ready (start .pre) in
+    omega (arith, start .good .1 .0 .1))
+    (λ c.
+    let earlier = c .before .before .before .before .before .before .before .before .before .before in
+    let earlier2 = earlier .before .before .before .before .before .before .before .before .before .before in
+    let start = earlier2 .before .before .before .before in
+    let r = channel-ready (start .pre) in
+    omega (arith, start .good .1 .0 .1))
+    (λ c κs.
+    let earlier = c .before .before .before .before .before .before .before .before .before .before in
+    let earlier2 = earlier .before .before .before .before .before .before .before .before .before .before in
+    let start = earlier2 .before .before .before .before in
+    moved (channel-ready (start .pre) .4) refl refl (search needs))
+    (λ c. search needs)
+    (λ c.
+    let ink-channel-parts = c .before .before in
+    let number4 = ink-channel-parts .before .before .before .before in
+    let number3 = number4 .before .before .before .before .before in
+    let number2 = number3 .before .before .before .before .before in
+    let number = number2 .before .before .before .before .before in
+    view-inked (pair-inked (numeral-inked (a-number 2) (number .number .ensures) refl refl)
+    (pair-inked (numeral-inked (a-number 2) (number2 .number2 .ensures) (omega arith) (omega arith))
+    (pair-inked (numeral-inked (a-number 2) (number3 .number3 .ensures) (omega arith) (omega arith))
+    (pair-inked (numeral-inked (after-bits 3 1) (number4 .number4 .ensures) (omega arith) (omega arith)) (ink-channel-parts .ink-channel-parts .ensures)))))
+    _ _ (λ a. refl)))
