@@ -1,4 +1,5 @@
 // The content table of either variant, written from a form.
+mod inking;
 mod writing;
 
 use body_formats::Step;
@@ -37,7 +38,7 @@ fn write_wide(w: usize, pool: &[u8], tape: &[u64], out: &mut [u8]) -> Written
     match body_pen::fitted(measure_wide(w, pool, tape), out.len()) {
         Step::Refused(r) => Written::Refused(r),
         Step::At(size) => {
-            writing::put_content(pool, tape, Pen::At(0, 0), w, out, true);
+            inking::ink_content(pool, tape, w, out);
             Written::Of(size, crc::crc16_after_four(&out[..18]) as u32)
         }
     }
