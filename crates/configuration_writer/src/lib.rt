@@ -1,4 +1,5 @@
 // The configuration table written from a form.
+mod inking;
 mod writing;
 
 use body_formats::Step;
@@ -26,7 +27,7 @@ pub fn write(pool: &[u8], tape: &[u64], out: &mut [u8]) -> Step
     match body_pen::fitted(measure(pool, tape), out.len()) {
         Step::Refused(r) => Step::Refused(r),
         Step::At(size) => {
-            writing::put_configuration(pool, tape, Pen::At(0, 0), out, true);
+            inking::ink_configuration(pool, tape, out);
             Step::At(size)
         }
     }

@@ -1,6 +1,8 @@
--- `configuration_writer::write` meets its contract: what was measured decides all refusals, and only then the wet pen writes.
+-- `configuration_writer::write` meets its contract: what was measured decides all refusals, and only then the bytes are written.
+use denote.Ref.{now}
 use borrow.Author.Needs.{needs}
-use Rattle.body_pen.proofs.Writers.{write-refused, write-done}
+use Rattle.body_pen.proofs.Writers.{write-refused}
+use Rattle.body_ink.proofs.Writers.{write-ready, write-inked}
 use Rattle.configuration_writer.proofs.write.Statement.{statement}
 use Rattle.configuration_writer.proofs.write.Tie as tie
 
@@ -12,7 +14,10 @@ write-spec =
     (λ c κs. search needs)
     (λ c. search needs)
     (λ c. search needs)
-    (λ c κs. search needs)
+    (λ c κs.
+    let size = c .before .before in
+    let start = size .before .before .before .before .before .before .before in
+    write-ready _ _ _ (now (start .args .out)) (size .size .given .0 .0) (cc))
     (λ c. write-refused _ _ _ _ _ (cc))
     (λ c. search needs)
-    (λ c. write-done _ _ _ _ _ (cc) (c .before .before .put-configuration .ensures)))
+    (λ c. let ink-configuration = c .before .before in write-inked _ _ _ _ _ (cc) (ink-configuration .ink-configuration .ensures)))

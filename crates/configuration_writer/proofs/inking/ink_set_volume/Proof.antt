@@ -1,0 +1,45 @@
+-- `configuration_writer::inking::ink_set_volume` meets its contract: its fields one after the other.
+use mathlib.Core.Path.{refl}
+use native.Mathlib.Omega.{arith}
+use borrow.Author.Needs.{needs}
+use Rattle.ground_refusal.specs.declared.Refusal.the-variants.{PastPart}
+use Rattle.body_ink.proofs.Pairs.{moved, first, pair-inked, exact-ready, exact-inked}
+use Rattle.body_ink.proofs.Numbers.{numeral-ready, numeral-inked, after-number}
+use Rattle.configuration.specs.Configuration.{terminals, said}
+use Rattle.configuration_writer.proofs.Inkings.{a-volume}
+use Rattle.configuration_writer.proofs.inking.ink_set_volume.Statement.{statement}
+use Rattle.configuration_writer.proofs.inking.ink_set_volume.Tie as tie
+
+pub ink-set-volume-spec : {M : Type 1} → statement M
+unfolding said terminals
+ink-set-volume-spec =
+    tie.close
+    (tie.spec
+    (λ c.
+    let start = c .before .before .before .before in
+    let r = numeral-ready a-volume (first _ _ (exact-ready PastPart (start .pre))) in
+    omega (arith, start .good .1 .0 .1))
+    (λ c.
+    let start = c .before .before .before .before .before in
+    let r = numeral-ready a-volume (first _ _ (exact-ready PastPart (start .pre))) in
+    omega (arith, start .good .1 .0 .1))
+    (λ c κs.
+    let start = c .before .before .before .before .before in
+    let r = numeral-ready a-volume (first _ _ (exact-ready PastPart (start .pre))) in
+    omega (arith, start .good .1 .0 .1))
+    (λ c.
+    let start = c .before .before .before .before .before .before .before .before in
+    let r = numeral-ready a-volume (first _ _ (exact-ready PastPart (start .pre))) in
+    omega (arith, start .good .1 .0 .1))
+    (λ c.
+    let start = c .before .before .before .before .before .before .before .before .before in
+    let r = numeral-ready a-volume (first _ _ (exact-ready PastPart (start .pre))) in
+    omega (arith, start .good .1 .0 .1))
+    (λ c κs.
+    let start = c .before .before .before .before .before .before .before .before .before in
+    moved (after-number a-volume _ (exact-ready PastPart (start .pre))) refl refl (search needs))
+    (λ c. search needs)
+    (λ c.
+    let resources = c .before .before in
+    let number = resources .before .before .before .before in
+    exact-inked (pair-inked (numeral-inked a-volume (number .number .ensures) refl refl) (resources .resources .ensures)) PastPart))
