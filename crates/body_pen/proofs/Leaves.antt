@@ -1,30 +1,26 @@
--- Laws that all leaves share: what a pen through one field answers and leaves, by the entries that its form takes and the bytes that it prints.
-use Prim.Native.Nat.{ℕ, zero, suc, _+_, _-_, _/_, _%_, _≤_, _<_, min}
-use mathlib.Core.Path.{_≡_, refl, sym, ap, ap₂, _∙_}
-use mathlib.Core.List.{List, [], _∷_, _++_}
+-- Laws that all leaves share: what a pen through one field answers, by the entries that its form takes and the bytes that it prints.
+use Prim.Native.Nat.{ℕ, _+_, _≤_, _<_, min}
+use mathlib.Core.Path.{_≡_, refl, ap, _∙_}
+use mathlib.Core.List.{List}
 use mathlib.Core.Bool.{Bool, true, false, _||_, _&&_}
 use native.Mathlib.Omega.{arith}
-use native.Mathlib.Nat.{mod-eq-of-lt, add-sub-cancel-left}
-use lib.ListN.{length, getD, set, take, drop, length-append, length-drop}
+use lib.ListN.{length, getD, take, drop, length-drop}
 use lib.Seq.{length-take-le}
 use lib.Dec.{leb, ltb}
-use borrow.Author.Tests.{ltb-true, leb-true, leb-false, le-leb, lt-leb, lt-ltb, le-ltb}
+use borrow.Author.Tests.{ltb-true, le-leb, lt-leb, lt-ltb, le-ltb}
 use Rattle.ground_choices.proofs.Tests.{both}
-use Rattle.ground_placing.specs.Placed.{placed}
-use Rattle.ground_placing.proofs.Placing.{placed-next, placed-length, placed-none, placed-last}
 use Rattle.ground_refusal.specs.declared.Refusal.{Refusal}
 use Rattle.ground_refusal.specs.declared.Refusal.the-variants.{OutsideSet}
 use Rattle.body_formats.specs.Reading.{Reading, found, refused, andThen, need}
-use Rattle.body_formats.specs.Format.{Format, tapeEntry, span, bytesOf}
+use Rattle.body_formats.specs.Format.{Format, tapeEntry, span}
 use Rattle.body_formats.specs.Answers.{numberOf}
 use Rattle.body_formats.specs.declared.Number.the-variants.{Is, Refused as NoNumber}
 use Rattle.body_formats.specs.declared.Part.{Part}
 use Rattle.body_formats.specs.declared.Part.the-variants.{Of, Refused as NoPart}
-use Rattle.body_formats.proofs.Outcomes.{found-inj, not-found, andThen-found, need-found}
-use Rattle.body_formats.proofs.Leaves.{length-bytes}
+use Rattle.body_formats.proofs.Outcomes.{found-inj, andThen-found, need-found}
 use Rattle.body_formats.proofs.Readers.{number-found, number-refused}
 use Rattle.ground_numbers.specs.Sizes.{bodyMost}
-use Rattle.body_pen.specs.Penned.{aboveBody, more, penned, Penned, valuePenned, Counted}
+use Rattle.body_pen.specs.Penned.{aboveBody, more, penned, valuePenned, Counted}
 use Rattle.body_pen.specs.declared.Pen.{Pen}
 use Rattle.body_pen.specs.declared.Pen.the-variants.{At, Refused}
 
@@ -49,133 +45,37 @@ pub more-exact : (size n : ℕ) → size + n ≤ bodyMost → more size n false 
 unfolding more
 more-exact size n h = omega arith
 
--- ---- bytes written
-
--- a number under way: its last byte is laid, and the others are still to be
-pub number-turn : (d : List ℕ) (at k v : ℕ) → 0 < k → at + k ≤ length d
-    → placed (set d (at + (k - 1)) (v % 256)) at (bytesOf (k - 1) (v / 256)) ≡ placed d at (bytesOf k v)
-unfolding bytesOf
-number-turn d at zero v h r = absurd (omega arith)
-number-turn d at (suc k) v h r =
-    let d1 : suc k - 1 ≡ k = omega arith in
-    rw d1
-    (sym (placed-last d at (bytesOf k (v / 256)) (v % 256) (omega (arith, length-bytes k (v / 256)))
-    ∙ ap (λ n. placed (set d (at + n) (v % 256)) at (bytesOf k (v / 256))) (length-bytes k (v / 256))))
-
-pub number-done : (d : List ℕ) (at k v : ℕ) → k ≡ 0 → d ≡ placed d at (bytesOf k v)
-unfolding bytesOf
-number-done d at k v z = rw z (sym (placed-none d at))
-
-pub one-byte : (v : ℕ) → v < 256 → bytesOf 1 v ≡ v ∷ []
-unfolding bytesOf
-one-byte v h = ap (λ b. b ∷ []) (mod-eq-of-lt h)
-
--- a dry pen leaves the output, a wet one lays n bytes where they fit
-abbrev pub Inked : Bool → List ℕ → ℕ → ℕ → List ℕ → List ℕ → Type 0
-Inked wet out at n xs out′ = (wet ≡ false → out′ ≡ out) × (wet ≡ true → at + n ≤ length out → out′ ≡ placed out at xs)
-
-module _ (wet : Bool) (out : List ℕ) (at n : ℕ) (xs : List ℕ) where
-  pub ink-dry : wet ≡ false → Inked wet out at n xs out
-  ink-dry e = (λ d. refl, λ w h. absurd (let z : _≡_ {A = ℕ} 0 1 = cc in omega arith))
-
-  pub ink-short : wet ≡ true → (r : Bool) → r ≡ leb (at + n) (length out) → r ≡ false → Inked wet out at n xs out
-  ink-short e r f g = (λ d. refl, λ w h. absurd (let z : _≡_ {A = ℕ} 0 1 = cc (le-leb (at + n) (length out) h) in omega arith))
-
-  pub ink-wet : wet ≡ true → (out′ : List ℕ) → out′ ≡ placed out at xs → Inked wet out at n xs out′
-  ink-wet e out′ f = (λ d. absurd (let z : _≡_ {A = ℕ} 0 1 = cc in omega arith), λ w h. f)
-
-pub room-none : (room at n : ℕ) → room < at → false ≡ leb (at + n) room
-room-none room at n h = sym (lt-leb (at + n) room (omega arith))
-
-pub room-left : (room at n : ℕ) → at ≤ room → leb n (room - at) ≡ leb (at + n) room
-room-left room at n h = go (leb n (room - at)) refl
-  where
-    go : (b : Bool) → leb n (room - at) ≡ b → b ≡ leb (at + n) room
-    go true e = sym (le-leb (at + n) room (omega (arith, leb-true n (room - at) e)))
-    go false e = sym (lt-leb (at + n) room (omega (arith, leb-false n (room - at) e)))
-
 -- ---- a field, by what its form lays out
 
-pub or-none : (b : Bool) → (b || false) ≡ b
-or-none true = refl
-or-none false = refl
-
-module _ {A : Type 0} (F : Format A) (pool tape : List ℕ) (x : Pen) (wet : Bool) (out : List ℕ) where
-  pub stopped : (r : Refusal) → x ≡ Refused r → Penned F pool tape x wet out (Refused r) out
+module _ {A : Type 0} (F : Format A) (pool tape : List ℕ) (x : Pen) where
+  pub stopped : (r : Refusal) → x ≡ Refused r → Refused r ≡ penned F pool tape x
   unfolding penned
-  stopped r e =
-      record {
-        said = rw e;
-        dry = λ d. refl;
-        put = λ d size k h a j f o m n. absurd (let z : _≡_ {A = ℕ} 0 1 = cc in omega arith);
-      }
+  stopped r e = rw e
 
   module _ (size k : ℕ) (e : x ≡ At size k) where
-    pub refused-here : (r : Refusal) → F .form pool tape k ≡ refused r → Penned F pool tape x wet out (Refused r) out
+    pub refused-here : (r : Refusal) → F .form pool tape k ≡ refused r → Refused r ≡ penned F pool tape x
     unfolding penned
-    refused-here r f =
-        record {
-          said = rw (e, f);
-          dry = λ d. refl;
-          put = λ d z i h a j g o m n. absurd (let l : k ≡ i = cc in not-found (sym f ∙ ap (F .form pool tape) l ∙ g));
-        }
+    refused-here r f = rw (e, f)
 
-    module _ (a : A) (j : ℕ) (f : F .form pool tape k ≡ found a j) (over : Bool) (o : F .tooLarge a ≡ over) where
-      laid : (n z : ℕ) (out′ : List ℕ) → length (F .print a) ≡ n → z ≡ more size n over → (wet ≡ false → out′ ≡ out)
-          → (wet ≡ true → over ≡ false → size + n ≤ bodyMost → size + n ≤ length out → out′ ≡ placed out size (F .print a))
-          → Penned F pool tape x wet out (At z j) out′
-      unfolding penned
-      laid n z out′ l g dry put =
-          record {
-            said = rw (e, f, o, l, g);
-            dry = dry;
-            put = λ d s i h b q u v m r.
-                let es : size ≡ s = cc in
-                let ei : k ≡ i = cc in
-                let eb : a ≡ b = found-inj (sym f ∙ ap (F .form pool tape) ei ∙ u) .0 in
-                let el = ap (λ (y : A). length (F .print y)) eb in
-                put d (sym o ∙ ap (F .tooLarge) eb ∙ v) (omega (arith, es, el, l)) (omega (arith, es, el, l))
-                ∙ ap₂ (λ (y : ℕ) (c : A). placed out y (F .print c)) es eb;
-          }
+    pub passed : (a : A) (j : ℕ) → F .form pool tape k ≡ found a j → (over : Bool) → F .tooLarge a ≡ over → (n : ℕ) → length (F .print a) ≡ n
+        → (z : ℕ) → z ≡ more size n over → At z j ≡ penned F pool tape x
+    unfolding penned
+    passed a j f over o n l z g = rw (e, f, o, l, g)
 
-      -- its bytes are written at once
-      pub written : (xs : List ℕ) → F .print a ≡ xs → (n : ℕ) → length xs ≡ n → (z : ℕ) → z ≡ more size n over → (out′ : List ℕ)
-          → Inked wet out size n xs out′ → Penned F pool tape x wet out (At z j) out′
-      written xs p n l z g out′ i =
-          laid n z out′ (ap length p ∙ l) g (i .0) (λ d v m r. i .1 d r ∙ ap (placed out size) (sym p))
-
-      -- its bytes are written in two steps
-      pub written-twice : (xs ys : List ℕ) → F .print a ≡ xs ++ ys → (m n : ℕ) → length xs ≡ m → length ys ≡ n
-          → (y z : ℕ) → y ≡ more size m over → z ≡ more y n false
-          → (mid out′ : List ℕ) → Inked wet out size m xs mid → Inked wet mid y n ys out′ → Penned F pool tape x wet out (At z j) out′
-      written-twice xs ys p m n lx ly y z ey ez mid out′ i i′ =
-          laid (m + n) z out′ (ap length p ∙ length-append xs ys ∙ ap₂ (λ (b c : ℕ). b + c) lx ly)
-          (ez ∙ ap (λ b. more b n false) ey ∙ more-twice size m n over false ∙ ap (more size (m + n)) (or-none over))
-          (λ d. i′ .0 d ∙ i .0 d)
-          (λ d v b r.
-          let room : size + length xs ≤ length out = omega (arith, lx) in
-          let first : mid ≡ placed out size xs = i .1 d (omega arith) in
-          let at : y ≡ size + length xs = ey ∙ ap (more size m) v ∙ more-exact size m (omega arith) ∙ ap (λ c. size + c) (sym lx) in
-          let long = placed-length out size xs room in
-          i′ .1 d (omega (arith, ap length first, long, lx, at))
-          ∙ ap (λ l. placed l y ys) first ∙ placed-next out size xs room ys y at ∙ ap (placed out size) (sym p))
-
-module _ (F : Format ℕ) (pool tape : List ℕ) (x : Pen) (wet : Bool) (out : List ℕ) where
-  pub count-stopped : (r : Refusal) → x ≡ Refused r → Counted F pool tape x wet out (record { pen = Refused r; n = 0 }) out
+module _ (F : Format ℕ) (pool tape : List ℕ) (x : Pen) where
+  pub count-stopped : (r : Refusal) → x ≡ Refused r → Counted F pool tape x (record { pen = Refused r; n = 0 })
   unfolding valuePenned
-  count-stopped r e = record { past = stopped F pool tape x wet out r e; value = rw e }
+  count-stopped r e = record { past = stopped F pool tape x r e; value = rw e }
 
   module _ (size k : ℕ) (e : x ≡ At size k) where
-    pub count-refused : (r : Refusal) → F .form pool tape k ≡ refused r → Counted F pool tape x wet out (record { pen = Refused r; n = 0 }) out
+    pub count-refused : (r : Refusal) → F .form pool tape k ≡ refused r → Counted F pool tape x (record { pen = Refused r; n = 0 })
     unfolding valuePenned
-    count-refused r f = record { past = refused-here F pool tape x wet out size k e r f; value = rw (e, f) }
+    count-refused r f = record { past = refused-here F pool tape x size k e r f; value = rw (e, f) }
 
-    pub count-written : (v j : ℕ) → F .form pool tape k ≡ found v j → (over : Bool) → F .tooLarge v ≡ over → (n y : ℕ) → F .print v ≡ bytesOf n y
-        → (z : ℕ) → z ≡ more size n over → (out′ : List ℕ) → Inked wet out size n (bytesOf n y) out′
-        → Counted F pool tape x wet out (record { pen = At z j; n = v }) out′
+    pub count-passed : (v j : ℕ) → F .form pool tape k ≡ found v j → (over : Bool) → F .tooLarge v ≡ over → (n : ℕ) → length (F .print v) ≡ n
+        → (z : ℕ) → z ≡ more size n over → Counted F pool tape x (record { pen = At z j; n = v })
     unfolding valuePenned
-    count-written v j f over o n y p z g out′ i =
-        record { past = written F pool tape x wet out size k e v j f over o (bytesOf n y) p n (length-bytes n y) z g out′ i; value = rw (e, f) }
+    count-passed v j f over o n l z g = record { past = passed F pool tape x size k e v j f over o n l z g; value = rw (e, f) }
 
 -- ---- entries of the tape
 
@@ -211,9 +111,6 @@ module _ (tape : List ℕ) (k bound lo hi : ℕ) where
       let i = andThen-found (tapeEntry tape k) _ v j e in
       let g = need-found (ltb (i .0) bound && (leb lo (i .0) && leb (i .0) hi)) (OutsideSet k) _ v j (i .3) in
       rw (← found-inj (g .1) .0) (ltb-true (i .0) bound (both _ _ (g .0) .0))
-
-  pub kept-less : (v j : ℕ) → Is v j ≡ numberOf (kept tape k bound lo hi) → v < bound
-  kept-less v j e = kept-below v j (number-found (kept tape k bound lo hi) v j e)
 
 pub too-low : (lo hi v : ℕ) → v < lo → (leb lo v && leb v hi) ≡ false
 too-low lo hi v h = rw (lt-leb lo v h)
@@ -260,6 +157,3 @@ module _ (pool tape : List ℕ) (k : ℕ) where
 
 pub span-length : (pool : List ℕ) (a n : ℕ) → a + n ≤ length pool → length (take n (drop a pool)) ≡ n
 span-length pool a n h = length-take-le n (drop a pool) (simp length-drop (omega arith))
-
-pub span-end : (pool : List ℕ) (a n : ℕ) → take (a + n - a) (drop a pool) ≡ take n (drop a pool)
-span-end pool a n = ap (λ m. take m (drop a pool)) (add-sub-cancel-left a n)

@@ -1,12 +1,12 @@
 -- Laws of a pen through a number: a count, one beside reserved bits, one of a stated set, and two in one byte.
 use Prim.Native.Nat.{ℕ, zero, suc, _+_, _-_, _*_, _^_, _≤_, _<_}
-use mathlib.Core.Path.{_≡_, refl, sym, ap, ap₂, _∙_}
+use mathlib.Core.Path.{_≡_, refl, sym, ap, _∙_}
 use mathlib.Core.List.{List}
 use mathlib.Core.Bool.{Bool, true, false, not, _&&_}
 use native.Mathlib.Omega.{arith}
-use native.Mathlib.Nat.{pow-suc, pow-le-pow-right, mul-sub, mul-comm, mul-one, zero-mul, zero-add}
+use native.Mathlib.Nat.{pow-suc, pow-le-pow-right, zero-mul, zero-add}
 use native.Mathlib.Numerals.{add-one}
-use lib.ListN.{length, getD}
+use lib.ListN.{length}
 use lib.Dec.{leb, ltb}
 use borrow.Author.Tests.{ltb-true, ltb-false, le-leb, lt-leb, lt-ltb}
 use Rattle.ground_refusal.specs.declared.Refusal.{Refusal}
@@ -16,14 +16,14 @@ use Rattle.body_formats.specs.Format.{Format, tapeEntry, bytesOf, count, only, 
 use Rattle.body_formats.specs.Answers.{numberOf}
 use Rattle.body_formats.specs.declared.Number.the-variants.{Is, Refused as NoNumber}
 use Rattle.body_formats.proofs.Outcomes.{found-inj, andThen-found, need-found, judged-found}
-use Rattle.body_formats.proofs.Leaves.{length-bytes, all-of}
+use Rattle.body_formats.proofs.Leaves.{length-bytes}
 use Rattle.body_formats.proofs.Readers.{number-found, number-refused}
 use Rattle.body_formats.proofs.Bits.{bytes-power, below-power}
-use Rattle.body_pen.specs.Penned.{more, Penned, valuePenned, Counted}
+use Rattle.body_pen.specs.Penned.{more, penned, valuePenned, Counted}
 use Rattle.body_pen.specs.declared.Pen.{Pen}
 use Rattle.body_pen.specs.declared.Pen.the-variants.{At, Refused}
 use Rattle.body_pen.specs.declared.Count.{Count}
-use Rattle.body_pen.proofs.Leaves.{one-byte, Inked, refused-here, written, count-refused, count-written, kept, kept-below, kept-less}
+use Rattle.body_pen.proofs.Leaves.{refused-here, passed, count-refused, count-passed, kept, kept-below}
 use Rattle.body_pen.proofs.Pairs.{as-found, same-pen}
 
 -- ---- a count
@@ -39,34 +39,30 @@ count-over w v p e = go (ltb v (256 ^ w)) refl
     go true f = sym (lt-leb p v (omega (arith, bytes-power w, ltb-true v (256 ^ w) f)))
     go false f = sym (le-leb p v (omega (arith, bytes-power w, ltb-false v (256 ^ w) f)))
 
-module _ (w : ℕ) (pool tape : List ℕ) (x : Pen) (wet : Bool) (out : List ℕ) (size k : ℕ) (e : x ≡ At size k) where
-  pub count-no : (r : Refusal) → NoNumber r ≡ numberOf (tapeEntry tape k) → Counted (count w) pool tape x wet out (record { pen = Refused r; n = 0 }) out
+module _ (w : ℕ) (pool tape : List ℕ) (x : Pen) (size k : ℕ) (e : x ≡ At size k) where
+  pub count-no : (r : Refusal) → NoNumber r ≡ numberOf (tapeEntry tape k) → Counted (count w) pool tape x (record { pen = Refused r; n = 0 })
   unfolding count
-  count-no r f = count-refused (count w) pool tape x wet out size k e r (number-refused (tapeEntry tape k) r f)
+  count-no r f = count-refused (count w) pool tape x size k e r (number-refused (tapeEntry tape k) r f)
 
   pub count-is : (v j : ℕ) → Is v j ≡ numberOf (tapeEntry tape k) → (p : ℕ) → p ≡ 2 ^ (8 * w) → (z : ℕ) → z ≡ more size w (leb p v)
-      → (out′ : List ℕ) → Inked wet out size w (bytesOf w v) out′ → Counted (count w) pool tape x wet out (record { pen = At z j; n = v }) out′
+      → Counted (count w) pool tape x (record { pen = At z j; n = v })
   unfolding count
-  count-is v j f p ep z ez out′ ink =
-      count-written (count w) pool tape x wet out size k e v j (number-found (tapeEntry tape k) v j f) (leb p v) (count-over w v p ep) w v refl z ez out′ ink
+  count-is v j f p ep z ez =
+      count-passed (count w) pool tape x size k e v j (number-found (tapeEntry tape k) v j f) (leb p v) (count-over w v p ep) w (length-bytes w v) z ez
 
 -- ---- two formats that a form lays out alike
 
 pub record Alike {A : Type 0} (F G : Format A) (pool tape : List ℕ) : Type 0 where
   pub forms : (k : ℕ) → F .form pool tape k ≡ G .form pool tape k
-  pub prints : (k : ℕ) (a : A) (j : ℕ) → F .form pool tape k ≡ found a j → F .print a ≡ G .print a
-  pub overs : (k : ℕ) (a : A) (j : ℕ) → F .form pool tape k ≡ found a j → F .tooLarge a ≡ G .tooLarge a
+  pub prints : (k : ℕ) (a : A) (j : ℕ) → F .form pool tape k ≡ found a j → (F .print a ≡ G .print a) × (F .tooLarge a ≡ G .tooLarge a)
 
-pub alike-penned : {A : Type 0} (F G : Format A) (pool tape : List ℕ) → Alike F G pool tape → (x : Pen) (wet : Bool) (out : List ℕ) (r : Pen) (out′ : List ℕ)
-    → Penned F pool tape x wet out r out′ → Penned G pool tape x wet out r out′
-alike-penned F G pool tape s x wet out r out′ p =
-    same-pen G (λ a. a) (λ k. sym (s .forms k) ∙ as-found (F .form pool tape k)) (λ k a j e. (sym (s .prints k a j e), sym (s .overs k a j e))) p
-
-pub alike-counted : (F G : Format ℕ) (pool tape : List ℕ) → Alike F G pool tape → (x : Pen) (wet : Bool) (out : List ℕ) (r : Count) (out′ : List ℕ)
-    → Counted F pool tape x wet out r out′ → Counted G pool tape x wet out r out′
+pub alike-counted : {F G : Format ℕ} {pool tape : List ℕ} → Alike F G pool tape → {x : Pen} {r : Count} → Counted F pool tape x r → Counted G pool tape x r
 unfolding valuePenned
-alike-counted F G pool tape s x wet out r out′ c =
-    record { past = alike-penned F G pool tape s x wet out (r .pen) out′ (c .past); value = c .value ∙ values x }
+alike-counted {F} {G} {pool} {tape} s {x} c =
+    record {
+      past = c .past ∙ same-pen G F (λ a. a) pool tape (λ k. s .forms k ∙ as-found (G .form pool tape k)) (λ k a j e. s .prints k a j (s .forms k ∙ e)) x;
+      value = c .value ∙ values x;
+    }
   where
     values : (y : Pen) → valuePenned F pool tape y ≡ valuePenned G pool tape y
     values (At size k) = ap valueOf (s .forms k)
@@ -82,18 +78,9 @@ judged-need : {A : Type 0} (b : Bool) (r : Refusal) (x : Reading A) → judged (
 judged-need true r x = refl
 judged-need false r x = refl
 
--- k reserved bits as a number, above the numbers that stand beside them
-module _ (k w : ℕ) (bits : k ≤ 8) where
-  pub bound-is : (b : ℕ) → b ≡ 2 ^ (8 * w + 8 - k) → b ≡ below k w
-  bound-is b e = e ∙ ap (λ n. 2 ^ n) (let z : 8 * w + 8 - k ≡ 8 * w + (8 - k) = omega arith in z) ∙ sym (below-power k w)
-
-  pub ones-are : (all b : ℕ) → all ≡ 2 ^ (8 * w + 8) → b ≡ below k w → all - b ≡ (2 ^ k - 1) * below k w
-  ones-are all b e f =
-      let z : 8 * w + 8 ≡ 8 * suc w = omega arith in
-      let whole : all ≡ 2 ^ k * below k w = e ∙ ap (λ n. 2 ^ n) z ∙ sym (bytes-power (suc w)) ∙ sym (all-of k w bits) in
-      let less : (2 ^ k - 1) * below k w ≡ 2 ^ k * below k w - below k w =
-      mul-comm (2 ^ k - 1) (below k w) ∙ mul-sub (below k w) (2 ^ k) 1 ∙ ap₂ (λ (x y : ℕ). x - y) (mul-comm (below k w) (2 ^ k)) (mul-one (below k w)) in
-      ap₂ (λ (x y : ℕ). x - y) whole f ∙ sym less
+-- the numbers that stand beside k reserved bits are those below this one
+pub bound-is : (k w : ℕ) → k ≤ 8 → (b : ℕ) → b ≡ 2 ^ (8 * w + 8 - k) → b ≡ below k w
+bound-is k w bits b e = e ∙ ap (λ n. 2 ^ n) (let z : 8 * w + 8 - k ≡ 8 * w + (8 - k) = omega arith in z) ∙ sym (below-power k w)
 
 -- their form takes a number below the bound
 limited : (p q : ℕ → Bool) (at : ℕ) (x : Reading ℕ)
@@ -112,24 +99,22 @@ module _ (k w lo hi : ℕ) (pool tape : List ℕ) (i b : ℕ) (eb : b ≡ below 
   unfolding only reserved
   reserved-form = rw eb (limited (λ v. ltb v (below k w)) (λ v. leb lo v && leb v hi) i (tapeEntry tape i))
 
-  module _ (x : Pen) (wet : Bool) (out : List ℕ) (size : ℕ) (e : x ≡ At size i) where
+  module _ (x : Pen) (size : ℕ) (e : x ≡ At size i) where
     pub reserved-refused : (r : Refusal) → NoNumber r ≡ numberOf (kept tape i b lo hi)
-        → Counted (among lo hi (reserved k w)) pool tape x wet out (record { pen = Refused r; n = 0 }) out
-    reserved-refused r f = count-refused (among lo hi (reserved k w)) pool tape x wet out size i e r (reserved-form ∙ number-refused (kept tape i b lo hi) r f)
+        → Counted (among lo hi (reserved k w)) pool tape x (record { pen = Refused r; n = 0 })
+    reserved-refused r f = count-refused (among lo hi (reserved k w)) pool tape x size i e r (reserved-form ∙ number-refused (kept tape i b lo hi) r f)
 
-    pub reserved-written : (v j : ℕ) → Is v j ≡ numberOf (kept tape i b lo hi) → (ones : ℕ) → ones ≡ (2 ^ k - 1) * below k w
-        → (z : ℕ) → z ≡ more size (w + 1) false → (out′ : List ℕ) → Inked wet out size (w + 1) (bytesOf (w + 1) (ones + v)) out′
-        → Counted (among lo hi (reserved k w)) pool tape x wet out (record { pen = At z j; n = v }) out′
+    pub reserved-passed : (v j : ℕ) → Is v j ≡ numberOf (kept tape i b lo hi) → (z : ℕ) → z ≡ more size (w + 1) false
+        → Counted (among lo hi (reserved k w)) pool tape x (record { pen = At z j; n = v })
     unfolding only reserved
-    reserved-written v j f ones eo z ez out′ ink =
-        count-written (among lo hi (reserved k w)) pool tape x wet out size i e v j (reserved-form ∙ number-found (kept tape i b lo hi) v j f) false
-        refl (w + 1) (ones + v)
-        (rw (add-one, eo)) z ez out′ ink
+    reserved-passed v j f z ez =
+        count-passed (among lo hi (reserved k w)) pool tape x size i e v j (reserved-form ∙ number-found (kept tape i b lo hi) v j f) false refl (w + 1)
+        (length-bytes (suc w) _ ∙ sym (add-one w)) z ez
 
 -- a range that leaves out no number
 among-all : (F : Format ℕ) (hi : ℕ) (pool tape : List ℕ) → ((k a j : ℕ) → F .form pool tape k ≡ found a j → a ≤ hi) → Alike (among 0 hi F) F pool tape
 unfolding only
-among-all F hi pool tape h = record { forms = λ k. go k (F .form pool tape k) refl; prints = λ k a j e. refl; overs = λ k a j e. refl }
+among-all F hi pool tape h = record { forms = λ k. go k (F .form pool tape k) refl; prints = λ k a j e. (refl, refl) }
   where
     go : (k : ℕ) (x : Reading ℕ) → F .form pool tape k ≡ x → andThen x (λ a j. judged (unless (leb 0 a && leb a hi) (OutsideSet k)) (found a j)) ≡ x
     go k (found a j) e = rw (le-leb 0 a (omega arith), le-leb a hi (h k a j e))
@@ -173,9 +158,10 @@ reserved-none (suc w) lo hi h pool tape =
     rw d
     record {
       forms = λ k. go all k (tapeEntry tape k);
-      prints = λ k a j e. ap (bytesOf (suc w)) (let z : (2 ^ 0 - 1) * below 0 w + a ≡ a = rw (zero-mul, zero-add) in z);
-      overs = λ k a j e. rw (lt-ltb a (256 ^ suc w)
-          (rw all at (kept-below tape k (below 0 w) lo hi a j (sym (reserved-form 0 w lo hi pool tape k (below 0 w) refl) ∙ e))));
+      prints = λ k a j e. (
+        ap (bytesOf (suc w)) (let z : (2 ^ 0 - 1) * below 0 w + a ≡ a = rw (zero-mul, zero-add) in z),
+        rw (lt-ltb a (256 ^ suc w) (rw all at (kept-below tape k (below 0 w) lo hi a j (sym (reserved-form 0 w lo hi pool tape k (below 0 w) refl) ∙ e)))),
+      );
     }
   where
     go : below 0 w ≡ 256 ^ suc w → (at : ℕ) (x : Reading ℕ)
@@ -195,27 +181,25 @@ module _ (lo hi : ℕ) (pool tape : List ℕ) (k : ℕ) where
   nibbles-form : nibblesAmong lo hi .form pool tape k ≡ pairOf (kept tape k 16 lo hi) (λ j. kept tape j 16 lo hi)
   nibbles-form = refl
 
-  module _ (x : Pen) (wet : Bool) (out : List ℕ) (size : ℕ) (e : x ≡ At size k) where
-    pub high-refused : (r : Refusal) → NoNumber r ≡ numberOf (kept tape k 16 lo hi) → Penned (nibblesAmong lo hi) pool tape x wet out (Refused r) out
+  module _ (x : Pen) (size : ℕ) (e : x ≡ At size k) where
+    pub high-refused : (r : Refusal) → NoNumber r ≡ numberOf (kept tape k 16 lo hi) → Refused r ≡ penned (nibblesAmong lo hi) pool tape x
     high-refused r f =
-        refused-here (nibblesAmong lo hi) pool tape x wet out size k e r
+        refused-here (nibblesAmong lo hi) pool tape x size k e r
         (nibbles-form ∙ ap (λ (y : Reading ℕ). pairOf y (λ j. kept tape j 16 lo hi)) (number-refused (kept tape k 16 lo hi) r f))
 
     module _ (high j : ℕ) (f : Is high j ≡ numberOf (kept tape k 16 lo hi)) where
       low-form : nibblesAmong lo hi .form pool tape k ≡ andThen (kept tape j 16 lo hi) (λ low i. let z : ℕ × ℕ = (high, low) in found z i)
       low-form = nibbles-form ∙ ap (λ (y : Reading ℕ). pairOf y (λ j. kept tape j 16 lo hi)) (number-found (kept tape k 16 lo hi) high j f)
 
-      pub low-refused : (r : Refusal) → NoNumber r ≡ numberOf (kept tape j 16 lo hi) → Penned (nibblesAmong lo hi) pool tape x wet out (Refused r) out
+      pub low-refused : (r : Refusal) → NoNumber r ≡ numberOf (kept tape j 16 lo hi) → Refused r ≡ penned (nibblesAmong lo hi) pool tape x
       low-refused r g =
-          refused-here (nibblesAmong lo hi) pool tape x wet out size k e r
+          refused-here (nibblesAmong lo hi) pool tape x size k e r
           (low-form ∙ ap (λ (y : Reading ℕ). andThen y (λ low i. let z : ℕ × ℕ = (high, low) in found z i)) (number-refused (kept tape j 16 lo hi) r g))
 
-      pub nibbles-written : (low i : ℕ) → Is low i ≡ numberOf (kept tape j 16 lo hi) → (z : ℕ) → z ≡ more size 1 false
-          → (out′ : List ℕ) → Inked wet out size 1 (bytesOf 1 (high * 16 + low)) out′ → Penned (nibblesAmong lo hi) pool tape x wet out (At z i) out′
+      pub nibbles-passed : (low i : ℕ) → Is low i ≡ numberOf (kept tape j 16 lo hi) → (z : ℕ) → z ≡ more size 1 false
+          → At z i ≡ penned (nibblesAmong lo hi) pool tape x
       unfolding only nibbles
-      nibbles-written low i g z ez out′ ink =
-          let v = high * 16 + low in
-          let small : v < 256 = omega (arith, kept-less tape k 16 lo hi high j f, kept-less tape j 16 lo hi low i g) in
-          written (nibblesAmong lo hi) pool tape x wet out size k e (high, low) i
+      nibbles-passed low i g z ez =
+          passed (nibblesAmong lo hi) pool tape x size k e (high, low) i
           (low-form ∙ ap (λ (y : Reading ℕ). andThen y (λ low i. let z : ℕ × ℕ = (high, low) in found z i)) (number-found (kept tape j 16 lo hi) low i g))
-          false refl (bytesOf 1 v) (sym (one-byte v small)) 1 (length-bytes 1 v) z ez out′ ink
+          false refl 1 refl z ez

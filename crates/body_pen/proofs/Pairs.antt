@@ -1,100 +1,48 @@
 -- Laws of a pen through fields one after the other, and through the same fields under other names.
-use Prim.Native.Nat.{ℕ, zero, suc, _+_, _≤_, _<_}
+use Prim.Native.Nat.{ℕ, zero, suc, _<_}
 use mathlib.Core.Path.{_≡_, refl, sym, subst, ap, ap₂, _∙_}
-use mathlib.Core.List.{List, _++_}
+use mathlib.Core.List.{List}
 use mathlib.Core.Bool.{Bool, true, false, _||_}
 use native.Mathlib.Omega.{arith}
 use lib.ListN.{length, length-append}
-use Rattle.ground_placing.specs.Placed.{placed}
-use Rattle.ground_placing.proofs.Placing.{placed-next, placed-length, placed-none}
 use Rattle.ground_refusal.specs.declared.Refusal.{Refusal}
-use Rattle.body_formats.specs.Reading.{Reading, found, refused, andThen, Fault, fine, faulty, judged}
+use Rattle.body_formats.specs.Reading.{Reading, found, refused, andThen, valueOf, Fault, fine, faulty, judged}
 use Rattle.body_formats.specs.Format.{Format, followed, _▷_, nothing, under, view, exact, only}
-use Rattle.body_formats.proofs.Outcomes.{found-inj, not-found, andThen-found, judged-found, neither}
-use Rattle.ground_numbers.specs.Sizes.{bodyMost}
-use Rattle.body_pen.specs.Penned.{aboveBody, more, penOnward, penned, Penned, valuePenned, Counted, entryOf, refusing}
+use Rattle.body_formats.proofs.Outcomes.{found-inj, andThen-found}
+use Rattle.body_pen.specs.Penned.{more, penOnward, penned, valuePenned, Counted, entryOf, refusing, gapped}
 use Rattle.body_pen.specs.declared.Pen.{Pen}
 use Rattle.body_pen.specs.declared.Pen.the-variants.{At, Refused}
 use Rattle.body_pen.specs.declared.Count.{Count}
-use Rattle.body_pen.proofs.Leaves.{more-twice, more-exact}
+use Rattle.body_pen.proofs.Leaves.{more-twice}
 
--- ---- the bytes so far
+-- ---- where a pen comes to, by where it starts and what the form lays out
 
-pub more-small : (size n : ℕ) (over : Bool) → more size n over ≤ aboveBody
+more-none : (size n : ℕ) (over : Bool) → more (more size n over) 0 false ≡ more size n over
 unfolding more
-more-small size n true = omega arith
-more-small size n false = omega arith
+more-none size n true = omega arith
+more-none size n false = omega arith
 
-pub more-none : (size : ℕ) → size ≤ aboveBody → more size 0 false ≡ size
-unfolding more
-more-none size h = omega arith
-
--- what is not too many was counted in full
-pub more-back : (size n : ℕ) (over : Bool) (z : ℕ) → more size n over ≡ z → z ≤ bodyMost → (over ≡ false) × (z ≡ size + n)
-unfolding more
-more-back size n true z e h = absurd (omega arith)
-more-back size n false z e h = (refl, omega arith)
-
--- ---- what a pen answers, by where it starts and what the form lays out
-
-module _ {A : Type 0} (F : Format A) (pool tape : List ℕ) where
-  penned-refused : (e : Refusal) → penned F pool tape (Refused e) ≡ Refused e
+module _ {A : Type 0} (F : Format A) (pool tape : List ℕ) (x : Pen) where
+  pub pen-onward : (size k : ℕ) → x ≡ At size k → (y : Reading A) → F .form pool tape k ≡ y → penned F pool tape x ≡ penOnward F size y
   unfolding penned
-  penned-refused e = refl
+  pen-onward size k e y f = rw (e, f)
 
-  penned-at : (size k : ℕ) → penned F pool tape (At size k) ≡ penOnward F size (F .form pool tape k)
-  unfolding penned
-  penned-at size k = refl
-
-module _ {A : Type 0} {F : Format A} {pool tape : List ℕ} {x : Pen} {wet : Bool} {out : List ℕ} {r : Pen} {out′ : List ℕ}
-    (p : Penned F pool tape x wet out r out′) where
-  pub pen-refused : (e : Refusal) → x ≡ Refused e → r ≡ Refused e
-  pen-refused e q = p .said ∙ ap (penned F pool tape) q ∙ penned-refused F pool tape e
-
-  pub pen-onward : (size k : ℕ) → x ≡ At size k → (y : Reading A) → F .form pool tape k ≡ y → r ≡ penOnward F size y
-  pen-onward size k e y f = p .said ∙ ap (penned F pool tape) e ∙ penned-at F pool tape size k ∙ ap (penOnward F size) f
-
-  -- what is not over its field, and not too many for a body, is counted in full
-  pub pen-exact : (size k : ℕ) → x ≡ At size k → (a : A) (j : ℕ) → F .form pool tape k ≡ found a j → F .tooLarge a ≡ false
-      → size + length (F .print a) ≤ bodyMost
-      → r ≡ At (size + length (F .print a)) j
-  pen-exact size k e a j f o l =
-      pen-onward size k e (found a j) f ∙ ap (λ n. At n j) (ap (more size (length (F .print a))) o ∙ more-exact size (length (F .print a)) l)
-
-  -- the bytes so far are at most one more than a body may have
-  pub pen-small : (size k : ℕ) → r ≡ At size k → size ≤ aboveBody
-  pen-small size k q = go x refl
+  -- the bytes so far are at most one more than a body may have: none more changes nothing
+  pub pen-small : gapped 0 (penned F pool tape x) ≡ penned F pool tape x
+  unfolding penned gapped
+  pen-small = go x
     where
-      at : (n : ℕ) (y : Reading A) → r ≡ penOnward F n y → size ≤ aboveBody
-      at n (found a i) e =
-          omega (arith, (let z : size ≡ more n (length (F .print a)) (F .tooLarge a) = cc in z), more-small n (length (F .print a)) (F .tooLarge a))
-      at n (refused e) f = absurd (let z : _≡_ {A = ℕ} 0 1 = cc in omega arith)
+      at : (size : ℕ) (y : Reading A) → gapped 0 (penOnward F size y) ≡ penOnward F size y
+      at size (found a j) = ap (λ n. At n j) (more-none size (length (F .print a)) (F .tooLarge a))
+      at size (refused r) = refl
 
-      go : (y : Pen) → x ≡ y → size ≤ aboveBody
-      go (At n j) e = at n (F .form pool tape j) (pen-onward n j e (F .form pool tape j) refl)
-      go (Refused e) f = absurd (let z : _≡_ {A = ℕ} 0 1 = cc (pen-refused e f) in omega arith)
-
--- an answer, given by cases
-pub penned-by : {A : Type 0} (F : Format A) (pool tape : List ℕ) (x r : Pen) → ((size k : ℕ) → x ≡ At size k → r ≡ penOnward F size (F .form pool tape k))
-    → ((e : Refusal) → x ≡ Refused e → r ≡ Refused e) → r ≡ penned F pool tape x
-penned-by F pool tape x r at stop = go x refl
-  where
-    go : (y : Pen) → x ≡ y → r ≡ penned F pool tape x
-    go (At size k) e = at size k e ∙ sym (penned-at F pool tape size k) ∙ ap (penned F pool tape) (sym e)
-    go (Refused u) e = stop u e ∙ sym (penned-refused F pool tape u) ∙ ap (penned F pool tape) (sym e)
+      go : (y : Pen) → gapped 0 (penned F pool tape y) ≡ penned F pool tape y
+      go (At size k) = at size (F .form pool tape k)
+      go (Refused r) = refl
 
 -- ---- one after the other, where the second may depend on what the first found
 
 module _ {A : Type 0} {B : A → Type 0} (F : Format A) (G : (a : A) → Format (B a)) (pool tape : List ℕ) where
-  form-both : (k : ℕ) (a : A) (j : ℕ) → F .form pool tape k ≡ found a j
-      → followed F G .form pool tape k ≡ andThen (G a .form pool tape j) (λ b i. let z : (a : A) × B a = (a, b) in found z i)
-  unfolding followed
-  form-both k a j e = rw e
-
-  form-none : (k : ℕ) (e : Refusal) → F .form pool tape k ≡ refused e → followed F G .form pool tape k ≡ refused e
-  unfolding followed
-  form-none k e q = rw q
-
   pub form-parts : (k : ℕ) (x : (a : A) × B a) (i : ℕ) → followed F G .form pool tape k ≡ found x i
       → (j : ℕ) × (F .form pool tape k ≡ found (x .0) j) × (G (x .0) .form pool tape j ≡ found (x .1) i)
   unfolding followed
@@ -105,109 +53,73 @@ module _ {A : Type 0} {B : A → Type 0} (F : Format A) (G : (a : A) → Format 
       subst (λ (y : (a : A) × B a). (j : ℕ) × (F .form pool tape k ≡ found (y .0) j) × (G (y .0) .form pool tape j ≡ found (y .1) i))
       (z .0) (f .1, f .2, g .2 ∙ ap (found (g .0)) (z .1))
 
-  bytes-both : (x : (a : A) × B a) → followed F G .print x ≡ F .print (x .0) ++ G (x .0) .print (x .1)
-  unfolding followed
-  bytes-both x = refl
-
-  over-both : (x : (a : A) × B a) → followed F G .tooLarge x ≡ (F .tooLarge (x .0) || G (x .0) .tooLarge (x .1))
-  unfolding followed
-  over-both x = refl
-
   onward-both : (size : ℕ) (a : A) (y : Reading (B a))
-      → penOnward (G a) (more size (length (F .print a)) (F .tooLarge a)) y
-      ≡ penOnward (followed F G) size (andThen y (λ b i. let z : (a : A) × B a = (a, b) in found z i))
+      → penOnward (followed F G) size (andThen y (λ b i. let z : (a : A) × B a = (a, b) in found z i))
+      ≡ penOnward (G a) (more size (length (F .print a)) (F .tooLarge a)) y
   unfolding followed
   onward-both size a (found b i) =
       ap (λ n. At n i)
-      (more-twice size (length (F .print a)) (length (G a .print b)) (F .tooLarge a) (G a .tooLarge b)
-      ∙ ap (λ n. more size n (F .tooLarge a || G a .tooLarge b)) (sym (length-append (F .print a) (G a .print b))))
+      (ap (λ n. more size n (F .tooLarge a || G a .tooLarge b)) (length-append (F .print a) (G a .print b))
+      ∙ sym (more-twice size (length (F .print a)) (length (G a .print b)) (F .tooLarge a) (G a .tooLarge b)))
   onward-both size a (refused e) = refl
 
--- the second is told of only where the first found something; a refusal of the first stands, and a dry pen leaves what the first left
-module _ {A : Type 0} {B : A → Type 0} {F : Format A} (G : (a : A) → Format (B a)) {pool tape : List ℕ} {x : Pen} {wet : Bool} {out : List ℕ}
-    {r : Pen} {mid : List ℕ}
-    (p : Penned F pool tape x wet out r mid) {r′ : Pen} {out′ : List ℕ}
-    (q : (size k : ℕ) → x ≡ At size k → (a : A) (j : ℕ) → F .form pool tape k ≡ found a j → Penned (G a) pool tape r wet mid r′ out′)
-    (stays : (e : Refusal) → r ≡ Refused e → r′ ≡ Refused e) (still : wet ≡ false → out′ ≡ mid) where
-  both-onward : (size k : ℕ) → x ≡ At size k → r′ ≡ penOnward (followed F G) size (followed F G .form pool tape k)
-  both-onward size k e = go (F .form pool tape k) refl
+module _ {A B : Type 0} (F : Format A) (G : Format B) (pool tape : List ℕ) where
+  pub pair-pen : (x : Pen) → penned (F ▷ G) pool tape x ≡ penned G pool tape (penned F pool tape x)
+  unfolding penned followed
+  pair-pen (Refused r) = refl
+  pair-pen (At size k) = go (F .form pool tape k)
     where
-      go : (y : Reading A) → F .form pool tape k ≡ y → r′ ≡ penOnward (followed F G) size (followed F G .form pool tape k)
-      go (found a j) f =
-          pen-onward (q size k e a j f) _ j (pen-onward p size k e (found a j) f) (G a .form pool tape j) refl
-          ∙ onward-both F G pool tape size a (G a .form pool tape j) ∙ ap (penOnward (followed F G) size) (sym (form-both F G pool tape k a j f))
-      go (refused u) f = stays u (pen-onward p size k e (refused u) f) ∙ ap (penOnward (followed F G) size) (sym (form-none F G pool tape k u f))
-
-  pub followed-pen : Penned (followed F G) pool tape x wet out r′ out′
-  followed-pen =
-      record {
-        said = penned-by (followed F G) pool tape x r′ both-onward (λ u e. stays u (pen-refused p u e));
-        dry = λ w. still w ∙ p .dry w;
-        put = λ w size k e y i f o l m.
-            let a = y .0 in
-            let g = form-parts F G pool tape k y i f in
-            let o2 = neither (F .tooLarge a) (G a .tooLarge (y .1)) (sym (over-both F G pool tape y) ∙ o) in
-            let bytes = bytes-both F G pool tape y in
-            let s2 = ap length bytes ∙ length-append (F .print a) (G a .print (y .1)) in
-            let here = pen-exact p size k e a (g .0) (g .1) (o2 .0) (omega arith) in
-            let one = p .put w size k e a (g .0) (g .1) (o2 .0) (omega arith) (omega arith) in
-            let same = ap length one ∙ placed-length out size (F .print a) (omega arith) in
-            q size k e a (g .0) (g .1) .put w (size + length (F .print a)) (g .0) here (y .1) i (g .2) (o2 .1) (omega arith) (omega arith)
-            ∙ ap (λ d. placed d (size + length (F .print a)) (G a .print (y .1))) one
-            ∙ placed-next out size (F .print a) (omega arith) (G a .print (y .1)) (size + length (F .print a)) refl
-            ∙ ap (placed out size) (sym bytes);
-      }
-
-pub pair-pen : {A B : Type 0} {F : Format A} {G : Format B} {pool tape : List ℕ} {x : Pen} {wet : Bool} {out : List ℕ} {r : Pen} {mid : List ℕ}
-    {r′ : Pen} {out′ : List ℕ}
-    → Penned F pool tape x wet out r mid → Penned G pool tape r wet mid r′ out′ → Penned (F ▷ G) pool tape x wet out r′ out′
-pair-pen {A} {B} {F} {G} p q = followed-pen (λ a. G) p (λ size k e a j f. q) (pen-refused q) (q .dry)
+      go : (y : Reading A) → penOnward (F ▷ G) size (andThen y (λ a j. andThen (G .form pool tape j) (λ b i. let z : A × B = (a, b) in found z i)))
+          ≡ penned G pool tape (penOnward F size y)
+      go (found a j) = onward-both F (λ a. G) pool tape size a (G .form pool tape j)
+      go (refused r) = refl
 
 -- ---- after a number that is told: a count, a flag, or a tag
 
-pub told : {C : Format ℕ} {pool tape : List ℕ} {x : Pen} {wet : Bool} {out : List ℕ} {c : Count} {mid : List ℕ} → Counted C pool tape x wet out c mid
-    → (size k : ℕ) → x ≡ At size k → (n j : ℕ) → C .form pool tape k ≡ found n j → c .n ≡ n
+pub told : (C : Format ℕ) (pool tape : List ℕ) (x : Pen) (size k : ℕ) → x ≡ At size k → (n j : ℕ) → C .form pool tape k ≡ found n j
+    → valuePenned C pool tape x ≡ n
 unfolding valuePenned
-told p size k e n j f = p .value ∙ rw (e, f)
+told C pool tape x size k e n j f = rw (e, f)
 
-pub after-number : {B : ℕ → Type 0} {C : Format ℕ} (G : (n : ℕ) → Format (B n)) {pool tape : List ℕ} {x : Pen} {wet : Bool} {out : List ℕ}
-    {c : Count} {mid : List ℕ}
-    → Counted C pool tape x wet out c mid → {r : Pen} {out′ : List ℕ} → Penned (G (c .n)) pool tape (c .pen) wet mid r out′
-    → Penned (followed C G) pool tape x wet out r out′
-after-number G {pool} {tape} {x} {wet} {out} {c} {mid} p {r} {out′} q =
-    followed-pen G (p .past) (λ size k e n j f. subst (λ m. Penned (G m) pool tape (c .pen) wet mid r out′) (told p size k e n j f) q)
-    (pen-refused q) (q .dry)
+module _ {B : ℕ → Type 0} (C : Format ℕ) (G : (n : ℕ) → Format (B n)) (pool tape : List ℕ) where
+  valued : (x : Pen) → penned (followed C G) pool tape x ≡ penned (G (valuePenned C pool tape x)) pool tape (penned C pool tape x)
+  unfolding penned followed valuePenned
+  valued (Refused r) = refl
+  valued (At size k) = go (C .form pool tape k)
+    where
+      go : (y : Reading ℕ)
+          → penOnward (followed C G) size (andThen y (λ n j. andThen (G n .form pool tape j) (λ b i. let z : (n : ℕ) × B n = (n, b) in found z i)))
+          ≡ penned (G (valueOf y)) pool tape (penOnward C size y)
+      go (found n j) = onward-both C G pool tape size n (G n .form pool tape j)
+      go (refused r) = refl
 
--- nothing, where the bytes so far are within their bound
-pub nothing-pen : {pool tape : List ℕ} {x : Pen} {wet : Bool} {out : List ℕ} → ((size k : ℕ) → x ≡ At size k → size ≤ aboveBody)
-    → Penned nothing pool tape x wet out x out
-unfolding nothing
-nothing-pen {pool} {tape} {x} {wet} {out} small =
-    record {
-      said = penned-by nothing pool tape x x (λ size k e. e ∙ ap (λ n. At n k) (sym (more-none size (small size k e)))) (λ u e. e);
-      dry = λ w. refl;
-      put = λ w size k e a j f o l m. sym (placed-none out size);
-    }
+pub after-number : {B : ℕ → Type 0} (G : (n : ℕ) → Format (B n)) {C : Format ℕ} {pool tape : List ℕ} {x : Pen} {c : Count} → Counted C pool tape x c
+    → penned (followed C G) pool tape x ≡ penned (G (c .n)) pool tape (c .pen)
+after-number G {C} {pool} {tape} {x} p = rw (p .value, p .past) (valued C G pool tape x)
 
--- a part under its flag
-module _ {A : Type 0} {C : Format ℕ} (G : Format A) {pool tape : List ℕ} {x : Pen} {wet : Bool} {out : List ℕ} {c : Count} {mid : List ℕ}
-    (p : Counted C pool tape x wet out c mid) where
-  under-none : (n : ℕ) → n ≡ 0 → Penned (under G n) pool tape (c .pen) wet mid (c .pen) mid
+-- ---- nothing, and a part under its flag
+
+pub nothing-pen : (pool tape : List ℕ) (x : Pen) → penned nothing pool tape x ≡ gapped 0 x
+unfolding penned gapped nothing
+nothing-pen pool tape (At size k) = refl
+nothing-pen pool tape (Refused r) = refl
+
+module _ {A : Type 0} (G : Format A) {C : Format ℕ} {pool tape : List ℕ} {x : Pen} {c : Count} (p : Counted C pool tape x c) where
+  under-none : (n : ℕ) → n ≡ 0 → penned (under G n) pool tape (c .pen) ≡ c .pen
   unfolding under
-  under-none zero z = nothing-pen (pen-small (p .past))
+  under-none zero z = nothing-pen pool tape (c .pen) ∙ rw (p .past) (pen-small C pool tape x)
   under-none (suc n) z = absurd (omega arith)
 
-  pub flag-none : c .n ≡ 0 → Penned (followed C (λ flag. under G flag)) pool tape x wet out (c .pen) mid
-  flag-none z = after-number (λ flag. under G flag) p (under-none (c .n) z)
-
-  under-some : (n : ℕ) → 0 < n → {r : Pen} {out′ : List ℕ} → Penned G pool tape (c .pen) wet mid r out′ → Penned (under G n) pool tape (c .pen) wet mid r out′
+  under-some : (n : ℕ) → 0 < n → penned (under G n) pool tape (c .pen) ≡ penned G pool tape (c .pen)
   unfolding under
-  under-some zero h q = absurd (omega arith)
-  under-some (suc n) h q = q
+  under-some zero h = absurd (omega arith)
+  under-some (suc n) h = refl
 
-  pub flag-some : 0 < c .n → {r : Pen} {out′ : List ℕ} → Penned G pool tape (c .pen) wet mid r out′
-      → Penned (followed C (λ flag. under G flag)) pool tape x wet out r out′
-  flag-some h q = after-number (λ flag. under G flag) p (under-some (c .n) h q)
+  pub flag-none : c .n ≡ 0 → penned (followed C (λ flag. under G flag)) pool tape x ≡ c .pen
+  flag-none z = after-number (λ flag. under G flag) p ∙ under-none (c .n) z
+
+  pub flag-some : 0 < c .n → penned (followed C (λ flag. under G flag)) pool tape x ≡ penned G pool tape (c .pen)
+  flag-some h = after-number (λ flag. under G flag) p ∙ under-some (c .n) h
 
 -- ---- the same fields as a value of another kind
 
@@ -215,39 +127,29 @@ pub as-found : {A : Type 0} (x : Reading A) → x ≡ andThen x (λ a j. found a
 as-found (found a j) = refl
 as-found (refused e) = refl
 
-module _ {A B : Type 0} {F : Format A} (G : Format B) (f : A → B) {pool tape : List ℕ}
+module _ {A B : Type 0} (F : Format A) (G : Format B) (f : A → B) (pool tape : List ℕ)
     (forms : (k : ℕ) → G .form pool tape k ≡ andThen (F .form pool tape k) (λ a j. found (f a) j))
-    (prints : (k : ℕ) (a : A) (j : ℕ) → F .form pool tape k ≡ found a j → (G .print (f a) ≡ F .print a) × (G .tooLarge (f a) ≡ F .tooLarge a))
-    {x : Pen} {wet : Bool} {out : List ℕ} {r : Pen} {out′ : List ℕ} (p : Penned F pool tape x wet out r out′) where
-  same-onward : (size k : ℕ) → x ≡ At size k → r ≡ penOnward G size (G .form pool tape k)
-  same-onward size k e = pen-onward p size k e (F .form pool tape k) refl ∙ go (F .form pool tape k) refl ∙ ap (penOnward G size) (sym (forms k))
+    (prints : (k : ℕ) (a : A) (j : ℕ) → F .form pool tape k ≡ found a j → (G .print (f a) ≡ F .print a) × (G .tooLarge (f a) ≡ F .tooLarge a)) where
+  pub same-pen : (x : Pen) → penned G pool tape x ≡ penned F pool tape x
+  unfolding penned
+  same-pen (Refused r) = refl
+  same-pen (At size k) = ap (penOnward G size) (forms k) ∙ go (F .form pool tape k) refl
     where
-      go : (y : Reading A) → F .form pool tape k ≡ y → penOnward F size y ≡ penOnward G size (andThen y (λ a j. found (f a) j))
-      go (found a j) h = let s = prints k a j h in ap₂ (λ (l : List ℕ) (o : Bool). At (more size (length l) o) j) (sym (s .0)) (sym (s .1))
+      go : (y : Reading A) → F .form pool tape k ≡ y → penOnward G size (andThen y (λ a j. found (f a) j)) ≡ penOnward F size y
+      go (found a j) h = let s = prints k a j h in ap₂ (λ (l : List ℕ) (o : Bool). At (more size (length l) o) j) (s .0) (s .1)
       go (refused u) h = refl
 
-  pub same-pen : Penned G pool tape x wet out r out′
-  same-pen =
-      record {
-        said = penned-by G pool tape x r same-onward (pen-refused p);
-        dry = p .dry;
-        put = λ w size k e b j h o l m.
-            let g = andThen-found (F .form pool tape k) _ b j (sym (forms k) ∙ h) in
-            let z = found-inj (g .3) in
-            let s = prints k (g .0) (g .1) (g .2) in
-            let bytes : F .print (g .0) ≡ G .print b = sym (s .0) ∙ ap (G .print) (z .0) in
-            p .put w size k e (g .0) (g .1) (g .2) (sym (s .1) ∙ ap (G .tooLarge) (z .0) ∙ o) (rw bytes l) (rw bytes m) ∙ ap (placed out size) bytes;
-      }
+-- that no field is lost is said of functions, so that `simp` sees it by computing them
+pub view-pen : {A B : Type 0} (f : A → B) (g : B → A) (F : Format A) (pool tape : List ℕ) (x : Pen) → _≡_ {A = A → A} (λ a. g (f a)) (λ a. a)
+    → penned (view f g F) pool tape x ≡ penned F pool tape x
+unfolding view
+view-pen {A} f g F pool tape x back =
+    same-pen F (view f g F) f pool tape (λ k. refl) (λ k a j h. (ap (λ (i : A → A). F .print (i a)) back, ap (λ (i : A → A). F .tooLarge (i a)) back)) x
 
-module _ {A : Type 0} {F : Format A} {pool tape : List ℕ} {x : Pen} {wet : Bool} {out : List ℕ} {r : Pen} {out′ : List ℕ}
-    (p : Penned F pool tape x wet out r out′) where
-  pub view-pen : {B : Type 0} (f : A → B) (g : B → A) → ((a : A) → g (f a) ≡ a) → Penned (view f g F) pool tape x wet out r out′
-  unfolding view
-  view-pen f g gf = same-pen (view f g F) f (λ k. refl) (λ k a j h. (ap (F .print) (gf a), ap (F .tooLarge) (gf a))) p
-
-  pub exact-pen : (leftOver : ℕ → Refusal) → Penned (exact leftOver F) pool tape x wet out r out′
-  unfolding exact
-  exact-pen leftOver = same-pen (exact leftOver F) (λ a. a) (λ k. as-found (F .form pool tape k)) (λ k a j h. (refl, refl)) p
+pub exact-pen : {A : Type 0} (leftOver : ℕ → Refusal) (F : Format A) (pool tape : List ℕ) (x : Pen)
+    → penned (exact leftOver F) pool tape x ≡ penned F pool tape x
+unfolding exact
+exact-pen leftOver F pool tape = same-pen F (exact leftOver F) (λ a. a) pool tape (λ k. as-found (F .form pool tape k)) (λ k a j h. (refl, refl))
 
 -- ---- values of a stated set: the pen through F, and what is said of the value that it went through
 
@@ -268,57 +170,33 @@ module _ (x : Pen) (u : Refusal) where
   unfolding refusing
   refusing-refused r e = rw e
 
-module _ {A : Type 0} (fault : A → ℕ → Fault) {F : Format A} {pool tape : List ℕ} {x : Pen} {wet : Bool} {out : List ℕ} {r : Pen} {out′ : List ℕ}
-    (p : Penned F pool tape x wet out r out′) where
-  only-form : (k : ℕ) (y : Reading A) → F .form pool tape k ≡ y → only fault F .form pool tape k ≡ andThen y (λ a j. judged (fault a k) (found a j))
-  unfolding only
-  only-form k y f = rw f
-
-  only-onward : (size : ℕ) (y : Reading A) → penOnward F size y ≡ penOnward (only fault F) size y
-  unfolding only
-  only-onward size (found a j) = refl
-  only-onward size (refused e) = refl
-
-  only-put : (k : ℕ) (a : A) (j : ℕ) → only fault F .form pool tape k ≡ found a j → F .form pool tape k ≡ found a j
-  unfolding only
-  only-put k a j h =
-      let f = andThen-found (F .form pool tape k) _ a j h in
-      f .2 ∙ judged-found (fault (f .0) k) _ a j (f .3) .1
-
+module _ {A : Type 0} (fault : A → ℕ → Fault) (F : Format A) (pool tape : List ℕ) (x : Pen) where
   -- it is in the set
   pub only-fine : ((size k : ℕ) → x ≡ At size k → (a : A) (j : ℕ) → F .form pool tape k ≡ found a j → fault a k ≡ fine)
-      → Penned (only fault F) pool tape x wet out r out′
-  unfolding only
-  only-fine h =
-      record {
-        said = penned-by (only fault F) pool tape x r (λ size k e. go size k e (F .form pool tape k) refl) (pen-refused p);
-        dry = p .dry;
-        put = λ w size k e a j f o l m. p .put w size k e a j (only-put k a j f) o l m;
-      }
+      → penned (only fault F) pool tape x ≡ penned F pool tape x
+  unfolding penned only
+  only-fine h = go x refl
     where
-      go : (size k : ℕ) → x ≡ At size k → (y : Reading A) → F .form pool tape k ≡ y → r ≡ penOnward (only fault F) size (only fault F .form pool tape k)
-      go size k e (found a j) f =
-          pen-onward p size k e (found a j) f ∙ only-onward size (found a j)
-          ∙ ap (penOnward (only fault F) size) (sym (only-form k (found a j) f ∙ ap (λ v. judged v (found a j)) (h size k e a j f)))
-      go size k e (refused u) f = pen-onward p size k e (refused u) f ∙ ap (penOnward (only fault F) size) (sym (only-form k (refused u) f))
+      at : (size k : ℕ) → x ≡ At size k → (y : Reading A) → F .form pool tape k ≡ y
+          → penOnward (only fault F) size (andThen y (λ a j. judged (fault a k) (found a j))) ≡ penOnward F size y
+      at size k e (found a j) f = rw (h size k e a j f)
+      at size k e (refused r) f = refl
+
+      go : (y : Pen) → x ≡ y → penned (only fault F) pool tape y ≡ penned F pool tape y
+      go (At size k) e = at size k e (F .form pool tape k) refl
+      go (Refused r) e = refl
 
   -- it is not; a refusal before it stands
   pub only-faulty : (u : Refusal) → ((size k : ℕ) → x ≡ At size k → (a : A) (j : ℕ) → F .form pool tape k ≡ found a j → fault a k ≡ faulty u)
-      → Penned (only fault F) pool tape x wet out (refusing r u) out′
-  only-faulty u h =
-      record {
-        said = penned-by (only fault F) pool tape x (refusing r u) (λ size k e. go size k e (F .form pool tape k) refl)
-            (λ v e. refusing-refused r u v (pen-refused p v e));
-        dry = p .dry;
-        put = λ w size k e a j f o l m.
-            let g = only-put k a j f in
-            absurd (not-found (sym (only-form k (found a j) g ∙ ap (λ v. judged v (found a j)) (h size k e a j g)) ∙ f));
-      }
+      → penned (only fault F) pool tape x ≡ refusing (penned F pool tape x) u
+  unfolding penned only refusing
+  only-faulty u h = go x refl
     where
-      go : (size k : ℕ) → x ≡ At size k → (y : Reading A) → F .form pool tape k ≡ y
-          → refusing r u ≡ penOnward (only fault F) size (only fault F .form pool tape k)
-      go size k e (found a j) f =
-          refusing-at r u _ j (pen-onward p size k e (found a j) f)
-          ∙ ap (penOnward (only fault F) size) (sym (only-form k (found a j) f ∙ ap (λ v. judged v (found a j)) (h size k e a j f)))
-      go size k e (refused v) f =
-          refusing-refused r u v (pen-onward p size k e (refused v) f) ∙ ap (penOnward (only fault F) size) (sym (only-form k (refused v) f))
+      at : (size k : ℕ) → x ≡ At size k → (y : Reading A) → F .form pool tape k ≡ y
+          → penOnward (only fault F) size (andThen y (λ a j. judged (fault a k) (found a j))) ≡ refusing (penOnward F size y) u
+      at size k e (found a j) f = rw (h size k e a j f)
+      at size k e (refused r) f = refl
+
+      go : (y : Pen) → x ≡ y → penned (only fault F) pool tape y ≡ refusing (penned F pool tape y) u
+      go (At size k) e = at size k e (F .form pool tape k) refl
+      go (Refused r) e = refl

@@ -11,16 +11,16 @@ use Rattle.ground_refusal.specs.declared.Refusal.the-variants.{OutsideSet}
 use Rattle.time_fields.specs.Field.{readTime, readEnd, liveMark}
 use Rattle.time_fields.specs.declared.Timed.the-variants.{Refused as NoTime}
 use Rattle.body_formats.specs.Reading.{Reading, found, refused, andThen, Fault, fine, faulty, unless, judged}
-use Rattle.body_formats.specs.Format.{tapeEntry, bytesOf, count, only, number}
+use Rattle.body_formats.specs.Format.{tapeEntry, count, only, number}
 use Rattle.body_formats.specs.Time.{timeFault, endFault}
 use Rattle.body_formats.specs.Answers.{numberOf}
 use Rattle.body_formats.specs.declared.Number.the-variants.{Is, Refused as NoNumber}
 use Rattle.body_formats.proofs.Leaves.{length-bytes}
 use Rattle.body_formats.proofs.Readers.{number-found, number-refused}
-use Rattle.body_pen.specs.Penned.{more, Penned}
+use Rattle.body_pen.specs.Penned.{more, penned}
 use Rattle.body_pen.specs.declared.Pen.{Pen}
 use Rattle.body_pen.specs.declared.Pen.the-variants.{At, Refused}
-use Rattle.body_pen.proofs.Leaves.{Inked, refused-here, written}
+use Rattle.body_pen.proofs.Leaves.{refused-here, passed}
 use Rattle.body_pen.proofs.Numbers.{only-below}
 
 -- a number of more than 40 bits, which its judge refuses alike, need not be looked at before
@@ -69,19 +69,18 @@ module _ (fault : ℕ → ℕ → Fault) (large : (v at : ℕ) → 256 ^ 5 ≤ v
     pub timed-is : fault v k ≡ fine → Is v j ≡ numberOf (only fault (number 5) .form [] tape k)
     timed-is f = rw (timed-form [], number-found (tapeEntry tape k) v j e, f)
 
-  module _ (pool : List ℕ) (x : Pen) (wet : Bool) (out : List ℕ) (size : ℕ) (e : x ≡ At size k) where
+  module _ (pool : List ℕ) (x : Pen) (size : ℕ) (e : x ≡ At size k) where
     any-pool : only fault (number 5) .form pool tape k ≡ only fault (number 5) .form [] tape k
     any-pool = timed-form pool ∙ sym (timed-form [])
 
-    pub timed-refused : (r : Refusal) → NoNumber r ≡ numberOf (only fault (number 5) .form [] tape k)
-        → Penned (only fault (number 5)) pool tape x wet out (Refused r) out
+    pub timed-refused : (r : Refusal) → NoNumber r ≡ numberOf (only fault (number 5) .form [] tape k) → Refused r ≡ penned (only fault (number 5)) pool tape x
     timed-refused r f =
-        refused-here (only fault (number 5)) pool tape x wet out size k e r (any-pool ∙ number-refused (only fault (number 5) .form [] tape k) r f)
+        refused-here (only fault (number 5)) pool tape x size k e r (any-pool ∙ number-refused (only fault (number 5) .form [] tape k) r f)
 
-    pub timed-written : (v j : ℕ) → Is v j ≡ numberOf (only fault (number 5) .form [] tape k) → (z : ℕ) → z ≡ more size 5 false
-        → (out′ : List ℕ) → Inked wet out size 5 (bytesOf 5 v) out′ → Penned (only fault (number 5)) pool tape x wet out (At z j) out′
+    pub timed-passed : (v j : ℕ) → Is v j ≡ numberOf (only fault (number 5) .form [] tape k) → (z : ℕ) → z ≡ more size 5 false
+        → At z j ≡ penned (only fault (number 5)) pool tape x
     unfolding number only count
-    timed-written v j f z ez out′ ink =
+    timed-passed v j f z ez =
         let g = any-pool ∙ number-found (only fault (number 5) .form [] tape k) v j f in
-        written (only fault (number 5)) pool tape x wet out size k e v j g false (rw (lt-ltb v (256 ^ 5) (only-below fault 5 pool tape k v j g)))
-        (bytesOf 5 v) refl 5 (length-bytes 5 v) z ez out′ ink
+        passed (only fault (number 5)) pool tape x size k e v j g false (rw (lt-ltb v (256 ^ 5) (only-below fault 5 pool tape k v j g)))
+        5 (length-bytes 5 v) z ez

@@ -1,5 +1,5 @@
--- A form measured by a dry pen, and a writer's answer and output by what was measured and what its wet pen left.
-use Prim.Native.Nat.{ℕ, _+_, _≤_, _<_}
+-- A form measured by a pen, and a writer's answer by what was measured.
+use Prim.Native.Nat.{ℕ, _≤_, _<_}
 use mathlib.Core.Path.{_≡_, refl, sym, ap, _∙_}
 use mathlib.Core.List.{List}
 use mathlib.Core.Bool.{Bool, true, false, not}
@@ -19,12 +19,10 @@ use Rattle.ground_numbers.specs.Sizes.{bodyMost}
 use Rattle.body_formats.specs.Body.{measuring, measured, fitting, writing, bodyWritten, outputWritten}
 use Rattle.body_formats.specs.declared.Step.{Step}
 use Rattle.body_formats.specs.declared.Step.the-variants.{At as StepAt, Refused as NoStep}
-use Rattle.body_formats.proofs.RoundTrips.{measured-value, written-measured}
-use Rattle.body_pen.specs.Penned.{aboveBody, more, penOnward, Penned, formMeasured, stepFitting}
+use Rattle.body_pen.specs.Penned.{aboveBody, more, penOnward, penned, formMeasured, stepFitting}
 use Rattle.body_pen.specs.declared.Pen.{Pen}
 use Rattle.body_pen.specs.declared.Pen.the-variants.{At, Refused}
 use Rattle.body_pen.proofs.Leaves.{more-exact}
-use Rattle.body_pen.proofs.Pairs.{pen-onward}
 
 -- ---- a form measured
 
@@ -89,11 +87,9 @@ module _ {A : Type 0} (F : Format A) (tape : List ℕ) where
   form-refused r = refl
 
   -- a pen past the whole form tells what is measured
-  pub measured-is : {pool : List ℕ} {wet : Bool} {out : List ℕ} {q : Pen} {out′ : List ℕ} → Penned F pool tape (At 0 0) wet out q out′
-      → formMeasured (length tape) q ≡ measured F pool tape
-  unfolding measured measuring
-  measured-is {pool} p =
-      ap (formMeasured (length tape)) (pen-onward p 0 0 refl (F .form pool tape 0) refl) ∙ go (F .form pool tape 0)
+  pub measured-is : (pool : List ℕ) → formMeasured (length tape) (penned F pool tape (At 0 0)) ≡ measured F pool tape
+  unfolding penned measured measuring
+  measured-is pool = go (F .form pool tape 0)
     where
       go : (x : Reading A) → formMeasured (length tape) (penOnward F 0 x)
           ≡ stepOf (andThen x (λ a k. need (leb (length tape) k) (OutsideSet k)
@@ -143,17 +139,3 @@ module _ {A : Type 0} (F : Format A) (pool tape out : List ℕ) where
       go : (y : Reading A) → stepOf y ≡ NoStep e → y ≡ refused e
       go (found a n) g = absurd (let z : _≡_ {A = ℕ} 0 1 = cc in omega arith)
       go (refused u) g = ap refused (let z : u ≡ e = cc in z)
-
-  pub write-done : (size : ℕ) → stepFitting (length out) (measured F pool tape) ≡ StepAt size
-      → {q : Pen} {out′ : List ℕ} → Penned F pool tape (At 0 0) true out q out′ → Wrote F pool tape out out′ (StepAt size)
-  unfolding bodyWritten outputWritten
-  write-done size f p =
-      let w = go (writing F pool tape (length out)) (sym fitted-is ∙ f) in
-      let fits = written-measured F pool tape (length out) (w .0) size (w .1) in
-      let v = measured-value F pool tape (w .0) size (fits .0) in
-      let bytes = p .put refl 0 0 refl (w .0) (v .0) (v .1) (v .2) (omega (arith, v .3, v .4)) (omega (arith, v .3, fits .1)) in
-      (rw (w .1), rw (w .1) bytes)
-    where
-      go : (y : Reading A) → stepOf y ≡ StepAt size → (a : A) × (y ≡ found a size)
-      go (found a n) g = (a, ap (found a) (let z : n ≡ size = cc in z))
-      go (refused u) g = absurd (let z : _≡_ {A = ℕ} 0 1 = cc in omega arith)

@@ -1,5 +1,5 @@
--- What a reader has to believe of a pen that goes through a form: dry it measures the bytes, wet it also writes them.
-use Prim.Native.Nat.{ℕ, _+_, _-_, _≤_, _<_, min}
+-- What a reader has to believe of a pen that goes through a form: it judges the fields, and measures their bytes.
+use Prim.Native.Nat.{ℕ, _+_, _-_, min}
 use mathlib.Core.Path.{_≡_}
 use mathlib.Core.List.{List, [], _∷_}
 use mathlib.Core.Bool.{Bool, true, false, not}
@@ -7,12 +7,11 @@ use lib.ListN.{length}
 use lib.Dec.{ltb, leb}
 use Rattle.ground_numbers.specs.Sizes.{bodyMost}
 use Rattle.ground_choices.specs.Choice.{if_then_else_}
-use Rattle.ground_placing.specs.Placed.{placed}
 use Rattle.ground_refusal.specs.Numbers.{placeless}
 use Rattle.ground_refusal.specs.declared.Refusal.{Refusal}
 use Rattle.ground_refusal.specs.declared.Refusal.the-variants.{OutsideSet, OutputTooSmall, TooLarge}
 use Rattle.body_formats.specs.Reading.{Reading, found, refused, valueOf}
-use Rattle.body_formats.specs.Format.{Format, tapeEntry, bytesOf}
+use Rattle.body_formats.specs.Format.{Format, tapeEntry}
 use Rattle.body_formats.specs.declared.Step.{Step}
 use Rattle.body_formats.specs.declared.Step.the-variants.{At as StepAt, Refused as NoStep}
 use Rattle.body_pen.specs.declared.Pen.{Pen}
@@ -36,22 +35,14 @@ unfoldable pub penned : {A : Type 0} → Format A → List ℕ → List ℕ → 
 penned F pool tape (At size k) = penOnward F size (F .form pool tape k)
 penned F pool tape (Refused r) = Refused r
 
--- What a pen answers and leaves: a dry one writes nothing; a wet one, where the form lays out a value whose bytes are not too many for a
--- body and fit the output, writes them after those so far.
-pub record Penned {A : Type 0} (F : Format A) (pool tape : List ℕ) (x : Pen) (wet : Bool) (out : List ℕ) (r : Pen) (out′ : List ℕ) : Type 0 where
-  pub said : r ≡ penned F pool tape x
-  pub dry : wet ≡ false → out′ ≡ out
-  pub put : wet ≡ true → (size k : ℕ) → x ≡ At size k → (a : A) (j : ℕ) → F .form pool tape k ≡ found a j → F .tooLarge a ≡ false
-      → size + length (F .print a) ≤ bodyMost → size + length (F .print a) ≤ length out → out′ ≡ placed out size (F .print a)
-
 -- the number that the form lays out, 0 for none
 unfoldable pub valuePenned : Format ℕ → List ℕ → List ℕ → Pen → ℕ
 valuePenned C pool tape (At size k) = valueOf (C .form pool tape k)
 valuePenned C pool tape (Refused r) = 0
 
 -- a pen through a number, which is told too: a count, or a flag
-pub record Counted (C : Format ℕ) (pool tape : List ℕ) (x : Pen) (wet : Bool) (out : List ℕ) (r : Count) (out′ : List ℕ) : Type 0 where
-  pub past : Penned C pool tape x wet out (r .pen) out′
+pub record Counted (C : Format ℕ) (pool tape : List ℕ) (x : Pen) (r : Count) : Type 0 where
+  pub past : r .pen ≡ penned C pool tape x
   pub value : r .n ≡ valuePenned C pool tape x
 
 -- ---- values of a stated set
@@ -68,7 +59,7 @@ refusing (Refused r) u = Refused r
 
 -- ---- counted parts: a length stands before its part, and is known after it
 
--- a pen that leaves room for w bytes
+-- a pen past the w bytes of a length
 unfoldable pub gapped : ℕ → Pen → Pen
 gapped w (At size k) = At (more size w false) k
 gapped w (Refused r) = Refused r
@@ -78,13 +69,6 @@ unfoldable pub closed : ℕ → ℕ → Pen → Pen → Pen
 closed w limit (At size k) (At end j) = At (more end 0 (not (ltb (end - size - w) limit))) j
 closed w limit (At size k) (Refused r) = Refused r
 closed w limit (Refused r) b = Refused r
-
--- What closing a part answers and leaves: a wet pen writes the length into the room left for it, after reserved bits that make `top`.
-pub record Closed (w top limit : ℕ) (x b : Pen) (wet : Bool) (out : List ℕ) (r : Pen) (out′ : List ℕ) : Type 0 where
-  pub said : r ≡ closed w limit x b
-  pub dry : wet ≡ false → out′ ≡ out
-  pub put : wet ≡ true → (size k : ℕ) → x ≡ At size k → (end j : ℕ) → b ≡ At end j → end - size - w < limit → size + w ≤ length out
-      → out′ ≡ placed out size (bytesOf w (top + (end - size - w)))
 
 -- ---- the count of a list that the body does not have
 

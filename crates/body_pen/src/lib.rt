@@ -1,5 +1,5 @@
-// A pen through a form, field by field: dry it measures the bytes of a body, wet it also writes them. A field is refused at the entry
-// of the tape where it begins.
+// A pen through a form, field by field: it judges each and measures the bytes of the body, and writes none. A field is refused at the
+// entry of the tape where it begins.
 use body_formats::IDENTIFIER_PAIRS;
 use body_formats::Number;
 use body_formats::Part;
@@ -13,20 +13,19 @@ use time_fields::EndTimed;
 use time_fields::Timed;
 ghost use mathlib.Core.Path.{_≡_};
 ghost use mathlib.Core.List.{List, []};
-ghost use mathlib.Core.Bool.{Bool, true, false, _&&_};
-ghost use Prim.Native.Nat.{ℕ, _+_, _-_, _≤_, _<_};
+ghost use mathlib.Core.Bool.{_&&_};
+ghost use Prim.Native.Nat.{ℕ, _+_, _≤_, _<_};
 ghost use lib.ListN.{length, take, drop};
 ghost use lib.Dec.{leb, ltb};
-ghost use Rattle.ground_placing.specs.Placed.{placed};
 ghost use Rattle.ground_refusal.specs.declared.Refusal.the-variants.{OutsideSet};
 ghost use Rattle.body_formats.specs.Reading.{found, refused, andThen, need};
-ghost use Rattle.body_formats.specs.Format.{tapeEntry, span, bytesOf, count, among, number, nibblesAmong, reserved, bytesAmong, digits, rest, opaque};
+ghost use Rattle.body_formats.specs.Format.{tapeEntry, span, count, among, number, nibblesAmong, reserved, bytesAmong, digits, rest, opaque};
 ghost use Rattle.body_formats.specs.Time.{time, endTime};
 ghost use Rattle.body_formats.specs.Identifier.{identifier};
 ghost use Rattle.body_formats.specs.Resource.{resources};
 ghost use Rattle.body_formats.specs.Answers.{numberOf};
 ghost use Rattle.body_formats.specs.declared.Part.the-variants.{Of, Refused as NoPart};
-ghost use Rattle.body_pen.specs.Penned.{more, Penned, Counted, entryOf, refusing, gapped, Closed, unprinted, formMeasured, stepFitting};
+ghost use Rattle.body_pen.specs.Penned.{more, penned, Counted, entryOf, refusing, gapped, closed, unprinted, formMeasured, stepFitting};
 
 // Where a pen stands: the bytes so far, up to one more than a body may have, and the next entry of the tape; or why it stopped.
 pub enum Pen {
@@ -57,56 +56,6 @@ fn grown(size: usize, n: u64, over: bool) -> usize
         return ABOVE_BODY;
     }
     size + (n as usize)
-}
-
-// ---- bytes written
-
-// x in w bytes, from index at on.
-fn number_bytes(out: &mut [u8], at: usize, w: usize, x: u64)
-    requires { ⌜ at + w ≤ length (now out) ⌝ }
-    ensures { λ _. ⌜ now (out .exit) ≡ placed (now (out .entry)) at (bytesOf w x) ⌝ }
-{
-    let mut k = w;
-    let mut v = x;
-    while 0 < k {
-        k = k - 1;
-        out[at + k] = (v % 256) as u8;
-        v = v / 256;
-    }
-}
-
-// Whether n bytes fit from index at on, with no sum that could be too large.
-fn has_room(room: usize, at: usize, n: usize) -> bool
-    ensures { λ r. ⌜ r ≡ leb (at + n) room ⌝ }
-{
-    if room < at {
-        return false;
-    }
-    n <= room - at
-}
-
-// x in w bytes where they fit: a dry pen writes nothing.
-fn put_at(out: &mut [u8], at: usize, w: usize, x: u64, wet: bool)
-    ensures { λ _. ⌜ (wet ≡ false → now (out .exit) ≡ now (out .entry)) × (wet ≡ true → at + w ≤ length (now (out .entry)) → now (out .exit) ≡ placed (now (out .entry)) at (bytesOf w x)) ⌝ }
-{
-    if wet {
-        if has_room(out.len(), at, w) {
-            number_bytes(out, at, w, x);
-        }
-    }
-}
-
-// n bytes of the pool where they fit: a dry pen writes nothing.
-fn copy_span(pool: &[u8], a: usize, n: usize, out: &mut [u8], at: usize, wet: bool)
-    requires { ⌜ a + n ≤ length (now pool) ⌝ }
-    ensures { λ _. ⌜ (wet ≡ false → now (out .exit) ≡ now (out .entry)) × (wet ≡ true → at + n ≤ length (now (out .entry)) → now (out .exit) ≡ placed (now (out .entry)) at (take n (drop a (now (pool .entry))))) ⌝ }
-{
-    if wet {
-        if has_room(out.len(), at, n) {
-            let end = a + n;
-            ground_placing::copy_at(&pool[a..end], out, at);
-        }
-    }
 }
 
 // ---- entries of the tape
@@ -167,9 +116,9 @@ pub fn span_at(pool: &[u8], tape: &[u64], k: usize) -> Part
 // ---- numbers
 
 // A count of w bytes: one that is too large for them is as a body that is too long.
-pub fn put_count(tape: &[u64], x: Pen, w: usize, out: &mut [u8], wet: bool) -> Count
+pub fn pen_count(tape: &[u64], x: Pen, w: usize) -> Count
     requires { ⌜ w ≤ 7 ⌝ }
-    ensures { λ r. ⌜ ((pool : List ℕ) → Counted (count w) pool (now (tape .entry)) x wet (now (out .entry)) r (now (out .exit))) ⌝ }
+    ensures { λ r. ⌜ ((pool : List ℕ) → Counted (count w) pool (now (tape .entry)) x r) ⌝ }
 {
     match x {
         Pen::Refused(r) => Count {
@@ -182,7 +131,6 @@ pub fn put_count(tape: &[u64], x: Pen, w: usize, out: &mut [u8], wet: bool) -> C
                 n: 0,
             },
             Number::Is(v, j) => {
-                put_at(out, size, w, v, wet);
                 Count {
                     pen: Pen::At(grown(size, w as u64, body_numbers::power(8 * w) <= v), j),
                     n: v,
@@ -193,18 +141,9 @@ pub fn put_count(tape: &[u64], x: Pen, w: usize, out: &mut [u8], wet: bool) -> C
 }
 
 // A number from lo to hi after k reserved bits, in w + 1 bytes.
-pub fn put_reserved_among(
-    tape: &[u64],
-    x: Pen,
-    k: usize,
-    w: usize,
-    lo: u64,
-    hi: u64,
-    out: &mut [u8],
-    wet: bool,
-) -> Count
+pub fn pen_reserved_among(tape: &[u64], x: Pen, k: usize, w: usize, lo: u64, hi: u64) -> Count
     requires { ⌜ (k ≤ 8) × (w ≤ 6) ⌝ }
-    ensures { λ r. ⌜ ((pool : List ℕ) → Counted (among lo hi (reserved k w)) pool (now (tape .entry)) x wet (now (out .entry)) r (now (out .exit))) ⌝ }
+    ensures { λ r. ⌜ ((pool : List ℕ) → Counted (among lo hi (reserved k w)) pool (now (tape .entry)) x r) ⌝ }
 {
     match x {
         Pen::Refused(r) => Count {
@@ -213,14 +152,12 @@ pub fn put_reserved_among(
         },
         Pen::At(size, i) => {
             let bound = body_numbers::power(8 * w + 8 - k);
-            let ones = body_numbers::power(8 * w + 8) - bound;
             match number_among(tape, i, bound, lo, hi) {
                 Number::Refused(r) => Count {
                     pen: Pen::Refused(r),
                     n: 0,
                 },
                 Number::Is(v, j) => {
-                    put_at(out, size, w + 1, ones + v, wet);
                     Count {
                         pen: Pen::At(grown(size, (w + 1) as u64, false), j),
                         n: v,
@@ -232,59 +169,51 @@ pub fn put_reserved_among(
 }
 
 // A number after k reserved bits, in w + 1 bytes.
-pub fn put_reserved(tape: &[u64], x: Pen, k: usize, w: usize, out: &mut [u8], wet: bool) -> Count
+pub fn pen_reserved(tape: &[u64], x: Pen, k: usize, w: usize) -> Count
     requires { ⌜ (k ≤ 8) × (w ≤ 6) ⌝ }
-    ensures { λ r. ⌜ ((pool : List ℕ) → Counted (reserved k w) pool (now (tape .entry)) x wet (now (out .entry)) r (now (out .exit))) ⌝ }
+    ensures { λ r. ⌜ ((pool : List ℕ) → Counted (reserved k w) pool (now (tape .entry)) x r) ⌝ }
 {
-    put_reserved_among(tape, x, k, w, 0, 0xFFFF_FFFF_FFFF_FFFF, out, wet)
+    pen_reserved_among(tape, x, k, w, 0, 0xFFFF_FFFF_FFFF_FFFF)
 }
 
 // A number of w bytes from lo to hi, which is told too: one with no reserved bits.
-pub fn put_told_among(
-    tape: &[u64],
-    x: Pen,
-    w: usize,
-    lo: u64,
-    hi: u64,
-    out: &mut [u8],
-    wet: bool,
-) -> Count
+pub fn pen_told_among(tape: &[u64], x: Pen, w: usize, lo: u64, hi: u64) -> Count
     requires { ⌜ (0 < w) × (w ≤ 7) ⌝ }
-    ensures { λ r. ⌜ ((pool : List ℕ) → Counted (among lo hi (number w)) pool (now (tape .entry)) x wet (now (out .entry)) r (now (out .exit))) ⌝ }
+    ensures { λ r. ⌜ ((pool : List ℕ) → Counted (among lo hi (number w)) pool (now (tape .entry)) x r) ⌝ }
 {
-    put_reserved_among(tape, x, 0, w - 1, lo, hi, out, wet)
+    pen_reserved_among(tape, x, 0, w - 1, lo, hi)
 }
 
 // A number of w bytes, which is told too.
-pub fn put_told(tape: &[u64], x: Pen, w: usize, out: &mut [u8], wet: bool) -> Count
+pub fn pen_told(tape: &[u64], x: Pen, w: usize) -> Count
     requires { ⌜ (0 < w) × (w ≤ 7) ⌝ }
-    ensures { λ r. ⌜ ((pool : List ℕ) → Counted (number w) pool (now (tape .entry)) x wet (now (out .entry)) r (now (out .exit))) ⌝ }
+    ensures { λ r. ⌜ ((pool : List ℕ) → Counted (number w) pool (now (tape .entry)) x r) ⌝ }
 {
-    put_told_among(tape, x, w, 0, 0xFFFF_FFFF_FFFF_FFFF, out, wet)
+    pen_told_among(tape, x, w, 0, 0xFFFF_FFFF_FFFF_FFFF)
 }
 
 // A number of w bytes from lo to hi.
-pub fn put_among(tape: &[u64], x: Pen, w: usize, lo: u64, hi: u64, out: &mut [u8], wet: bool) -> Pen
+pub fn pen_among(tape: &[u64], x: Pen, w: usize, lo: u64, hi: u64) -> Pen
     requires { ⌜ (0 < w) × (w ≤ 7) ⌝ }
-    ensures { λ r. ⌜ ((pool : List ℕ) → Penned (among lo hi (number w)) pool (now (tape .entry)) x wet (now (out .entry)) r (now (out .exit))) ⌝ }
+    ensures { λ r. ⌜ ((pool : List ℕ) → r ≡ penned (among lo hi (number w)) pool (now (tape .entry)) x) ⌝ }
 {
-    let past = put_told_among(tape, x, w, lo, hi, out, wet);
+    let past = pen_told_among(tape, x, w, lo, hi);
     past.pen
 }
 
 // A number of w bytes.
-pub fn put_number(tape: &[u64], x: Pen, w: usize, out: &mut [u8], wet: bool) -> Pen
+pub fn pen_number(tape: &[u64], x: Pen, w: usize) -> Pen
     requires { ⌜ (0 < w) × (w ≤ 7) ⌝ }
-    ensures { λ r. ⌜ ((pool : List ℕ) → Penned (number w) pool (now (tape .entry)) x wet (now (out .entry)) r (now (out .exit))) ⌝ }
+    ensures { λ r. ⌜ ((pool : List ℕ) → r ≡ penned (number w) pool (now (tape .entry)) x) ⌝ }
 {
-    let past = put_told(tape, x, w, out, wet);
+    let past = pen_told(tape, x, w);
     past.pen
 }
 
 // Opaque bytes after a length of w bytes: one that is too large for them is as a body that is too long.
-pub fn put_part(pool: &[u8], tape: &[u64], x: Pen, w: usize, out: &mut [u8], wet: bool) -> Pen
+pub fn pen_part(pool: &[u8], tape: &[u64], x: Pen, w: usize) -> Pen
     requires { ⌜ w ≤ 7 ⌝ }
-    ensures { λ r. ⌜ Penned (opaque w) (now (pool .entry)) (now (tape .entry)) x wet (now (out .entry)) r (now (out .exit)) ⌝ }
+    ensures { λ r. ⌜ r ≡ penned (opaque w) (now (pool .entry)) (now (tape .entry)) x ⌝ }
 {
     match x {
         Pen::Refused(r) => Pen::Refused(r),
@@ -292,34 +221,31 @@ pub fn put_part(pool: &[u8], tape: &[u64], x: Pen, w: usize, out: &mut [u8], wet
             Part::Refused(r) => Pen::Refused(r),
             Part::Of(a, n) => {
                 let m = n as u64;
-                let start = grown(size, w as u64, body_numbers::power(8 * w) <= m);
-                put_at(out, size, w, m, wet);
-                copy_span(pool, a, n, out, start, wet);
-                Pen::At(grown(start, m, false), k + 2)
+                Pen::At(
+                    grown(size, (w as u64) + m, body_numbers::power(8 * w) <= m),
+                    k + 2,
+                )
             }
         },
     }
 }
 
 // Opaque bytes that fill their part.
-pub fn put_rest(pool: &[u8], tape: &[u64], x: Pen, out: &mut [u8], wet: bool) -> Pen
-    ensures { λ r. ⌜ Penned rest (now (pool .entry)) (now (tape .entry)) x wet (now (out .entry)) r (now (out .exit)) ⌝ }
+pub fn pen_rest(pool: &[u8], tape: &[u64], x: Pen) -> Pen
+    ensures { λ r. ⌜ r ≡ penned rest (now (pool .entry)) (now (tape .entry)) x ⌝ }
 {
     match x {
         Pen::Refused(r) => Pen::Refused(r),
         Pen::At(size, k) => match span_at(pool, tape, k) {
             Part::Refused(r) => Pen::Refused(r),
-            Part::Of(a, n) => {
-                copy_span(pool, a, n, out, size, wet);
-                Pen::At(grown(size, n as u64, false), k + 2)
-            }
+            Part::Of(a, n) => Pen::At(grown(size, n as u64, false), k + 2),
         },
     }
 }
 
 // Two numbers of four bits from lo to hi, in one byte.
-pub fn put_nibbles(tape: &[u64], x: Pen, lo: u64, hi: u64, out: &mut [u8], wet: bool) -> Pen
-    ensures { λ r. ⌜ ((pool : List ℕ) → Penned (nibblesAmong lo hi) pool (now (tape .entry)) x wet (now (out .entry)) r (now (out .exit))) ⌝ }
+pub fn pen_nibbles(tape: &[u64], x: Pen, lo: u64, hi: u64) -> Pen
+    ensures { λ r. ⌜ ((pool : List ℕ) → r ≡ penned (nibblesAmong lo hi) pool (now (tape .entry)) x) ⌝ }
 {
     match x {
         Pen::Refused(r) => Pen::Refused(r),
@@ -327,10 +253,7 @@ pub fn put_nibbles(tape: &[u64], x: Pen, lo: u64, hi: u64, out: &mut [u8], wet: 
             Number::Refused(r) => Pen::Refused(r),
             Number::Is(high, j) => match number_among(tape, j, 16, lo, hi) {
                 Number::Refused(r) => Pen::Refused(r),
-                Number::Is(low, i) => {
-                    put_at(out, size, 1, high * 16 + low, wet);
-                    Pen::At(grown(size, 1, false), i)
-                }
+                Number::Is(low, i) => Pen::At(grown(size, 1, false), i),
             },
         },
     }
@@ -339,17 +262,8 @@ pub fn put_nibbles(tape: &[u64], x: Pen, lo: u64, hi: u64, out: &mut [u8], wet: 
 // ---- several bytes that are one field
 
 // n bytes, each from lo to hi.
-pub fn put_bytes(
-    pool: &[u8],
-    tape: &[u64],
-    x: Pen,
-    n: usize,
-    lo: u8,
-    hi: u8,
-    out: &mut [u8],
-    wet: bool,
-) -> Pen
-    ensures { λ r. ⌜ Penned (bytesAmong lo hi n) (now (pool .entry)) (now (tape .entry)) x wet (now (out .entry)) r (now (out .exit)) ⌝ }
+pub fn pen_bytes(pool: &[u8], tape: &[u64], x: Pen, n: usize, lo: u8, hi: u8) -> Pen
+    ensures { λ r. ⌜ r ≡ penned (bytesAmong lo hi n) (now (pool .entry)) (now (tape .entry)) x ⌝ }
 {
     match x {
         Pen::Refused(r) => Pen::Refused(r),
@@ -362,7 +276,6 @@ pub fn put_bytes(
                 if !body_digits::all_among(pool, a, m, lo, hi) {
                     return Pen::Refused(Refusal::OutsideSet(k));
                 }
-                copy_span(pool, a, m, out, size, wet);
                 Pen::At(grown(size, m as u64, false), k + 2)
             }
         },
@@ -370,8 +283,8 @@ pub fn put_bytes(
 }
 
 // Four reserved bits and 2 h + 1 decimal digits, in h + 1 bytes: the pool's reserved bits are not looked at.
-pub fn put_digits(pool: &[u8], tape: &[u64], x: Pen, h: usize, out: &mut [u8], wet: bool) -> Pen
-    ensures { λ r. ⌜ Penned (digits h) (now (pool .entry)) (now (tape .entry)) x wet (now (out .entry)) r (now (out .exit)) ⌝ }
+pub fn pen_digits(pool: &[u8], tape: &[u64], x: Pen, h: usize) -> Pen
+    ensures { λ r. ⌜ r ≡ penned (digits h) (now (pool .entry)) (now (tape .entry)) x ⌝ }
 {
     match x {
         Pen::Refused(r) => Pen::Refused(r),
@@ -391,10 +304,7 @@ pub fn put_digits(pool: &[u8], tape: &[u64], x: Pen, h: usize, out: &mut [u8], w
                 if !body_digits::all_decimal(pool, a + 1, h) {
                     return Pen::Refused(Refusal::DigitAboveNine(k));
                 }
-                let start = grown(size, 1, false);
-                put_at(out, size, 1, 240 + low, wet);
-                copy_span(pool, a + 1, h, out, start, wet);
-                Pen::At(grown(start, h as u64, false), k + 2)
+                Pen::At(grown(size, n as u64, false), k + 2)
             }
         },
     }
@@ -416,17 +326,14 @@ fn time_at(tape: &[u64], k: usize) -> Number
 }
 
 // A start time.
-pub fn put_time(tape: &[u64], x: Pen, out: &mut [u8], wet: bool) -> Pen
-    ensures { λ r. ⌜ ((pool : List ℕ) → Penned time pool (now (tape .entry)) x wet (now (out .entry)) r (now (out .exit))) ⌝ }
+pub fn pen_time(tape: &[u64], x: Pen) -> Pen
+    ensures { λ r. ⌜ ((pool : List ℕ) → r ≡ penned time pool (now (tape .entry)) x) ⌝ }
 {
     match x {
         Pen::Refused(r) => Pen::Refused(r),
         Pen::At(size, k) => match time_at(tape, k) {
             Number::Refused(r) => Pen::Refused(r),
-            Number::Is(v, j) => {
-                put_at(out, size, 5, v, wet);
-                Pen::At(grown(size, 5, false), j)
-            }
+            Number::Is(v, j) => Pen::At(grown(size, 5, false), j),
         },
     }
 }
@@ -446,17 +353,14 @@ fn end_at(tape: &[u64], k: usize) -> Number
 }
 
 // An end time, which may be live.
-pub fn put_end(tape: &[u64], x: Pen, out: &mut [u8], wet: bool) -> Pen
-    ensures { λ r. ⌜ ((pool : List ℕ) → Penned endTime pool (now (tape .entry)) x wet (now (out .entry)) r (now (out .exit))) ⌝ }
+pub fn pen_end(tape: &[u64], x: Pen) -> Pen
+    ensures { λ r. ⌜ ((pool : List ℕ) → r ≡ penned endTime pool (now (tape .entry)) x) ⌝ }
 {
     match x {
         Pen::Refused(r) => Pen::Refused(r),
         Pen::At(size, k) => match end_at(tape, k) {
             Number::Refused(r) => Pen::Refused(r),
-            Number::Is(v, j) => {
-                put_at(out, size, 5, v, wet);
-                Pen::At(grown(size, 5, false), j)
-            }
+            Number::Is(v, j) => Pen::At(grown(size, 5, false), j),
         },
     }
 }
@@ -485,7 +389,7 @@ pub fn refuse(x: Pen, u: Refusal) -> Pen
 
 // ---- counted parts and lists
 
-// A pen that leaves room for w bytes.
+// A pen past the w bytes of a length, which is known once its part is.
 pub fn gap(x: Pen, w: usize) -> Pen
     ensures { λ r. ⌜ r ≡ gapped w x ⌝ }
 {
@@ -495,10 +399,10 @@ pub fn gap(x: Pen, w: usize) -> Pen
     }
 }
 
-// The length of a part, in the w bytes left for it: x is the pen before them, b the one after the part; top are its reserved bits.
-pub fn close(x: Pen, b: Pen, w: usize, top: u64, limit: u64, out: &mut [u8], wet: bool) -> Pen
-    requires { ⌜ top + limit ≤ 0x1_0000_0000_0000_0000 ⌝ }
-    ensures { λ r. ⌜ Closed w top limit x b wet (now (out .entry)) r (now (out .exit)) ⌝ }
+// A pen past a part: x is the one before the w bytes of its length, b the one after the part. A part that is not shorter than the limit
+// is too large for its length.
+pub fn close(x: Pen, b: Pen, w: usize, limit: u64) -> Pen
+    ensures { λ r. ⌜ r ≡ closed w limit x b ⌝ }
 {
     match x {
         Pen::Refused(r) => Pen::Refused(r),
@@ -509,7 +413,6 @@ pub fn close(x: Pen, b: Pen, w: usize, top: u64, limit: u64, out: &mut [u8], wet
                 if limit <= n {
                     return Pen::At(ABOVE_BODY, j);
                 }
-                put_at(out, size, w, top + n, wet);
                 Pen::At(grown(end, 0, false), j)
             }
         },
@@ -518,7 +421,7 @@ pub fn close(x: Pen, b: Pen, w: usize, top: u64, limit: u64, out: &mut [u8], wet
 
 // The count of a list that the body does not have.
 pub fn take_count(tape: &[u64], x: Pen) -> Count
-    ensures { λ r. ⌜ ((pool : List ℕ) (wet : Bool) (out : List ℕ) → Counted unprinted pool (now (tape .entry)) x wet out r out) ⌝ }
+    ensures { λ r. ⌜ ((pool : List ℕ) → Counted unprinted pool (now (tape .entry)) x r) ⌝ }
 {
     match x {
         Pen::Refused(r) => Count {
@@ -538,12 +441,12 @@ pub fn take_count(tape: &[u64], x: Pen) -> Count
     }
 }
 
-// A message's identifier. Its day is judged once its digits are put: the wet pen, which comes second, meets none that is refused.
-pub fn put_identifier(pool: &[u8], tape: &[u64], x: Pen, out: &mut [u8], wet: bool) -> Pen
-    ensures { λ r. ⌜ Penned identifier (now (pool .entry)) (now (tape .entry)) x wet (now (out .entry)) r (now (out .exit)) ⌝ }
+// A message's identifier: its digits, and then the day that they say.
+pub fn pen_identifier(pool: &[u8], tape: &[u64], x: Pen) -> Pen
+    ensures { λ r. ⌜ r ≡ penned identifier (now (pool .entry)) (now (tape .entry)) x ⌝ }
 {
     let k = entry(x);
-    match put_digits(pool, tape, x, IDENTIFIER_PAIRS, out, wet) {
+    match pen_digits(pool, tape, x, IDENTIFIER_PAIRS) {
         Pen::Refused(r) => Pen::Refused(r),
         Pen::At(size, j) => {
             if body_identifier::has_day(pool, tape[k] as usize) {
@@ -555,14 +458,14 @@ pub fn put_identifier(pool: &[u8], tape: &[u64], x: Pen, out: &mut [u8], wet: bo
 }
 
 // "resource count 8, resources of 4 reserved + 23 digits".
-pub fn put_resources(pool: &[u8], tape: &[u64], x: Pen, out: &mut [u8], wet: bool) -> Pen
-    ensures { λ r. ⌜ Penned resources (now (pool .entry)) (now (tape .entry)) x wet (now (out .entry)) r (now (out .exit)) ⌝ }
+pub fn pen_resources(pool: &[u8], tape: &[u64], x: Pen) -> Pen
+    ensures { λ r. ⌜ r ≡ penned resources (now (pool .entry)) (now (tape .entry)) x ⌝ }
 {
-    let things = put_count(tape, x, 1, out, wet);
+    let things = pen_count(tape, x, 1);
     let mut pen = things.pen;
     let mut left = things.n;
     while 0 < left {
-        match put_digits(pool, tape, pen, RESOURCE_PAIRS, out, wet) {
+        match pen_digits(pool, tape, pen, RESOURCE_PAIRS) {
             Pen::Refused(r) => {
                 return Pen::Refused(r);
             }

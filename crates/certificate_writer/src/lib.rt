@@ -7,19 +7,19 @@ ghost use mathlib.Core.Path.{_≡_};
 ghost use Prim.Native.Nat.{_≤_};
 ghost use lib.ListN.{length};
 ghost use Rattle.body_formats.specs.Body.{measured, bodyWritten, outputWritten};
-ghost use Rattle.body_pen.specs.Penned.{Penned};
+ghost use Rattle.body_pen.specs.Penned.{penned};
 ghost use Rattle.certificate.specs.Certificate.{certificate, parts};
 
 // A list of parts after its count. The count is whatever the tape says, so that it ends at the first refusal.
-fn put_list(pool: &[u8], tape: &[u64], x: Pen, w: usize, out: &mut [u8], wet: bool) -> Pen
+fn pen_list(pool: &[u8], tape: &[u64], x: Pen, w: usize) -> Pen
     requires { ⌜ w ≤ 7 ⌝ }
-    ensures { λ r. ⌜ Penned (parts w) (now (pool .entry)) (now (tape .entry)) x wet (now (out .entry)) r (now (out .exit)) ⌝ }
+    ensures { λ r. ⌜ r ≡ penned (parts w) (now (pool .entry)) (now (tape .entry)) x ⌝ }
 {
-    let c = body_pen::put_count(tape, x, 1, out, wet);
+    let c = body_pen::pen_count(tape, x, 1);
     let mut pen = c.pen;
     let mut left = c.n;
     while 0 < left {
-        match body_pen::put_part(pool, tape, pen, w, out, wet) {
+        match body_pen::pen_part(pool, tape, pen, w) {
             Pen::Refused(r) => {
                 return Pen::Refused(r);
             }
@@ -33,20 +33,19 @@ fn put_list(pool: &[u8], tape: &[u64], x: Pen, w: usize, out: &mut [u8], wet: bo
 }
 
 // The three fields.
-fn put_certificate(pool: &[u8], tape: &[u64], x: Pen, out: &mut [u8], wet: bool) -> Pen
-    ensures { λ r. ⌜ Penned certificate (now (pool .entry)) (now (tape .entry)) x wet (now (out .entry)) r (now (out .exit)) ⌝ }
+fn pen_certificate(pool: &[u8], tape: &[u64], x: Pen) -> Pen
+    ensures { λ r. ⌜ r ≡ penned certificate (now (pool .entry)) (now (tape .entry)) x ⌝ }
 {
-    let a = put_list(pool, tape, x, 2, out, wet);
-    let b = put_list(pool, tape, a, 1, out, wet);
-    body_pen::put_part(pool, tape, b, 2, out, wet)
+    let a = pen_list(pool, tape, x, 2);
+    let b = pen_list(pool, tape, a, 1);
+    body_pen::pen_part(pool, tape, b, 2)
 }
 
 // Judges and measures the body of a form: how long it is, or the first field that is refused and the entry where it begins.
 pub fn measure(pool: &[u8], tape: &[u64]) -> Step
     ensures { λ r. ⌜ r ≡ measured certificate (now (pool .entry)) (now (tape .entry)) ⌝ }
 {
-    let mut none: [u8; 1] = [0; 1];
-    let past = put_certificate(pool, tape, Pen::At(0, 0), &mut none, false);
+    let past = pen_certificate(pool, tape, Pen::At(0, 0));
     body_pen::measured(past, tape.len())
 }
 

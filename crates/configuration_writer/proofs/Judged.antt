@@ -1,8 +1,8 @@
 -- Laws of a pen through values that are judged together: the day and the time of the clock, and the bytes of a return address.
 use Prim.Native.Nat.{ℕ, _+_, _≤_}
-use mathlib.Core.Path.{_≡_, sym, subst, ap, _∙_}
+use mathlib.Core.Path.{_≡_, sym, ap, _∙_}
 use mathlib.Core.List.{List}
-use mathlib.Core.Bool.{Bool, true, false, _&&_}
+use mathlib.Core.Bool.{true, false, _&&_}
 use lib.ListN.{length, take, drop}
 use lib.Dec.{leb}
 use Rattle.ground_refusal.specs.declared.Refusal.{Refusal}
@@ -11,7 +11,7 @@ use Rattle.time_days.specs.Calendar.{dayOf}
 use Rattle.body_formats.specs.Reading.{found, refused, Fault, fine, faulty, unless}
 use Rattle.body_formats.specs.Format.{Format, span, _▷_, only, rest}
 use Rattle.body_formats.proofs.Outcomes.{found-inj}
-use Rattle.body_pen.specs.Penned.{Penned, Counted, entryOf, refusing}
+use Rattle.body_pen.specs.Penned.{penned, Counted, entryOf, refusing}
 use Rattle.body_pen.specs.declared.Pen.{Pen}
 use Rattle.body_pen.specs.declared.Pen.the-variants.{At, Refused}
 use Rattle.body_pen.specs.declared.Count.{Count}
@@ -30,12 +30,10 @@ abbrev pub clockFault : ℕ → ℕ → ℕ → ℕ → Fault
 clockFault hour minute second at = unless (leb hour 23 && (leb minute 59 && leb second 59)) (ImpossibleDay at)
 
 -- one law for both, over what is wrong with three numbers
-module _ (judge : ℕ → ℕ → ℕ → ℕ → Fault) {C D E : Format ℕ} {pool tape : List ℕ} {x : Pen} {wet : Bool} {out : List ℕ}
-    {c : Count} {m₁ : List ℕ} (p : Counted C pool tape x wet out c m₁)
-    {d : Count} {m₂ : List ℕ} (q : Counted D pool tape (c .pen) wet m₁ d m₂)
-    {e : Count} {out′ : List ℕ} (r : Counted E pool tape (d .pen) wet m₂ e out′) where
-  three-pen : Penned (C ▷ (D ▷ E)) pool tape x wet out (e .pen) out′
-  three-pen = pair-pen (p .past) (pair-pen (q .past) (r .past))
+module _ (judge : ℕ → ℕ → ℕ → ℕ → Fault) {C D E : Format ℕ} {pool tape : List ℕ} {x : Pen} {c d e : Count}
+    (p : Counted C pool tape x c) (q : Counted D pool tape (c .pen) d) (r : Counted E pool tape (d .pen) e) where
+  three-pen : e .pen ≡ penned (C ▷ (D ▷ E)) pool tape x
+  three-pen = simp pair-pen (cc (p .past, q .past, r .past))
 
   -- the numbers that the pen went through are those that were told
   three-told : (size k : ℕ) → x ≡ At size k → (a : ℕ × (ℕ × ℕ)) (j : ℕ) → (C ▷ (D ▷ E)) .form pool tape k ≡ found a j
@@ -43,52 +41,53 @@ module _ (judge : ℕ → ℕ → ℕ → ℕ → Fault) {C D E : Format ℕ} {p
   three-told size k h a j f =
       let f₁ = form-parts C (λ n. D ▷ E) pool tape k a j f in
       let f₂ = form-parts D (λ n. E) pool tape (f₁ .0) (a .1) j (f₁ .2) in
-      let here = pen-onward (p .past) size k h (found (a .0) (f₁ .0)) (f₁ .1) in
-      let next = pen-onward (q .past) _ (f₁ .0) here (found (a .1 .0) (f₂ .0)) (f₂ .1) in
-      rw (told p size k h (a .0) (f₁ .0) (f₁ .1), told q _ (f₁ .0) here (a .1 .0) (f₂ .0) (f₂ .1), told r _ (f₂ .0) next (a .1 .1) j (f₂ .2))
+      let here = p .past ∙ pen-onward C pool tape x size k h (found (a .0) (f₁ .0)) (f₁ .1) in
+      let next = q .past ∙ pen-onward D pool tape (c .pen) _ (f₁ .0) here (found (a .1 .0) (f₂ .0)) (f₂ .1) in
+      rw (
+        p .value ∙ told C pool tape x size k h (a .0) (f₁ .0) (f₁ .1),
+        q .value ∙ told D pool tape (c .pen) _ (f₁ .0) here (a .1 .0) (f₂ .0) (f₂ .1),
+        r .value ∙ told E pool tape (d .pen) _ (f₂ .0) next (a .1 .1) j (f₂ .2),
+      )
 
   pub three-fine : ((at : ℕ) → judge (c .n) (d .n) (e .n) at ≡ fine)
-      → Penned (only (λ a at. judge (a .0) (a .1 .0) (a .1 .1) at) (C ▷ (D ▷ E))) pool tape x wet out (e .pen) out′
-  three-fine g = only-fine _ three-pen (λ size k h a j f. three-told size k h a j f ∙ g k)
+      → e .pen ≡ penned (only (λ a at. judge (a .0) (a .1 .0) (a .1 .1) at) (C ▷ (D ▷ E))) pool tape x
+  three-fine g = three-pen ∙ sym (only-fine _ (C ▷ (D ▷ E)) pool tape x (λ size k h a j f. three-told size k h a j f ∙ g k))
 
   -- the refusal stands at the entry of the first number
-  pub three-faulty : (refusal : ℕ → Refusal) → ((at : ℕ) → judge (c .n) (d .n) (e .n) at ≡ faulty (refusal at))
-      → (at : ℕ) → at ≡ entryOf x → (z : Pen) → z ≡ refusing (e .pen) (refusal at)
-      → Penned (only (λ a at. judge (a .0) (a .1 .0) (a .1 .1) at) (C ▷ (D ▷ E))) pool tape x wet out z out′
-  three-faulty refusal g at s z h =
-      subst (λ y. Penned (only (λ a at. judge (a .0) (a .1 .0) (a .1 .1) at) (C ▷ (D ▷ E))) pool tape x wet out y out′) (sym h)
-      (only-faulty _ three-pen (refusal at) (λ size k q a j f.
-      three-told size k q a j f ∙ g k ∙ ap (λ i. faulty (refusal i)) (sym (s ∙ entry-is x size k q))))
+  pub three-faulty : (refusal : ℕ → Refusal) → ((at : ℕ) → judge (c .n) (d .n) (e .n) at ≡ faulty (refusal at)) → (at : ℕ) → at ≡ entryOf x
+      → refusing (e .pen) (refusal at) ≡ penned (only (λ a at. judge (a .0) (a .1 .0) (a .1 .1) at) (C ▷ (D ▷ E))) pool tape x
+  three-faulty refusal g at s =
+      ap (λ y. refusing y (refusal at)) three-pen
+      ∙ sym (only-faulty _ (C ▷ (D ▷ E)) pool tape x (refusal at) (λ size k h a j f.
+      three-told size k h a j f ∙ g k ∙ ap (λ i. faulty (refusal i)) (sym (s ∙ entry-is x size k h))))
 
 -- ---- the bytes of a return address
 
-module _ (kind : ℕ) (pool tape : List ℕ) (x : Pen) (wet : Bool) (out : List ℕ) (size k : ℕ) (e : x ≡ At size k) where
-  pub address-none : (r : Refusal) → span pool tape k ≡ refused r → Penned (only (addressFault kind) rest) pool tape x wet out (Refused r) out
+module _ (kind : ℕ) (pool tape : List ℕ) (x : Pen) (size k : ℕ) (e : x ≡ At size k) where
+  pub address-none : (r : Refusal) → span pool tape k ≡ refused r → Refused r ≡ penned (only (addressFault kind) rest) pool tape x
   unfolding only rest
-  address-none r f = refused-here (only (addressFault kind) rest) pool tape x wet out size k e r (rw f)
+  address-none r f = refused-here (only (addressFault kind) rest) pool tape x size k e r (rw f)
 
   module _ (a n : ℕ) (h : a + n ≤ length pool) (f : span pool tape k ≡ found (take n (drop a pool)) (k + 2)) where
-    pub address-length : lengthFits kind n ≡ false → Penned (only (addressFault kind) rest) pool tape x wet out (Refused (PastPart k)) out
+    pub address-length : lengthFits kind n ≡ false → Refused (PastPart k) ≡ penned (only (addressFault kind) rest) pool tape x
     unfolding only rest
-    address-length t = refused-here (only (addressFault kind) rest) pool tape x wet out size k e (PastPart k) (rw (f, span-length pool a n h, t))
+    address-length t = refused-here (only (addressFault kind) rest) pool tape x size k e (PastPart k) (rw (f, span-length pool a n h, t))
 
     laid : rest .form pool tape k ≡ found (take n (drop a pool)) (k + 2)
     unfolding rest
     laid = f
 
     module _ (t : lengthFits kind n ≡ true) where
-      pub address-outside : isAddress kind (take n (drop a pool)) ≡ false
-          → Penned (only (addressFault kind) rest) pool tape x wet out (Refused (OutsideSet k)) out
+      pub address-outside : isAddress kind (take n (drop a pool)) ≡ false → Refused (OutsideSet k) ≡ penned (only (addressFault kind) rest) pool tape x
       unfolding only rest
-      address-outside v = refused-here (only (addressFault kind) rest) pool tape x wet out size k e (OutsideSet k) (rw (f, span-length pool a n h, t, v))
+      address-outside v = refused-here (only (addressFault kind) rest) pool tape x size k e (OutsideSet k) (rw (f, span-length pool a n h, t, v))
 
       address-fits : (at : ℕ) → isAddress kind (take n (drop a pool)) ≡ true → addressFault kind (take n (drop a pool)) at ≡ fine
       address-fits at v = rw (span-length pool a n h, t, v)
 
-      pub address-put : isAddress kind (take n (drop a pool)) ≡ true → {r : Pen} {out′ : List ℕ} → Penned rest pool tape (At size k) wet out r out′
-          → Penned (only (addressFault kind) rest) pool tape x wet out r out′
-      address-put v {r} {out′} p =
-          subst (λ y. Penned (only (addressFault kind) rest) pool tape y wet out r out′) (sym e)
-          (only-fine (addressFault kind) p (λ z i g cs j w.
+      pub address-passed : isAddress kind (take n (drop a pool)) ≡ true → penned (only (addressFault kind) rest) pool tape x ≡ penned rest pool tape (At size k)
+      address-passed v =
+          rw e
+          (only-fine (addressFault kind) rest pool tape (At size k) (λ z i g cs j w.
           let l : k ≡ i = cc in
           ap (λ b. addressFault kind b i) (sym (found-inj (sym laid ∙ ap (rest .form pool tape) l ∙ w) .0)) ∙ address-fits i v))

@@ -1,4 +1,3 @@
 -- The laws that the proofs of the functions cite.
 pub mod Judged
-pub mod Orders
 pub mod Inkings

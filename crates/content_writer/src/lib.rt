@@ -1,6 +1,6 @@
 // The content table of either variant, written from a form.
 mod inking;
-mod writing;
+mod measuring;
 
 use body_formats::Step;
 use body_pen::Pen;
@@ -24,8 +24,7 @@ fn measure_wide(w: usize, pool: &[u8], tape: &[u64]) -> Step
     requires { ⌜ w ≤ 7 ⌝ }
     ensures { λ r. ⌜ r ≡ measured (content w) (now (pool .entry)) (now (tape .entry)) ⌝ }
 {
-    let mut none: [u8; 1] = [0; 1];
-    let past = writing::put_content(pool, tape, Pen::At(0, 0), w, &mut none, false);
+    let past = measuring::pen_content(pool, tape, Pen::At(0, 0), w);
     body_pen::measured(past, tape.len())
 }
 

@@ -1,6 +1,6 @@
 // The index table written from a form.
 mod inking;
-mod writing;
+mod measuring;
 
 use body_formats::Step;
 use body_pen::Pen;
@@ -13,8 +13,7 @@ ghost use Rattle.index.specs.Index.{index};
 pub fn measure(pool: &[u8], tape: &[u64]) -> Step
     ensures { λ r. ⌜ r ≡ measured index (now (pool .entry)) (now (tape .entry)) ⌝ }
 {
-    let mut none: [u8; 1] = [0; 1];
-    let past = writing::put_index(pool, tape, Pen::At(0, 0), &mut none, false);
+    let past = measuring::pen_index(pool, tape, Pen::At(0, 0));
     body_pen::measured(past, tape.len())
 }
 

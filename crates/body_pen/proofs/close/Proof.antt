@@ -1,5 +1,5 @@
--- `body_pen::close` meets its contract: the length is what lies between the two pens, and is written where it is below the limit.
-use Rattle.body_pen.proofs.Lengths.{close-none, close-refused, close-over, close-put}
+-- `body_pen::close` meets its contract: the length is what lies between the two pens, and is below the limit or too large.
+use Rattle.body_pen.proofs.Lengths.{close-none, close-refused, close-over, close-within}
 use native.Mathlib.Omega.{arith}
 use borrow.Author.Needs.{needs}
 use Rattle.body_pen.proofs.close.Statement.{statement}
@@ -16,21 +16,18 @@ close-spec =
     (λ c κs. search needs)
     (λ c κs. search needs)
     (λ c.
-    let ended = c .before .before .before .before in
+    let less = c .before .before in
+    let ended = less .before .before in
     let stood = ended .before .before .before in
-    close-over _ _ _ _ _ _ _ _ _ (stood .x2 .given .1) _ _ (ended .b2 .given .1) (c .before .less2 .result)
-    (omega (arith, c .before .less2 .ensures, c .before .before .less .ensures)) (c .if1 .taken))
-    (λ c. search needs)
+    close-over _ _ _ _ _ _ (stood .x2 .given .1) _ _ (ended .b2 .given .1) (c .before .less2 .result)
+    (omega (arith, c .before .less2 .ensures, less .less .ensures)) (c .if1 .taken))
     (λ c κs. search needs)
-    (λ c κs. search needs)
-    (λ c. close-none _ _ _ _ _ _ _ _ (c .before .x .given .1))
-    (λ c. close-refused _ _ _ _ _ _ _ _ _ (c .before .before .before .before .x2 .given .1) _ (c .before .b .given .1))
-    (λ c. search needs)
+    (λ c. close-none _ _ _ _ _ (c .before .x .given .1))
+    (λ c. close-refused _ _ _ _ _ _ (c .before .before .before .before .x2 .given .1) _ (c .before .b .given .1))
     (λ c.
-    let put = c .before .before .before in
-    let length = put .before .before .before in
-    let room = length .before in
-    let ended = room .before .before in
+    let length = c .before .before in
+    let less = length .before in
+    let ended = less .before .before in
     let stood = ended .before .before .before in
-    close-put _ _ _ _ _ _ _ _ _ (stood .x2 .given .1) _ _ (ended .b2 .given .1) (length .less2 .result)
-    (omega (arith, length .less2 .ensures, room .less .ensures)) (omega arith) _ (c .grown .ensures) (put .put-at .ensures)))
+    close-within _ _ _ _ _ _ (stood .x2 .given .1) _ _ (ended .b2 .given .1) (length .less2 .result)
+    (omega (arith, length .less2 .ensures, less .less .ensures)) (omega arith) _ (c .grown .ensures)))

@@ -17,12 +17,10 @@ take-count-spec =
     (λ c. search needs)
     (λ c. search needs)
     (λ c κs. search needs)
-    (λ c pool wet out. count-stopped unprinted pool _ _ wet out _ (c .before .x .given .1))
-    (λ c pool wet out.
+    (λ c pool. count-stopped unprinted pool _ _ _ (c .before .x .given .1))
+    (λ c pool.
     let entry = c .before .before .before in
-    let stood = entry .before .before in
-    untaken pool _ _ wet out _ _ (stood .x2 .given .1) _ (sym (c .before .r .given .1) ∙ entry .entry-at .ensures))
-    (λ c pool wet out.
+    untaken pool _ _ _ _ (entry .before .before .x2 .given .1) _ (sym (c .before .r .given .1) ∙ entry .entry-at .ensures))
+    (λ c pool.
     let entry = c .before .before .before .before in
-    let stood = entry .before .before in
-    taken pool _ _ wet out _ _ (stood .x2 .given .1) _ _ (sym (c .before .before .n .given .1) ∙ entry .entry-at .ensures) _ (c .grown .ensures)))
+    taken pool _ _ _ _ (entry .before .before .x2 .given .1) _ _ (sym (c .before .before .n .given .1) ∙ entry .entry-at .ensures) _ (c .grown .ensures)))

@@ -1,5 +1,4 @@
--- `content_writer::measure_wide` meets its contract: a dry pen goes through the whole form.
-use mathlib.Core.Path.{_∙_}
+-- `content_writer::measure_wide` meets its contract: a pen goes through the whole form.
 use borrow.Author.Needs.{needs}
 use Rattle.body_pen.proofs.Writers.{measured-is}
 use Rattle.content_writer.proofs.measure_wide.Statement.{statement}
@@ -9,7 +8,6 @@ pub measure-wide-spec : {M : Type 1} → statement M
 measure-wide-spec =
     tie.close
     (tie.spec
-    (λ c. search needs)
     (λ c κs. search needs)
     (λ c κs. search needs)
-    (λ c. c .measured .ensures ∙ measured-is _ _ (c .before .before .put-content .ensures)))
+    (λ c. rw (← measured-is) (cc)))
