@@ -1,11 +1,11 @@
 -- Laws of a counted part inked: the part after room for its length, and then its length.
-use Prim.Native.Nat.{ℕ, _+_, _-_, _≤_}
+use Prim.Native.Nat.{ℕ, _+_, _-_}
 use mathlib.Core.Path.{_≡_, refl, sym, ap, ap₂, _∙_}
 use mathlib.Core.List.{List}
 use native.Mathlib.Omega.{arith}
 use lib.ListN.{length, length-append}
 use Rattle.ground_placing.specs.Placed.{placed}
-use Rattle.ground_placing.proofs.Placing.{placed-length, placed-before}
+use Rattle.ground_placing.proofs.Placing.{placed-before}
 use Rattle.body_formats.specs.Format.{Format, bytesOf, count, reserved, Length, lengthOf, length12, counted}
 use Rattle.body_formats.proofs.Leaves.{length-bytes}
 use Rattle.body_ink.specs.Inked.{Ready, Inked}
@@ -45,10 +45,6 @@ module _ (L : Length) (w : ℕ) (face : ℕ → ℕ) (prints : (n : ℕ) → L .
       }
 
 -- ---- the lengths of the tables: w bytes, and "4 reserved, length 12"
-
-pub count-prints : (L : Length) (w : ℕ) → L .field ≡ count w → (n : ℕ) → L .field .print n ≡ bytesOf w n
-unfolding count
-count-prints L w e n = ap (λ (C : Format ℕ). C .print n) e
 
 pub length12-prints : (n : ℕ) → length12 .field .print n ≡ bytesOf 2 (0xF000 + n)
 unfolding length12 reserved

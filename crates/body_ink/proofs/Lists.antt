@@ -1,17 +1,16 @@
 -- Laws of a list inked: its things one after the other, after a count or with none in the body.
-use Prim.Native.Nat.{ℕ, suc, _+_, _-_, _≤_, _<_}
+use Prim.Native.Nat.{ℕ, suc, _+_, _-_, _<_}
 use mathlib.Core.Path.{_≡_, refl, sym, subst, ap, _∙_}
-use mathlib.Core.List.{List, [], _∷_, _++_}
+use mathlib.Core.List.{List, _++_}
 use native.Mathlib.Omega.{arith}
 use native.Mathlib.Nat.{add-zero}
 use lib.ListN.{length, getD}
 use Rattle.ground_placing.proofs.Placing.{placed-none}
 use Rattle.body_formats.specs.Reading.{found}
-use Rattle.body_formats.specs.Format.{Format, tapeEntry, bytesOf, repeat, printAll, followed, _▷_, times, listOf, many}
+use Rattle.body_formats.specs.Format.{Format, bytesOf, repeat, printAll, followed, _▷_, times, listOf, many}
 use Rattle.body_formats.proofs.Outcomes.{found-inj, andThen-found}
 use Rattle.body_formats.proofs.Elements.{repeat-length}
 use Rattle.body_pen.specs.Penned.{unprinted}
-use Rattle.body_pen.proofs.Pairs.{form-parts}
 use Rattle.body_ink.specs.Inked.{Ready, Inked}
 use Rattle.body_ink.proofs.Pairs.{Like, like-ready, like-inked, moved, form-both, first, second, pair-inked}
 use Rattle.body_ink.proofs.Numbers.{Numeral, unseen, numeral-ready, numeral-inked, after-number, number-then}

@@ -2,7 +2,7 @@
 use Prim.Native.Nat.{ℕ, zero, suc, _+_, _-_, _*_, _/_, _%_, _^_, _≤_, _<_}
 use mathlib.Core.Path.{_≡_, refl, sym, subst, ap, ap₂, _∙_}
 use mathlib.Core.List.{List, [], _∷_}
-use mathlib.Core.Bool.{Bool, true, false, _&&_}
+use mathlib.Core.Bool.{_&&_}
 use native.Mathlib.Omega.{arith}
 use native.Mathlib.Nat.{mod-eq-of-lt}
 use lib.ListN.{length, getD, set}
@@ -13,7 +13,7 @@ use Rattle.ground_numbers.specs.Sizes.{bodyMost}
 use Rattle.ground_placing.specs.Placed.{placed}
 use Rattle.ground_placing.proofs.Placing.{placed-none, placed-last}
 use Rattle.ground_refusal.specs.declared.Refusal.the-variants.{OutsideSet}
-use Rattle.body_formats.specs.Reading.{found, Fault, andThen, need}
+use Rattle.body_formats.specs.Reading.{found, Fault}
 use Rattle.body_formats.specs.Format.{Format, tapeEntry, bytesOf, followed, count, only, number, below, reserved, nibbles, nibbleAmong, nibblesAmong}
 use Rattle.body_formats.proofs.Outcomes.{found-inj, andThen-found, need-found}
 use Rattle.body_formats.proofs.Leaves.{length-bytes}

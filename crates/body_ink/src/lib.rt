@@ -1,8 +1,7 @@
 // The bytes of a form that was judged, field by field: nothing is asked of it again.
 use body_formats::RESOURCE_PAIRS;
 ghost use mathlib.Core.Path.{_≡_};
-ghost use mathlib.Core.List.{List};
-ghost use Prim.Native.Nat.{ℕ, _+_, _≤_};
+ghost use Prim.Native.Nat.{_+_, _≤_};
 ghost use lib.ListN.{length, take, drop};
 ghost use Rattle.ground_placing.specs.Placed.{placed};
 ghost use Rattle.body_formats.specs.Format.{bytesOf, digits, opaque};
@@ -15,7 +14,7 @@ pub struct Mark {
     pub entry: usize,
 }
 
-// x in w bytes, from index at on. Most numbers have one or two: these go without a turn.
+// x in w bytes, from index at on. Where w is a number in the code, the compiler makes one store of it.
 pub fn number(out: &mut [u8], at: usize, w: usize, x: u64)
     requires { ⌜ at + w ≤ length (now out) ⌝ }
     ensures { λ _. ⌜ now (out .exit) ≡ placed (now (out .entry)) at (bytesOf w x) ⌝ }
@@ -29,13 +28,22 @@ pub fn number(out: &mut [u8], at: usize, w: usize, x: u64)
     }
 }
 
-// n bytes of the pool from index a on, from index at on.
+// n bytes of the pool from index a on, from index at on. It is for fields of a fixed length, which the compiler moves without a loop.
 pub fn copy(pool: &[u8], a: usize, n: usize, out: &mut [u8], at: usize)
     requires { ⌜ (a + n ≤ length (now pool)) × (at + n ≤ length (now out)) ⌝ }
     ensures { λ _. ⌜ now (out .exit) ≡ placed (now (out .entry)) at (take n (drop a (now (pool .entry)))) ⌝ }
 {
     let end = a + n;
     ground_placing::copy_at(&pool[a..end], out, at);
+}
+
+// The same for any length, by pieces.
+pub fn copy_span(pool: &[u8], a: usize, n: usize, out: &mut [u8], at: usize)
+    requires { ⌜ (a + n ≤ length (now pool)) × (at + n ≤ length (now out)) ⌝ }
+    ensures { λ _. ⌜ now (out .exit) ≡ placed (now (out .entry)) at (take n (drop a (now (pool .entry)))) ⌝ }
+{
+    let end = a + n;
+    ground_copying::copy_at(&pool[a..end], out, at);
 }
 
 // Opaque bytes after a length of w bytes, by two entries of the tape: where they end.
@@ -45,7 +53,7 @@ pub fn part(pool: &[u8], tape: &[u64], k: usize, w: usize, out: &mut [u8], at: u
 {
     let n = tape[k + 1];
     number(out, at, w, n);
-    copy(pool, tape[k] as usize, n as usize, out, at + w);
+    copy_span(pool, tape[k] as usize, n as usize, out, at + w);
     at + w + (n as usize)
 }
 

@@ -7,7 +7,7 @@ use lib.ListN.{length, getD}
 use Rattle.ground_numbers.specs.Sizes.{bodyMost}
 use Rattle.ground_placing.specs.Placed.{placed}
 use Rattle.ground_refusal.specs.declared.Refusal.the-variants.{PastPart}
-use Rattle.body_formats.specs.Format.{Format, _▷_, only, count, number, among, rest, opaque, bytesOf, lengthOf, leastOf, counted}
+use Rattle.body_formats.specs.Format.{_▷_, only, count, number, among, rest, opaque, bytesOf, lengthOf, leastOf, counted}
 use Rattle.body_formats.specs.Resource.{resources}
 use Rattle.body_ink.specs.Inked.{Ready, Inked}
 use Rattle.body_ink.proofs.Pairs.{moved, Like, like-ready, like-inked, only-form, first, exact-ready, Fixed, only-fixed, both-fixed, fixed-ready}
@@ -96,7 +96,8 @@ unfolding command
 command-ready {pool} {tape} {at} {k} g =
     let r = numeral-ready (a-number 1) (first _ _ g) in
     let n = least (getD tape k 0) in
-    let s = counted-ready (leastOf 2 n) 2 (λ m. m) (least-prints n) (after-number (a-number 1) (λ tag. counted (leastOf 2 (least tag)) (said (orderOf tag))) g) in
+    let s =
+    counted-ready (leastOf 2 n) 2 (λ m. m) (least-prints n) (after-number (a-number 1) (λ tag. counted (leastOf 2 (least tag)) (said (orderOf tag))) g) in
     (r .0, omega (arith, s .fits), omega (arith, s .short), moved s (omega arith) refl refl)
 
 pub command-inked : {pool tape : List ℕ} {at k : ℕ} {out mid : List ℕ} {at′ k′ : ℕ} {part out′ : List ℕ} → mid ≡ placed out at (bytesOf 1 (getD tape k 0))

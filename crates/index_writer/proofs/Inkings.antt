@@ -1,6 +1,6 @@
 -- What is ready of each thing in an index table: its entries, its bytes, and what comes after its fixed fields.
 use Prim.Native.Nat.{ℕ, _+_, _-_, _≤_, _<_}
-use mathlib.Core.Path.{_≡_, refl, ap, _∙_}
+use mathlib.Core.Path.{_≡_, refl, ap}
 use mathlib.Core.List.{List}
 use native.Mathlib.Omega.{arith}
 use lib.ListN.{length, getD}
@@ -13,7 +13,7 @@ use Rattle.body_formats.specs.Identifier.{identifierPairs, unrealDay, identifie
 use Rattle.body_ink.specs.Inked.{Ready, Inked}
 use Rattle.body_ink.proofs.Pairs.{moved, first, view-ready, view-inked, exact-ready, exact-inked, only-ready, Fixed, only-fixed, after-fixed}
 use Rattle.body_ink.proofs.Numbers.{Numeral, a-number, of-a-set, after-bits, reserved-below, numeral-ready, numeral-fixed, after-number, nibbles-ready}
-use Rattle.body_ink.proofs.Strings.{part-ready, digits-ready, bytes-ready, digits-fixed, bytes-fixed}
+use Rattle.body_ink.proofs.Strings.{part-ready, bytes-ready, digits-fixed, bytes-fixed}
 use Rattle.body_ink.proofs.Lengths.{counted-ready, counted-inked, lengthOf-prints}
 use Rattle.index.specs.Index.{descriptor, descriptors, streamFields, stream, streams, channelFields, channel, head, messageFields, named, unnamed, message}
 

@@ -1,8 +1,6 @@
 -- `body_ink::copy` meets its contract: the span is lent, and copied.
 use mathlib.Core.Path.{ap, _∙_}
 use denote.Ref.{now}
-use lib.ListN.{length}
-use native.Mathlib.Omega.{arith}
 use borrow.Author.Needs.{needs}
 use Rattle.ground_placing.specs.Placed.{placed}
 use Rattle.body_ink.proofs.Strings.{span-end}

@@ -34,6 +34,6 @@ part-spec =
     omega arith)
     (λ c. search needs)
     (λ c.
-    let copy = c .before .before in
-    let number = copy .before .before .before .before .before in
-    part-inked _ (number .number .ensures) (copy .copy .ensures) refl refl))
+    let copied = c .before .before in
+    let number = copied .before .before .before .before .before in
+    part-inked _ (number .number .ensures) (copied .copy-span .ensures) refl refl))

@@ -1,6 +1,6 @@
 -- `body_ink::resources` meets its contract: their count, and as many of them as it says.
 use mathlib.Core.Path.{_≡_, refl}
-use lib.ListN.{length, getD}
+use lib.ListN.{length}
 use native.Mathlib.Omega.{arith}
 use borrow.Author.Needs.{needs}
 use Rattle.body_formats.specs.Resource.{resource}

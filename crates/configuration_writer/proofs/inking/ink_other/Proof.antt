@@ -27,4 +27,4 @@ ink-other-spec =
     let r = rest-ready (start .pre) in
     omega (arith, start .good .1 .0 .1))
     (λ c. search needs)
-    (λ c. let copy = c .before .before in rest-inked (copy .copy .ensures) refl refl))
+    (λ c. let copied = c .before .before in rest-inked (copied .copy-span .ensures) refl refl))

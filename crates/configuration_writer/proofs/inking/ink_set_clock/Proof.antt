@@ -1,5 +1,4 @@
 -- `configuration_writer::inking::ink_set_clock` meets its contract: its six numbers one after the other.
-use mathlib.Core.Path.{refl}
 use native.Mathlib.Omega.{arith}
 use borrow.Author.Needs.{needs}
 use Rattle.ground_refusal.specs.declared.Refusal.the-variants.{PastPart}
@@ -172,6 +171,8 @@ ink-set-clock-spec =
     let number = number2 .before .before .before .before .before in
     exact-inked (pair-inked
     (only-inked (pair-inked (numeral-inked (a-count 2) (number .number .ensures) (omega arith) (omega arith))
-    (pair-inked (numeral-inked (a-count 1) (number2 .number2 .ensures) (omega arith) (omega arith)) (numeral-inked (a-count 1) (number3 .number3 .ensures) (omega arith) (omega arith)))) _)
+    (pair-inked (numeral-inked (a-count 1) (number2 .number2 .ensures) (omega arith) (omega arith))
+    (numeral-inked (a-count 1) (number3 .number3 .ensures) (omega arith) (omega arith)))) _)
     (only-inked (pair-inked (numeral-inked (a-count 1) (number4 .number4 .ensures) (omega arith) (omega arith))
-    (pair-inked (numeral-inked (a-count 1) (number5 .number5 .ensures) (omega arith) (omega arith)) (numeral-inked (a-count 1) (number6 .number6 .ensures) (omega arith) (omega arith)))) _)) PastPart))
+    (pair-inked (numeral-inked (a-count 1) (number5 .number5 .ensures) (omega arith) (omega arith))
+    (numeral-inked (a-count 1) (number6 .number6 .ensures) (omega arith) (omega arith)))) _)) PastPart))

@@ -33,4 +33,5 @@ ink-content-spec =
     let ink-languages = part .before .before .before .before in
     let digits = ink-languages .before .before .before .before in
     whole (exact-inked (view-inked
-    (pair-inked (only-inked (digits .digits .ensures) unrealDay) (pair-inked (ink-languages .ink-languages .ensures) (part .part .ensures))) _ _ (λ a. refl)) LeftOver)))
+    (pair-inked (only-inked (digits .digits .ensures) unrealDay)
+    (pair-inked (ink-languages .ink-languages .ensures) (part .part .ensures))) _ _ (λ a. refl)) LeftOver)))

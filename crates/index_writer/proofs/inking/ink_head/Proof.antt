@@ -1,5 +1,4 @@
 -- `index_writer::inking::ink_head` meets its contract: its fields one after the other.
-use mathlib.Core.Path.{refl}
 use native.Mathlib.Omega.{arith}
 use borrow.Author.Needs.{needs}
 use Rattle.body_formats.specs.Identifier.{unrealDay, identifier}

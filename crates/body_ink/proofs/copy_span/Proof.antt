@@ -1,0 +1,23 @@
+-- `body_ink::copy_span` meets its contract: the span is lent, and copied by pieces.
+use mathlib.Core.Path.{ap, _∙_}
+use denote.Ref.{now}
+use borrow.Author.Needs.{needs}
+use Rattle.ground_placing.specs.Placed.{placed}
+use Rattle.body_ink.proofs.Strings.{span-end}
+use Rattle.body_ink.proofs.copy_span.Statement.{statement}
+use Rattle.body_ink.proofs.copy_span.Tie as tie
+
+pub copy-span-spec : {M : Type 1} → statement M
+copy-span-spec =
+    tie.close
+    (tie.spec
+    (λ c. search needs)
+    (λ c. search needs)
+    (λ c. search needs)
+    (λ c. search needs)
+    (λ c κs. search needs)
+    (λ c. search needs)
+    (λ c.
+    let start = c .before .before .before .before .before .before .before in
+    let a = start .args in
+    c .before .before .copy-at .ensures ∙ ap (placed _ _) (span-end (now (a .pool)) (a .a) (a .n))))

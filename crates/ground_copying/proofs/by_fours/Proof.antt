@@ -1,0 +1,50 @@
+-- `ground_copying::by_fours` meets its contract: the bytes so far stand, and the last piece goes over some of them and to the end.
+use Prim.Native.Nat.{_-_, _≤_}
+use mathlib.Core.Path.{_≡_, refl, sym, ap, _∙_}
+use lib.ListN.{length, take}
+use native.Mathlib.Omega.{arith}
+use borrow.Author.Needs.{needs}
+use Rattle.ground_placing.specs.Placed.{placed}
+use Rattle.ground_placing.proofs.Placing.{placed-none}
+use Rattle.ground_copying.proofs.Pieces.{turn, end}
+use Rattle.ground_copying.proofs.by_fours.Statement.{statement}
+use Rattle.ground_copying.proofs.by_fours.Tie as tie
+
+abbrev Inv-loop : tie.InvT-loop
+Inv-loop src dst₀ at n i₀ dst i = (dst ≡ placed dst₀ at (take i src)) × (i ≤ n) × (length dst ≡ length dst₀)
+
+abbrev μ-loop : tie.MeasureT-loop
+μ-loop src dst₀ at n i₀ dst i = n - i
+
+pub by-fours-spec : {M : Type 1} → statement M
+by-fours-spec =
+    tie.close
+    (tie.spec
+    Inv-loop
+    μ-loop
+    (λ c. (sym (placed-none _ _), omega arith, refl))
+    (λ c. omega arith)
+    (λ c. omega arith)
+    (λ c κs. (omega arith, omega arith))
+    (λ c. omega arith)
+    (λ c. omega arith)
+    (λ c.
+    let given = c .before .before .before .before .before .before .before .before .args in
+    let v = c .before .before .before .before .before .loop in
+    let t = turn (given .dst .now) (given .at) (given .src .now) _ (v .i) (omega arith) (v .inv .0) _
+    4 (omega arith) (c .before .before .four .ensures) in
+    (t .0, omega arith, t .1))
+    (λ c. omega arith)
+    (λ c. omega arith)
+    (λ c. omega arith)
+    (λ c κs. (omega arith, omega arith))
+    (λ c.
+    let given = c .before .before .before .before .before .before .before .before .args in
+    let v = c .before .before .before .before .before .loop in
+    end (given .dst .now) (given .at) (given .src .now) _ (v .i) (omega arith) (v .inv .0) _
+    4 (omega arith) (omega arith) (omega arith) (c .before .before .four2 .ensures) .1)
+    (λ c.
+    let given = c .before .before .before .before .before .before .before .before .args in
+    let v = c .before .before .before .before .before .loop in
+    end (given .dst .now) (given .at) (given .src .now) _ (v .i) (omega arith) (v .inv .0) _
+    4 (omega arith) (omega arith) (omega arith) (c .before .before .four2 .ensures) .0))
