@@ -5,8 +5,8 @@ use mathlib.Core.List.{List, _∷_, _++_}
 use native.Mathlib.Omega.{arith}
 use native.Mathlib.Numerals.{add-one}
 use native.Mathlib.Nat.{add-sub-cancel-left}
-use lib.ListN.{length, getD, take, drop, length-append, length-drop}
-use lib.Seq.{drop-cons, length-take-le}
+use lib.ListN.{length, getD, take, drop, length-append}
+use lib.Seq.{drop-cons}
 use lib.Dec.{leb, eqb}
 use borrow.Author.Tests.{leb-true, ltb-true, eqb-true}
 use Rattle.ground_choices.proofs.Tests.{both as each}
@@ -19,14 +19,12 @@ use Rattle.body_formats.specs.Format.{span, bytesOf, count, bytes, halves, pair
 use Rattle.body_formats.proofs.Outcomes.{found-inj, andThen-found, need-found}
 use Rattle.body_formats.proofs.Leaves.{length-bytes, paired-halves}
 use Rattle.body_formats.proofs.Strings.{first-digit}
+use Rattle.body_pen.proofs.Leaves.{span-length}
 use Rattle.body_ink.specs.Inked.{Ready, Inked}
 use Rattle.body_ink.proofs.Pairs.{Fixed}
 use Rattle.body_ink.proofs.Numbers.{one-byte}
 
 -- ---- bytes of the pool
-
-pub span-length : (pool : List ℕ) (a n : ℕ) → a + n ≤ length pool → length (take n (drop a pool)) ≡ n
-span-length pool a n h = length-take-le n (drop a pool) (simp length-drop (omega arith))
 
 pub span-end : (pool : List ℕ) (a n : ℕ) → take (a + n - a) (drop a pool) ≡ take n (drop a pool)
 span-end pool a n = ap (λ m. take m (drop a pool)) (add-sub-cancel-left a n)

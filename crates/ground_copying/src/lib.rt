@@ -104,12 +104,16 @@ fn by_thirty_twos(src: &[u8], dst: &mut [u8], at: usize)
     thirty_two(src, n - 32, dst, at + (n - 32));
 }
 
-// The bytes of src into dst, from index at on.
+// The bytes of src into dst, from index at on. Long ones go the plain way: the compiler's own loop is faster for them than pieces.
 pub fn copy_at(src: &[u8], dst: &mut [u8], at: usize)
     requires { ⌜ at + length (now src) ≤ length (now dst) ⌝ }
     ensures { λ _. ⌜ now (dst .exit) ≡ placed (now (dst .entry)) at (now (src .entry)) ⌝ }
 {
     if src.len() < 4 {
+        ground_placing::copy_at(src, dst, at);
+        return;
+    }
+    if 256 <= src.len() {
         ground_placing::copy_at(src, dst, at);
         return;
     }
