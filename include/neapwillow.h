@@ -809,7 +809,7 @@ nw_part nw_certificate_signature(const uint8_t *body, size_t n);
  * with nothing written and place 0: 19, the tape is too short, has entries left over, or a span that is
  * not in the pool; 22, a count or length too large for its field, or more than NW_MOST_BODY bytes; 21,
  * out is too small: nw_certificate_measure tells the room. Out must overlap neither pool nor tape.
- * Stack: 544 bytes. */
+ * Stack: 448 bytes. */
 nw_answer nw_certificate_write(const uint8_t *pool, size_t pool_bytes, const uint64_t *tape,
                                size_t entries, uint8_t *out, size_t room);
 
@@ -817,7 +817,7 @@ nw_answer nw_certificate_write(const uint8_t *pool, size_t pool_bytes, const uin
  * the length of its body, the room that nw_certificate_write needs. Refusals: those of
  * nw_certificate_write but 21, each but 22 with a place: the entry of the tape, from 0, where the field
  * that is wrong begins, bytes at the entry of their start; the first of entries left over.
- * Stack: 448 bytes. */
+ * Stack: 320 bytes. */
 nw_answer nw_certificate_measure(const uint8_t *pool, size_t pool_bytes, const uint64_t *tape,
                                  size_t entries);
 
@@ -999,14 +999,14 @@ nw_answer nw_stream_count(const uint8_t *body, size_t n, size_t at, size_t lengt
  * over; 22, a count or length too large for its field (descriptors: more than 1,023 bytes together), or
  * more than NW_MOST_BODY bytes; 21, out is too small: nw_index_measure tells the room. Out must overlap
  * neither pool nor tape.
- * Stack: 736 bytes. */
+ * Stack: 608 bytes. */
 nw_answer nw_index_write(const uint8_t *pool, size_t pool_bytes, const uint64_t *tape, size_t entries,
                          uint8_t *out, size_t room);
 
 /* Judges and measures a form, as nw_index_write does before it writes, and writes nothing. Value: the
  * length of its body, the room that nw_index_write needs. Refusals: those of nw_index_write but 21, each
  * but 22 with a place: the entry of the tape, from 0, where the field that is wrong begins, bytes at the
- * entry of their start; the first of entries left over. Stack: 640 bytes. */
+ * entry of their start; the first of entries left over. Stack: 480 bytes. */
 nw_answer nw_index_measure(const uint8_t *pool, size_t pool_bytes, const uint64_t *tape, size_t entries);
 
 /* Lays an accepted body onto a tape: the form from which, with the body itself as the pool,
@@ -1129,7 +1129,7 @@ nw_part nw_language_auxiliary(uint32_t variant, const uint8_t *body, size_t n, s
  * outside its set, the two counts too; 18, a digit above 9; 20, the identifier has no real day);
  * 19, the tape has entries left over; 22, a length too large for its field, or more than NW_MOST_BODY
  * bytes; 21, out is too small: nw_content_measure tells the room. Out must overlap neither pool nor
- * tape. Stack: 640 bytes. */
+ * tape. Stack: 480 bytes. */
 nw_written nw_content_write(uint32_t variant, const uint8_t *pool, size_t pool_bytes,
                             const uint64_t *tape, size_t entries, uint8_t *out, size_t room);
 
@@ -1137,7 +1137,7 @@ nw_written nw_content_write(uint32_t variant, const uint8_t *pool, size_t pool_b
  * length of its body alone, the room that nw_content_write needs. Refusals: those of nw_content_write
  * but 21, the variant's 19 and 22 at place 0 and each other with a place: the entry of the tape, from 0,
  * where the field that is wrong begins, bytes at the entry of their start; the first of entries left
- * over. Stack: 528 bytes. */
+ * over. Stack: 352 bytes. */
 nw_answer nw_content_measure(uint32_t variant, const uint8_t *pool, size_t pool_bytes,
                              const uint64_t *tape, size_t entries);
 
@@ -1272,7 +1272,7 @@ nw_answer nw_command_terminal_digit(const uint8_t *body, size_t n, size_t at, ui
  * 18, a digit above 9; 20, an impossible day, once its three numbers are taken, or time, once its
  * three are, however large they are); 19, the tape has entries left over; 22, a count or length too
  * large for its field, or more than NW_MOST_BODY bytes; 21, out is too small: nw_configuration_measure
- * tells the room. Out must overlap neither pool nor tape. Stack: 672 bytes. */
+ * tells the room. Out must overlap neither pool nor tape. Stack: 480 bytes. */
 nw_answer nw_configuration_write(const uint8_t *pool, size_t pool_bytes, const uint64_t *tape,
                                  size_t entries, uint8_t *out, size_t room);
 
@@ -1280,7 +1280,7 @@ nw_answer nw_configuration_write(const uint8_t *pool, size_t pool_bytes, const u
  * Value: the length of its body, the room that nw_configuration_write needs. Refusals: those of
  * nw_configuration_write but 21, each but 22 with a place: the entry of the tape, from 0, where the field
  * that is wrong begins, bytes at the entry of their start, a day at its year, a time at its hour; the
- * first of entries left over. Stack: 576 bytes. */
+ * first of entries left over. Stack: 400 bytes. */
 nw_answer nw_configuration_measure(const uint8_t *pool, size_t pool_bytes, const uint64_t *tape,
                                    size_t entries);
 
