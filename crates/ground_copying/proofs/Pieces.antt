@@ -78,3 +78,9 @@ module _ (d : List ℕ) (at : ℕ) (src mid : List ℕ) (i : ℕ) (room : at + l
       ∙ piece d at src i (length src - k) k room (omega arith) (omega arith) (omega arith)
       ∙ ap (placed d at) (take-all (length src - k + k) src (omega arith)) in
       (now, ap length now ∙ placed-length d at src room)
+
+  -- the end: all that is left
+  pub rest : i ≤ length src → k ≡ length src - i → out ≡ placed mid (at + i) (take k (drop i src)) → (out ≡ placed d at src) × (length out ≡ length d)
+  rest h left e =
+      let t = turn (omega arith) e in
+      (t .0 ∙ ap (placed d at) (take-all (i + k) src (omega arith)), t .1)

@@ -104,7 +104,32 @@ fn by_thirty_twos(src: &[u8], dst: &mut [u8], at: usize)
     thirty_two(src, n - 32, dst, at + (n - 32));
 }
 
-// The bytes of src into dst, from index at on. Long ones go the plain way: the compiler's own loop is faster for them than pieces.
+// 1,024 bytes of src from i on into dst from at on, by way of an array of their own: the compiler makes one call of the system's memmove of it.
+fn block(src: &[u8], i: usize, dst: &mut [u8], at: usize)
+    requires { ⌜ (i + 1024 ≤ length (now src)) × (at + 1024 ≤ length (now dst)) ⌝ }
+    ensures { λ _. ⌜ now (dst .exit) ≡ placed (now (dst .entry)) at (take 1024 (drop i (now (src .entry)))) ⌝ }
+{
+    let mut held: [u8; 1024] = [0; 1024];
+    let end = i + 1024;
+    ground_placing::copy_at(&src[i..end], &mut held, 0);
+    ground_placing::copy_at(&held, dst, at);
+}
+
+// src into dst, 1,024 bytes a turn, and then the rest.
+fn by_blocks(src: &[u8], dst: &mut [u8], at: usize)
+    requires { ⌜ at + length (now src) ≤ length (now dst) ⌝ }
+    ensures { λ _. ⌜ now (dst .exit) ≡ placed (now (dst .entry)) at (now (src .entry)) ⌝ }
+{
+    let n = src.len();
+    let mut i: usize = 0;
+    while 1024 <= n - i {
+        block(src, i, dst, at + i);
+        i += 1024;
+    }
+    ground_placing::copy_at(&src[i..], dst, at + i);
+}
+
+// The bytes of src into dst, from index at on. From 256 bytes on the compiler's own loop is faster than pieces of up to 32, and from 1,024 on blocks are.
 pub fn copy_at(src: &[u8], dst: &mut [u8], at: usize)
     requires { ⌜ at + length (now src) ≤ length (now dst) ⌝ }
     ensures { λ _. ⌜ now (dst .exit) ≡ placed (now (dst .entry)) at (now (src .entry)) ⌝ }
@@ -114,7 +139,7 @@ pub fn copy_at(src: &[u8], dst: &mut [u8], at: usize)
         return;
     }
     if 256 <= src.len() {
-        ground_placing::copy_at(src, dst, at);
+        by_blocks(src, dst, at);
         return;
     }
     if src.len() < 8 {
