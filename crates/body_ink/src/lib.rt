@@ -34,7 +34,7 @@ pub fn copy(pool: &[u8], a: usize, n: usize, out: &mut [u8], at: usize)
     ensures { λ _. ⌜ now (out .exit) ≡ placed (now (out .entry)) at (take n (drop a (now (pool .entry)))) ⌝ }
 {
     let end = a + n;
-    ground_placing::copy_at(&pool[a..end], out, at);
+    ground_copying::copy_few(&pool[a..end], out, at);
 }
 
 // The same for any length, by pieces.

@@ -79,6 +79,26 @@ fn by_sixteens(src: &[u8], dst: &mut [u8], at: usize)
     sixteen(src, n - 16, dst, at + (n - 16));
 }
 
+// Up to 31 bytes or so of src into dst, from index at on. It is for lengths that are a number in the code: then the compiler leaves two moves of it.
+pub fn copy_few(src: &[u8], dst: &mut [u8], at: usize)
+    requires { ⌜ at + length (now src) ≤ length (now dst) ⌝ }
+    ensures { λ _. ⌜ now (dst .exit) ≡ placed (now (dst .entry)) at (now (src .entry)) ⌝ }
+{
+    if src.len() < 4 {
+        ground_placing::copy_at(src, dst, at);
+        return;
+    }
+    if src.len() < 8 {
+        by_fours(src, dst, at);
+        return;
+    }
+    if src.len() < 16 {
+        by_eights(src, dst, at);
+        return;
+    }
+    by_sixteens(src, dst, at);
+}
+
 // 32 bytes of src from i on into dst from at on, by way of an array of their own: so the compiler reads them all before it writes one.
 fn thirty_two(src: &[u8], i: usize, dst: &mut [u8], at: usize)
     requires { ⌜ (i + 32 ≤ length (now src)) × (at + 32 ≤ length (now dst)) ⌝ }
@@ -134,24 +154,12 @@ pub fn copy_at(src: &[u8], dst: &mut [u8], at: usize)
     requires { ⌜ at + length (now src) ≤ length (now dst) ⌝ }
     ensures { λ _. ⌜ now (dst .exit) ≡ placed (now (dst .entry)) at (now (src .entry)) ⌝ }
 {
-    if src.len() < 4 {
-        ground_placing::copy_at(src, dst, at);
-        return;
-    }
     if 256 <= src.len() {
         by_blocks(src, dst, at);
         return;
     }
-    if src.len() < 8 {
-        by_fours(src, dst, at);
-        return;
-    }
-    if src.len() < 16 {
-        by_eights(src, dst, at);
-        return;
-    }
     if src.len() < 32 {
-        by_sixteens(src, dst, at);
+        copy_few(src, dst, at);
         return;
     }
     by_thirty_twos(src, dst, at);
