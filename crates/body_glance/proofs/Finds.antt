@@ -2,15 +2,20 @@
 use Prim.Native.Nat.{ℕ, zero, suc, _+_, _-_, _*_, _/_, _%_, _^_, _≤_, _<_}
 use mathlib.Core.Path.{_≡_, refl, sym, ap, _∙_}
 use mathlib.Core.List.{List}
-use mathlib.Core.Bool.{Bool, true, _&&_}
+use mathlib.Core.Bool.{Bool, true, false, _&&_}
 use native.Mathlib.Omega.{arith}
 use native.Mathlib.Nat.{le-refl, add-zero, mod-eq-of-lt}
 use lib.ListN.{length, getD, take, drop}
 use lib.Dec.{leb, ltb, eqb}
 use borrow.Author.Tests.{le-leb, lt-ltb, eq-eqb}
 use Rattle.ground_refusal.specs.declared.Refusal.{Refusal}
-use Rattle.body_formats.specs.Reading.{found, Fault, fine, unless}
+use Rattle.ground_refusal.specs.declared.Refusal.the-variants.{OtherKind, TooLarge}
+use Rattle.ground_numbers.specs.Sizes.{bodyMost}
+use Rattle.body_formats.specs.Reading.{found, need, Fault, fine, unless}
 use Rattle.body_formats.specs.Format.{Format, only, outside, followed, _▷_, nothing, under, view, exact, numberAt, count, number, nibblesAmong, nibbles, below, reserved, bytes, every, bytesAmong, halves, tail, decimal, digits, rest, Length, lengthOf, leastOf, length12, counted, opaque}
+use Rattle.body_formats.specs.Answers.{stepOf}
+use Rattle.body_formats.specs.Body.{reading, bodyRead, opened}
+use Rattle.body_formats.specs.declared.Step.the-variants.{At}
 use Rattle.body_formats.proofs.Classes.{Bytes}
 use Rattle.body_formats.proofs.Outcomes.{within-there}
 use Rattle.body_formats.proofs.Leaves.{number-below}
@@ -150,3 +155,17 @@ unfolding length12 numberAt
 reads-part12 s p m b e h g =
     let z : numberAt s p 2 % below 4 1 ≡ m = rw add-zero (omega arith) in
     reads-counted length12 (mod-eq-of-lt h) (rw (lt-ltb m 1024 h)) (rw z at (reads-reserved s p 1 4 (omega (arith, b p, b (p + 1))))) g
+
+-- ---- whole bodies
+
+-- what a reader answers, where the body is opened and filled
+pub read-filled : {A : Type 0} {F : Format A} (own kind : ℕ) {s : List ℕ} {q : ℕ} → At q ≡ opened own kind s → (a : A) × Fills F s (length s) 0 a
+    → At (length s) ≡ bodyRead F own kind s
+unfolding opened bodyRead reading nothing
+read-filled {F} own kind {s} {q} o g = go (eqb kind own) (leb (length s) bodyMost) o
+  where
+    go : (a b : Bool) → At q ≡ stepOf (need a OtherKind (need b TooLarge (nothing .parse s (length s) 0)))
+        → At (length s) ≡ stepOf (need a OtherKind (need b TooLarge (F .parse s (length s) 0)))
+    go true true e = rw (g .1 .whole)
+    go true false e = absurd (let z : _≡_ {A = ℕ} 0 1 = cc in omega arith)
+    go false b e = absurd (let z : _≡_ {A = ℕ} 0 1 = cc in omega arith)
