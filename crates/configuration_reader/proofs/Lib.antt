@@ -2,3 +2,4 @@
 mod ClockWalks
 mod AddressWalks
 mod Commands
+mod Glances

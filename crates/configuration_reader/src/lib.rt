@@ -1,4 +1,5 @@
 // The configuration table: its body read, and laid onto a form.
+mod glancing; // glancing.rt: the glance at a body that comes before the walk
 mod walking; // walking.rt: the walk through a body
 
 use body_formats::Step;
@@ -9,13 +10,16 @@ ghost use lib.ListN.{length};
 ghost use Rattle.body_formats.specs.Body.{bodyRead, bodyLaid, laidTape};
 ghost use Rattle.configuration.specs.Configuration.{configurationKind, configuration};
 
-// Where the table ends, or why it is refused.
+// Where the table ends, or why it is refused: a glance takes the usual body, and any other is walked through.
 pub fn read(kind: u32, s: &[u8]) -> Step
     ensures { λ r. ⌜ r ≡ bodyRead configuration configurationKind kind (now (s .entry)) ⌝ }
 {
     match body_parts::open_body(CONFIGURATION_KIND, kind, s) {
         Step::Refused(r) => Step::Refused(r),
         Step::At(start) => {
+            if glancing::good_configuration(s) {
+                return Step::At(s.len());
+            }
             let mut none: [u64; 1] = [0; 1];
             body_walk::body_end(walking::walk_configuration(s, Walk::At(0, 0), &mut none, false))
         }
