@@ -1,4 +1,6 @@
 // Walks through a message's channel, from its descriptors up: each is one field of the format of its name.
+pub mod glancing; // glancing.rt: the channel at a glance
+
 use body_walk::Walk;
 ghost use Prim.Native.Nat.{_≤_};
 ghost use lib.ListN.{length};

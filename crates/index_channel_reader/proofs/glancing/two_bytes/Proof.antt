@@ -1,0 +1,20 @@
+-- `index_channel_reader::glancing::two_bytes` meets its contract: two bytes are a number of two bytes.
+use mathlib.Core.Path.{_∙_}
+use native.Mathlib.Omega.{arith}
+use borrow.Author.Needs.{needs}
+use Rattle.index_channel_reader.proofs.Glances.{number-of}
+use Rattle.index_channel_reader.proofs.glancing.two_bytes.Statement.{statement}
+use Rattle.index_channel_reader.proofs.glancing.two_bytes.Tie as tie
+
+pub two-bytes-spec : {M : Type 1} → statement M
+two-bytes-spec =
+    tie.close
+    (tie.spec
+    (λ c. search needs)
+    (λ c κs. search needs)
+    (λ c. search needs)
+    (λ c. search needs)
+    (λ c. search needs)
+    (λ c κs. search needs)
+    (λ c. search needs)
+    (λ c. (number-of _ _ (omega arith) (omega arith), omega arith)))
