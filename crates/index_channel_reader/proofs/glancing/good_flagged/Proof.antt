@@ -1,5 +1,4 @@
 -- `index_channel_reader::glancing::good_flagged` meets its contract: after a flag 0 nothing is left, and after a flag 1 the channel ends at l.
-use native.Mathlib.Omega.{arith}
 use borrow.Author.Needs.{needs}
 use borrow.Author.Tests.{eqb-true}
 use Rattle.body_glance.proofs.Leaves.{not-good}

@@ -1,5 +1,4 @@
 -- `index_channel_reader::glancing::two_bytes` meets its contract: two bytes are a number of two bytes.
-use mathlib.Core.Path.{_∙_}
 use native.Mathlib.Omega.{arith}
 use borrow.Author.Needs.{needs}
 use Rattle.index_channel_reader.proofs.Glances.{number-of}
