@@ -15,7 +15,7 @@ use Rattle.body_formats.specs.Format.{Format, _▷_, numberAt, only, count, num
 use Rattle.body_formats.specs.Resource.{resource}
 use Rattle.body_formats.proofs.Classes.{Bytes}
 use Rattle.body_glance.specs.Glance.{Reads, Fills}
-use Rattle.body_glance.proofs.Finds.{reads-only, reads-followed, reads-pair, reads-view, fills-exact, reads-to, reads-count, reads-number, reads-counted, reads-opaque, reads-least}
+use Rattle.body_glance.proofs.Finds.{reads-only, reads-followed, reads-pair, reads-view, fills-exact, reads-to, one-byte, reads-count, reads-number, reads-counted, reads-opaque, reads-least}
 use Rattle.body_glance.proofs.Runs.{reads-none, reads-more, reads-list}
 use Rattle.configuration_addresses.specs.Address.{lengthFits, isAddress}
 use Rattle.configuration.specs.Configuration.{terminals, date, clock, addressFault, addressLength, address, Said, setClock, setCode, tune, setReturn, setPeriod, setVolume, query, other, orderOf, said, least, command, fields, configuration}
@@ -31,15 +31,7 @@ There {A} F s p q = (a : A) × Reads F s p a q
 abbrev Full : {A : Type 0} → Format A → List ℕ → ℕ → ℕ → Type 0
 Full {A} F s l p = (a : A) × Fills F s l p a
 
--- ---- numbers of one and two bytes, by the number n that the code has of them
-
-one-byte : (s : List ℕ) (p : ℕ) → numberAt s p 1 ≡ getD s p 0
-unfolding numberAt
-one-byte s p = rw add-zero (omega arith)
-
-two-bytes : (s : List ℕ) (p q : ℕ) → p + 1 ≡ q → numberAt s p 2 ≡ getD s p 0 * 256 + getD s q 0
-unfolding numberAt
-two-bytes s p q k = rw (add-zero, k) (omega arith)
+-- ---- numbers of one byte, by the number n that the code has of them
 
 module _ {s : List ℕ} {p n q : ℕ} (e : n ≡ getD s p 0) (k : p + 1 ≡ q) where
   byte-count : Reads (count 1) s p n q
@@ -66,11 +58,11 @@ unfolding terminals
 terminals-good e k g = (g .0, reads-to k (reads-list resource (byte-count e refl) (g .1)))
 
 module _ {s : List ℕ} {p : ℕ} where
-  pub date-good : {y m d : ℕ} → y ≡ getD s p 0 * 256 + getD s (p + 1) 0 → m ≡ getD s (p + 2) 0 → d ≡ getD s (p + 3) 0 → hasDay y m d ≡ true
+  pub date-good : {y m d : ℕ} → y ≡ numberAt s p 2 → m ≡ getD s (p + 2) 0 → d ≡ getD s (p + 3) 0 → hasDay y m d ≡ true
       → There date s p (p + 4)
   unfolding date
   date-good {y} {m} {d} e f g h =
-      let year : Reads (count 2) s p y (p + 2) = rw (e, ← two-bytes s p (p + 1) refl) (reads-count s p 2) in
+      let year : Reads (count 2) s p y (p + 2) = rw e (reads-count s p 2) in
       (_, reads-only _ (day-fault y m d p ∙ rw h) (reads-pair year (reads-pair (byte-count f (omega arith)) (byte-count g (omega arith)))))
 
   pub clock-good : {h m x : ℕ} → h ≡ getD s p 0 → m ≡ getD s (p + 1) 0 → x ≡ getD s (p + 2) 0 → (leb h 23 && (leb m 59 && leb x 59)) ≡ true
@@ -141,11 +133,10 @@ long-enough {s} {p} {l} tag b h k g =
     let f = said-filling (orderOf tag) .forth s l p (g .0) l b k h (g .1 .whole) in
     omega (arith, f .next, enough tag (g .0) (f .ok))
 
-pub command-good : {s : List ℕ} {p n : ℕ} (tag : ℕ) → tag ≡ getD s p 0 → Bytes s → n ≡ getD s (p + 1) 0 * 256 + getD s (p + 2) 0 → p + 3 + n ≤ length s
+pub command-good : {s : List ℕ} {p n : ℕ} (tag : ℕ) → tag ≡ getD s p 0 → Bytes s → n ≡ numberAt s (p + 1) 2 → p + 3 + n ≤ length s
     → Full (said (orderOf tag)) s (p + 3 + n) (p + 3) → There command s p (p + 3 + n)
 unfolding command
 command-good {s} {p} {n} tag t b e k g =
-    let size : numberAt s (p + 1) 2 ≡ n = two-bytes s (p + 1) (p + 2) (omega arith) ∙ sym e in
     let long = long-enough tag b (omega arith) k g in
     let from : p + 3 ≡ p + 1 + 2 = omega arith in
     let until : p + 3 + n ≡ p + 1 + 2 + numberAt s (p + 1) 2 = omega arith in
@@ -153,8 +144,8 @@ command-good {s} {p} {n} tag t b e k g =
     (_, reads-followed (λ tag. counted (leastOf 2 (least tag)) (said (orderOf tag))) (byte-number t refl b) (reads-to (sym until) content))
 
 pub configuration-good : {s : List ℕ} {at : ℕ} → Bytes s → There (times (getD s 0 0) command) s 1 at
-    → at + 2 + (getD s at 0 * 256 + getD s (at + 1) 0) ≡ length s → Full configuration s (length s) 0
+    → at + 2 + numberAt s at 2 ≡ length s → Full configuration s (length s) 0
 unfolding configuration fields
 configuration-good {s} {at} b g e =
-    let signature = reads-to {t = length s} (omega (arith, two-bytes s at (at + 1) refl)) (reads-opaque s at 2 b .1) in
+    let signature = reads-to {t = length s} e (reads-opaque s at 2 b .1) in
     (_, fills-exact LeftOver (le-refl _) (reads-view _ _ (reads-pair (reads-list command (byte-count refl refl) (g .1)) signature)))

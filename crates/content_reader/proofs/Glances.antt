@@ -4,7 +4,7 @@ use mathlib.Core.Path.{_≡_, sym, ap, ap₂, _∙_}
 use mathlib.Core.List.{List}
 use mathlib.Core.Bool.{Bool, true, false, _&&_}
 use native.Mathlib.Omega.{arith}
-use native.Mathlib.Nat.{add-zero, one-mul}
+use native.Mathlib.Nat.{one-mul}
 use lib.ListN.{length, getD, take, drop}
 use lib.Dec.{leb, eqb}
 use borrow.Author.Tests.{le-leb}
@@ -14,22 +14,18 @@ use Rattle.body_formats.specs.Format.{numberAt, among, below, reserved, every}
 use Rattle.body_formats.proofs.Classes.{Bytes}
 use Rattle.body_glance.specs.Glance.{Reads}
 use Rattle.body_glance.proofs.Finds.{reads-only, reads-pair, reads-view, fills-exact, reads-to}
-use Rattle.body_glance.proofs.Finds.{reads-number, reads-reserved, reads-among, reads-part, reads-opaque}
+use Rattle.body_glance.proofs.Finds.{one-byte, reads-number, reads-reserved, reads-among, reads-part, reads-opaque}
 use Rattle.content_variant.specs.Variant.{widthOf, opened}
 use Rattle.content_variant.specs.declared.Width.the-variants.{Bytes as Wide, Refused as NoWidth}
 use Rattle.content_variant.proofs.Variant.{was-asked}
 use Rattle.content.specs.Content.{Auxiliary, auxiliary, auxiliaries, Language, LanguageFields, languageFields, language}
 
 module _ (s : List ℕ) (p : ℕ) where
-  one-byte : numberAt s p 1 ≡ getD s p 0
-  unfolding numberAt
-  one-byte = rw add-zero (omega arith)
-
   -- a number from lo to hi after k reserved bits, in one byte
   pub reads-few : (k lo hi n : ℕ) → getD s p 0 / 2 ^ (8 - k) ≡ 2 ^ k - 1 → getD s p 0 % 2 ^ (8 - k) ≡ n → lo ≤ n → n ≤ hi
       → Reads (among lo hi (reserved k 0)) s p n (p + 1)
   reads-few k lo hi n ones e from until =
-      let z : numberAt s p 1 % below k 0 ≡ n = ap₂ _%_ one-byte (one-mul (2 ^ (8 - k))) ∙ e in
+      let z : numberAt s p 1 % below k 0 ≡ n = ap₂ _%_ (one-byte s p) (one-mul (2 ^ (8 - k))) ∙ e in
       reads-only _ (rw (le-leb lo n from, le-leb n hi until)) (rw z at (reads-reserved s p 0 k ones))
 
 module _ (s : List ℕ) (p w : ℕ) (b : Bytes s) where

@@ -1,5 +1,6 @@
 // A glance at the body of a content table, from its auxiliary files up to the whole: yes or no, w the width of an auxiliary file's length, 3 or 4
 // bytes. What is taken for good is found by the format of its name; what is not is left to a walk.
+use body_glance::two_bytes;
 use ground_numbers::wide;
 ghost use Prim.Native.Nat.{_+_, _≤_, _<_};
 ghost use mathlib.Core.Path.{_≡_};
@@ -7,14 +8,6 @@ ghost use lib.ListN.{length};
 ghost use Rattle.body_formats.specs.Format.{_▷_, numberAt, among, reserved, listOf, opaque};
 ghost use Rattle.body_glance.specs.Glance.{Good, Filled};
 ghost use Rattle.content.specs.Content.{auxiliaries, languageFields, language, content};
-
-// The number in the two bytes at p.
-fn short_length(s: &[u8], p: usize) -> usize
-    requires { ⌜ p + 2 ≤ length (now s) ⌝ }
-    ensures { λ r. ⌜ r ≡ numberAt (now (s .entry)) p 2 ⌝ }
-{
-    (wide(s[p]) * 256 + wide(s[p + 1])) as usize
-}
 
 // The number in the w bytes at p.
 fn long_length(s: &[u8], p: usize, w: usize) -> usize
@@ -76,7 +69,7 @@ fn good_language(s: &[u8], p: usize, l: usize, w: usize) -> bool
     if 0xFC < set {
         return false;
     }
-    let text = short_length(s, p + 4);
+    let text = two_bytes(s, p + 4);
     if l - p - 8 < text {
         return false;
     }
@@ -121,7 +114,7 @@ fn good_languages(s: &[u8], p: usize, w: usize) -> bool
     if l - at < 2 {
         return false;
     }
-    l - at - 2 == short_length(s, at)
+    l - at - 2 == two_bytes(s, at)
 }
 
 // The whole table: "4 reserved, 35 digits", the languages, the signature, and no byte left.

@@ -1,4 +1,5 @@
 // A message's channel at a glance, from its descriptors up: whether each is good, yes or no. A walk tells what is wrong.
+use body_glance::two_bytes;
 use ground_numbers::wide;
 ghost use mathlib.Core.Path.{_≡_};
 ghost use Prim.Native.Nat.{_+_, _≤_, _<_};
@@ -6,14 +7,6 @@ ghost use lib.ListN.{length};
 ghost use Rattle.body_formats.specs.Format.{numberAt, many};
 ghost use Rattle.body_glance.specs.Glance.{Good, Filled};
 ghost use Rattle.index.specs.Index.{descriptor, stream, channel, flagged};
-
-// The number in two bytes at p, the high one first.
-pub fn two_bytes(s: &[u8], p: usize) -> usize
-    requires { ⌜ p + 2 ≤ length (now s) ⌝ }
-    ensures { λ r. ⌜ (r ≡ numberAt (now (s .entry)) p 2) × (r < 65536) ⌝ }
-{
-    (wide(s[p]) * 256 + wide(s[p + 1])) as usize
-}
 
 // The descriptors that fill the part from p to l: "tag, 8-bit length, data" each.
 fn good_descriptors(s: &[u8], p: usize, l: usize) -> bool

@@ -1,7 +1,7 @@
 // The body of an index table at a glance, from a message's fields up to the whole: whether each is good, yes or no. A walk tells what is wrong.
 use body_formats::RESOURCE_BYTES;
+use body_glance::two_bytes;
 use ground_numbers::wide;
-use index_channel_reader::glancing::two_bytes;
 ghost use Prim.Native.Nat.{_+_, _≤_};
 ghost use lib.ListN.{length};
 ghost use Rattle.body_formats.specs.Format.{bytesAmong, nibblesAmong};

@@ -1,10 +1,11 @@
 -- `configuration_reader::glancing::good_configuration` meets its contract: each turn finds one command, those to come make the list,
 -- and the signature after it is all that is left of the body.
-use Prim.Native.Nat.{_≤_}
-use mathlib.Core.Path.{refl}
+use Prim.Native.Nat.{_-_, _≤_}
+use mathlib.Core.Path.{_≡_, refl}
+use lib.ListN.{length}
 use native.Mathlib.Omega.{arith}
 use borrow.Author.Needs.{needs}
-use borrow.Author.Tests.{not-false}
+use borrow.Author.Tests.{not-false, eqb-true}
 use Rattle.body_glance.proofs.Runs.{Coming, coming-turn, coming-done}
 use Rattle.body_glance.proofs.Leaves.{not-good}
 use Rattle.configuration.specs.Configuration.{command}
@@ -30,13 +31,7 @@ good-configuration-spec =
     (λ c. search needs)
     (λ c. not-good)
     (λ c. search needs)
-    (λ c. search needs)
     (λ c κs. search needs)
-    (λ c. search needs)
-    (λ c. search needs)
-    (λ c. search needs)
-    (λ c κs. search needs)
-    (λ c. search needs)
     (λ c. search needs)
     (λ c. search needs)
     (λ c. not-good)
@@ -50,28 +45,19 @@ good-configuration-spec =
     (λ c. search needs)
     (λ c.
     let content : tie.After-good-said Inv-loop μ-loop = c .before in
-    let low : tie.After-wide2 Inv-loop μ-loop = content .before .before .before in
-    let high : tie.After-wide Inv-loop μ-loop = low .before .before in
-    let turn : tie.In-loop Inv-loop μ-loop = high .before .before .before in
-    let one = command-good _ refl (λ i. content .before .shared-slice-known5 .given i .fits) (omega (arith, high .wide .ensures .0, low .wide2 .ensures .0))
+    let size : tie.After-two-bytes Inv-loop μ-loop = search in
+    let turn : tie.In-loop Inv-loop μ-loop = search in
+    let one = command-good _ refl (λ i. content .before .shared-slice-known3 .given i .fits) (size .two-bytes .ensures .0)
     (omega arith) (content .good-said .ensures (not-false _ (c .if4 .left))) in
     (coming-turn command _ _ _ (turn .before .loop .inv .0) (turn .loop-test .taken) one, omega arith))
     (λ c. search needs)
     (λ c. not-good)
     (λ c. search needs)
-    (λ c κs. search needs)
-    (λ c. search needs)
-    (λ c. search needs)
     (λ c. search needs)
     (λ c κs. search needs)
-    (λ c. search needs)
-    (λ c. search needs)
-    (λ c. search needs)
-    (λ c. not-good)
     (λ c e.
-    let low : tie.After-wide4 Inv-loop μ-loop = c .before in
-    let high : tie.After-wide3 Inv-loop μ-loop = low .before .before in
-    let done : tie.After-loop Inv-loop μ-loop = high .before .before .before in
-    let loop : tie.At-loop Inv-loop μ-loop = done .before in
-    configuration-good (λ i. low .before .shared-slice-known7 .given i .fits) (coming-done command _ _ _ (loop .loop .inv .0) (omega arith))
-    (omega (arith, high .wide3 .ensures .0, low .wide4 .ensures .0))))
+    let loop : tie.At-loop Inv-loop μ-loop = search in
+    let known = loop .before in
+    let rest : length (known .before .before .before .args .s .now) - loop .loop .at - 2 ≡ c .two-bytes2 .result = eqb-true _ _ e in
+    configuration-good (λ i. known .shared-slice-known2 .given i .fits) (coming-done command _ _ _ (loop .loop .inv .0) (omega arith))
+    (omega (arith, c .two-bytes2 .ensures .0, rest))))

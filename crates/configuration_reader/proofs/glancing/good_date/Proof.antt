@@ -10,13 +10,7 @@ pub good-date-spec : {M : Type 1} → statement M
 good-date-spec =
     tie.close
     (tie.spec
-    (λ c. search needs)
     (λ c κs. search needs)
-    (λ c. search needs)
-    (λ c. search needs)
-    (λ c. search needs)
-    (λ c κs. search needs)
-    (λ c. search needs)
     (λ c. search needs)
     (λ c. search needs)
     (λ c κs. search needs)
@@ -25,9 +19,7 @@ good-date-spec =
     (λ c κs. search needs)
     (λ c κs. search needs)
     (λ c e.
-    let day : tie.After-wide4 = c .before in
-    let month : tie.After-wide3 = day .before .before in
-    let low : tie.After-wide2 = month .before .before in
-    let high : tie.After-wide = low .before .before in
-    date-good (omega (arith, high .wide .ensures .0, low .wide2 .ensures .0)) (month .wide3 .ensures .0) (day .wide4 .ensures .0)
-    (sym (c .is-day .ensures) ∙ e)))
+    let day : tie.After-wide2 = search in
+    let month : tie.After-wide = search in
+    let year : tie.After-two-bytes = search in
+    date-good (year .two-bytes .ensures .0) (month .wide .ensures .0) (day .wide2 .ensures .0) (sym (c .is-day .ensures) ∙ e)))

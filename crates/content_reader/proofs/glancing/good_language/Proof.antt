@@ -38,8 +38,8 @@ good-language-spec =
     (λ c e.
     let known : tie.After-shared-slice-known = search in
     let letters : tie.Else2 = search in
-    let text : tie.After-short-length = search in
+    let text : tie.After-two-bytes = search in
     let agency : tie.After-wide = search in
     reads-fields _ _ _ (λ i. known .shared-slice-known .given i .fits) _ _ _
     (sym (letters .before .all-among .ensures) ∙ not-false _ (letters .if2 .left)) (omega arith) (omega arith)
-    (text .short-length .ensures) (agency .wide .ensures .0) (c .good-auxiliaries .ensures e)))
+    (text .two-bytes .ensures .0) (agency .wide .ensures .0) (c .good-auxiliaries .ensures e)))

@@ -65,5 +65,5 @@ good-languages-spec =
     let loop : tie.At-loop Inv-loop μ-loop = search in
     let languages = coming-done (language _) _ _ _ (loop .loop .inv .1) (omega arith) in
     let counted = reads-list (language _) (reads-few _ _ 4 1 5 _ (omega arith) (omega arith) (omega arith) (omega arith)) (languages .1) in
-    let rest : length (known .before .args .s .now) - loop .loop .at - 2 ≡ c .short-length .result = eqb-true _ _ e in
+    let rest : length (known .before .args .s .now) - loop .loop .at - 2 ≡ c .two-bytes .result = eqb-true _ _ e in
     (_, reads-pair counted (reads-to (omega arith) (reads-opaque _ _ 2 (bytes known) .1)))))
