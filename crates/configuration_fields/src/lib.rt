@@ -8,9 +8,10 @@ use configuration_addresses::is_address;
 use configuration_addresses::length_fits;
 use configuration_rules::clocks;
 use configuration_rules::least_content;
+use ground_numbers::wide;
 use ground_refusal::Refusal;
 ghost use mathlib.Core.Path.{_≡_};
-ghost use Prim.Native.Nat.{_≤_};
+ghost use Prim.Native.Nat.{_+_, _≤_, _<_};
 ghost use lib.ListN.{length};
 ghost use Rattle.body_formats.specs.Format.{count, number, among};
 ghost use Rattle.body_formats.specs.Resource.{resourceBytes};
@@ -18,6 +19,7 @@ ghost use Rattle.body_formats.specs.Answers.{numberOf, partOf, fieldPart};
 ghost use Rattle.configuration.specs.Configuration.{plain, address};
 ghost use Rattle.body_asking.specs.Asking.{headedPart};
 ghost use Rattle.configuration_fields.specs.Asked.{commandCount, commandPart, signaturePart, commandTag, commandContent, contentAt, inCommand, placeRead, threeOf, firstOf, middleOf, lastOf, clockDate, clockTime, clockYear, clockMonth, clockDay, clockHour, clockMinute, clockSecond, resourceOf, digitAt, codeAddress, codeAt, codeResource, codeDigit, frequency, symbolRate, mapping, returnKind, addressIn, returnAddress, period, volume, parameterCount, listAt, parameterAt, parameter, terminalsIn, terminalsAt, terminalCount, terminalAt, terminal, terminalDigit};
+ghost use Rattle.configuration_fields.specs.Glance.{contentEnd, ListIn, ListAt};
 
 // A place in a command's content, and where the content ends; or a refusal.
 enum Place {
@@ -486,7 +488,7 @@ fn terminals_in(s: &[u8], l: usize, q: usize, tag: u64) -> Place
     after_parameters(s, l, q)
 }
 
-// Where their list begins.
+// Where their list begins, or why it does not.
 fn terminals_at(s: &[u8], p: usize) -> Place
     ensures { λ r. ⌜ r ≡ placeRead (terminalsAt (now (s .entry)) p) ⌝ }
 {
@@ -507,11 +509,100 @@ fn terminals_at(s: &[u8], p: usize) -> Place
     }
 }
 
+// ---- where their list begins, at a glance: 0 where it is to be looked for field by field, which tells what is wrong
+
+// `at`, where a content of n bytes has the least that its command asks for.
+fn if_enough(n: usize, least: usize, at: usize) -> usize
+    ensures { λ r. ⌜ (0 < r → (r ≡ at) × (least ≤ n)) ⌝ }
+{
+    if n < least {
+        return 0;
+    }
+    at
+}
+
+// After the address, in a content from q to l.
+fn list_after_address(s: &[u8], l: usize, q: usize) -> usize
+    requires { ⌜ q ≤ l ⌝ }
+    ensures { λ r. ⌜ (0 < r → ListIn 4 (now (s .entry)) l q r) ⌝ }
+{
+    if l - q < 3 {
+        return 0;
+    }
+    match address_in(s, l, q) {
+        Part::Refused(r) => 0,
+        Part::Of(a, n) => a + n,
+    }
+}
+
+// In a content from q to l, by the command's tag.
+fn list_in(s: &[u8], l: usize, q: usize, tag: u64) -> usize
+    requires { ⌜ (q ≤ l) × (l ≤ length (now s)) ⌝ }
+    ensures { λ r. ⌜ (0 < r → ListIn tag (now (s .entry)) l q r) ⌝ }
+{
+    if tag == 3 {
+        return if_enough(l - q, 10, q + 9);
+    }
+    if tag == 4 {
+        return list_after_address(s, l, q);
+    }
+    if tag == 5 {
+        return if_enough(l - q, 5, q + 4);
+    }
+    if l - q < 2 {
+        return 0;
+    }
+    if tag == 6 {
+        return q + 1;
+    }
+    if tag == 7 {
+        return q + 1 + (wide(s[q]) as usize);
+    }
+    0
+}
+
+// Where the content of the command at p ends, by its length.
+fn content_end(s: &[u8], p: usize) -> usize
+    requires { ⌜ p + 3 ≤ length (now s) ⌝ }
+    ensures { λ r. ⌜ r ≡ contentEnd (now (s .entry)) p ⌝ }
+{
+    p + 3 + ((wide(s[p + 1]) * 256 + wide(s[p + 2])) as usize)
+}
+
+// In the command at p.
+fn list_place(s: &[u8], p: usize) -> usize
+    ensures { λ r. ⌜ (0 < r → ListAt (now (s .entry)) p r) ⌝ }
+{
+    let n = s.len();
+    if n < 3 {
+        return 0;
+    }
+    if n - 3 < p {
+        return 0;
+    }
+    let l = content_end(s, p);
+    if n < l {
+        return 0;
+    }
+    list_in(s, l, p + 3, wide(s[p]))
+}
+
+// Where their list begins: nearly every command that is asked for is good.
+fn list_begin(s: &[u8], p: usize) -> Place
+    ensures { λ r. ⌜ r ≡ placeRead (terminalsAt (now (s .entry)) p) ⌝ }
+{
+    let q = list_place(s, p);
+    if 0 < q {
+        return Place::In(q, content_end(s, p));
+    }
+    terminals_at(s, p)
+}
+
 // How many terminals there are.
 pub fn terminal_count(s: &[u8], p: usize) -> Number
     ensures { λ r. ⌜ r ≡ terminalCount (now (s .entry)) p ⌝ }
 {
-    match terminals_at(s, p) {
+    match list_begin(s, p) {
         Place::Refused(r) => Number::Refused(r),
         Place::In(q, l) => body_numbers::read_number(s, l, q, 1),
     }
@@ -520,7 +611,7 @@ pub fn terminal_count(s: &[u8], p: usize) -> Number
 fn terminal_at(s: &[u8], p: usize, i: u64) -> Place
     ensures { λ r. ⌜ r ≡ placeRead (terminalAt (now (s .entry)) p i) ⌝ }
 {
-    match terminals_at(s, p) {
+    match list_begin(s, p) {
         Place::Refused(r) => Place::Refused(r),
         Place::In(q, l) => list_at(s, l, q, RESOURCE_BYTES, i),
     }

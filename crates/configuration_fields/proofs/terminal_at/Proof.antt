@@ -13,5 +13,5 @@ terminal-at-spec =
     (λ c. search needs)
     (λ c. search needs)
     (λ c κs. search needs)
-    (λ c. terminal-no _ _ _ _ (sym (c .before .r .given .1) ∙ c .before .before .before .terminals-at .ensures))
-    (λ c. c .list-at .ensures ∙ terminal-is _ _ _ _ _ (sym (c .before .before .q .given .1) ∙ c .before .before .before .before .terminals-at .ensures)))
+    (λ c. terminal-no _ _ _ _ (sym (c .before .r .given .1) ∙ c .before .before .before .list-begin .ensures))
+    (λ c. c .list-at .ensures ∙ terminal-is _ _ _ _ _ (sym (c .before .before .q .given .1) ∙ c .before .before .before .before .list-begin .ensures)))

@@ -13,5 +13,5 @@ terminal-count-spec =
     (λ c. search needs)
     (λ c. search needs)
     (λ c κs. search needs)
-    (λ c. terminal-count-no _ _ _ (sym (c .before .r .given .1) ∙ c .before .before .before .terminals-at .ensures))
-    (λ c. c .read-number .ensures ∙ terminal-count-is _ _ _ _ (sym (c .before .before .q .given .1) ∙ c .before .before .before .before .terminals-at .ensures)))
+    (λ c. terminal-count-no _ _ _ (sym (c .before .r .given .1) ∙ c .before .before .before .list-begin .ensures))
+    (λ c. c .read-number .ensures ∙ terminal-count-is _ _ _ _ (sym (c .before .before .q .given .1) ∙ c .before .before .before .before .list-begin .ensures)))
