@@ -1,3 +1,4 @@
 -- The definitions that other crates cite.
 pub mod Asked
 pub mod Agreement
+pub mod Glance

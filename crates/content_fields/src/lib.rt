@@ -3,12 +3,17 @@ use body_formats::Number;
 use body_formats::Part;
 use body_formats::Step;
 use content_variant::Width;
+use ground_numbers::wide;
 use ground_refusal::Refusal;
 ghost use mathlib.Core.Path.{_≡_};
-ghost use Prim.Native.Nat.{_≤_};
-ghost use Rattle.body_formats.specs.Format.{among, reserved};
-ghost use Rattle.body_formats.specs.Answers.{numberOf};
+ghost use Prim.Native.Nat.{_+_, _≤_, _<_};
+ghost use lib.ListN.{length};
+ghost use Rattle.body_formats.specs.Format.{numberAt, among, reserved};
+ghost use Rattle.body_formats.specs.Answers.{stepOf, numberOf, ended};
+ghost use Rattle.body_formats.specs.declared.Step.the-variants.{At};
+ghost use Rattle.body_asking.specs.Asking.{headedPart, nthOf};
 ghost use Rattle.content_fields.specs.Asked.{identifierPart, identifierDigit, extension, languageCount, languagePart, signaturePart, lettersPart, characterSet, textPart, agencyPart, auxiliaryCount, auxiliaryType, auxiliaryPart, variantType, variantPart};
+ghost use Rattle.content_fields.specs.Glance.{CountAt, FileAt};
 
 // The part of the body that the identifier fills.
 pub fn identifier(s: &[u8]) -> Part
@@ -123,8 +128,105 @@ pub fn auxiliary_count(s: &[u8], at: usize, n: usize) -> Number
     }
 }
 
-// The type of the i-th auxiliary file, w the width in bytes of its length: it begins the file.
-fn type_wide(w: usize, s: &[u8], at: usize, n: usize, i: u64) -> Number
+// ---- an auxiliary file at a glance: 0 where it is to be looked for field by field, which tells what is wrong
+
+// Where the auxiliary count stands, after the text and the agency.
+fn count_place(s: &[u8], at: usize, n: usize) -> usize
+    ensures { λ r. ⌜ (0 < r → CountAt (now (s .entry)) at n r) ⌝ }
+{
+    let end = s.len();
+    if end < at {
+        return 0;
+    }
+    if end - at < n {
+        return 0;
+    }
+    if n < 7 {
+        return 0;
+    }
+    let l = at + n;
+    let t = at + 6 + ((wide(s[at + 4]) * 256 + wide(s[at + 5])) as usize);
+    if l <= t {
+        return 0;
+    }
+    let q = t + 1 + (wide(s[t]) as usize);
+    if l <= q {
+        return 0;
+    }
+    q
+}
+
+// A length of three or four bytes.
+fn length_at(s: &[u8], p: usize, w: usize) -> u64
+    requires { ⌜ (p + w ≤ length (now s)) × (3 ≤ w) × (w ≤ 4) ⌝ }
+    ensures { λ r. ⌜ r ≡ numberAt (now (s .entry)) p w ⌝ }
+{
+    let three = (wide(s[p]) * 256 + wide(s[p + 1])) * 256 + wide(s[p + 2]);
+    if w == 3 {
+        return three;
+    }
+    three * 256 + wide(s[p + 3])
+}
+
+// Past the file at p, to one more in the part.
+fn past_file(w: usize, s: &[u8], l: usize, p: usize) -> usize
+    requires { ⌜ (p ≤ l) × (l ≤ length (now s)) × (3 ≤ w) × (w ≤ 4) ⌝ }
+    ensures { λ r. ⌜ (0 < r → (r < l) × (At r ≡ ended (headedPart 1 w) (now (s .entry)) l p)) ⌝ }
+{
+    if l - p <= w {
+        return 0;
+    }
+    let q = p + 1 + w;
+    let m = length_at(s, p + 1, w);
+    if (l - q) as u64 <= m {
+        return 0;
+    }
+    q + (m as usize)
+}
+
+// The i-th of m files, of which the first begins at p: there are two at most.
+fn nth_file(w: usize, s: &[u8], l: usize, p: usize, m: u64, i: u64) -> usize
+    requires { ⌜ (l ≤ length (now s)) × (3 ≤ w) × (w ≤ 4) ⌝ }
+    ensures { λ r. ⌜ (0 < r → (r < l) × (At r ≡ stepOf (nthOf (headedPart 1 w) m i (now (s .entry)) l p))) ⌝ }
+{
+    if m <= i {
+        return 0;
+    }
+    if l <= p {
+        return 0;
+    }
+    if i == 0 {
+        return p;
+    }
+    if i == 1 {
+        return past_file(w, s, l, p);
+    }
+    0
+}
+
+// The i-th file, w the width in bytes of its length.
+fn file_place(w: usize, s: &[u8], at: usize, n: usize, i: u64) -> usize
+    requires { ⌜ (3 ≤ w) × (w ≤ 4) ⌝ }
+    ensures { λ r. ⌜ (0 < r → FileAt w (now (s .entry)) at n i r) ⌝ }
+{
+    let q = count_place(s, at, n);
+    if q == 0 {
+        return 0;
+    }
+    let count = wide(s[q]);
+    if count < 0xF0 {
+        return 0;
+    }
+    if 0xF2 < count {
+        return 0;
+    }
+    nth_file(w, s, at + n, q + 1, count - 0xF0, i)
+}
+
+// ---- an auxiliary file, w the width in bytes of its length
+
+// Its type, which begins it, or why there is none.
+fn type_walked(w: usize, s: &[u8], at: usize, n: usize, i: u64) -> Number
     requires { ⌜ w ≤ 7 ⌝ }
     ensures { λ r. ⌜ r ≡ auxiliaryType w (now (s .entry)) at n i ⌝ }
 {
@@ -137,12 +239,28 @@ fn type_wide(w: usize, s: &[u8], at: usize, n: usize, i: u64) -> Number
     }
 }
 
-// The part of the body that its data fill.
+// Its type: nearly every file that is asked for is there.
+fn type_wide(w: usize, s: &[u8], at: usize, n: usize, i: u64) -> Number
+    requires { ⌜ (3 ≤ w) × (w ≤ 4) ⌝ }
+    ensures { λ r. ⌜ r ≡ auxiliaryType w (now (s .entry)) at n i ⌝ }
+{
+    let p = file_place(w, s, at, n, i);
+    if 0 < p {
+        return Number::Is(wide(s[p]), p + 1);
+    }
+    type_walked(w, s, at, n, i)
+}
+
+// The part of the body that its data fill. Its type is not asked for by `type_wide`, so that neither is a call: both are inlined where they are used.
 fn part_wide(w: usize, s: &[u8], at: usize, n: usize, i: u64) -> Part
-    requires { ⌜ w ≤ 7 ⌝ }
+    requires { ⌜ (3 ≤ w) × (w ≤ 4) ⌝ }
     ensures { λ r. ⌜ r ≡ auxiliaryPart w (now (s .entry)) at n i ⌝ }
 {
-    match type_wide(w, s, at, n, i) {
+    let p = file_place(w, s, at, n, i);
+    if 0 < p {
+        return body_parts::read_part(s, at + n, p + 1, w);
+    }
+    match type_walked(w, s, at, n, i) {
         Number::Refused(r) => Part::Refused(r),
         Number::Is(t, q) => body_parts::read_part(s, at + n, q, w),
     }

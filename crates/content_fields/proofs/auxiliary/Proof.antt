@@ -2,7 +2,7 @@
 use mathlib.Core.Path.{sym, _∙_}
 use Rattle.content_variant.proofs.Variant.{width-most}
 use Rattle.content_fields.proofs.Answers.{variant-part-no, variant-part-is}
-use native.Mathlib.Omega.{arith}
+use Rattle.content_fields.proofs.Glance.{width-least}
 use borrow.Author.Needs.{needs}
 use Rattle.content_fields.proofs.auxiliary.Statement.{statement}
 use Rattle.content_fields.proofs.auxiliary.Tie as tie
@@ -14,6 +14,8 @@ auxiliary-spec =
     (λ c κs. search needs)
     (λ c. search needs)
     (λ c. search needs)
-    (λ c κs. omega (arith, width-most _ _ (sym (c .before .w .given .1) ∙ c .before .before .before .width-of .ensures)))
+    (λ c κs.
+    let width = sym (c .before .w .given .1) ∙ c .before .before .before .width-of .ensures in
+    (width-least _ _ width, width-most _ _ width))
     (λ c. variant-part-no _ _ (sym (c .before .r .given .1) ∙ c .before .before .before .width-of .ensures) _ _ _ _)
     (λ c. c .part-wide .ensures ∙ variant-part-is _ _ (sym (c .before .before .w .given .1) ∙ c .before .before .before .before .width-of .ensures) _ _ _ _))

@@ -2,7 +2,7 @@
 use mathlib.Core.Path.{sym, _∙_}
 use Rattle.content_variant.proofs.Variant.{width-most}
 use Rattle.content_fields.proofs.Answers.{variant-type-no, variant-type-is}
-use native.Mathlib.Omega.{arith}
+use Rattle.content_fields.proofs.Glance.{width-least}
 use borrow.Author.Needs.{needs}
 use Rattle.content_fields.proofs.auxiliary_type.Statement.{statement}
 use Rattle.content_fields.proofs.auxiliary_type.Tie as tie
@@ -14,6 +14,8 @@ auxiliary-type-spec =
     (λ c κs. search needs)
     (λ c. search needs)
     (λ c. search needs)
-    (λ c κs. omega (arith, width-most _ _ (sym (c .before .w .given .1) ∙ c .before .before .before .width-of .ensures)))
+    (λ c κs.
+    let width = sym (c .before .w .given .1) ∙ c .before .before .before .width-of .ensures in
+    (width-least _ _ width, width-most _ _ width))
     (λ c. variant-type-no _ _ (sym (c .before .r .given .1) ∙ c .before .before .before .width-of .ensures) _ _ _ _)
     (λ c. c .type-wide .ensures ∙ variant-type-is _ _ (sym (c .before .before .w .given .1) ∙ c .before .before .before .before .width-of .ensures) _ _ _ _))

@@ -1,39 +1,27 @@
--- `content_fields::type_wide` meets its contract: it stands after the auxiliary files before it, as many as the count allows, and is not refused for its value.
-use mathlib.Core.Path.{sym, _∙_}
-use Rattle.content_fields.proofs.Answers.{type-no, after-count, type-none, type-is}
+-- `content_fields::type_wide` meets its contract: it begins the file that the glance finds, or is looked for.
+use Rattle.content_fields.proofs.Glance.{type-at}
 use native.Mathlib.Omega.{arith}
 use borrow.Author.Needs.{needs}
 use Rattle.content_fields.proofs.type_wide.Statement.{statement}
 use Rattle.content_fields.proofs.type_wide.Tie as tie
+
+abbrev sought : (c : tie.After-wide) → tie.After-file-place
+sought c = c .before .before .before
+
+returns : tie.Need-returns
+returns c =
+    let file = sought c .file-place .ensures (c .before .before .if1 .taken) in
+    let start = sought c .before in
+    type-at _ _ (λ i. start .shared-slice-known .given i .fits) _ _ _ _ _ file (c .wide .ensures .0)
 
 pub type-wide-spec : {M : Type 1} → statement M
 type-wide-spec =
     tie.close
     (tie.spec
     (λ c κs. search needs)
-    (λ c. search needs)
-    (λ c. search needs)
-    (λ c. omega (arith, after-count _ _ _ _ _ (sym (c .before .m .given .1) ∙ c .before .before .before .auxiliary-count .ensures)))
+    (λ c. let f = c .before .before .file-place .ensures (c .before .if1 .taken) in omega (arith, f .inside, f .lies))
     (λ c κs. search needs)
-    (λ c. search needs)
-    (λ c. search needs)
-    (λ c.
-    let at-m = c .before .before .before .before .before in
-    let at-auxiliary-count = at-m .before .before in
-    omega (arith, after-count _ _ _ _ _ (sym (at-m .m .given .1) ∙ at-auxiliary-count .auxiliary-count .ensures)))
+    (λ c. let f = sought c .file-place .ensures (c .before .before .if1 .taken) in omega (arith, f .inside, f .lies))
+    returns
     (λ c κs. search needs)
-    (λ c. type-no _ _ _ _ _ _ (sym (c .before .r .given .1) ∙ c .before .before .before .auxiliary-count .ensures))
-    (λ c.
-    let at-nth-entry = c .before .before .before in
-    let at-m = at-nth-entry .before .before in
-    let at-auxiliary-count = at-m .before .before in
-    type-none _ _ _ _ _ (sym (at-m .m .given .1) ∙ at-auxiliary-count .auxiliary-count .ensures) _ _ _
-    (sym (c .before .r2 .given .1) ∙ at-nth-entry .nth-entry .ensures))
-    (λ c.
-    let at-p = c .before .before in
-    let at-nth-entry = at-p .before .before in
-    let at-m = at-nth-entry .before .before in
-    let at-auxiliary-count = at-m .before .before in
-    let at-shared-slice-known = at-auxiliary-count .before in
-    c .read-number .ensures ∙ type-is _ _ _ _ _ (sym (at-m .m .given .1) ∙ at-auxiliary-count .auxiliary-count .ensures) _ _ _
-    (λ i. at-shared-slice-known .shared-slice-known .given i .fits) (sym (at-p .p .given .1) ∙ at-nth-entry .nth-entry .ensures)))
+    (λ c. search needs))
