@@ -7,8 +7,11 @@ use Rattle.configuration_fields.proofs.list_place.Tie as tie
 
 returns-4 : tie.Need-returns-4
 returns-4 c h =
-    let ended = c .before .before .before .before in
-    list-there _ (λ i. ended .before .before .before .shared-slice-known .given i .fits) _ _ _ (omega arith) (ended .content-end .ensures) (omega arith) (c .before .wide .ensures .0) _ (c .list-in .ensures h)
+    let byte = c .before in
+    let ended = byte .before .before .before in
+    let start = ended .before .before .before in
+    list-there _ (λ i. start .shared-slice-known .given i .fits) _ _ _ (omega arith) (ended .content-end .ensures) (omega arith) (byte .wide .ensures .0) _
+    (c .list-in .ensures h)
 
 pub list-place-spec : {M : Type 1} → statement M
 list-place-spec =
