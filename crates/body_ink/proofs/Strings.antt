@@ -15,14 +15,14 @@ use Rattle.ground_placing.specs.Placed.{placed}
 use Rattle.ground_placing.proofs.Placing.{placed-next}
 use Rattle.ground_refusal.specs.declared.Refusal.the-variants.{DigitAboveNine, OutsideSet}
 use Rattle.body_formats.specs.Reading.{found}
-use Rattle.body_formats.specs.Format.{span, bytesOf, count, bytes, halves, paired, tail, decimal, digits, rest, lengthOf, counted, opaque}
+use Rattle.body_formats.specs.Format.{span, bytesOf, count, number, _▷_, view, bytes, halves, paired, tail, decimal, digits, rest, lengthOf, counted, opaque}
 use Rattle.body_formats.proofs.Outcomes.{found-inj, andThen-found, need-found}
 use Rattle.body_formats.proofs.Leaves.{length-bytes, paired-halves}
 use Rattle.body_formats.proofs.Strings.{first-digit}
 use Rattle.body_pen.proofs.Leaves.{span-length}
 use Rattle.body_ink.specs.Inked.{Ready, Inked}
-use Rattle.body_ink.proofs.Pairs.{Fixed}
-use Rattle.body_ink.proofs.Numbers.{one-byte}
+use Rattle.body_ink.proofs.Pairs.{Fixed, view-ready, view-inked, pair-inked}
+use Rattle.body_ink.proofs.Numbers.{one-byte, a-number, numeral-inked, after-number}
 
 -- ---- bytes of the pool
 
@@ -80,6 +80,20 @@ module _ (w : ℕ) {pool tape : List ℕ} {at k : ℕ} where
                   ∙ placed-next out at (bytesOf w (length xs)) (omega (arith, l, m)) xs (at + w) (ap (λ c. at + c) (sym l)),
             );
       }
+
+-- a tag or a type of one byte and then opaque bytes, under their names
+module _ {A : Type 0} (w : ℕ) (f : ℕ × List ℕ → A) (g : A → ℕ × List ℕ) {pool tape : List ℕ} {at k : ℕ} where
+  pub tagged-ready : {room : ℕ} → Ready (view f g (number 1 ▷ opaque w)) pool tape at k room → ((x : ℕ × List ℕ) → g (f x) ≡ x)
+      → (k + 3 ≤ length tape) × (at + 1 ≤ room) × (at + 1 ≤ bodyMost) × Ready (opaque w) pool tape (at + 1) (k + 1) room
+  tagged-ready r gf =
+      let p = after-number (a-number 1) _ (view-ready f g r gf) in
+      let s = part-ready w p in
+      (omega arith, omega arith, omega arith, p)
+
+  pub tagged-inked : {out mid : List ℕ} {at′ k′ : ℕ} {out′ : List ℕ} → mid ≡ placed out at (bytesOf 1 (getD tape k 0))
+      → Inked (opaque w) pool tape (at + 1) (k + 1) mid at′ k′ out′ → ((x : ℕ × List ℕ) → g (f x) ≡ x)
+      → Inked (view f g (number 1 ▷ opaque w)) pool tape at k out at′ k′ out′
+  tagged-inked e i gf = view-inked (pair-inked (numeral-inked (a-number 1) e refl refl) i) f g gf
 
 module _ {pool tape : List ℕ} {at k : ℕ} where
   pub rest-ready : {room : ℕ} → Ready rest pool tape at k room

@@ -18,6 +18,6 @@ copy-span-spec =
     (λ c κs. search needs)
     (λ c. search needs)
     (λ c.
-    let start = c .before .before .before .before .before .before .before in
+    let start : tie.Start = search in
     let a = start .args in
     c .before .before .copy-at .ensures ∙ ap (placed _ _) (span-end (now (a .pool)) (a .a) (a .n))))

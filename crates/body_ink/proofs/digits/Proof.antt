@@ -11,27 +11,18 @@ pub digits-spec : {M : Type 1} → statement M
 digits-spec =
     tie.close
     (tie.spec
-    (λ c. let start = c .before .before .before in let r = digits-ready _ (start .pre) in omega arith)
-    (λ c. let start = c .before .before .before .before in let r = digits-ready _ (start .pre) in omega arith)
-    (λ c. let start = c .before .before .before .before .before .before in let r = digits-ready _ (start .pre) in omega arith)
+    (λ c. let start : tie.Start = search in omega (arith, digits-ready _ (start .pre)))
+    (λ c. let start : tie.Start = search in omega (arith, digits-ready _ (start .pre)))
+    (λ c. let start : tie.Start = search in omega (arith, digits-ready _ (start .pre)))
     (λ c κs. search needs)
     (λ c. search needs)
-    (λ c κs. let start = c .before .before .before .before .before .before .before in let r = digits-ready _ (start .pre) in omega arith)
-    (λ c.
-    let start = c .before .before .before .before .before .before .before .before .before .before in
-    let r = digits-ready _ (start .pre) in
-    omega arith)
-    (λ c.
-    let start = c .before .before .before .before .before .before .before .before .before .before .before in
-    let r = digits-ready _ (start .pre) in
-    omega arith)
-    (λ c κs.
-    let start = c .before .before .before .before .before .before .before .before .before .before .before in
-    let r = digits-ready _ (start .pre) in
-    (omega arith, omega arith))
+    (λ c κs. let start : tie.Start = search in omega (arith, digits-ready _ (start .pre)))
+    (λ c. let start : tie.Start = search in omega (arith, digits-ready _ (start .pre)))
+    (λ c. let start : tie.Start = search in omega (arith, digits-ready _ (start .pre)))
+    (λ c κs. let start : tie.Start = search in let r = digits-ready _ (start .pre) in (omega arith, omega arith))
     (λ c. search needs)
     (λ c.
-    let copy = c .before .before in
-    let number = copy .before .before .before .before in
+    let copy : tie.After-copy = search in
+    let number : tie.After-number = search in
     let wide = number .before in
     digits-inked _ (ap (λ b. 240 + b % 16) (wide .wide .ensures .0)) (number .number .ensures) (copy .copy .ensures)))

@@ -10,30 +10,18 @@ pub part-spec : {M : Type 1} → statement M
 part-spec =
     tie.close
     (tie.spec
-    (λ c. let start = c .before .before .before in let r = part-ready _ (start .pre) in omega arith)
-    (λ c. let start = c .before .before .before in let r = part-ready _ (start .pre) in omega arith)
-    (λ c. let start = c .before .before .before .before in let r = part-ready _ (start .pre) in omega arith)
-    (λ c κs. let start = c .before .before .before .before .before in let r = part-ready _ (start .pre) in omega arith)
-    (λ c. let start = c .before .before .before .before .before .before .before .before in let r = part-ready _ (start .pre) in omega arith)
-    (λ c. let start = c .before .before .before .before .before .before .before .before .before in let r = part-ready _ (start .pre) in omega arith)
-    (λ c.
-    let start = c .before .before .before .before .before .before .before .before .before .before in
-    let r = part-ready _ (start .pre) in
-    omega arith)
-    (λ c κs.
-    let start = c .before .before .before .before .before .before .before .before .before .before in
-    let r = part-ready _ (start .pre) in
-    (omega arith, omega arith))
-    (λ c.
-    let start = c .before .before .before .before .before .before .before .before .before .before .before .before .before in
-    let r = part-ready _ (start .pre) in
-    omega arith)
-    (λ c.
-    let start = c .before .before .before .before .before .before .before .before .before .before .before .before .before in
-    let r = part-ready _ (start .pre) in
-    omega arith)
+    (λ c. let start : tie.Start = search in omega (arith, part-ready _ (start .pre)))
+    (λ c. let start : tie.Start = search in omega (arith, part-ready _ (start .pre)))
+    (λ c. let start : tie.Start = search in omega (arith, part-ready _ (start .pre)))
+    (λ c κs. let start : tie.Start = search in omega (arith, part-ready _ (start .pre)))
+    (λ c. let start : tie.Start = search in omega (arith, part-ready _ (start .pre)))
+    (λ c. let start : tie.Start = search in omega (arith, part-ready _ (start .pre)))
+    (λ c. let start : tie.Start = search in omega (arith, part-ready _ (start .pre)))
+    (λ c κs. let start : tie.Start = search in let r = part-ready _ (start .pre) in (omega arith, omega arith))
+    (λ c. let start : tie.Start = search in omega (arith, part-ready _ (start .pre)))
+    (λ c. let start : tie.Start = search in omega (arith, part-ready _ (start .pre)))
     (λ c. search needs)
     (λ c.
-    let copied = c .before .before in
-    let number = copied .before .before .before .before .before in
+    let copied : tie.After-copy-span = search in
+    let number : tie.After-number = search in
     part-inked _ (number .number .ensures) (copied .copy-span .ensures) refl refl))
