@@ -13,13 +13,13 @@ use Rattle.body_formats.specs.Identifier.{identifierPairs, unrealDay, identifie
 use Rattle.body_ink.specs.Inked.{Ready, Inked}
 use Rattle.body_ink.proofs.Pairs.{moved, first, view-ready, view-inked, exact-ready, exact-inked, only-ready, Fixed, only-fixed, after-fixed}
 use Rattle.body_ink.proofs.Numbers.{Numeral, a-number, of-a-set, after-bits, reserved-below, numeral-ready, numeral-fixed, after-number, nibbles-ready}
-use Rattle.body_ink.proofs.Strings.{part-ready, bytes-ready, digits-fixed, bytes-fixed}
+use Rattle.body_ink.proofs.Strings.{tagged-ready, bytes-ready, digits-fixed, bytes-fixed}
 use Rattle.body_ink.proofs.Lengths.{counted-ready, counted-inked, lengthOf-prints}
 use Rattle.index.specs.Index.{descriptor, descriptors, streamFields, stream, streams, channelFields, channel, head, messageFields, named, unnamed, message}
 
 pub descriptor-entries : {pool tape : List ℕ} {at k room : ℕ} → Ready descriptor pool tape at k room → k + 3 ≤ length tape
 unfolding descriptor
-descriptor-entries g = let r = part-ready 1 (after-number (a-number 1) _ (view-ready _ _ g (λ a. refl))) in omega arith
+descriptor-entries g = tagged-ready 1 _ _ g (λ a. refl) .0
 
 -- a stream and a channel, up to their descriptors
 pub stream-ready : {pool tape : List ℕ} {at k room : ℕ} → Ready stream pool tape at k room

@@ -22,23 +22,20 @@ ink-all-descriptors-spec =
     (tie.spec
     Inv-loop
     μ-loop
-    (λ c. let start = c .before .before .before in let r = many-count descriptor (start .pre) in omega (arith, start .good .1 .0 .1))
-    (λ c. let start = c .before .before .before in let r = many-count descriptor (start .pre) in omega (arith, start .good .1 .0 .1))
-    (λ c. let start = c .before .before .before .before in let r = many-count descriptor (start .pre) in omega (arith, start .good .1 .0 .1))
-    (λ c. let start = c .before .before .before .before in (refl, times-start (many-ready descriptor (start .pre))))
-    (λ c κs. let loop-test = c .before in let loop = loop-test .before in times-next (loop .loop .inv .1) (loop-test .loop-test .taken))
+    (λ c. let start : tie.Start Inv-loop μ-loop = search in omega (arith, many-count descriptor (start .pre)))
+    (λ c. let start : tie.Start Inv-loop μ-loop = search in omega (arith, many-count descriptor (start .pre)))
+    (λ c. let start : tie.Start Inv-loop μ-loop = search in omega (arith, many-count descriptor (start .pre)))
+    (λ c. let start : tie.Start Inv-loop μ-loop = search in (refl, times-start (many-ready descriptor (start .pre))))
+    (λ c κs. let turn = c .before in times-next (turn .before .loop .inv .1) (turn .loop-test .taken))
     (λ c.
-    let loop-test = c .before .before .before .before in
-    let loop = loop-test .before in
-    let start = loop .before .before .before .before .before in
-    let r = descriptor-entries (times-next (loop .loop .inv .1) (loop-test .loop-test .taken)) in
-    omega (arith, start .good .1 .0 .1))
+    let turn : tie.In-loop Inv-loop μ-loop = search in
+    let start : tie.Start Inv-loop μ-loop = search in
+    omega (arith, descriptor-entries (times-next (turn .before .loop .inv .1) (turn .loop-test .taken))))
     (λ c. search needs)
     (λ c. search needs)
     (λ c.
-    let ink-descriptor = c .before .before in
-    let loop-test = ink-descriptor .before .before in
-    let loop = loop-test .before in
-    (search needs, times-turn (loop .loop .inv .1) (loop-test .loop-test .taken) (ink-descriptor .ink-descriptor .ensures)))
+    let ink-descriptor : tie.After-ink-descriptor Inv-loop μ-loop = search in
+    let turn : tie.In-loop Inv-loop μ-loop = search in
+    (search needs, times-turn (turn .before .loop .inv .1) (turn .loop-test .taken) (ink-descriptor .ink-descriptor .ensures)))
     (λ c. search needs)
     (λ c. let loop = c .before in many-inked descriptor (times-done (loop .loop .inv .1) (omega arith))))

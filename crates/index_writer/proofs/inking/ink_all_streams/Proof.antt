@@ -21,17 +21,16 @@ ink-all-streams-spec =
     (tie.spec
     Inv-loop
     μ-loop
-    (λ c. let start = c .before .before .before in let r = many-count stream (start .pre) in omega (arith, start .good .1 .0 .1))
-    (λ c. let start = c .before .before .before in let r = many-count stream (start .pre) in omega (arith, start .good .1 .0 .1))
-    (λ c. let start = c .before .before .before .before in let r = many-count stream (start .pre) in omega (arith, start .good .1 .0 .1))
-    (λ c. let start = c .before .before .before .before in (refl, times-start (many-ready stream (start .pre))))
-    (λ c κs. let loop-test = c .before in let loop = loop-test .before in times-next (loop .loop .inv .1) (loop-test .loop-test .taken))
+    (λ c. let start : tie.Start Inv-loop μ-loop = search in omega (arith, many-count stream (start .pre)))
+    (λ c. let start : tie.Start Inv-loop μ-loop = search in omega (arith, many-count stream (start .pre)))
+    (λ c. let start : tie.Start Inv-loop μ-loop = search in omega (arith, many-count stream (start .pre)))
+    (λ c. let start : tie.Start Inv-loop μ-loop = search in (refl, times-start (many-ready stream (start .pre))))
+    (λ c κs. let turn = c .before in times-next (turn .before .loop .inv .1) (turn .loop-test .taken))
     (λ c. search needs)
     (λ c. search needs)
     (λ c.
-    let ink-stream = c .before .before in
-    let loop-test = ink-stream .before .before in
-    let loop = loop-test .before in
-    (search needs, times-turn (loop .loop .inv .1) (loop-test .loop-test .taken) (ink-stream .ink-stream .ensures)))
+    let ink-stream : tie.After-ink-stream Inv-loop μ-loop = search in
+    let turn : tie.In-loop Inv-loop μ-loop = search in
+    (search needs, times-turn (turn .before .loop .inv .1) (turn .loop-test .taken) (ink-stream .ink-stream .ensures)))
     (λ c. search needs)
     (λ c. let loop = c .before in many-inked stream (times-done (loop .loop .inv .1) (omega arith))))

@@ -14,108 +14,35 @@ unfolding channel channelFields
 ink-channel-spec =
     tie.close
     (tie.spec
-    (λ c. let start = c .before .before .before .before in let r = channel-ready (start .pre) in omega (arith, start .good .1 .0 .1))
-    (λ c. let start = c .before .before .before .before .before in let r = channel-ready (start .pre) in omega (arith, start .good .1 .0 .1))
-    (λ c κs. let start = c .before .before .before .before .before in let r = channel-ready (start .pre) in omega (arith, start .good .1 .0 .1))
-    (λ c.
-    let start = c .before .before .before .before .before .before .before .before .before in
-    let r = channel-ready (start .pre) in
-    omega (arith, start .good .1 .0 .1))
-    (λ c.
-    let start = c .before .before .before .before .before .before .before .before .before in
-    let r = channel-ready (start .pre) in
-    omega (arith, start .good .1 .0 .1))
-    (λ c.
-    let start = c .before .before .before .before .before .before .before .before .before in
-    let r = channel-ready (start .pre) in
-    omega (arith, start .good .1 .0 .1))
-    (λ c.
-    let start = c .before .before .before .before .before .before .before .before .before .before in
-    let r = channel-ready (start .pre) in
-    omega (arith, start .good .1 .0 .1))
-    (λ c κs.
-    let start = c .before .before .before .before .before .before .before .before .before .before in
-    let r = channel-ready (start .pre) in
-    omega (arith, start .good .1 .0 .1))
-    (λ c.
-    let earlier = c .before .before .before .before .before .before .before .before .before .before in
-    let start = earlier .before .before .before .before in
-    let r = channel-ready (start .pre) in
-    omega (arith, start .good .1 .0 .1))
-    (λ c.
-    let earlier = c .before .before .before .before .before .before .before .before .before .before in
-    let start = earlier .before .before .before .before in
-    let r = channel-ready (start .pre) in
-    omega (arith, start .good .1 .0 .1))
-    (λ c.
-    let earlier = c .before .before .before .before .before .before .before .before .before .before in
-    let start = earlier .before .before .before .before in
-    let r = channel-ready (start .pre) in
-    omega (arith, start .good .1 .0 .1))
-    (λ c.
-    let earlier = c .before .before .before .before .before .before .before .before .before .before in
-    let start = earlier .before .before .before .before .before in
-    let r = channel-ready (start .pre) in
-    omega (arith, start .good .1 .0 .1))
-    (λ c κs.
-    let earlier = c .before .before .before .before .before .before .before .before .before .before in
-    let start = earlier .before .before .before .before .before in
-    let r = channel-ready (start .pre) in
-    omega (arith, start .good .1 .0 .1))
-    (λ c.
-    let earlier = c .before .before .before .before .before .before .before .before .before .before in
-    let start = earlier .before .before .before .before .before .before .before .before .before in
-    let r = channel-ready (start .pre) in
-    omega (arith, start .good .1 .0 .1))
-    (λ c.
-    let earlier = c .before .before .before .before .before .before .before .before .before .before in
-    let start = earlier .before .before .before .before .before .before .before .before .before in
-    let r = channel-ready (start .pre) in
-    omega (arith, start .good .1 .0 .1))
-    (λ c.
-    let earlier = c .before .before .before .before .before .before .before .before .before .before in
-    let start = earlier .before .before .before .before .before .before .before .before .before in
-    let r = channel-ready (start .pre) in
-    omega (arith, start .good .1 .0 .1))
-    (λ c.
-    let earlier = c .before .before .before .before .before .before .before .before .before .before in
-    let start = earlier .before .before .before .before .before .before .before .before .before .before in
-    let r = channel-ready (start .pre) in
-    omega (arith, start .good .1 .0 .1))
-    (λ c.
-    let earlier = c .before .before .before .before .before .before .before .before .before .before in
-    let start = earlier .before .before .before .before .before .before .before .before .before .before in
-    let r = channel-ready (start .pre) in
-    omega (arith, start .good .1 .0 .1))
-    (λ c κs.
-    let earlier = c .before .before .before .before .before .before .before .before .before .before in
-    let start = earlier .before .before .before .before .before .before .before .before .before .before in
-    let r = channel-ready (start .pre) in
-    omega (arith, start .good .1 .0 .1))
-    (λ c.
-    let earlier = c .before .before .before .before .before .before .before .before .before .before in
-    let earlier2 = earlier .before .before .before .before .before .before .before .before .before .before in
-    let start = earlier2 .before .before .before in
-    let r = channel-ready (start .pre) in
-    omega (arith, start .good .1 .0 .1))
-    (λ c.
-    let earlier = c .before .before .before .before .before .before .before .before .before .before in
-    let earlier2 = earlier .before .before .before .before .before .before .before .before .before .before in
-    let start = earlier2 .before .before .before .before in
-    let r = channel-ready (start .pre) in
-    omega (arith, start .good .1 .0 .1))
-    (λ c κs.
-    let earlier = c .before .before .before .before .before .before .before .before .before .before in
-    let earlier2 = earlier .before .before .before .before .before .before .before .before .before .before in
-    let start = earlier2 .before .before .before .before in
-    moved (channel-ready (start .pre) .4) refl refl (search needs))
+    (λ c. let start : tie.Start = search in omega (arith, channel-ready (start .pre)))
+    (λ c. let start : tie.Start = search in omega (arith, channel-ready (start .pre)))
+    (λ c κs. let start : tie.Start = search in omega (arith, channel-ready (start .pre)))
+    (λ c. let start : tie.Start = search in omega (arith, channel-ready (start .pre)))
+    (λ c. let start : tie.Start = search in omega (arith, channel-ready (start .pre)))
+    (λ c. let start : tie.Start = search in omega (arith, channel-ready (start .pre)))
+    (λ c. let start : tie.Start = search in omega (arith, channel-ready (start .pre)))
+    (λ c κs. let start : tie.Start = search in omega (arith, channel-ready (start .pre)))
+    (λ c. let start : tie.Start = search in omega (arith, channel-ready (start .pre)))
+    (λ c. let start : tie.Start = search in omega (arith, channel-ready (start .pre)))
+    (λ c. let start : tie.Start = search in omega (arith, channel-ready (start .pre)))
+    (λ c. let start : tie.Start = search in omega (arith, channel-ready (start .pre)))
+    (λ c κs. let start : tie.Start = search in omega (arith, channel-ready (start .pre)))
+    (λ c. let start : tie.Start = search in omega (arith, channel-ready (start .pre)))
+    (λ c. let start : tie.Start = search in omega (arith, channel-ready (start .pre)))
+    (λ c. let start : tie.Start = search in omega (arith, channel-ready (start .pre)))
+    (λ c. let start : tie.Start = search in omega (arith, channel-ready (start .pre)))
+    (λ c. let start : tie.Start = search in omega (arith, channel-ready (start .pre)))
+    (λ c κs. let start : tie.Start = search in omega (arith, channel-ready (start .pre)))
+    (λ c. let start : tie.Start = search in omega (arith, channel-ready (start .pre)))
+    (λ c. let start : tie.Start = search in omega (arith, channel-ready (start .pre)))
+    (λ c κs. let start : tie.Start = search in moved (channel-ready (start .pre) .4) refl refl (search needs))
     (λ c. search needs)
     (λ c.
-    let ink-channel-parts = c .before .before in
-    let number4 = ink-channel-parts .before .before .before .before in
-    let number3 = number4 .before .before .before .before .before in
-    let number2 = number3 .before .before .before .before .before in
-    let number = number2 .before .before .before .before .before in
+    let ink-channel-parts : tie.After-ink-channel-parts = search in
+    let number4 : tie.After-number4 = search in
+    let number3 : tie.After-number3 = search in
+    let number2 : tie.After-number2 = search in
+    let number : tie.After-number = search in
     view-inked (pair-inked (numeral-inked (a-number 2) (number .number .ensures) refl refl)
     (pair-inked (numeral-inked (a-number 2) (number2 .number2 .ensures) (omega arith) (omega arith))
     (pair-inked (numeral-inked (a-number 2) (number3 .number3 .ensures) (omega arith) (omega arith))

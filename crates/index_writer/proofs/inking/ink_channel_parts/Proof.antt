@@ -8,13 +8,13 @@ pub ink-channel-parts-spec : {M : Type 1} → statement M
 ink-channel-parts-spec =
     tie.close
     (tie.spec
-    (λ c κs. let start = c .before .before .before .before in first _ _ (start .pre))
+    (λ c κs. let start : tie.Start = search in first _ _ (start .pre))
     (λ c κs.
-    let ink-descriptors = c .before .before .before in
-    let start = ink-descriptors .before .before .before .before .before in
+    let ink-descriptors : tie.After-ink-descriptors = search in
+    let start : tie.Start = search in
     second (ink-descriptors .ink-descriptors .ensures) (start .pre))
     (λ c. search needs)
     (λ c.
-    let ink-streams = c .before .before in
-    let ink-descriptors = ink-streams .before .before .before .before in
+    let ink-streams : tie.After-ink-streams = search in
+    let ink-descriptors : tie.After-ink-descriptors = search in
     pair-inked (ink-descriptors .ink-descriptors .ensures) (ink-streams .ink-streams .ensures)))

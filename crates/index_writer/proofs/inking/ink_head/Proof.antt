@@ -15,175 +15,48 @@ unfolding head identifier
 ink-head-spec =
     tie.close
     (tie.spec
-    (λ c κs. let start = c .before .before .before .before in identifier-ready (start .pre))
-    (λ c.
-    let start = c .before .before .before .before .before .before .before .before in
-    let r = head-ready (start .pre) in
-    omega (arith, start .good .1 .0 .1))
-    (λ c.
-    let start = c .before .before .before .before .before .before .before .before in
-    let r = head-ready (start .pre) in
-    omega (arith, start .good .1 .0 .1))
-    (λ c.
-    let start = c .before .before .before .before .before .before .before .before in
-    let r = head-ready (start .pre) in
-    omega (arith, start .good .1 .0 .1))
-    (λ c.
-    let start = c .before .before .before .before .before .before .before .before .before in
-    let r = head-ready (start .pre) in
-    omega (arith, start .good .1 .0 .1))
+    (λ c κs. let start : tie.Start = search in identifier-ready (start .pre))
+    (λ c. let start : tie.Start = search in omega (arith, head-ready (start .pre)))
+    (λ c. let start : tie.Start = search in omega (arith, head-ready (start .pre)))
+    (λ c. let start : tie.Start = search in omega (arith, head-ready (start .pre)))
+    (λ c. let start : tie.Start = search in omega (arith, head-ready (start .pre)))
+    (λ c κs. let start : tie.Start = search in omega (arith, head-ready (start .pre)))
+    (λ c. let start : tie.Start = search in omega (arith, head-ready (start .pre)))
+    (λ c. let start : tie.Start = search in omega (arith, head-ready (start .pre)))
+    (λ c. let start : tie.Start = search in omega (arith, head-ready (start .pre)))
+    (λ c. let start : tie.Start = search in omega (arith, head-ready (start .pre)))
+    (λ c κs. let start : tie.Start = search in omega (arith, head-ready (start .pre)))
+    (λ c. let start : tie.Start = search in omega (arith, head-ready (start .pre)))
+    (λ c. let start : tie.Start = search in omega (arith, head-ready (start .pre)))
+    (λ c. let start : tie.Start = search in omega (arith, head-ready (start .pre)))
+    (λ c. let start : tie.Start = search in omega (arith, head-ready (start .pre)))
+    (λ c κs. let start : tie.Start = search in omega (arith, head-ready (start .pre)))
+    (λ c. let start : tie.Start = search in omega (arith, head-ready (start .pre)))
+    (λ c. let start : tie.Start = search in omega (arith, head-ready (start .pre)))
+    (λ c. let start : tie.Start = search in omega (arith, head-ready (start .pre)))
+    (λ c. let start : tie.Start = search in omega (arith, head-ready (start .pre)))
     (λ c κs.
-    let start = c .before .before .before .before .before .before .before .before .before in
-    let r = head-ready (start .pre) in
-    omega (arith, start .good .1 .0 .1))
-    (λ c.
-    let earlier = c .before .before .before .before .before .before .before .before .before .before in
-    let start = earlier .before .before .before in
-    let r = head-ready (start .pre) in
-    omega (arith, start .good .1 .0 .1))
-    (λ c.
-    let earlier = c .before .before .before .before .before .before .before .before .before .before in
-    let start = earlier .before .before .before in
-    let r = head-ready (start .pre) in
-    omega (arith, start .good .1 .0 .1))
-    (λ c.
-    let earlier = c .before .before .before .before .before .before .before .before .before .before in
-    let start = earlier .before .before .before in
-    let r = head-ready (start .pre) in
-    omega (arith, start .good .1 .0 .1))
-    (λ c.
-    let earlier = c .before .before .before .before .before .before .before .before .before .before in
-    let start = earlier .before .before .before .before in
-    let r = head-ready (start .pre) in
-    omega (arith, start .good .1 .0 .1))
-    (λ c κs.
-    let earlier = c .before .before .before .before .before .before .before .before .before .before in
-    let start = earlier .before .before .before .before in
-    let r = head-ready (start .pre) in
-    omega (arith, start .good .1 .0 .1))
-    (λ c.
-    let earlier = c .before .before .before .before .before .before .before .before .before .before in
-    let start = earlier .before .before .before .before .before .before .before .before in
-    let r = head-ready (start .pre) in
-    omega (arith, start .good .1 .0 .1))
-    (λ c.
-    let earlier = c .before .before .before .before .before .before .before .before .before .before in
-    let start = earlier .before .before .before .before .before .before .before .before in
-    let r = head-ready (start .pre) in
-    omega (arith, start .good .1 .0 .1))
-    (λ c.
-    let earlier = c .before .before .before .before .before .before .before .before .before .before in
-    let start = earlier .before .before .before .before .before .before .before .before in
-    let r = head-ready (start .pre) in
-    omega (arith, start .good .1 .0 .1))
-    (λ c.
-    let earlier = c .before .before .before .before .before .before .before .before .before .before in
-    let start = earlier .before .before .before .before .before .before .before .before .before in
-    let r = head-ready (start .pre) in
-    omega (arith, start .good .1 .0 .1))
-    (λ c κs.
-    let earlier = c .before .before .before .before .before .before .before .before .before .before in
-    let start = earlier .before .before .before .before .before .before .before .before .before in
-    let r = head-ready (start .pre) in
-    omega (arith, start .good .1 .0 .1))
-    (λ c.
-    let earlier = c .before .before .before .before .before .before .before .before .before .before in
-    let earlier2 = earlier .before .before .before .before .before .before .before .before .before .before in
-    let start = earlier2 .before .before in
-    let r = head-ready (start .pre) in
-    omega (arith, start .good .1 .0 .1))
-    (λ c.
-    let earlier = c .before .before .before .before .before .before .before .before .before .before in
-    let earlier2 = earlier .before .before .before .before .before .before .before .before .before .before in
-    let start = earlier2 .before .before in
-    let r = head-ready (start .pre) in
-    omega (arith, start .good .1 .0 .1))
-    (λ c.
-    let earlier = c .before .before .before .before .before .before .before .before .before .before in
-    let earlier2 = earlier .before .before .before .before .before .before .before .before .before .before in
-    let start = earlier2 .before .before .before in
-    let r = head-ready (start .pre) in
-    omega (arith, start .good .1 .0 .1))
-    (λ c.
-    let earlier = c .before .before .before .before .before .before .before .before .before .before in
-    let earlier2 = earlier .before .before .before .before .before .before .before .before .before .before in
-    let start = earlier2 .before .before .before .before in
-    let r = head-ready (start .pre) in
-    omega (arith, start .good .1 .0 .1))
-    (λ c κs.
-    let earlier = c .before .before .before .before .before .before .before .before .before .before in
-    let earlier2 = earlier .before .before .before .before .before .before .before .before .before .before in
-    let start = earlier2 .before .before .before .before in
+    let start : tie.Start = search in
     let r = head-ready (start .pre) in
     (omega arith, omega arith))
-    (λ c.
-    let earlier = c .before .before .before .before .before .before .before .before .before .before in
-    let earlier2 = earlier .before .before .before .before .before .before .before .before .before .before in
-    let start = earlier2 .before .before .before .before .before .before .before .before in
-    let r = head-ready (start .pre) in
-    omega (arith, start .good .1 .0 .1))
-    (λ c.
-    let earlier = c .before .before .before .before .before .before .before .before .before .before in
-    let earlier2 = earlier .before .before .before .before .before .before .before .before .before .before in
-    let start = earlier2 .before .before .before .before .before .before .before .before in
-    let r = head-ready (start .pre) in
-    omega (arith, start .good .1 .0 .1))
-    (λ c.
-    let earlier = c .before .before .before .before .before .before .before .before .before .before in
-    let earlier2 = earlier .before .before .before .before .before .before .before .before .before .before in
-    let start = earlier2 .before .before .before .before .before .before .before .before in
-    let r = head-ready (start .pre) in
-    omega (arith, start .good .1 .0 .1))
-    (λ c.
-    let earlier = c .before .before .before .before .before .before .before .before .before .before in
-    let earlier2 = earlier .before .before .before .before .before .before .before .before .before .before in
-    let start = earlier2 .before .before .before .before .before .before .before .before .before in
-    let r = head-ready (start .pre) in
-    omega (arith, start .good .1 .0 .1))
-    (λ c.
-    let earlier = c .before .before .before .before .before .before .before .before .before .before in
-    let earlier2 = earlier .before .before .before .before .before .before .before .before .before .before in
-    let start = earlier2 .before .before .before .before .before .before .before .before .before in
-    let r = head-ready (start .pre) in
-    omega (arith, start .good .1 .0 .1))
-    (λ c.
-    let earlier = c .before .before .before .before .before .before .before .before .before .before in
-    let earlier2 = earlier .before .before .before .before .before .before .before .before .before .before in
-    let start = earlier2 .before .before .before .before .before .before .before .before .before in
-    let r = head-ready (start .pre) in
-    omega (arith, start .good .1 .0 .1))
-    (λ c.
-    let earlier = c .before .before .before .before .before .before .before .before .before .before in
-    let earlier2 = earlier .before .before .before .before .before .before .before .before .before .before in
-    let start = earlier2 .before .before .before .before .before .before .before .before .before in
-    let r = head-ready (start .pre) in
-    omega (arith, start .good .1 .0 .1))
-    (λ c.
-    let earlier = c .before .before .before .before .before .before .before .before .before .before in
-    let earlier2 = earlier .before .before .before .before .before .before .before .before .before .before in
-    let start = earlier2 .before .before .before .before .before .before .before .before .before .before in
-    let r = head-ready (start .pre) in
-    omega (arith, start .good .1 .0 .1))
-    (λ c.
-    let earlier = c .before .before .before .before .before .before .before .before .before .before in
-    let earlier2 = earlier .before .before .before .before .before .before .before .before .before .before in
-    let start = earlier2 .before .before .before .before .before .before .before .before .before .before in
-    let r = head-ready (start .pre) in
-    omega (arith, start .good .1 .0 .1))
-    (λ c κs.
-    let earlier = c .before .before .before .before .before .before .before .before .before .before in
-    let earlier2 = earlier .before .before .before .before .before .before .before .before .before .before in
-    let start = earlier2 .before .before .before .before .before .before .before .before .before .before in
-    let r = head-ready (start .pre) in
-    omega (arith, start .good .1 .0 .1))
+    (λ c. let start : tie.Start = search in omega (arith, head-ready (start .pre)))
+    (λ c. let start : tie.Start = search in omega (arith, head-ready (start .pre)))
+    (λ c. let start : tie.Start = search in omega (arith, head-ready (start .pre)))
+    (λ c. let start : tie.Start = search in omega (arith, head-ready (start .pre)))
+    (λ c. let start : tie.Start = search in omega (arith, head-ready (start .pre)))
+    (λ c. let start : tie.Start = search in omega (arith, head-ready (start .pre)))
+    (λ c. let start : tie.Start = search in omega (arith, head-ready (start .pre)))
+    (λ c. let start : tie.Start = search in omega (arith, head-ready (start .pre)))
+    (λ c. let start : tie.Start = search in omega (arith, head-ready (start .pre)))
+    (λ c κs. let start : tie.Start = search in omega (arith, head-ready (start .pre)))
     (λ c. search needs)
     (λ c.
-    let number4 = c .before .before in
-    let copy = number4 .before .before .before .before .before .before in
-    let number3 = copy .before .before .before .before .before in
-    let number2 = number3 .before .before .before .before .before in
-    let number = number2 .before .before .before .before .before in
-    let digits = number .before .before .before .before .before in
+    let number4 : tie.After-number4 = search in
+    let copy : tie.After-copy = search in
+    let number3 : tie.After-number3 = search in
+    let number2 : tie.After-number2 = search in
+    let number : tie.After-number = search in
+    let digits : tie.After-digits = search in
     pair-inked (only-inked (digits .digits .ensures) unrealDay)
     (pair-inked (numeral-inked (a-number 2) (number .number .ensures) (omega arith) (omega arith))
     (pair-inked (numeral-inked a-time (number2 .number2 .ensures) (omega arith) (omega arith))

@@ -13,13 +13,13 @@ unfolding index fields
 ink-index-spec =
     tie.close
     (tie.spec
-    (λ c κs. let start = c .before .before .before .before in first _ _ (view-ready _ _ (exact-ready LeftOver (start .pre)) (λ a. refl)))
+    (λ c κs. let start : tie.Start = search in first _ _ (view-ready _ _ (exact-ready LeftOver (start .pre)) (λ a. refl)))
     (λ c κs.
-    let ink-messages = c .before .before .before in
-    let start = ink-messages .before .before .before .before .before in
+    let ink-messages : tie.After-ink-messages = search in
+    let start : tie.Start = search in
     second (ink-messages .ink-messages .ensures) (view-ready _ _ (exact-ready LeftOver (start .pre)) (λ a. refl)))
     (λ c. search needs)
     (λ c.
-    let part = c .before .before in
-    let ink-messages = part .before .before .before .before in
+    let part : tie.After-part = search in
+    let ink-messages : tie.After-ink-messages = search in
     whole (exact-inked (view-inked (pair-inked (ink-messages .ink-messages .ensures) (part .part .ensures)) _ _ (λ a. refl)) LeftOver)))

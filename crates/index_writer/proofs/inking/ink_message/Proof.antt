@@ -1,4 +1,7 @@
 -- `index_writer::inking::ink_message` meets its contract: its fields are written after room for their length, which is then written into it.
+use Prim.Native.Nat.{_+_}
+use denote.Ref.{now}
+use Rattle.body_ink.specs.Inked.{Inked}
 use mathlib.Core.Path.{refl}
 use native.Mathlib.Omega.{arith}
 use borrow.Author.Needs.{needs}
@@ -8,61 +11,40 @@ use Rattle.index_writer.proofs.Inkings.{head-ready, message-ready, mess
 use Rattle.index_writer.proofs.inking.ink_message.Statement.{statement}
 use Rattle.index_writer.proofs.inking.ink_message.Tie as tie
 
+-- where the function began
+begun : tie.After-ink-flagged → tie.Start
+begun c = search
+
+-- the fields, as they stand before their length is written
+fields : (c : tie.After-ink-flagged) → let a = begun c .args in let r = c .ink-flagged .result in
+    Inked messageFields (now (a .pool)) (now (a .tape)) (a .at + 2) (a .k) (now (a .out)) (r .at) (r .entry) (c .ink-flagged .last .1 .1 .1 .0)
+unfolding messageFields begun
+fields c =
+    let resources : tie.After-resources = search in
+    let ink-head : tie.After-ink-head = search in
+    pair-inked (ended (ink-head .ink-head .ensures) (omega arith) refl) (pair-inked (resources .resources .ensures) (c .ink-flagged .ensures))
+
 pub ink-message-spec : {M : Type 1} → statement M
-unfolding messageFields
+unfolding messageFields begun
 ink-message-spec =
     tie.close
     (tie.spec
-    (λ c. let start = c .before .before .before .before in let r = inside (message-ready (start .pre)) in omega arith)
-    (λ c κs. let start = c .before .before .before .before in first _ _ (message-ready (start .pre)))
-    (λ c.
-    let start = c .before .before .before .before .before .before .before in
-    let r = head-ready (first _ _ (message-ready (start .pre))) in
-    omega (arith, start .good .1 .0 .1))
-    (λ c.
-    let start = c .before .before .before .before .before .before .before .before in
-    let r = head-ready (first _ _ (message-ready (start .pre))) in
-    omega (arith, start .good .1 .0 .1))
+    (λ c. let start : tie.Start = search in omega (arith, inside (message-ready (start .pre))))
+    (λ c κs. let start : tie.Start = search in first _ _ (message-ready (start .pre)))
+    (λ c. let start : tie.Start = search in omega (arith, head-ready (first _ _ (message-ready (start .pre)))))
+    (λ c. let start : tie.Start = search in omega (arith, head-ready (first _ _ (message-ready (start .pre)))))
     (λ c κs.
-    let ink-head = c .before .before .before in
-    let start = ink-head .before .before .before .before .before in
+    let ink-head : tie.After-ink-head = search in
+    let start : tie.Start = search in
     first _ _ (moved (second (ink-head .ink-head .ensures) (message-ready (start .pre))) (omega arith) refl refl))
     (λ c κs.
-    let resources = c .before .before .before in
-    let ink-head = resources .before .before .before .before in
-    let start = ink-head .before .before .before .before .before in
+    let resources : tie.After-resources = search in
+    let ink-head : tie.After-ink-head = search in
+    let start : tie.Start = search in
     second (resources .resources .ensures)
     (moved (second (ink-head .ink-head .ensures) (message-ready (start .pre))) (omega arith) refl refl))
-    (λ c.
-    let ink-flagged = c .before .before .before .before in
-    let resources = ink-flagged .before .before .before .before in
-    let ink-head = resources .before .before .before .before in
-    let start = ink-head .before .before .before .before .before in
-    let r = reaches (message-ready (start .pre))
-    (pair-inked (ended (ink-head .ink-head .ensures) (omega arith) refl) (pair-inked (resources .resources .ensures) (ink-flagged .ink-flagged .ensures))) in
-    omega arith)
-    (λ c.
-    let ink-flagged = c .before .before .before .before in
-    let resources = ink-flagged .before .before .before .before in
-    let ink-head = resources .before .before .before .before in
-    let start = ink-head .before .before .before .before .before in
-    let r = reaches (message-ready (start .pre))
-    (pair-inked (ended (ink-head .ink-head .ensures) (omega arith) refl) (pair-inked (resources .resources .ensures) (ink-flagged .ink-flagged .ensures))) in
-    omega arith)
-    (λ c κs.
-    let ink-flagged = c .before .before .before .before in
-    let resources = ink-flagged .before .before .before .before in
-    let ink-head = resources .before .before .before .before in
-    let start = ink-head .before .before .before .before .before in
-    let r = reaches (message-ready (start .pre))
-    (pair-inked (ended (ink-head .ink-head .ensures) (omega arith) refl) (pair-inked (resources .resources .ensures) (ink-flagged .ink-flagged .ensures))) in
-    omega arith)
+    (λ c. let start : tie.Start = search in omega (arith, reaches (message-ready (start .pre)) (fields (search))))
+    (λ c. let start : tie.Start = search in omega (arith, reaches (message-ready (start .pre)) (fields (search))))
+    (λ c κs. let start : tie.Start = search in omega (arith, reaches (message-ready (start .pre)) (fields (search))))
     (λ c. search needs)
-    (λ c.
-    let number = c .before .before in
-    let ink-flagged = number .before .before .before .before .before in
-    let resources = ink-flagged .before .before .before .before in
-    let ink-head = resources .before .before .before .before in
-    message-inked
-    (pair-inked (ended (ink-head .ink-head .ensures) (omega arith) refl) (pair-inked (resources .resources .ensures) (ink-flagged .ink-flagged .ensures)))
-    (number .number .ensures)))
+    (λ c. let number : tie.After-number = search in message-inked (fields (search)) (number .number .ensures)))

@@ -14,52 +14,23 @@ unfolding stream streamFields
 ink-stream-spec =
     tie.close
     (tie.spec
-    (λ c. let start = c .before .before .before .before in let r = stream-ready (start .pre) in omega (arith, start .good .1 .0 .1))
-    (λ c. let start = c .before .before .before .before .before in let r = stream-ready (start .pre) in omega (arith, start .good .1 .0 .1))
-    (λ c κs. let start = c .before .before .before .before .before in let r = stream-ready (start .pre) in omega (arith, start .good .1 .0 .1))
-    (λ c.
-    let start = c .before .before .before .before .before .before .before .before .before in
-    let r = stream-ready (start .pre) in
-    omega (arith, start .good .1 .0 .1))
-    (λ c.
-    let start = c .before .before .before .before .before .before .before .before .before in
-    let r = stream-ready (start .pre) in
-    omega (arith, start .good .1 .0 .1))
-    (λ c.
-    let start = c .before .before .before .before .before .before .before .before .before in
-    let r = stream-ready (start .pre) in
-    omega (arith, start .good .1 .0 .1))
-    (λ c.
-    let start = c .before .before .before .before .before .before .before .before .before .before in
-    let r = stream-ready (start .pre) in
-    omega (arith, start .good .1 .0 .1))
-    (λ c.
-    let start = c .before .before .before .before .before .before .before .before .before .before in
-    let r = stream-ready (start .pre) in
-    omega (arith, start .good .1 .0 .1))
-    (λ c κs.
-    let start = c .before .before .before .before .before .before .before .before .before .before in
-    let r = stream-ready (start .pre) in
-    omega (arith, start .good .1 .0 .1))
-    (λ c.
-    let earlier = c .before .before .before .before .before .before .before .before .before .before in
-    let start = earlier .before .before .before in
-    let r = stream-ready (start .pre) in
-    omega (arith, start .good .1 .0 .1))
-    (λ c.
-    let earlier = c .before .before .before .before .before .before .before .before .before .before in
-    let start = earlier .before .before .before .before in
-    let r = stream-ready (start .pre) in
-    omega (arith, start .good .1 .0 .1))
-    (λ c κs.
-    let earlier = c .before .before .before .before .before .before .before .before .before .before in
-    let start = earlier .before .before .before .before in
-    moved (stream-ready (start .pre) .4) refl refl (search needs))
+    (λ c. let start : tie.Start = search in omega (arith, stream-ready (start .pre)))
+    (λ c. let start : tie.Start = search in omega (arith, stream-ready (start .pre)))
+    (λ c κs. let start : tie.Start = search in omega (arith, stream-ready (start .pre)))
+    (λ c. let start : tie.Start = search in omega (arith, stream-ready (start .pre)))
+    (λ c. let start : tie.Start = search in omega (arith, stream-ready (start .pre)))
+    (λ c. let start : tie.Start = search in omega (arith, stream-ready (start .pre)))
+    (λ c. let start : tie.Start = search in omega (arith, stream-ready (start .pre)))
+    (λ c. let start : tie.Start = search in omega (arith, stream-ready (start .pre)))
+    (λ c κs. let start : tie.Start = search in omega (arith, stream-ready (start .pre)))
+    (λ c. let start : tie.Start = search in omega (arith, stream-ready (start .pre)))
+    (λ c. let start : tie.Start = search in omega (arith, stream-ready (start .pre)))
+    (λ c κs. let start : tie.Start = search in moved (stream-ready (start .pre) .4) refl refl (search needs))
     (λ c. search needs)
     (λ c.
-    let ink-descriptors = c .before .before in
-    let number2 = ink-descriptors .before .before .before .before in
-    let number = number2 .before .before .before .before .before in
+    let ink-descriptors : tie.After-ink-descriptors = search in
+    let number2 : tie.After-number2 = search in
+    let number : tie.After-number = search in
     view-inked (pair-inked (numeral-inked (a-number 1) (number .number .ensures) refl refl)
     (pair-inked (numeral-inked (after-bits 3 1) (number2 .number2 .ensures) (omega arith) (omega arith)) (ink-descriptors .ink-descriptors .ensures)))
     _ _ (λ a. refl)))

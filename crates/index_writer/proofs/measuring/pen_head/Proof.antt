@@ -17,9 +17,9 @@ pen-head-spec =
     (λ c κs. search needs)
     (λ c κs. search needs)
     (λ c.
-    let end = c .before .before in
+    let end : tie.After-pen-end = search in
     let begin = end .before in
     let network = begin .before in
-    let start = network .before .before .before .before in
+    let start : tie.Start = search in
     let pool = start .args .pool .now in
     simp pair-pen (cc (network .pen-number .ensures pool, begin .pen-time .ensures pool, end .pen-end .ensures pool, c .pen-nibbles .ensures pool))))
