@@ -13,20 +13,20 @@ unfolding certificate fields
 ink-certificate-spec =
     tie.close
     (tie.spec
-    (λ c κs. let start = c .before .before .before .before in first _ _ (view-ready named unnamed (exact-ready LeftOver (start .pre)) (λ a. refl)))
+    (λ c κs. let start : tie.Start = search in first _ _ (view-ready named unnamed (exact-ready LeftOver (start .pre)) (λ a. refl)))
     (λ c κs.
-    let ink-list = c .before .before .before in
-    let start = ink-list .before .before .before .before .before in
+    let ink-list : tie.After-ink-list = search in
+    let start : tie.Start = search in
     first _ _ (second (ink-list .ink-list .ensures) (view-ready named unnamed (exact-ready LeftOver (start .pre)) (λ a. refl))))
     (λ c κs.
-    let ink-list2 = c .before .before .before in
-    let ink-list = ink-list2 .before .before .before .before in
-    let start = ink-list .before .before .before .before .before in
+    let ink-list2 : tie.After-ink-list2 = search in
+    let ink-list : tie.After-ink-list = search in
+    let start : tie.Start = search in
     second (ink-list2 .ink-list2 .ensures) (second (ink-list .ink-list .ensures) (view-ready named unnamed (exact-ready LeftOver (start .pre)) (λ a. refl))))
     (λ c. search needs)
     (λ c.
-    let part = c .before .before in
-    let ink-list2 = part .before .before .before .before in
-    let ink-list = ink-list2 .before .before .before .before in
+    let part : tie.After-part = search in
+    let ink-list2 : tie.After-ink-list2 = search in
+    let ink-list : tie.After-ink-list = search in
     whole (exact-inked (view-inked
     (pair-inked (ink-list .ink-list .ensures) (pair-inked (ink-list2 .ink-list2 .ensures) (part .part .ensures))) named unnamed (λ a. refl)) LeftOver)))

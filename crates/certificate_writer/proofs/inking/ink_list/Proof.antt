@@ -24,39 +24,24 @@ ink-list-spec =
     (tie.spec
     Inv-loop
     μ-loop
-    (λ c. let start = c .before .before .before in let r = numeral-ready (a-count 1) (list-count (a-count 1) _ (start .pre)) in omega arith)
-    (λ c. let start = c .before .before .before .before in let r = numeral-ready (a-count 1) (list-count (a-count 1) _ (start .pre)) in omega arith)
-    (λ c κs.
-    let start = c .before .before .before .before .before in
-    let r = numeral-ready (a-count 1) (list-count (a-count 1) _ (start .pre)) in
-    omega arith)
+    (λ c. let start : tie.Start Inv-loop μ-loop = search in omega (arith, numeral-ready (a-count 1) (list-count (a-count 1) _ (start .pre))))
+    (λ c. let start : tie.Start Inv-loop μ-loop = search in omega (arith, numeral-ready (a-count 1) (list-count (a-count 1) _ (start .pre))))
+    (λ c κs. let start : tie.Start Inv-loop μ-loop = search in omega (arith, numeral-ready (a-count 1) (list-count (a-count 1) _ (start .pre))))
+    (λ c. let start : tie.Start Inv-loop μ-loop = search in omega (arith, numeral-ready (a-count 1) (list-count (a-count 1) _ (start .pre))))
+    (λ c. let start : tie.Start Inv-loop μ-loop = search in omega (arith, numeral-ready (a-count 1) (list-count (a-count 1) _ (start .pre))))
     (λ c.
-    let start = c .before .before .before .before .before .before .before .before in
-    let r = numeral-ready (a-count 1) (list-count (a-count 1) _ (start .pre)) in
-    omega arith)
-    (λ c.
-    let start = c .before .before .before .before .before .before .before .before in
-    let r = numeral-ready (a-count 1) (list-count (a-count 1) _ (start .pre)) in
-    omega arith)
-    (λ c.
-    let start = c .before .before .before .before .before .before .before .before in
+    let start : tie.Start Inv-loop μ-loop = search in
     (refl, times-start (moved (list-ready (a-count 1) _ (start .pre)) refl refl (search needs))))
-    (λ c κs. let loop-test = c .before in let loop = loop-test .before in times-next (loop .loop .inv .1) (loop-test .loop-test .taken))
-    (λ c.
-    let loop-test = c .before .before .before .before in
-    let loop = loop-test .before in
-    let start = loop .before .before .before .before .before .before .before .before .before in
-    let r = part-ready _ (times-next (loop .loop .inv .1) (loop-test .loop-test .taken)) in
-    omega (arith, start .good .1 .0 .1))
+    (λ c κs. let turn = c .before in times-next (turn .before .loop .inv .1) (turn .loop-test .taken))
+    (λ c. let turn : tie.In-loop Inv-loop μ-loop = search in omega (arith, part-ready _ (times-next (turn .before .loop .inv .1) (turn .loop-test .taken))))
     (λ c. search needs)
     (λ c. search needs)
     (λ c.
-    let part = c .before .before in
-    let loop-test = part .before .before in
-    let loop = loop-test .before in
-    (search needs, times-turn (loop .loop .inv .1) (loop-test .loop-test .taken) (part .part .ensures)))
+    let part : tie.After-part Inv-loop μ-loop = search in
+    let turn : tie.In-loop Inv-loop μ-loop = search in
+    (search needs, times-turn (turn .before .loop .inv .1) (turn .loop-test .taken) (part .part .ensures)))
     (λ c. search needs)
     (λ c.
     let loop = c .before in
-    let number = loop .before .before .before in
+    let number : tie.After-number Inv-loop μ-loop = search in
     list-inked (a-count 1) _ (numeral-inked (a-count 1) (number .number .ensures) refl refl) (times-done (loop .loop .inv .1) (omega arith))))
