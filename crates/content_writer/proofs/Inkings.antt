@@ -1,4 +1,5 @@
 -- What is ready of each thing in a content table: its entries, its bytes, and what comes after its fixed fields.
+use Rattle.body_ink.proofs.Lists.{list-count}
 use Prim.Native.Nat.{ℕ, _+_, _-_, _≤_, _<_}
 use mathlib.Core.Path.{_≡_, refl}
 use mathlib.Core.List.{List}
@@ -7,17 +8,17 @@ use lib.ListN.{length, getD}
 use Rattle.ground_numbers.specs.Sizes.{bodyMost}
 use Rattle.ground_placing.specs.Placed.{placed}
 use Rattle.ground_refusal.specs.declared.Refusal.the-variants.{PastPart}
-use Rattle.body_formats.specs.Format.{_▷_, among, reserved, opaque, bytesOf, lengthOf}
+use Rattle.body_formats.specs.Format.{_▷_, among, reserved, opaque, bytesOf, lengthOf, Format, listOf}
 use Rattle.body_ink.specs.Inked.{Ready, Inked}
 use Rattle.body_ink.proofs.Pairs.{moved, first, view-ready, view-inked, exact-ready, exact-inked, only-ready, only-fixed, after-fixed}
-use Rattle.body_ink.proofs.Numbers.{Numeral, a-number, of-a-set, after-bits, reserved-below, numeral-ready, after-number}
-use Rattle.body_ink.proofs.Strings.{part-ready, bytes-ready, bytes-fixed}
+use Rattle.body_ink.proofs.Numbers.{Numeral, of-a-set, after-bits, reserved-below, numeral-ready, after-number}
+use Rattle.body_ink.proofs.Strings.{tagged-ready, bytes-ready, bytes-fixed}
 use Rattle.body_ink.proofs.Lengths.{counted-ready, counted-inked, lengthOf-prints}
 use Rattle.content.specs.Content.{auxiliary, auxiliaries, languageFields, language}
 
 pub auxiliary-entries : (w : ℕ) {pool tape : List ℕ} {at k room : ℕ} → Ready (auxiliary w) pool tape at k room → k + 3 ≤ length tape
 unfolding auxiliary
-auxiliary-entries w g = let r = part-ready w (after-number (a-number 1) _ (view-ready _ _ g (λ a. refl))) in omega arith
+auxiliary-entries w g = tagged-ready w _ _ g (λ a. refl) .0
 
 -- ---- numbers in one byte, after reserved bits
 
@@ -32,6 +33,14 @@ languages-count = of-a-set (after-bits 4 0) _
 -- "5 reserved, character set 3 bits (0 to 4)"
 pub character-set : Numeral 1 (λ v. 0xF8 + v) (among 0 4 (reserved 5 0))
 character-set = of-a-set (after-bits 5 0) _
+
+-- a count of 4 bits, from lo to hi, in front of a list: its entry, its byte, and that it has 4 bits
+pub count-ready : (lo hi : ℕ) {A : Type 0} (F : Format A) {pool tape : List ℕ} {at k room : ℕ}
+    → Ready (listOf (among lo hi (reserved 4 0)) F) pool tape at k room → (k < length tape) × (at + 1 ≤ room) × (at + 1 ≤ bodyMost) × (getD tape k 0 < 16)
+count-ready lo hi F g =
+    let count = list-count (of-a-set (after-bits 4 0) _) F g in
+    let r = numeral-ready (of-a-set (after-bits 4 0) _) count in
+    (r .0, r .1, r .2, reserved-below 4 0 (only-ready _ count))
 
 -- ---- a language
 

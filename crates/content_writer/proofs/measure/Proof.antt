@@ -16,4 +16,6 @@ measure-spec =
     (λ c. search needs)
     (λ c κs. omega (arith, width-most _ _ (sym (c .before .w .given .1) ∙ c .before .before .before .width-of .ensures)))
     (λ c. measured-no _ _ (sym (c .before .r .given .1) ∙ c .before .before .before .width-of .ensures) _ _)
-    (λ c. c .measure-wide .ensures ∙ measured-wide _ _ (sym (c .before .before .w .given .1) ∙ c .before .before .before .before .width-of .ensures) _ _))
+    (λ c.
+    let asked : tie.After-width-of = search in
+    c .measure-wide .ensures ∙ measured-wide _ _ (sym (c .before .before .w .given .1) ∙ asked .width-of .ensures) _ _))

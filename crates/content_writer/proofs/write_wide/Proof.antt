@@ -17,17 +17,17 @@ write-wide-spec =
     (λ c. search needs)
     (λ c. search needs)
     (λ c κs.
-    let size = c .before .before in
-    let start = size .before .before .before .before .before .before .before in
+    let size : tie.After-size = search in
+    let start : tie.Start = search in
     write-ready _ _ _ (now (start .args .out)) (size .size .given .0 .0) (cc))
     (λ c.
-    let ink-content = c .before .before in
-    let size = ink-content .before .before .before in
+    let ink-content : tie.After-ink-content = search in
+    let size : tie.After-size = search in
     let w = write-inked _ _ _ _ (size .size .given .0 .0) (cc) (ink-content .ink-content .ensures) in
     omega (arith, identifier-fits _ _ _ _ _ (w .0) _ (w .1)))
     (λ c.
-    let ink-content = c .before .before .before in
-    let size = ink-content .before .before .before in
+    let ink-content : tie.After-ink-content = search in
+    let size : tie.After-size = search in
     let w = write-inked _ _ _ _ (size .size .given .0 .0) (cc) (ink-content .ink-content .ensures) in
     first-there _ _ _ _ _ (w .0) _ (w .1) _ (omega arith))
     (λ c κs. search needs)
@@ -35,7 +35,7 @@ write-wide-spec =
     (λ c. refused-kept _ _ _ _ _ (cc))
     (λ c. search needs)
     (λ c.
-    let ink-content = c .before .before .before .before in
-    let size = ink-content .before .before .before in
+    let ink-content : tie.After-ink-content = search in
+    let size : tie.After-size = search in
     let w = write-inked _ _ _ _ (size .size .given .0 .0) (cc) (ink-content .ink-content .ensures) in
     (with-extension _ _ _ _ _ (w .0) _ (w .1) _ (c .crc16-after-four .ensures), w .1)))

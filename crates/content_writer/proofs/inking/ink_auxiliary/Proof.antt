@@ -2,9 +2,8 @@
 use mathlib.Core.Path.{refl}
 use native.Mathlib.Omega.{arith}
 use borrow.Author.Needs.{needs}
-use Rattle.body_ink.proofs.Pairs.{moved, ended, first, view-ready, view-inked, pair-inked}
-use Rattle.body_ink.proofs.Numbers.{a-number, numeral-ready, numeral-inked, after-number}
-use Rattle.body_ink.proofs.Strings.{part-ready}
+use Rattle.body_ink.proofs.Pairs.{moved, ended}
+use Rattle.body_ink.proofs.Strings.{tagged-ready, tagged-inked}
 use Rattle.content.specs.Content.{auxiliary}
 use Rattle.content_writer.proofs.inking.ink_auxiliary.Statement.{statement}
 use Rattle.content_writer.proofs.inking.ink_auxiliary.Tie as tie
@@ -14,32 +13,14 @@ unfolding auxiliary
 ink-auxiliary-spec =
     tie.close
     (tie.spec
-    (λ c.
-    let start = c .before .before .before .before in
-    let r = numeral-ready (a-number 1) (first _ _ (view-ready _ _ (start .pre) (λ a. refl))) in
-    omega arith)
-    (λ c.
-    let start = c .before .before .before .before .before in
-    let r = numeral-ready (a-number 1) (first _ _ (view-ready _ _ (start .pre) (λ a. refl))) in
-    omega arith)
-    (λ c κs.
-    let start = c .before .before .before .before .before in
-    let r = numeral-ready (a-number 1) (first _ _ (view-ready _ _ (start .pre) (λ a. refl))) in
-    omega arith)
-    (λ c.
-    let start = c .before .before .before .before .before .before .before .before in
-    let r = part-ready _ (after-number (a-number 1) _ (view-ready _ _ (start .pre) (λ a. refl))) in
-    omega (arith, start .good .1 .0 .1))
-    (λ c.
-    let start = c .before .before .before .before .before .before .before .before .before in
-    let r = part-ready _ (after-number (a-number 1) _ (view-ready _ _ (start .pre) (λ a. refl))) in
-    omega (arith, start .good .1 .0 .1))
-    (λ c κs.
-    let start = c .before .before .before .before .before .before .before .before .before in
-    moved (after-number (a-number 1) _ (view-ready _ _ (start .pre) (λ a. refl))) refl refl (search needs))
+    (λ c. let start : tie.Start = search in omega (arith, tagged-ready _ _ _ (start .pre) (λ a. refl)))
+    (λ c. let start : tie.Start = search in omega (arith, tagged-ready _ _ _ (start .pre) (λ a. refl)))
+    (λ c κs. let start : tie.Start = search in omega (arith, tagged-ready _ _ _ (start .pre) (λ a. refl)))
+    (λ c. let start : tie.Start = search in omega (arith, tagged-ready _ _ _ (start .pre) (λ a. refl)))
+    (λ c. let start : tie.Start = search in omega (arith, tagged-ready _ _ _ (start .pre) (λ a. refl)))
+    (λ c κs. let start : tie.Start = search in moved (tagged-ready _ _ _ (start .pre) (λ a. refl) .3) refl refl (search needs))
     (λ c. search needs)
     (λ c.
-    let part = c .before .before in
-    let number = part .before .before .before .before in
-    view-inked
-    (pair-inked (numeral-inked (a-number 1) (number .number .ensures) refl refl) (ended (part .part .ensures) refl (omega arith))) _ _ (λ a. refl)))
+    let part : tie.After-part = search in
+    let number : tie.After-number = search in
+    tagged-inked _ _ _ (number .number .ensures) (ended (part .part .ensures) refl (omega arith)) (λ a. refl)))

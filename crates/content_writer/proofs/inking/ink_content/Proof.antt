@@ -14,24 +14,22 @@ unfolding content fields identifier
 ink-content-spec =
     tie.close
     (tie.spec
+    (λ c κs. let start : tie.Start = search in only-ready unrealDay (first _ _ (view-ready _ _ (exact-ready LeftOver (start .pre)) (λ a. refl))))
     (λ c κs.
-    let start = c .before .before .before .before in
-    only-ready unrealDay (first _ _ (view-ready _ _ (exact-ready LeftOver (start .pre)) (λ a. refl))))
-    (λ c κs.
-    let digits = c .before .before .before in
-    let start = digits .before .before .before .before .before in
+    let digits : tie.After-digits = search in
+    let start : tie.Start = search in
     first _ _ (second (only-inked (digits .digits .ensures) unrealDay) (view-ready _ _ (exact-ready LeftOver (start .pre)) (λ a. refl))))
     (λ c κs.
-    let ink-languages = c .before .before .before in
-    let digits = ink-languages .before .before .before .before in
-    let start = digits .before .before .before .before .before in
+    let ink-languages : tie.After-ink-languages = search in
+    let digits : tie.After-digits = search in
+    let start : tie.Start = search in
     second (ink-languages .ink-languages .ensures)
     (second (only-inked (digits .digits .ensures) unrealDay) (view-ready _ _ (exact-ready LeftOver (start .pre)) (λ a. refl))))
     (λ c. search needs)
     (λ c.
-    let part = c .before .before in
-    let ink-languages = part .before .before .before .before in
-    let digits = ink-languages .before .before .before .before in
+    let part : tie.After-part = search in
+    let ink-languages : tie.After-ink-languages = search in
+    let digits : tie.After-digits = search in
     whole (exact-inked (view-inked
     (pair-inked (only-inked (digits .digits .ensures) unrealDay)
     (pair-inked (ink-languages .ink-languages .ensures) (part .part .ensures))) _ _ (λ a. refl)) LeftOver)))

@@ -15,51 +15,22 @@ unfolding languageFields
 ink-language-fields-spec =
     tie.close
     (tie.spec
-    (λ c. let start = c .before .before .before in let r = fields-ready _ (start .pre) in omega (arith, start .good .1 .0 .1))
-    (λ c. let start = c .before .before .before .before in let r = fields-ready _ (start .pre) in omega (arith, start .good .1 .0 .1))
-    (λ c κs. let start = c .before .before .before .before .before in let r = fields-ready _ (start .pre) in (omega arith, omega arith))
-    (λ c.
-    let start = c .before .before .before .before .before .before .before .before .before in
-    let r = fields-ready _ (start .pre) in
-    omega (arith, start .good .1 .0 .1))
-    (λ c.
-    let start = c .before .before .before .before .before .before .before .before .before in
-    let r = fields-ready _ (start .pre) in
-    omega (arith, start .good .1 .0 .1))
-    (λ c.
-    let start = c .before .before .before .before .before .before .before .before .before in
-    let r = fields-ready _ (start .pre) in
-    omega (arith, start .good .1 .0 .1))
-    (λ c.
-    let start = c .before .before .before .before .before .before .before .before .before .before in
-    let r = fields-ready _ (start .pre) in
-    omega (arith, start .good .1 .0 .1))
-    (λ c.
-    let start = c .before .before .before .before .before .before .before .before .before .before in
-    let r = fields-ready _ (start .pre) in
-    omega (arith, start .good .1 .0 .1))
-    (λ c κs.
-    let start = c .before .before .before .before .before .before .before .before .before .before in
-    let r = fields-ready _ (start .pre) in
-    omega (arith, start .good .1 .0 .1))
-    (λ c.
-    let earlier = c .before .before .before .before .before .before .before .before .before .before in
-    let start = earlier .before .before .before in
-    let r = fields-ready _ (start .pre) in
-    omega (arith, start .good .1 .0 .1))
-    (λ c.
-    let earlier = c .before .before .before .before .before .before .before .before .before .before in
-    let start = earlier .before .before .before .before in
-    let r = fields-ready _ (start .pre) in
-    omega (arith, start .good .1 .0 .1))
-    (λ c κs.
-    let earlier = c .before .before .before .before .before .before .before .before .before .before in
-    let start = earlier .before .before .before .before in
-    moved (fields-ready _ (start .pre) .5) refl refl (search needs))
+    (λ c. let start : tie.Start = search in omega (arith, fields-ready _ (start .pre)))
+    (λ c. let start : tie.Start = search in omega (arith, fields-ready _ (start .pre)))
+    (λ c κs. let start : tie.Start = search in let r = fields-ready _ (start .pre) in (omega arith, omega arith))
+    (λ c. let start : tie.Start = search in omega (arith, fields-ready _ (start .pre)))
+    (λ c. let start : tie.Start = search in omega (arith, fields-ready _ (start .pre)))
+    (λ c. let start : tie.Start = search in omega (arith, fields-ready _ (start .pre)))
+    (λ c. let start : tie.Start = search in omega (arith, fields-ready _ (start .pre)))
+    (λ c. let start : tie.Start = search in omega (arith, fields-ready _ (start .pre)))
+    (λ c κs. let start : tie.Start = search in omega (arith, fields-ready _ (start .pre)))
+    (λ c. let start : tie.Start = search in omega (arith, fields-ready _ (start .pre)))
+    (λ c. let start : tie.Start = search in omega (arith, fields-ready _ (start .pre)))
+    (λ c κs. let start : tie.Start = search in moved (fields-ready _ (start .pre) .5) refl refl (search needs))
     (λ c. search needs)
     (λ c.
-    let ink-language-parts = c .before .before in
-    let number = ink-language-parts .before .before .before .before in
-    let copy = number .before .before .before .before .before in
+    let ink-language-parts : tie.After-ink-language-parts = search in
+    let number : tie.After-number = search in
+    let copy : tie.After-copy = search in
     pair-inked (only-inked (bytes-inked 3 (copy .copy .ensures) (omega arith) (omega arith)) _)
     (pair-inked (numeral-inked character-set (number .number .ensures) (omega arith) (omega arith)) (ink-language-parts .ink-language-parts .ensures))))

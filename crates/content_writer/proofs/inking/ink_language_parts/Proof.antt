@@ -11,28 +11,21 @@ pub ink-language-parts-spec : {M : Type 1} → statement M
 ink-language-parts-spec =
     tie.close
     (tie.spec
-    (λ c κs. let start = c .before .before .before .before in first _ _ (start .pre))
+    (λ c κs. let start : tie.Start = search in first _ _ (start .pre))
+    (λ c. let start : tie.Start = search in omega (arith, part-ready 2 (first _ _ (start .pre))))
+    (λ c κs. let part : tie.After-part = search in let start : tie.Start = search in first _ _ (second (part .part .ensures) (start .pre)))
     (λ c.
-    let start = c .before .before .before .before .before .before .before in
-    let r = part-ready 2 (first _ _ (start .pre)) in
-    omega (arith, start .good .1 .0 .1))
+    let part : tie.After-part = search in
+    let start : tie.Start = search in
+    omega (arith, part-ready 1 (first _ _ (second (part .part .ensures) (start .pre)))))
     (λ c κs.
-    let part = c .before .before .before in
-    let start = part .before .before .before .before .before in
-    first _ _ (second (part .part .ensures) (start .pre)))
-    (λ c.
-    let part = c .before .before .before .before .before .before in
-    let start = part .before .before .before .before .before in
-    let r = part-ready 1 (first _ _ (second (part .part .ensures) (start .pre))) in
-    omega (arith, start .good .1 .0 .1))
-    (λ c κs.
-    let part2 = c .before .before .before in
-    let part = part2 .before .before .before .before in
-    let start = part .before .before .before .before .before in
+    let part2 : tie.After-part2 = search in
+    let part : tie.After-part = search in
+    let start : tie.Start = search in
     moved (second (part2 .part2 .ensures) (second (part .part .ensures) (start .pre))) refl (omega arith) refl)
     (λ c. search needs)
     (λ c.
-    let ink-auxiliaries = c .before .before in
-    let part2 = ink-auxiliaries .before .before .before .before in
-    let part = part2 .before .before .before .before in
+    let ink-auxiliaries : tie.After-ink-auxiliaries = search in
+    let part2 : tie.After-part2 = search in
+    let part : tie.After-part = search in
     pair-inked (part .part .ensures) (pair-inked (ended (part2 .part2 .ensures) refl (omega arith)) (ink-auxiliaries .ink-auxiliaries .ensures))))

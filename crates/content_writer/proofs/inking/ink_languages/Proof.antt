@@ -3,11 +3,11 @@ use mathlib.Core.Path.{_≡_, refl}
 use lib.ListN.{length}
 use native.Mathlib.Omega.{arith}
 use borrow.Author.Needs.{needs}
-use Rattle.body_ink.proofs.Pairs.{moved, only-ready}
-use Rattle.body_ink.proofs.Numbers.{reserved-below, numeral-ready, numeral-inked}
-use Rattle.body_ink.proofs.Lists.{Underway, list-count, list-ready, list-inked, times-start, times-next, times-turn, times-done}
+use Rattle.body_ink.proofs.Pairs.{moved}
+use Rattle.body_ink.proofs.Numbers.{numeral-inked}
+use Rattle.body_ink.proofs.Lists.{Underway, list-ready, list-inked, times-start, times-next, times-turn, times-done}
 use Rattle.content.specs.Content.{language}
-use Rattle.content_writer.proofs.Inkings.{languages-count}
+use Rattle.content_writer.proofs.Inkings.{languages-count, count-ready}
 use Rattle.content_writer.proofs.inking.ink_languages.Statement.{statement}
 use Rattle.content_writer.proofs.inking.ink_languages.Tie as tie
 
@@ -24,49 +24,24 @@ ink-languages-spec =
     (tie.spec
     Inv-loop
     μ-loop
+    (λ c. let start : tie.Start Inv-loop μ-loop = search in omega (arith, count-ready 1 5 _ (start .pre)))
+    (λ c. let start : tie.Start Inv-loop μ-loop = search in omega (arith, count-ready 1 5 _ (start .pre)))
+    (λ c. let start : tie.Start Inv-loop μ-loop = search in omega (arith, count-ready 1 5 _ (start .pre)))
+    (λ c κs. let start : tie.Start Inv-loop μ-loop = search in omega (arith, count-ready 1 5 _ (start .pre)))
+    (λ c. let start : tie.Start Inv-loop μ-loop = search in omega (arith, count-ready 1 5 _ (start .pre)))
+    (λ c. let start : tie.Start Inv-loop μ-loop = search in omega (arith, count-ready 1 5 _ (start .pre)))
     (λ c.
-    let start = c .before .before .before in
-    let g = list-count languages-count _ (start .pre) in
-    let r = numeral-ready languages-count g in
-    omega (arith, reserved-below 4 0 (only-ready _ g), start .good .1 .0 .1))
-    (λ c.
-    let start = c .before .before .before .before in
-    let g = list-count languages-count _ (start .pre) in
-    let r = numeral-ready languages-count g in
-    omega (arith, reserved-below 4 0 (only-ready _ g), start .good .1 .0 .1))
-    (λ c.
-    let start = c .before .before .before .before .before in
-    let g = list-count languages-count _ (start .pre) in
-    let r = numeral-ready languages-count g in
-    omega (arith, reserved-below 4 0 (only-ready _ g), start .good .1 .0 .1))
-    (λ c κs.
-    let start = c .before .before .before .before .before in
-    let g = list-count languages-count _ (start .pre) in
-    let r = numeral-ready languages-count g in
-    omega (arith, reserved-below 4 0 (only-ready _ g), start .good .1 .0 .1))
-    (λ c.
-    let start = c .before .before .before .before .before .before .before .before in
-    let g = list-count languages-count _ (start .pre) in
-    let r = numeral-ready languages-count g in
-    omega (arith, reserved-below 4 0 (only-ready _ g), start .good .1 .0 .1))
-    (λ c.
-    let start = c .before .before .before .before .before .before .before .before in
-    let g = list-count languages-count _ (start .pre) in
-    let r = numeral-ready languages-count g in
-    omega (arith, reserved-below 4 0 (only-ready _ g), start .good .1 .0 .1))
-    (λ c.
-    let start = c .before .before .before .before .before .before .before .before in
+    let start : tie.Start Inv-loop μ-loop = search in
     (refl, times-start (moved (list-ready languages-count _ (start .pre)) refl refl (search needs))))
-    (λ c κs. let loop-test = c .before in let loop = loop-test .before in times-next (loop .loop .inv .1) (loop-test .loop-test .taken))
+    (λ c κs. let turn = c .before in times-next (turn .before .loop .inv .1) (turn .loop-test .taken))
     (λ c. search needs)
     (λ c. search needs)
     (λ c.
-    let ink-language = c .before .before in
-    let loop-test = ink-language .before .before in
-    let loop = loop-test .before in
-    (search needs, times-turn (loop .loop .inv .1) (loop-test .loop-test .taken) (ink-language .ink-language .ensures)))
+    let ink-language : tie.After-ink-language Inv-loop μ-loop = search in
+    let turn : tie.In-loop Inv-loop μ-loop = search in
+    (search needs, times-turn (turn .before .loop .inv .1) (turn .loop-test .taken) (ink-language .ink-language .ensures)))
     (λ c. search needs)
     (λ c.
     let loop = c .before in
-    let number = loop .before .before .before in
+    let number : tie.After-number Inv-loop μ-loop = search in
     list-inked languages-count _ (numeral-inked languages-count (number .number .ensures) refl refl) (times-done (loop .loop .inv .1) (omega arith))))

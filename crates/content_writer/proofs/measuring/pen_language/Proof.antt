@@ -19,6 +19,6 @@ pen-language-spec =
     (λ c κs. search needs)
     (λ c κs. search needs)
     (λ c.
-    let set = c .before .before .before .before in
-    let start = set .before .before .before .before .before in
+    let set : tie.After-pen-reserved-among = search in
+    let start : tie.Start = search in
     rw length-pen (simp (exact-pen, view-pen, pair-pen) (cc (set .pen-reserved-among .ensures (start .args .pool .now) .past)))))
