@@ -15,9 +15,9 @@ write-spec =
     (λ c. search needs)
     (λ c. search needs)
     (λ c κs.
-    let size = c .before .before in
-    let start = size .before .before .before .before .before .before .before in
+    let size : tie.After-size = search in
+    let start : tie.Start = search in
     write-ready _ _ _ (now (start .args .out)) (size .size .given .0 .0) (cc))
     (λ c. write-refused _ _ _ _ _ (cc))
     (λ c. search needs)
-    (λ c. let ink-configuration = c .before .before in write-inked _ _ _ _ _ (cc) (ink-configuration .ink-configuration .ensures)))
+    (λ c. let ink-configuration : tie.After-ink-configuration = search in write-inked _ _ _ _ _ (cc) (ink-configuration .ink-configuration .ensures)))

@@ -11,43 +11,25 @@ pub ink-command-spec : {M : Type 1} → statement M
 ink-command-spec =
     tie.close
     (tie.spec
-    (λ c. let start = c .before .before .before in let r = command-ready (start .pre) in omega (arith, start .good .1 .0 .1))
-    (λ c. let start = c .before .before .before .before in let r = command-ready (start .pre) in omega (arith, start .good .1 .0 .1))
-    (λ c κs. let start = c .before .before .before .before .before in let r = command-ready (start .pre) in omega (arith, start .good .1 .0 .1))
+    (λ c. let start : tie.Start = search in omega (arith, command-ready (start .pre)))
+    (λ c. let start : tie.Start = search in omega (arith, command-ready (start .pre)))
+    (λ c κs. let start : tie.Start = search in omega (arith, command-ready (start .pre)))
+    (λ c. let start : tie.Start = search in omega (arith, command-ready (start .pre)))
+    (λ c. let start : tie.Start = search in omega (arith, command-ready (start .pre)))
+    (λ c κs. let start : tie.Start = search in moved (command-ready (start .pre) .3) refl refl (search needs))
+    (λ c. let start : tie.Start = search in omega (arith, command-ready (start .pre)))
     (λ c.
-    let start = c .before .before .before .before .before .before .before .before in
-    let r = command-ready (start .pre) in
-    omega (arith, start .good .1 .0 .1))
+    let ink-said : tie.After-ink-said = search in
+    let start : tie.Start = search in
+    omega (arith, reaches (moved (command-ready (start .pre) .3) refl refl (search needs)) (ink-said .ink-said .ensures)))
     (λ c.
-    let start = c .before .before .before .before .before .before .before .before .before in
-    let r = command-ready (start .pre) in
-    omega (arith, start .good .1 .0 .1))
-    (λ c κs.
-    let start = c .before .before .before .before .before .before .before .before .before in
-    moved (command-ready (start .pre) .3) refl refl (search needs))
-    (λ c.
-    let earlier = c .before .before .before .before .before .before .before .before .before .before in
-    let start = earlier .before .before .before in
-    let r = command-ready (start .pre) in
-    omega (arith, start .good .1 .0 .1))
-    (λ c.
-    let ink-said = c .before .before .before .before in
-    let start = ink-said .before .before .before .before .before .before .before .before .before .before in
-    let r = reaches (moved (command-ready (start .pre) .3) refl refl (search needs)) (ink-said .ink-said .ensures) in
-    omega arith)
-    (λ c.
-    let ink-said = c .before .before .before .before in
-    let start = ink-said .before .before .before .before .before .before .before .before .before .before in
-    let r = reaches (moved (command-ready (start .pre) .3) refl refl (search needs)) (ink-said .ink-said .ensures) in
-    omega arith)
-    (λ c κs.
-    let earlier = c .before .before .before .before .before .before .before .before .before .before in
-    let start = earlier .before .before .before .before in
-    let r = command-ready (start .pre) in
-    omega (arith, start .good .1 .0 .1))
+    let ink-said : tie.After-ink-said = search in
+    let start : tie.Start = search in
+    omega (arith, reaches (moved (command-ready (start .pre) .3) refl refl (search needs)) (ink-said .ink-said .ensures)))
+    (λ c κs. let start : tie.Start = search in omega (arith, command-ready (start .pre)))
     (λ c. search needs)
     (λ c.
-    let number2 = c .before .before in
-    let ink-said = number2 .before .before .before .before .before in
-    let number = ink-said .before .before .before .before in
+    let number2 : tie.After-number2 = search in
+    let ink-said : tie.After-ink-said = search in
+    let number : tie.After-number = search in
     command-inked (number .number .ensures) (ink-said .ink-said .ensures) (number2 .number2 .ensures)))

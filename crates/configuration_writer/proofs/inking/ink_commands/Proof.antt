@@ -23,27 +23,20 @@ ink-commands-spec =
     (tie.spec
     Inv-loop
     μ-loop
+    (λ c. let start : tie.Start Inv-loop μ-loop = search in omega (arith, numeral-ready (a-count 1) (list-count (a-count 1) command (start .pre))))
+    (λ c κs. let start : tie.Start Inv-loop μ-loop = search in omega (arith, numeral-ready (a-count 1) (list-count (a-count 1) command (start .pre))))
     (λ c.
-    let start = c .before .before .before .before in
-    let r = numeral-ready (a-count 1) (list-count (a-count 1) command (start .pre)) in
-    omega arith)
-    (λ c κs.
-    let start = c .before .before .before .before .before in
-    let r = numeral-ready (a-count 1) (list-count (a-count 1) command (start .pre)) in
-    omega arith)
-    (λ c.
-    let start = c .before .before .before .before .before .before .before .before in
+    let start : tie.Start Inv-loop μ-loop = search in
     (refl, times-start (moved (list-ready (a-count 1) command (start .pre)) refl refl (search needs))))
-    (λ c κs. let loop-test = c .before in let loop = loop-test .before in times-next (loop .loop .inv .1) (loop-test .loop-test .taken))
+    (λ c κs. let turn = c .before in times-next (turn .before .loop .inv .1) (turn .loop-test .taken))
     (λ c. search needs)
     (λ c. search needs)
     (λ c.
-    let ink-command = c .before .before in
-    let loop-test = ink-command .before .before in
-    let loop = loop-test .before in
-    (search needs, times-turn (loop .loop .inv .1) (loop-test .loop-test .taken) (ink-command .ink-command .ensures)))
+    let ink-command : tie.After-ink-command Inv-loop μ-loop = search in
+    let turn : tie.In-loop Inv-loop μ-loop = search in
+    (search needs, times-turn (turn .before .loop .inv .1) (turn .loop-test .taken) (ink-command .ink-command .ensures)))
     (λ c. search needs)
     (λ c.
     let loop = c .before in
-    let number = loop .before .before .before in
+    let number : tie.After-number Inv-loop μ-loop = search in
     list-inked (a-count 1) command (numeral-inked (a-count 1) (number .number .ensures) refl refl) (times-done (loop .loop .inv .1) (omega arith))))

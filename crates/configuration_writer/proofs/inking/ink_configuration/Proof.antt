@@ -13,13 +13,13 @@ unfolding configuration fields
 ink-configuration-spec =
     tie.close
     (tie.spec
-    (λ c κs. let start = c .before .before .before .before in first _ _ (view-ready _ _ (exact-ready LeftOver (start .pre)) (λ a. refl)))
+    (λ c κs. let start : tie.Start = search in first _ _ (view-ready _ _ (exact-ready LeftOver (start .pre)) (λ a. refl)))
     (λ c κs.
-    let ink-commands = c .before .before .before in
-    let start = ink-commands .before .before .before .before .before in
+    let ink-commands : tie.After-ink-commands = search in
+    let start : tie.Start = search in
     second (ink-commands .ink-commands .ensures) (view-ready _ _ (exact-ready LeftOver (start .pre)) (λ a. refl)))
     (λ c. search needs)
     (λ c.
-    let part = c .before .before in
-    let ink-commands = part .before .before .before .before in
+    let part : tie.After-part = search in
+    let ink-commands : tie.After-ink-commands = search in
     whole (exact-inked (view-inked (pair-inked (ink-commands .ink-commands .ensures) (part .part .ensures)) _ _ (λ a. refl)) LeftOver)))

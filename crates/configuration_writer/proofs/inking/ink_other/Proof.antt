@@ -12,19 +12,13 @@ unfolding said
 ink-other-spec =
     tie.close
     (tie.spec
-    (λ c. let start = c .before .before .before in let r = rest-ready (start .pre) in omega (arith, start .good .1 .0 .1))
-    (λ c. let start = c .before .before .before in let r = rest-ready (start .pre) in omega (arith, start .good .1 .0 .1))
-    (λ c. let start = c .before .before .before .before in let r = rest-ready (start .pre) in omega (arith, start .good .1 .0 .1))
-    (λ c. let start = c .before .before .before .before in let r = rest-ready (start .pre) in omega (arith, start .good .1 .0 .1))
-    (λ c. let start = c .before .before .before .before .before in let r = rest-ready (start .pre) in omega (arith, start .good .1 .0 .1))
-    (λ c κs. let start = c .before .before .before .before .before .before in let r = rest-ready (start .pre) in (omega arith, omega arith))
-    (λ c.
-    let start = c .before .before .before .before .before .before .before .before .before in
-    let r = rest-ready (start .pre) in
-    omega (arith, start .good .1 .0 .1))
-    (λ c.
-    let start = c .before .before .before .before .before .before .before .before .before in
-    let r = rest-ready (start .pre) in
-    omega (arith, start .good .1 .0 .1))
+    (λ c. let start : tie.Start = search in omega (arith, rest-ready (start .pre)))
+    (λ c. let start : tie.Start = search in omega (arith, rest-ready (start .pre)))
+    (λ c. let start : tie.Start = search in omega (arith, rest-ready (start .pre)))
+    (λ c. let start : tie.Start = search in omega (arith, rest-ready (start .pre)))
+    (λ c. let start : tie.Start = search in omega (arith, rest-ready (start .pre)))
+    (λ c κs. let start : tie.Start = search in let r = rest-ready (start .pre) in (omega arith, omega arith))
+    (λ c. let start : tie.Start = search in omega (arith, rest-ready (start .pre)))
+    (λ c. let start : tie.Start = search in omega (arith, rest-ready (start .pre)))
     (λ c. search needs)
-    (λ c. let copied = c .before .before in rest-inked (copied .copy-span .ensures) refl refl))
+    (λ c. let copied : tie.After-copy-span = search in rest-inked (copied .copy-span .ensures) refl refl))

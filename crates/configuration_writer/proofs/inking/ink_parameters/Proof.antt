@@ -23,68 +23,35 @@ ink-parameters-spec =
     (tie.spec
     Inv-loop
     μ-loop
+    (λ c. let start : tie.Start Inv-loop μ-loop = search in omega (arith, numeral-ready (a-count 1) (list-count (a-count 1) (number 1) (start .pre))))
+    (λ c. let start : tie.Start Inv-loop μ-loop = search in omega (arith, numeral-ready (a-count 1) (list-count (a-count 1) (number 1) (start .pre))))
+    (λ c κs. let start : tie.Start Inv-loop μ-loop = search in omega (arith, numeral-ready (a-count 1) (list-count (a-count 1) (number 1) (start .pre))))
+    (λ c. let start : tie.Start Inv-loop μ-loop = search in omega (arith, numeral-ready (a-count 1) (list-count (a-count 1) (number 1) (start .pre))))
+    (λ c. let start : tie.Start Inv-loop μ-loop = search in omega (arith, numeral-ready (a-count 1) (list-count (a-count 1) (number 1) (start .pre))))
     (λ c.
-    let start = c .before .before .before in
-    let r = numeral-ready (a-count 1) (list-count (a-count 1) (number 1) (start .pre)) in
-    omega (arith, start .good .1 .0 .1))
-    (λ c.
-    let start = c .before .before .before .before in
-    let r = numeral-ready (a-count 1) (list-count (a-count 1) (number 1) (start .pre)) in
-    omega (arith, start .good .1 .0 .1))
-    (λ c κs.
-    let start = c .before .before .before .before .before in
-    let r = numeral-ready (a-count 1) (list-count (a-count 1) (number 1) (start .pre)) in
-    omega (arith, start .good .1 .0 .1))
-    (λ c.
-    let start = c .before .before .before .before .before .before .before .before in
-    let r = numeral-ready (a-count 1) (list-count (a-count 1) (number 1) (start .pre)) in
-    omega (arith, start .good .1 .0 .1))
-    (λ c.
-    let start = c .before .before .before .before .before .before .before .before in
-    let r = numeral-ready (a-count 1) (list-count (a-count 1) (number 1) (start .pre)) in
-    omega (arith, start .good .1 .0 .1))
-    (λ c.
-    let start = c .before .before .before .before .before .before .before .before in
+    let start : tie.Start Inv-loop μ-loop = search in
     (refl, times-start (moved (list-ready (a-count 1) (number 1) (start .pre)) refl refl (search needs))))
+    (λ c. let turn = c .before in omega (arith, numeral-ready (a-number 1) (times-next (turn .before .loop .inv .1) (turn .loop-test .taken))))
     (λ c.
-    let loop-test = c .before in
-    let loop = loop-test .before in
-    let start = loop .before .before .before .before .before .before .before .before .before in
-    let r = numeral-ready (a-number 1) (times-next (loop .loop .inv .1) (loop-test .loop-test .taken)) in
-    omega (arith, start .good .1 .0 .1))
-    (λ c.
-    let loop-test = c .before .before in
-    let loop = loop-test .before in
-    let start = loop .before .before .before .before .before .before .before .before .before in
-    let r = numeral-ready (a-number 1) (times-next (loop .loop .inv .1) (loop-test .loop-test .taken)) in
-    omega (arith, start .good .1 .0 .1))
+    let turn : tie.In-loop Inv-loop μ-loop = search in
+    omega (arith, numeral-ready (a-number 1) (times-next (turn .before .loop .inv .1) (turn .loop-test .taken))))
     (λ c κs.
-    let loop-test = c .before .before in
-    let loop = loop-test .before in
-    let start = loop .before .before .before .before .before .before .before .before .before in
-    let r = numeral-ready (a-number 1) (times-next (loop .loop .inv .1) (loop-test .loop-test .taken)) in
-    omega (arith, start .good .1 .0 .1))
+    let turn : tie.In-loop Inv-loop μ-loop = search in
+    omega (arith, numeral-ready (a-number 1) (times-next (turn .before .loop .inv .1) (turn .loop-test .taken))))
     (λ c.
-    let loop-test = c .before .before .before .before .before in
-    let loop = loop-test .before in
-    let start = loop .before .before .before .before .before .before .before .before .before in
-    let r = numeral-ready (a-number 1) (times-next (loop .loop .inv .1) (loop-test .loop-test .taken)) in
-    omega (arith, start .good .1 .0 .1))
+    let turn : tie.In-loop Inv-loop μ-loop = search in
+    omega (arith, numeral-ready (a-number 1) (times-next (turn .before .loop .inv .1) (turn .loop-test .taken))))
     (λ c.
-    let loop-test = c .before .before .before .before .before in
-    let loop = loop-test .before in
-    let start = loop .before .before .before .before .before .before .before .before .before in
-    let r = numeral-ready (a-number 1) (times-next (loop .loop .inv .1) (loop-test .loop-test .taken)) in
-    omega (arith, start .good .1 .0 .1))
+    let turn : tie.In-loop Inv-loop μ-loop = search in
+    omega (arith, numeral-ready (a-number 1) (times-next (turn .before .loop .inv .1) (turn .loop-test .taken))))
     (λ c. search needs)
     (λ c. search needs)
     (λ c.
-    let number2 = c .before .before in
-    let loop-test = number2 .before .before .before in
-    let loop = loop-test .before in
-    (search needs, times-turn (loop .loop .inv .1) (loop-test .loop-test .taken) (numeral-inked (a-number 1) (number2 .number2 .ensures) refl refl)))
+    let number2 : tie.After-number2 Inv-loop μ-loop = search in
+    let turn : tie.In-loop Inv-loop μ-loop = search in
+    (search needs, times-turn (turn .before .loop .inv .1) (turn .loop-test .taken) (numeral-inked (a-number 1) (number2 .number2 .ensures) refl refl)))
     (λ c. search needs)
     (λ c.
     let loop = c .before in
-    let counts = loop .before .before .before in
+    let counts : tie.After-number Inv-loop μ-loop = search in
     list-inked (a-count 1) (number 1) (numeral-inked (a-count 1) (counts .number .ensures) refl refl) (times-done (loop .loop .inv .1) (omega arith))))

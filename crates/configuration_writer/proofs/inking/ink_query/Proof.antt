@@ -11,13 +11,13 @@ unfolding said terminals
 ink-query-spec =
     tie.close
     (tie.spec
-    (λ c κs. let start = c .before .before .before .before in first _ _ (exact-ready PastPart (start .pre)))
+    (λ c κs. let start : tie.Start = search in first _ _ (exact-ready PastPart (start .pre)))
     (λ c κs.
-    let ink-parameters = c .before .before .before in
-    let start = ink-parameters .before .before .before .before .before in
+    let ink-parameters : tie.After-ink-parameters = search in
+    let start : tie.Start = search in
     second (ink-parameters .ink-parameters .ensures) (exact-ready PastPart (start .pre)))
     (λ c. search needs)
     (λ c.
-    let resources = c .before .before in
-    let ink-parameters = resources .before .before .before .before in
+    let resources : tie.After-resources = search in
+    let ink-parameters : tie.After-ink-parameters = search in
     exact-inked (pair-inked (ink-parameters .ink-parameters .ensures) (resources .resources .ensures)) PastPart))

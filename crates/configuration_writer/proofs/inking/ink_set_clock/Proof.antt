@@ -14,161 +14,44 @@ unfolding said date clock
 ink-set-clock-spec =
     tie.close
     (tie.spec
-    (λ c. let start = c .before .before .before .before in let r = clock-ready (start .pre) in omega (arith, start .good .1 .0 .1))
-    (λ c. let start = c .before .before .before .before .before in let r = clock-ready (start .pre) in omega (arith, start .good .1 .0 .1))
-    (λ c κs. let start = c .before .before .before .before .before in let r = clock-ready (start .pre) in omega (arith, start .good .1 .0 .1))
-    (λ c.
-    let start = c .before .before .before .before .before .before .before .before .before in
-    let r = clock-ready (start .pre) in
-    omega (arith, start .good .1 .0 .1))
-    (λ c.
-    let start = c .before .before .before .before .before .before .before .before .before in
-    let r = clock-ready (start .pre) in
-    omega (arith, start .good .1 .0 .1))
-    (λ c.
-    let start = c .before .before .before .before .before .before .before .before .before in
-    let r = clock-ready (start .pre) in
-    omega (arith, start .good .1 .0 .1))
-    (λ c.
-    let start = c .before .before .before .before .before .before .before .before .before .before in
-    let r = clock-ready (start .pre) in
-    omega (arith, start .good .1 .0 .1))
-    (λ c κs.
-    let start = c .before .before .before .before .before .before .before .before .before .before in
-    let r = clock-ready (start .pre) in
-    omega (arith, start .good .1 .0 .1))
-    (λ c.
-    let earlier = c .before .before .before .before .before .before .before .before .before .before in
-    let start = earlier .before .before .before .before in
-    let r = clock-ready (start .pre) in
-    omega (arith, start .good .1 .0 .1))
-    (λ c.
-    let earlier = c .before .before .before .before .before .before .before .before .before .before in
-    let start = earlier .before .before .before .before in
-    let r = clock-ready (start .pre) in
-    omega (arith, start .good .1 .0 .1))
-    (λ c.
-    let earlier = c .before .before .before .before .before .before .before .before .before .before in
-    let start = earlier .before .before .before .before in
-    let r = clock-ready (start .pre) in
-    omega (arith, start .good .1 .0 .1))
-    (λ c.
-    let earlier = c .before .before .before .before .before .before .before .before .before .before in
-    let start = earlier .before .before .before .before .before in
-    let r = clock-ready (start .pre) in
-    omega (arith, start .good .1 .0 .1))
-    (λ c κs.
-    let earlier = c .before .before .before .before .before .before .before .before .before .before in
-    let start = earlier .before .before .before .before .before in
-    let r = clock-ready (start .pre) in
-    omega (arith, start .good .1 .0 .1))
-    (λ c.
-    let earlier = c .before .before .before .before .before .before .before .before .before .before in
-    let start = earlier .before .before .before .before .before .before .before .before .before in
-    let r = clock-ready (start .pre) in
-    omega (arith, start .good .1 .0 .1))
-    (λ c.
-    let earlier = c .before .before .before .before .before .before .before .before .before .before in
-    let start = earlier .before .before .before .before .before .before .before .before .before in
-    let r = clock-ready (start .pre) in
-    omega (arith, start .good .1 .0 .1))
-    (λ c.
-    let earlier = c .before .before .before .before .before .before .before .before .before .before in
-    let start = earlier .before .before .before .before .before .before .before .before .before in
-    let r = clock-ready (start .pre) in
-    omega (arith, start .good .1 .0 .1))
-    (λ c.
-    let earlier = c .before .before .before .before .before .before .before .before .before .before in
-    let start = earlier .before .before .before .before .before .before .before .before .before .before in
-    let r = clock-ready (start .pre) in
-    omega (arith, start .good .1 .0 .1))
-    (λ c κs.
-    let earlier = c .before .before .before .before .before .before .before .before .before .before in
-    let start = earlier .before .before .before .before .before .before .before .before .before .before in
-    let r = clock-ready (start .pre) in
-    omega (arith, start .good .1 .0 .1))
-    (λ c.
-    let earlier = c .before .before .before .before .before .before .before .before .before .before in
-    let earlier2 = earlier .before .before .before .before .before .before .before .before .before .before in
-    let start = earlier2 .before .before .before .before in
-    let r = clock-ready (start .pre) in
-    omega (arith, start .good .1 .0 .1))
-    (λ c.
-    let earlier = c .before .before .before .before .before .before .before .before .before .before in
-    let earlier2 = earlier .before .before .before .before .before .before .before .before .before .before in
-    let start = earlier2 .before .before .before .before in
-    let r = clock-ready (start .pre) in
-    omega (arith, start .good .1 .0 .1))
-    (λ c.
-    let earlier = c .before .before .before .before .before .before .before .before .before .before in
-    let earlier2 = earlier .before .before .before .before .before .before .before .before .before .before in
-    let start = earlier2 .before .before .before .before in
-    let r = clock-ready (start .pre) in
-    omega (arith, start .good .1 .0 .1))
-    (λ c.
-    let earlier = c .before .before .before .before .before .before .before .before .before .before in
-    let earlier2 = earlier .before .before .before .before .before .before .before .before .before .before in
-    let start = earlier2 .before .before .before .before .before in
-    let r = clock-ready (start .pre) in
-    omega (arith, start .good .1 .0 .1))
-    (λ c κs.
-    let earlier = c .before .before .before .before .before .before .before .before .before .before in
-    let earlier2 = earlier .before .before .before .before .before .before .before .before .before .before in
-    let start = earlier2 .before .before .before .before .before in
-    let r = clock-ready (start .pre) in
-    omega (arith, start .good .1 .0 .1))
-    (λ c.
-    let earlier = c .before .before .before .before .before .before .before .before .before .before in
-    let earlier2 = earlier .before .before .before .before .before .before .before .before .before .before in
-    let start = earlier2 .before .before .before .before .before .before .before .before .before in
-    let r = clock-ready (start .pre) in
-    omega (arith, start .good .1 .0 .1))
-    (λ c.
-    let earlier = c .before .before .before .before .before .before .before .before .before .before in
-    let earlier2 = earlier .before .before .before .before .before .before .before .before .before .before in
-    let start = earlier2 .before .before .before .before .before .before .before .before .before in
-    let r = clock-ready (start .pre) in
-    omega (arith, start .good .1 .0 .1))
-    (λ c.
-    let earlier = c .before .before .before .before .before .before .before .before .before .before in
-    let earlier2 = earlier .before .before .before .before .before .before .before .before .before .before in
-    let start = earlier2 .before .before .before .before .before .before .before .before .before in
-    let r = clock-ready (start .pre) in
-    omega (arith, start .good .1 .0 .1))
-    (λ c.
-    let earlier = c .before .before .before .before .before .before .before .before .before .before in
-    let earlier2 = earlier .before .before .before .before .before .before .before .before .before .before in
-    let start = earlier2 .before .before .before .before .before .before .before .before .before .before in
-    let r = clock-ready (start .pre) in
-    omega (arith, start .good .1 .0 .1))
-    (λ c κs.
-    let earlier = c .before .before .before .before .before .before .before .before .before .before in
-    let earlier2 = earlier .before .before .before .before .before .before .before .before .before .before in
-    let start = earlier2 .before .before .before .before .before .before .before .before .before .before in
-    let r = clock-ready (start .pre) in
-    omega (arith, start .good .1 .0 .1))
-    (λ c.
-    let earlier = c .before .before .before .before .before .before .before .before .before .before in
-    let earlier2 = earlier .before .before .before .before .before .before .before .before .before .before in
-    let earlier3 = earlier2 .before .before .before .before .before .before .before .before .before .before in
-    let start = earlier3 .before .before .before in
-    let r = clock-ready (start .pre) in
-    omega (arith, start .good .1 .0 .1))
-    (λ c.
-    let earlier = c .before .before .before .before .before .before .before .before .before .before in
-    let earlier2 = earlier .before .before .before .before .before .before .before .before .before .before in
-    let earlier3 = earlier2 .before .before .before .before .before .before .before .before .before .before in
-    let start = earlier3 .before .before .before in
-    let r = clock-ready (start .pre) in
-    omega (arith, start .good .1 .0 .1))
+    (λ c. let start : tie.Start = search in omega (arith, clock-ready (start .pre)))
+    (λ c. let start : tie.Start = search in omega (arith, clock-ready (start .pre)))
+    (λ c κs. let start : tie.Start = search in omega (arith, clock-ready (start .pre)))
+    (λ c. let start : tie.Start = search in omega (arith, clock-ready (start .pre)))
+    (λ c. let start : tie.Start = search in omega (arith, clock-ready (start .pre)))
+    (λ c. let start : tie.Start = search in omega (arith, clock-ready (start .pre)))
+    (λ c. let start : tie.Start = search in omega (arith, clock-ready (start .pre)))
+    (λ c κs. let start : tie.Start = search in omega (arith, clock-ready (start .pre)))
+    (λ c. let start : tie.Start = search in omega (arith, clock-ready (start .pre)))
+    (λ c. let start : tie.Start = search in omega (arith, clock-ready (start .pre)))
+    (λ c. let start : tie.Start = search in omega (arith, clock-ready (start .pre)))
+    (λ c. let start : tie.Start = search in omega (arith, clock-ready (start .pre)))
+    (λ c κs. let start : tie.Start = search in omega (arith, clock-ready (start .pre)))
+    (λ c. let start : tie.Start = search in omega (arith, clock-ready (start .pre)))
+    (λ c. let start : tie.Start = search in omega (arith, clock-ready (start .pre)))
+    (λ c. let start : tie.Start = search in omega (arith, clock-ready (start .pre)))
+    (λ c. let start : tie.Start = search in omega (arith, clock-ready (start .pre)))
+    (λ c κs. let start : tie.Start = search in omega (arith, clock-ready (start .pre)))
+    (λ c. let start : tie.Start = search in omega (arith, clock-ready (start .pre)))
+    (λ c. let start : tie.Start = search in omega (arith, clock-ready (start .pre)))
+    (λ c. let start : tie.Start = search in omega (arith, clock-ready (start .pre)))
+    (λ c. let start : tie.Start = search in omega (arith, clock-ready (start .pre)))
+    (λ c κs. let start : tie.Start = search in omega (arith, clock-ready (start .pre)))
+    (λ c. let start : tie.Start = search in omega (arith, clock-ready (start .pre)))
+    (λ c. let start : tie.Start = search in omega (arith, clock-ready (start .pre)))
+    (λ c. let start : tie.Start = search in omega (arith, clock-ready (start .pre)))
+    (λ c. let start : tie.Start = search in omega (arith, clock-ready (start .pre)))
+    (λ c κs. let start : tie.Start = search in omega (arith, clock-ready (start .pre)))
+    (λ c. let start : tie.Start = search in omega (arith, clock-ready (start .pre)))
+    (λ c. let start : tie.Start = search in omega (arith, clock-ready (start .pre)))
     (λ c. search needs)
     (λ c.
-    let number6 = c .before .before in
-    let number5 = number6 .before .before .before .before .before in
-    let number4 = number5 .before .before .before .before .before in
-    let number3 = number4 .before .before .before .before .before in
-    let number2 = number3 .before .before .before .before .before in
-    let number = number2 .before .before .before .before .before in
+    let number6 : tie.After-number6 = search in
+    let number5 : tie.After-number5 = search in
+    let number4 : tie.After-number4 = search in
+    let number3 : tie.After-number3 = search in
+    let number2 : tie.After-number2 = search in
+    let number : tie.After-number = search in
     exact-inked (pair-inked
     (only-inked (pair-inked (numeral-inked (a-count 2) (number .number .ensures) (omega arith) (omega arith))
     (pair-inked (numeral-inked (a-count 1) (number2 .number2 .ensures) (omega arith) (omega arith))

@@ -14,32 +14,23 @@ unfolding said
 ink-set-code-spec =
     tie.close
     (tie.spec
-    (λ c κs. let start = c .before .before .before .before in first _ _ (exact-ready PastPart (start .pre)))
+    (λ c κs. let start : tie.Start = search in first _ _ (exact-ready PastPart (start .pre)))
+    (λ c. let start : tie.Start = search in omega (arith, part-ready 1 (first _ _ (exact-ready PastPart (start .pre)))))
+    (λ c κs. let part : tie.After-part = search in let start : tie.Start = search in second (part .part .ensures) (exact-ready PastPart (start .pre)))
     (λ c.
-    let start = c .before .before .before .before .before .before .before in
-    let r = part-ready 1 (first _ _ (exact-ready PastPart (start .pre))) in
-    omega (arith, start .good .1 .0 .1))
-    (λ c κs.
-    let part = c .before .before .before in
-    let start = part .before .before .before .before .before in
-    second (part .part .ensures) (exact-ready PastPart (start .pre)))
+    let part : tie.After-part = search in
+    let start : tie.Start = search in
+    omega (arith, digits-ready 11 (second (part .part .ensures) (exact-ready PastPart (start .pre)))))
     (λ c.
-    let part = c .before .before .before .before .before .before in
-    let start = part .before .before .before .before .before in
-    let r = digits-ready 11 (second (part .part .ensures) (exact-ready PastPart (start .pre))) in
-    omega (arith, start .good .1 .0 .1))
+    let part : tie.After-part = search in
+    let start : tie.Start = search in
+    omega (arith, digits-ready 11 (second (part .part .ensures) (exact-ready PastPart (start .pre)))))
     (λ c.
-    let part = c .before .before .before .before .before .before in
-    let start = part .before .before .before .before .before in
-    let r = digits-ready 11 (second (part .part .ensures) (exact-ready PastPart (start .pre))) in
-    omega (arith, start .good .1 .0 .1))
-    (λ c.
-    let part = c .before .before .before .before .before .before in
-    let start = part .before .before .before .before .before in
-    let r = digits-ready 11 (second (part .part .ensures) (exact-ready PastPart (start .pre))) in
-    omega (arith, start .good .1 .0 .1))
+    let part : tie.After-part = search in
+    let start : tie.Start = search in
+    omega (arith, digits-ready 11 (second (part .part .ensures) (exact-ready PastPart (start .pre)))))
     (λ c. search needs)
     (λ c.
-    let digits = c .before .before in
-    let part = digits .before .before .before .before in
+    let digits : tie.After-digits = search in
+    let part : tie.After-part = search in
     exact-inked (pair-inked (part .part .ensures) (ended (digits .digits .ensures) refl (omega arith))) PastPart))

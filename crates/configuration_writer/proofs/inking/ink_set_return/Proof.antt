@@ -19,34 +19,22 @@ unfolding said terminals
 ink-set-return-spec =
     tie.close
     (tie.spec
-    (λ c. let start = c .before .before .before .before in let r = return-ready (start .pre) in omega (arith, start .good .1 .0 .1))
-    (λ c. let start = c .before .before .before .before .before in let r = return-ready (start .pre) in omega (arith, start .good .1 .0 .1))
-    (λ c κs. let start = c .before .before .before .before .before in let r = return-ready (start .pre) in omega (arith, start .good .1 .0 .1))
-    (λ c.
-    let start = c .before .before .before .before .before .before .before .before in
-    let r = return-ready (start .pre) in
-    omega (arith, start .good .1 .0 .1))
-    (λ c.
-    let start = c .before .before .before .before .before .before .before .before .before in
-    let r = return-ready (start .pre) in
-    omega (arith, start .good .1 .0 .1))
+    (λ c. let start : tie.Start = search in omega (arith, return-ready (start .pre)))
+    (λ c. let start : tie.Start = search in omega (arith, return-ready (start .pre)))
+    (λ c κs. let start : tie.Start = search in omega (arith, return-ready (start .pre)))
+    (λ c. let start : tie.Start = search in omega (arith, return-ready (start .pre)))
+    (λ c. let start : tie.Start = search in omega (arith, return-ready (start .pre)))
+    (λ c κs. let start : tie.Start = search in address-ready _ (moved (first _ _ (return-ready (start .pre) .3)) refl refl (search needs)))
+    (λ c. let start : tie.Start = search in omega (arith, part-ready 1 (address-ready _ (first _ _ (return-ready (start .pre) .3)))))
     (λ c κs.
-    let start = c .before .before .before .before .before .before .before .before .before in
-    address-ready _ (moved (first _ _ (return-ready (start .pre) .3)) refl refl (search needs)))
-    (λ c.
-    let earlier = c .before .before .before .before .before .before .before .before .before .before in
-    let start = earlier .before .before in
-    let r = part-ready 1 (address-ready _ (first _ _ (return-ready (start .pre) .3))) in
-    omega (arith, start .good .1 .0 .1))
-    (λ c κs.
-    let part = c .before .before .before in
-    let start = part .before .before .before .before .before .before .before .before .before .before in
+    let part : tie.After-part = search in
+    let start : tie.Start = search in
     moved (second (address-inked (getD (now (start .args .tape)) (start .args .k) 0) (part .part .ensures))
     (moved (return-ready (start .pre) .3) refl refl (search needs))) refl (omega arith) refl)
     (λ c. search needs)
     (λ c.
-    let resources = c .before .before in
-    let part = resources .before .before .before .before in
-    let number = part .before .before .before .before in
+    let resources : tie.After-resources = search in
+    let part : tie.After-part = search in
+    let number : tie.After-number = search in
     exact-inked (number-then a-kind (λ kind. address kind ▷ terminals) (numeral-inked a-kind (number .number .ensures) refl refl)
     (pair-inked (address-inked _ (ended (part .part .ensures) refl (omega arith))) (resources .resources .ensures))) PastPart))

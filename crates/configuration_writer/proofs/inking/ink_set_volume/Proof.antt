@@ -15,31 +15,14 @@ unfolding said terminals
 ink-set-volume-spec =
     tie.close
     (tie.spec
-    (λ c.
-    let start = c .before .before .before .before in
-    let r = numeral-ready a-volume (first _ _ (exact-ready PastPart (start .pre))) in
-    omega (arith, start .good .1 .0 .1))
-    (λ c.
-    let start = c .before .before .before .before .before in
-    let r = numeral-ready a-volume (first _ _ (exact-ready PastPart (start .pre))) in
-    omega (arith, start .good .1 .0 .1))
-    (λ c κs.
-    let start = c .before .before .before .before .before in
-    let r = numeral-ready a-volume (first _ _ (exact-ready PastPart (start .pre))) in
-    omega (arith, start .good .1 .0 .1))
-    (λ c.
-    let start = c .before .before .before .before .before .before .before .before in
-    let r = numeral-ready a-volume (first _ _ (exact-ready PastPart (start .pre))) in
-    omega (arith, start .good .1 .0 .1))
-    (λ c.
-    let start = c .before .before .before .before .before .before .before .before .before in
-    let r = numeral-ready a-volume (first _ _ (exact-ready PastPart (start .pre))) in
-    omega (arith, start .good .1 .0 .1))
-    (λ c κs.
-    let start = c .before .before .before .before .before .before .before .before .before in
-    moved (after-number a-volume _ (exact-ready PastPart (start .pre))) refl refl (search needs))
+    (λ c. let start : tie.Start = search in omega (arith, numeral-ready a-volume (first _ _ (exact-ready PastPart (start .pre)))))
+    (λ c. let start : tie.Start = search in omega (arith, numeral-ready a-volume (first _ _ (exact-ready PastPart (start .pre)))))
+    (λ c κs. let start : tie.Start = search in omega (arith, numeral-ready a-volume (first _ _ (exact-ready PastPart (start .pre)))))
+    (λ c. let start : tie.Start = search in omega (arith, numeral-ready a-volume (first _ _ (exact-ready PastPart (start .pre)))))
+    (λ c. let start : tie.Start = search in omega (arith, numeral-ready a-volume (first _ _ (exact-ready PastPart (start .pre)))))
+    (λ c κs. let start : tie.Start = search in moved (after-number a-volume _ (exact-ready PastPart (start .pre))) refl refl (search needs))
     (λ c. search needs)
     (λ c.
-    let resources = c .before .before in
-    let number = resources .before .before .before .before in
+    let resources : tie.After-resources = search in
+    let number : tie.After-number = search in
     exact-inked (pair-inked (numeral-inked a-volume (number .number .ensures) refl refl) (resources .resources .ensures)) PastPart))

@@ -15,74 +15,28 @@ unfolding said terminals
 ink-tune-spec =
     tie.close
     (tie.spec
-    (λ c. let start = c .before .before .before .before in let r = tune-ready (start .pre) in omega (arith, start .good .1 .0 .1))
-    (λ c. let start = c .before .before .before .before .before in let r = tune-ready (start .pre) in omega (arith, start .good .1 .0 .1))
-    (λ c κs. let start = c .before .before .before .before .before in let r = tune-ready (start .pre) in omega (arith, start .good .1 .0 .1))
-    (λ c.
-    let start = c .before .before .before .before .before .before .before .before .before in
-    let r = tune-ready (start .pre) in
-    omega (arith, start .good .1 .0 .1))
-    (λ c.
-    let start = c .before .before .before .before .before .before .before .before .before in
-    let r = tune-ready (start .pre) in
-    omega (arith, start .good .1 .0 .1))
-    (λ c.
-    let start = c .before .before .before .before .before .before .before .before .before in
-    let r = tune-ready (start .pre) in
-    omega (arith, start .good .1 .0 .1))
-    (λ c.
-    let start = c .before .before .before .before .before .before .before .before .before .before in
-    let r = tune-ready (start .pre) in
-    omega (arith, start .good .1 .0 .1))
-    (λ c κs.
-    let start = c .before .before .before .before .before .before .before .before .before .before in
-    let r = tune-ready (start .pre) in
-    omega (arith, start .good .1 .0 .1))
-    (λ c.
-    let earlier = c .before .before .before .before .before .before .before .before .before .before in
-    let start = earlier .before .before .before .before in
-    let r = tune-ready (start .pre) in
-    omega (arith, start .good .1 .0 .1))
-    (λ c.
-    let earlier = c .before .before .before .before .before .before .before .before .before .before in
-    let start = earlier .before .before .before .before in
-    let r = tune-ready (start .pre) in
-    omega (arith, start .good .1 .0 .1))
-    (λ c.
-    let earlier = c .before .before .before .before .before .before .before .before .before .before in
-    let start = earlier .before .before .before .before in
-    let r = tune-ready (start .pre) in
-    omega (arith, start .good .1 .0 .1))
-    (λ c.
-    let earlier = c .before .before .before .before .before .before .before .before .before .before in
-    let start = earlier .before .before .before .before .before in
-    let r = tune-ready (start .pre) in
-    omega (arith, start .good .1 .0 .1))
-    (λ c κs.
-    let earlier = c .before .before .before .before .before .before .before .before .before .before in
-    let start = earlier .before .before .before .before .before in
-    let r = tune-ready (start .pre) in
-    omega (arith, start .good .1 .0 .1))
-    (λ c.
-    let earlier = c .before .before .before .before .before .before .before .before .before .before in
-    let start = earlier .before .before .before .before .before .before .before .before in
-    let r = tune-ready (start .pre) in
-    omega (arith, start .good .1 .0 .1))
-    (λ c.
-    let earlier = c .before .before .before .before .before .before .before .before .before .before in
-    let start = earlier .before .before .before .before .before .before .before .before .before in
-    let r = tune-ready (start .pre) in
-    omega (arith, start .good .1 .0 .1))
-    (λ c κs.
-    let earlier = c .before .before .before .before .before .before .before .before .before .before in
-    let start = earlier .before .before .before .before .before .before .before .before .before in
-    moved (tune-ready (start .pre) .3) refl refl (search needs))
+    (λ c. let start : tie.Start = search in omega (arith, tune-ready (start .pre)))
+    (λ c. let start : tie.Start = search in omega (arith, tune-ready (start .pre)))
+    (λ c κs. let start : tie.Start = search in omega (arith, tune-ready (start .pre)))
+    (λ c. let start : tie.Start = search in omega (arith, tune-ready (start .pre)))
+    (λ c. let start : tie.Start = search in omega (arith, tune-ready (start .pre)))
+    (λ c. let start : tie.Start = search in omega (arith, tune-ready (start .pre)))
+    (λ c. let start : tie.Start = search in omega (arith, tune-ready (start .pre)))
+    (λ c κs. let start : tie.Start = search in omega (arith, tune-ready (start .pre)))
+    (λ c. let start : tie.Start = search in omega (arith, tune-ready (start .pre)))
+    (λ c. let start : tie.Start = search in omega (arith, tune-ready (start .pre)))
+    (λ c. let start : tie.Start = search in omega (arith, tune-ready (start .pre)))
+    (λ c. let start : tie.Start = search in omega (arith, tune-ready (start .pre)))
+    (λ c κs. let start : tie.Start = search in omega (arith, tune-ready (start .pre)))
+    (λ c. let start : tie.Start = search in omega (arith, tune-ready (start .pre)))
+    (λ c. let start : tie.Start = search in omega (arith, tune-ready (start .pre)))
+    (λ c κs. let start : tie.Start = search in moved (tune-ready (start .pre) .3) refl refl (search needs))
     (λ c. search needs)
     (λ c.
-    let resources = c .before .before in
-    let number3 = resources .before .before .before .before in
-    let number2 = number3 .before .before .before .before .before in
-    let number = number2 .before .before .before .before .before in
+    let resources : tie.After-resources = search in
+    let number3 : tie.After-number3 = search in
+    let number2 : tie.After-number2 = search in
+    let number : tie.After-number = search in
     exact-inked (pair-inked (numeral-inked (a-number 4) (number .number .ensures) refl refl)
     (pair-inked (numeral-inked (a-number 4) (number2 .number2 .ensures) (omega arith) (omega arith))
     (pair-inked (numeral-inked mapping (number3 .number3 .ensures) (omega arith) (omega arith)) (resources .resources .ensures)))) PastPart))

@@ -18,28 +18,28 @@ pen-address-bytes-spec =
     (λ c. search needs)
     (λ c κs. search needs)
     (λ c.
-    let part = c .before .before .before in
-    let spanned = part .before .before in
+    let part : tie.After-a = search in
+    let spanned : tie.After-span-at = search in
     let s = (spanned .span-at .ensures .1 _ _ (part .a .given .1)) in
     address-length _ _ _ _ _ _ (spanned .before .before .x2 .given .1) _ _ (s .1) (s .2) (unmet _ (c .before .length-fits .ensures) (c .if1 .taken)))
-    (λ c κs. (c .before .before .before .before .before .span-at .ensures .1 _ _ (c .before .before .before .a .given .1)) .1)
+    (λ c κs. let spanned : tie.After-span-at = search in (spanned .span-at .ensures .1 _ _ (c .before .before .before .a .given .1)) .1)
     (λ c.
-    let fits = c .before .before .before in
-    let part = fits .before .before in
-    let spanned = part .before .before in
+    let fits : tie.After-length-fits = search in
+    let part : tie.After-a = search in
+    let spanned : tie.After-span-at = search in
     let s = (spanned .span-at .ensures .1 _ _ (part .a .given .1)) in
     address-outside _ _ _ _ _ _ (spanned .before .before .x2 .given .1) _ _ (s .1) (s .2) (met _ (fits .length-fits .ensures) (c .before .before .if1 .left))
     (unmet _ (c .before .is-address .ensures) (c .if2 .taken)))
     (λ c κs. search needs)
     (λ c. stopped _ _ _ _ _ (c .before .x .given .1))
     (λ c.
-    let spanned = c .before .before .before in
+    let spanned : tie.After-span-at = search in
     address-none _ _ _ _ _ _ (spanned .before .before .x2 .given .1) _ (spanned .span-at .ensures .0 _ (c .before .r .given .1)))
     (λ c.
-    let judged = c .before .before in
-    let fits = judged .before .before in
-    let part = fits .before .before in
-    let spanned = part .before .before in
+    let judged : tie.After-is-address = search in
+    let fits : tie.After-length-fits = search in
+    let part : tie.After-a = search in
+    let spanned : tie.After-span-at = search in
     let s = (spanned .span-at .ensures .1 _ _ (part .a .given .1)) in
     c .pen-rest .ensures
     ∙ sym (address-passed _ _ _ _ _ _ (spanned .before .before .x2 .given .1) _ _ (s .1) (s .2) (met _ (fits .length-fits .ensures) (judged .before .if1 .left))

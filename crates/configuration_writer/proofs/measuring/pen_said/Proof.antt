@@ -18,9 +18,7 @@ pen-said-spec =
     (λ c κs. search needs)
     (λ c κs. search needs)
     (λ c κs. search needs)
-    (λ c.
-    let start = c .before .before .before .before in
-    rw (c .before .match .keys1) (c .pen-set-clock .ensures (start .args .pool .now)))
+    (λ c. let start : tie.Start = search in rw (c .before .match .keys1) (c .pen-set-clock .ensures (start .args .pool .now)))
     (λ c. rw (c .before .match .keys2) (c .pen-set-code .ensures))
     (λ c. rw (c .before .match .keys3) (c .pen-tune .ensures))
     (λ c. rw (c .before .match .keys4) (c .pen-set-return .ensures))
