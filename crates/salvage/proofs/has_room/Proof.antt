@@ -11,9 +11,7 @@ returns : tie.Need-returns
 returns c = always-room _ _ _ (sym (c .before .fits2 .ensures) ∙ c .if1 .taken)
 
 fits-requires-2 : tie.Need-fits-requires-2
-fits-requires-2 c κs =
-    let start = c .before .before .before .before in
-    omega (arith, start .pre, runs-most (now (start .args .s)), c .measure .ensures .1)
+fits-requires-2 c κs = let start : tie.Start = search in omega (arith, start .pre, runs-most (now (start .args .s)), c .measure .ensures .1)
 
 returns-2 : tie.Need-returns-2
 returns-2 c = let need = c .before .measure .ensures in counted-room _ _ _ _ _ _ (need .0) (need .1) (c .fits3 .ensures)

@@ -27,14 +27,13 @@ loop-holds c =
 
 loop-less : tie.Need-loop-less Inv-loop μ-loop
 loop-less c =
-    let turn = c .before .before .before .before .before in
+    let turn : tie.After-next-good Inv-loop μ-loop = search in
     let on = next-goes _ _ _ _ (turn .next-good .ensures) (turn .before .loop-test .taken) in
     omega (arith, turn .next-good .ensures .within)
 
 loop-again : tie.Need-loop-again Inv-loop μ-loop
 loop-again c =
-    let counted = c .before .before in
-    let turn = counted .before .before .before in
+    let counted : tie.After-run-count2 Inv-loop μ-loop = search in let turn : tie.After-next-good Inv-loop μ-loop = search in
     let inv = turn .before .before .loop .inv in
     let next = turn .next-good .ensures in (
       next .within,

@@ -20,19 +20,29 @@ abbrev μ-loop : tie.MeasureT-loop
 loop-holds : tie.Need-loop-holds Inv-loop μ-loop
 loop-holds c = (search needs, refl)
 
+-- where the function began
+begun : tie.After-good-length Inv-loop μ-loop → tie.Start Inv-loop μ-loop
+begun c = search
+
 -- what a turn learns of the place it stands at
 judged : (c : tie.After-good-length Inv-loop μ-loop)
-    → c .good-length .result ≡ goodLength (drop (c .before .before .before .loop .at) (now (c .before .before .before .before .before .args .s)))
-judged c = c .good-length .ensures ∙ ap goodLength (tail-part (now (c .before .before .before .before .before .args .s)) (c .before .before .before .loop .at))
+    → let start = begun c in c .good-length .result ≡ goodLength (drop (c .before .before .before .loop .at) (now (start .args .s)))
+unfolding begun
+judged c =
+    let start = begun c in
+    c .good-length .ensures ∙ ap goodLength (tail-part (now (start .args .s)) (c .before .before .before .loop .at))
 
 returns : tie.Need-returns Inv-loop μ-loop
+unfolding begun
 returns c =
-    let inv = c .before .before .before .before .loop .inv in
+    let head : tie.At-loop Inv-loop μ-loop = search in
+    let inv = head .loop .inv in
     next-found _ _ _ _ (inv .0) (inv .1) (judged (c .before)) (c .if1 .taken)
 
 loop-again : tie.Need-loop-again Inv-loop μ-loop
+unfolding begun
 loop-again c =
-    let here = c .before .before .before .before in
+    let here : tie.At-loop Inv-loop μ-loop = search in
     let none = gap-at-other _ _ (c .before .before .before .loop-test .taken) (length-not _ (sym (judged (c .before)) ∙ c .if1 .left)) in
     (omega arith, omega (arith, here .loop .inv .1))
 

@@ -23,21 +23,27 @@ returns-2 c =
     let asked = c .before in
     by-verdict _ _ _ _ (too-small _ _ _ (asked .before .if1 .left) (sym (asked .has-room .ensures) ∙ not-true _ (c .if2 .taken)))
 
+-- where the function began
+begun : tie.Else2 → tie.Start
+begun c = search
+
 -- where both have room
-roomy : (c : tie.Else2) → let a = c .before .before .before .before .before .before .args in
+roomy : (c : tie.Else2) → let a = begun c .args in
     leb (length (sections (now (a .capture)))) (length (now (a .out))) && leb (length (numbers (now (a .capture)))) (length (now (a .list))) ≡ true
+unfolding begun
 roomy c = sym (c .before .has-room .ensures) ∙ not-false _ (c .if2 .left)
 
 write-runs-requires : tie.Need-write-runs-requires
+unfolding begun
 write-runs-requires c κs =
-    let fits = c .before .before in
+    let fits : tie.Else2 = search in
     let room = both _ _ (roomy fits) in
     (fits .before .before .if1 .left, leb-true _ _ (room .0), leb-true _ _ (room .1))
 
 returns-3 : tie.Need-returns-3
+unfolding begun
 returns-3 c =
-    let written = c .before .before .before .before in
-    let fits = written .before .before .before in
+    let written : tie.After-write-runs = search in let fits : tie.Else2 = search in
     let v = by-verdict _ _ _ writes (room-for _ _ _ (fits .before .before .if1 .left) (roomy fits)) in
     let e = written .write-runs .ensures in
     (ap₂ Of (e .0 .0) (e .0 .1) ∙ v .0, (e .1 .0 ∙ v .1 .0, e .1 .1 ∙ v .1 .1))

@@ -29,16 +29,29 @@ loop-holds : tie.Need-loop-holds Inv-loop μ-loop
 loop-holds c =
     (omega arith, rw (sections-whole _) (writing-starts _ 0 _ (omega arith)), rw (numbers-whole _) (writing-starts _ 0 _ (omega arith)))
 
+-- places of the code, from later ones on
+next-good-of : tie.After-copy-at Inv-loop μ-loop → tie.After-next-good Inv-loop μ-loop
+next-good-of c = search
+
+begun-copy-at : tie.After-copy-at Inv-loop μ-loop → tie.Start Inv-loop μ-loop
+begun-copy-at c = search
+
+begun-next-good : tie.After-next-good Inv-loop μ-loop → tie.Start Inv-loop μ-loop
+begun-next-good c = search
+
+begun-put-run : tie.After-put-run Inv-loop μ-loop → tie.Start Inv-loop μ-loop
+begun-put-run c = search
+
 -- the numbers after the skipped run of a turn
-after-skipped : (c : tie.After-put-run Inv-loop μ-loop)
-    → let turn = c .before .before .before in
-    let s = now (turn .before .before .before .before .before .before .args .s) in
+after-skipped : (c : tie.After-put-run Inv-loop μ-loop) → let start = begun-put-run c in let turn = c .before .before .before in
+    let s = now (start .args .s) in
     let next = turn .next-good .result in
-    Writing (now (turn .before .before .before .before .before .before .args .list)) 0 (c .put-run .last .0) (c .put-run .result)
+    Writing (now (start .args .list)) 0 (c .put-run .last .0) (c .put-run .result)
     (numbersOf (runAt true (next .at) (next .length)) ++ numbersLeft s (next .at + next .length)) (numbers s)
+unfolding begun-put-run
 after-skipped c =
-    let turn = c .before .before .before in
-    let s = now (turn .before .before .before .before .before .before .args .s) in
+    let turn : tie.After-next-good Inv-loop μ-loop = search in
+    let s = now (begun-put-run c .args .s) in
     let from = turn .before .before .loop .from in
     let next = turn .next-good .result in
     writing-goes (numbersOf (runAt false from (next .at - from))) (numbersOf (runAt true (next .at) (next .length)) ++ numbersLeft s (next .at + next .length))
@@ -46,8 +59,7 @@ after-skipped c =
 
 put-run-requires : tie.Need-put-run-requires Inv-loop μ-loop
 put-run-requires c κs =
-    let turn = c .before .before in
-    let start = turn .before .before .before .before .before .before in
+    let turn : tie.After-next-good Inv-loop μ-loop = search in let start : tie.Start Inv-loop μ-loop = search in
     let s = now (start .args .s) in
     let from = turn .before .before .loop .from in
     let next = turn .next-good .result in
@@ -59,10 +71,10 @@ put-run-requires c κs =
     )
 
 put-run-requires-2 : tie.Need-put-run-requires-2 Inv-loop μ-loop
+unfolding begun-put-run
 put-run-requires-2 c κs =
-    let put = c .before .before .before in
-    let turn = put .before .before .before in
-    let start = turn .before .before .before .before .before .before in
+    let put : tie.After-put-run Inv-loop μ-loop = search in let turn : tie.After-next-good Inv-loop μ-loop = search in
+    let start : tie.Start Inv-loop μ-loop = search in
     let next = turn .next-good .result in (
       omega (arith, turn .next-good .ensures .within, start .pre .0),
       writing-room (numbersOf (runAt true (next .at) (next .length))) (numbersLeft (now (start .args .s)) (next .at + next .length))
@@ -70,61 +82,62 @@ put-run-requires-2 c κs =
     )
 
 -- there is room for the section of a turn
-section-room : (turn : tie.After-next-good Inv-loop μ-loop)
-    → let next = turn .next-good .result in
-    turn .before .before .loop .bytes + length (take (next .length) (drop (next .at) (now (turn .before .before .before .before .before .before .args .s))))
+section-room : (turn : tie.After-next-good Inv-loop μ-loop) → let start = begun-next-good turn in let next = turn .next-good .result in
+    turn .before .before .loop .bytes + length (take (next .length) (drop (next .at) (now (start .args .s))))
     ≤ length (turn .before .before .loop .out)
+unfolding begun-next-good
 section-room turn =
-    let start = turn .before .before .before .before .before .before in
+    let start = begun-next-good turn in
     let s = now (start .args .s) in
     let next = turn .next-good .result in
     writing-room (take (next .length) (drop (next .at) s)) (sectionsLeft s (next .at + next .length)) (turn .before .before .loop .inv .1)
     (sections-turn _ _ _ _ (turn .next-good .ensures)) (omega (arith, start .pre .1))
 
 copy-at-requires : tie.Need-copy-at-requires Inv-loop μ-loop
+unfolding begun-next-good
 copy-at-requires c κs =
-    let turn = c .before .before .before .before .before .before .before .before .before .before .before in
+    let turn : tie.After-next-good Inv-loop μ-loop = search in
     let next = turn .next-good .result in
     let size : next .at + next .length - next .at ≡ next .length = omega arith in
     rw size (section-room turn)
 
 loop-less : tie.Need-loop-less Inv-loop μ-loop
 loop-less c =
-    let put = c .before .before .before .before .before .before .before .before in
-    let turn = put .before .before .before .before .before .before .before in
+    let turn : tie.After-next-good Inv-loop μ-loop = search in
     let on = next-goes _ _ _ _ (turn .next-good .ensures) (turn .before .loop-test .taken) in
     omega (arith, turn .next-good .ensures .within)
 
 -- the section of a turn stands behind those before it
-copied : (c : tie.After-copy-at Inv-loop μ-loop)
-    → let turn = c .before .before .before .before .before .before .before .before .before .before .before .before in
+copied : (c : tie.After-copy-at Inv-loop μ-loop) → let start = begun-copy-at c in let turn = next-good-of c in
     let next = turn .next-good .result in
     let loop = turn .before .before .loop in
-    Put (loop .out) (loop .bytes) (take (next .length) (drop (next .at) (now (turn .before .before .before .before .before .before .args .s))))
+    Put (loop .out) (loop .bytes) (take (next .length) (drop (next .at) (now (start .args .s))))
     (c .copy-at .last .1 .0) (loop .bytes + next .length)
+unfolding begun-copy-at begun-next-good next-good-of
 copied c =
-    let turn = c .before .before .before .before .before .before .before .before .before .before .before .before in
+    let turn = next-good-of c in
     put-section _ _ _ _ _ _ (turn .next-good .ensures .within) (section-room turn) (c .copy-at .ensures)
 
 loop-again : tie.Need-loop-again Inv-loop μ-loop
+unfolding begun-copy-at begun-put-run next-good-of
 loop-again c =
-    let copy = c .before .before .before in
-    let put = copy .before .before .before .before .before in
-    let turn = put .before .before .before .before .before .before .before in
-    let s = now (turn .before .before .before .before .before .before .args .s) in
+    let start : tie.Start Inv-loop μ-loop = search in let copy : tie.After-copy-at Inv-loop μ-loop = search in
+    let put : tie.After-put-run2 Inv-loop μ-loop = search in let turn : tie.After-next-good Inv-loop μ-loop = search in
+    let s = now (start .args .s) in
     let next = turn .next-good .result in
     let found = turn .next-good .ensures in (
       found .within,
       writing-goes (take (next .length) (drop (next .at) s)) (sectionsLeft s (next .at + next .length)) (turn .before .before .loop .inv .1)
           (sections-turn _ _ _ _ found) (copied copy),
       writing-goes (numbersOf (runAt true (next .at) (next .length))) (numbersLeft s (next .at + next .length))
-          (after-skipped (put .before .before .before .before)) refl (put .put-run2 .ensures),
+          (after-skipped (search)) refl (put .put-run2 .ensures),
     )
 
 returns : tie.Need-returns Inv-loop μ-loop
 returns c =
+    let start : tie.Start Inv-loop μ-loop = search in
     let inv = c .before .loop .inv in
-    let s = now (c .before .before .before .before .before .args .s) in
+    let s = now (start .args .s) in
     let end = c .loop-test .left in
     let bytes = writing-ends (inv .1) (sections-end s _ end) in
     let told = writing-ends (inv .2) (numbers-end s _ end) in
@@ -132,9 +145,7 @@ returns c =
 
 add-bytes : tie.Need-add-bytes Inv-loop μ-loop
 add-bytes c =
-    let put = c .before .before .before .before .before .before .before .before in
-    let turn = put .before .before .before .before .before .before .before in
-    let start = turn .before .before .before .before .before .before in
+    let turn : tie.After-next-good Inv-loop μ-loop = search in let start : tie.Start Inv-loop μ-loop = search in
     let s = now (start .args .s) in
     let count = writing-count (sectionsLeft s (turn .before .before .loop .from)) (turn .before .before .loop .inv .1) in
     omega (arith, start .pre .0, sections-most s, sections-length _ _ _ _ (turn .next-good .ensures))
@@ -153,9 +164,7 @@ write-runs-spec =
     put-run-requires-2
     (λ c. search needs)
     (λ c. search needs)
-    (λ c.
-    let within = c .before .before .before .before .before .before .before .before .before .next-good .ensures .within in
-    search needs)
+    (λ c. let next-good : tie.After-next-good Inv-loop μ-loop = search in let within = next-good .next-good .ensures .within in search needs)
     copy-at-requires
     add-bytes
     loop-less
