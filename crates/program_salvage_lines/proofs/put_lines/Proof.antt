@@ -26,17 +26,21 @@ abbrev μ-loop : tie.MeasureT-loop
 loop-holds : tie.Need-loop-holds Inv-loop μ-loop
 loop-holds c = (omega arith, rw (lines-whole _) (writing-starts _ _ _ (omega arith)))
 
+-- where the function began
+begun : tie.After-put-line Inv-loop μ-loop → tie.Start Inv-loop μ-loop
+begun c = search
+
 -- the lines after that of the skipped run of a turn
-after-skipped : (c : tie.After-put-line Inv-loop μ-loop)
-    → let turn = c .before .before .before in
-    let start = turn .before .before .before .before .before in
+after-skipped : (c : tie.After-put-line Inv-loop μ-loop) → let turn = c .before .before .before in
+    let start = begun c in
     let found = turn .next-good .result in
     Writing (now (start .args .out)) (start .args .at) (c .put-line .last .0) (c .put-line .result)
     (linesOf (runAt true (found .at) (found .length)) ++ linesOf (runsLeft (now (start .args .s)) (found .at + found .length)))
     (linesOf (runsOf (now (start .args .s))))
+unfolding begun
 after-skipped c =
-    let turn = c .before .before .before in
-    let s = now (turn .before .before .before .before .before .args .s) in
+    let turn : tie.After-next-good Inv-loop μ-loop = search in
+    let s = now (begun c .args .s) in
     let from = turn .before .before .loop .from in
     let found = turn .next-good .result in
     writing-goes (linesOf (runAt false from (found .at - from)))
@@ -45,8 +49,7 @@ after-skipped c =
 
 put-line-requires : tie.Need-put-line-requires Inv-loop μ-loop
 put-line-requires c κs =
-    let turn = c .before .before in
-    let start = turn .before .before .before .before .before in
+    let turn : tie.After-next-good Inv-loop μ-loop = search in let start : tie.Start Inv-loop μ-loop = search in
     let s = now (start .args .s) in
     let from = turn .before .before .loop .from in
     let found = turn .next-good .result in
@@ -55,30 +58,29 @@ put-line-requires c κs =
     (turn .before .before .loop .inv .1) (lines-turn _ _ _ _ (turn .next-good .ensures)) (start .pre .1)
 
 put-line-requires-2 : tie.Need-put-line-requires-2 Inv-loop μ-loop
+unfolding begun
 put-line-requires-2 c κs =
-    let put = c .before .before .before in
-    let turn = put .before .before .before in
-    let start = turn .before .before .before .before .before in
+    let put : tie.After-put-line Inv-loop μ-loop = search in let turn : tie.After-next-good Inv-loop μ-loop = search in
+    let start : tie.Start Inv-loop μ-loop = search in
     let found = turn .next-good .result in
     writing-room (linesOf (runAt true (found .at) (found .length))) (linesOf (runsLeft (now (start .args .s)) (found .at + found .length)))
     (after-skipped put) refl (start .pre .1)
 
 loop-less : tie.Need-loop-less Inv-loop μ-loop
 loop-less c =
-    let put = c .before .before .before in
-    let turn = put .before .before .before .before .before .before .before in
+    let turn : tie.After-next-good Inv-loop μ-loop = search in
     let on = next-goes _ _ _ _ (turn .next-good .ensures) (turn .before .loop-test .taken) in
     omega (arith, turn .next-good .ensures .within)
 
 loop-again : tie.Need-loop-again Inv-loop μ-loop
+unfolding begun
 loop-again c =
-    let put = c .before .before .before in
-    let turn = put .before .before .before .before .before .before .before in
-    let start = turn .before .before .before .before .before in
+    let put : tie.After-put-line2 Inv-loop μ-loop = search in let turn : tie.After-next-good Inv-loop μ-loop = search in
+    let start : tie.Start Inv-loop μ-loop = search in
     let found = turn .next-good .result in (
       turn .next-good .ensures .within,
       writing-goes (linesOf (runAt true (found .at) (found .length))) (linesOf (runsLeft (now (start .args .s)) (found .at + found .length)))
-          (after-skipped (put .before .before .before .before)) refl (put .put-line2 .ensures),
+          (after-skipped (search)) refl (put .put-line2 .ensures),
     )
 
 returns : tie.Need-returns Inv-loop μ-loop
