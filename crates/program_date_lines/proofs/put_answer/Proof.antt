@@ -9,36 +9,43 @@ use Rattle.program_date_lines.specs.Report.{timeAnswered, timeText, fiel
 use Rattle.program_date_lines.proofs.put_answer.Statement.{statement}
 use Rattle.program_date_lines.proofs.put_answer.Tie as tie
 
-field-text : (c : tie.After-field) → timeAnswered (now (c .before .before .before .before .before .args .text)) ≡ fieldText (c .field .given .0 .0)
-unfolding timeAnswered
+-- where the function began, from each of these places on
+begun-field : tie.After-field → tie.Start
+begun-field c = search
+
+begun-r : tie.After-r → tie.Start
+begun-r c = search
+
+field-text : (c : tie.After-field) → let start = begun-field c in timeAnswered (now (start .args .text)) ≡ fieldText (c .field .given .0 .0)
+unfolding timeAnswered begun-field
 field-text c = ap timeText (sym (c .before .before .read-text .ensures) ∙ c .field .given .1)
 
-refused-text : (c : tie.After-r) → timeAnswered (now (c .before .before .before .before .before .args .text)) ≡ refusedText (c .r .given .0 .0)
-unfolding timeAnswered
+refused-text : (c : tie.After-r) → let start = begun-r c in timeAnswered (now (start .args .text)) ≡ refusedText (c .r .given .0 .0)
+unfolding timeAnswered begun-r
 refused-text c = ap timeText (sym (c .before .before .read-text .ensures) ∙ c .r .given .1)
 
 put-field-requires : tie.Need-put-field-requires
+unfolding begun-field
 put-field-requires c κs =
-    let field = c .before .before in
-    let start = field .before .before .before .before .before in (
+    let field : tie.After-field = search in
+    let start : tie.Start = search in (
       omega (arith, text-day (now (start .args .text)) (sym (field .before .before .read-text .ensures) ∙ field .field .given .1)),
       rw (field-text field) at (start .pre),
     )
 
 put-refused-requires : tie.Need-put-refused-requires
+unfolding begun-r
 put-refused-requires c κs =
-    let refused = c .before .before in
-    rw (refused-text refused) at (refused .before .before .before .before .before .pre)
+    let start : tie.Start = search in let refused : tie.After-r = search in
+    rw (refused-text refused) at (start .pre)
 
 returns : tie.Need-returns
-returns c =
-    let put = c .before .before in
-    rw (field-text (put .before .before .before)) (put .put-field .ensures)
+unfolding begun-field
+returns c = let put : tie.After-put-field = search in rw (field-text (search)) (put .put-field .ensures)
 
 returns-2 : tie.Need-returns-2
-returns-2 c =
-    let put = c .before .before in
-    rw (refused-text (put .before .before .before)) (put .put-refused .ensures)
+unfolding begun-r
+returns-2 c = let put : tie.After-put-refused = search in rw (refused-text (search)) (put .put-refused .ensures)
 
 pub put-answer-spec : {M : Type 1} → statement M
 put-answer-spec =

@@ -13,27 +13,36 @@ use Rattle.ground_placing.proofs.Putting.{room-first, put-room, put-then}
 use Rattle.program_date_lines.proofs.put_field.Statement.{statement}
 use Rattle.program_date_lines.proofs.put_field.Tie as tie
 
-day-text : (c : tie.After-day) → fieldText (c .before .before .before .before .args .field)
-    ≡ hexOf 10 (c .before .before .before .before .args .field) ++ (ascii " " ++ decimalOf (c .day .given .0 .0))
-unfolding fieldText
+-- where the function began, from each of these places on
+begun-day : tie.After-day → tie.Start
+begun-day c = search
+
+begun-r : tie.After-r → tie.Start
+begun-r c = search
+
+day-text : (c : tie.After-day) → let start = begun-day c in fieldText (start .args .field)
+    ≡ hexOf 10 (start .args .field) ++ (ascii " " ++ decimalOf (c .day .given .0 .0))
+unfolding fieldText begun-day
 day-text c =
-    ap (dayText (c .before .before .before .before .args .field)) (sym (c .before .before .weekday .ensures) ∙ c .day .given .1)
+    let start = begun-day c in
+    ap (dayText (start .args .field)) (sym (c .before .before .weekday .ensures) ∙ c .day .given .1)
 
-day-room : (c : tie.After-day)
-    → c .before .before .before .before .args .at
-    + length (hexOf 10 (c .before .before .before .before .args .field) ++ (ascii " " ++ decimalOf (c .day .given .0 .0)))
-    ≤ length (now (c .before .before .before .before .args .out))
-day-room c = rw (day-text c) at (c .before .before .before .before .pre .1)
+day-room : (c : tie.After-day) → let start = begun-day c in start .args .at
+    + length (hexOf 10 (start .args .field) ++ (ascii " " ++ decimalOf (c .day .given .0 .0)))
+    ≤ length (now (start .args .out))
+unfolding begun-day
+day-room c = let start = begun-day c in rw (day-text c) at (start .pre .1)
 
-refused-text : (c : tie.After-r) → fieldText (c .before .before .before .before .args .field) ≡ refusedText (c .r .given .0 .0)
-unfolding fieldText
+refused-text : (c : tie.After-r) → let start = begun-r c in fieldText (start .args .field) ≡ refusedText (c .r .given .0 .0)
+unfolding fieldText begun-r
 refused-text c =
-    ap (dayText (c .before .before .before .before .args .field)) (sym (c .before .before .weekday .ensures) ∙ c .r .given .1)
+    let start = begun-r c in
+    ap (dayText (start .args .field)) (sym (c .before .before .weekday .ensures) ∙ c .r .given .1)
 
 put-digits-requires : tie.Need-put-digits-requires
+unfolding begun-day
 put-digits-requires c κs =
-    let day = c .before .before in
-    let a = day .before .before .before .before .args in
+    let start : tie.Start = search in let day : tie.After-day = search in let a = start .args in
     omega (
       arith,
       digits-length 16 10 (a .field),
@@ -41,37 +50,36 @@ put-digits-requires c κs =
     )
 
 put-bytes-requires : tie.Need-put-bytes-requires
+unfolding begun-day
 put-bytes-requires c κs =
-    let digits = c .before .before .before .before in
-    let day = digits .before .before .before in
+    let digits : tie.After-put-digits = search in let day : tie.After-day = search in
     room-first (digits .put-digits .result) (ascii " ") (decimalOf (day .day .given .0 .0))
     (put-room (ascii " " ++ decimalOf (day .day .given .0 .0)) (digits .put-digits .ensures) (day-room day))
 
 put-decimal-requires : tie.Need-put-decimal-requires
+unfolding begun-day
 put-decimal-requires c κs =
-    let space = c .before .before .before in
-    let digits = space .before .before .before .before .before in
-    let day = digits .before .before .before in
+    let space : tie.After-put-bytes = search in let digits : tie.After-put-digits = search in let day : tie.After-day = search in
     put-room (decimalOf (day .day .given .0 .0)) (space .put-bytes .ensures)
     (put-room (ascii " " ++ decimalOf (day .day .given .0 .0)) (digits .put-digits .ensures) (day-room day))
 
 put-refused-requires : tie.Need-put-refused-requires
+unfolding begun-r
 put-refused-requires c κs =
-    let refused = c .before .before in
-    rw (refused-text refused) at (refused .before .before .before .before .pre .1)
+    let start : tie.Start = search in let refused : tie.After-r = search in
+    rw (refused-text refused) at (start .pre .1)
 
 returns : tie.Need-returns
+unfolding begun-day
 returns c =
-    let weekday = c .before .before in
-    let space = weekday .before .before .before .before in
-    let digits = space .before .before .before .before .before in
-    rw (day-text (digits .before .before .before))
+    let weekday : tie.After-put-decimal = search in let space : tie.After-put-bytes = search in
+    let digits : tie.After-put-digits = search in
+    rw (day-text (search))
     (put-then (digits .put-digits .ensures) (put-then (space .put-bytes .ensures) (weekday .put-decimal .ensures)))
 
 returns-2 : tie.Need-returns-2
-returns-2 c =
-    let put = c .before .before in
-    rw (refused-text (put .before .before .before)) (put .put-refused .ensures)
+unfolding begun-r
+returns-2 c = let put : tie.After-put-refused = search in rw (refused-text (search)) (put .put-refused .ensures)
 
 pub put-field-spec : {M : Type 1} → statement M
 put-field-spec =

@@ -11,23 +11,20 @@ use Rattle.program_date_lines.proofs.put_line.Tie as tie
 put-decimal-requires : tie.Need-put-decimal-requires
 unfolding lineOf
 put-decimal-requires c κs =
-    let start = c .before .before .before in
+    let start : tie.Start = search in
     room-first (start .args .at) (decimalOf (start .args .number)) (ascii " " ++ (timeAnswered (now (start .args .text)) ++ ascii "\n")) (start .pre)
 
 put-bytes-requires : tie.Need-put-bytes-requires
 unfolding lineOf
 put-bytes-requires c κs =
-    let number = c .before .before .before .before in
-    let start = number .before .before .before .before in
+    let number : tie.After-put-decimal = search in let start : tie.Start = search in
     let answer = timeAnswered (now (start .args .text)) ++ ascii "\n" in
     room-first (number .put-decimal .result) (ascii " ") answer (put-room (ascii " " ++ answer) (number .put-decimal .ensures) (start .pre))
 
 put-answer-requires : tie.Need-put-answer-requires
 unfolding lineOf
 put-answer-requires c κs =
-    let space = c .before .before .before in
-    let number = space .before .before .before .before .before in
-    let start = number .before .before .before .before in
+    let space : tie.After-put-bytes = search in let number : tie.After-put-decimal = search in let start : tie.Start = search in
     let answer = timeAnswered (now (start .args .text)) in
     room-first (space .put-bytes .result) answer (ascii "\n")
     (put-room (answer ++ ascii "\n") (space .put-bytes .ensures)
@@ -36,10 +33,8 @@ put-answer-requires c κs =
 put-bytes-requires-2 : tie.Need-put-bytes-requires-2
 unfolding lineOf
 put-bytes-requires-2 c κs =
-    let answered = c .before .before .before .before in
-    let space = answered .before .before .before .before in
-    let number = space .before .before .before .before .before in
-    let start = number .before .before .before .before in
+    let answered : tie.After-put-answer = search in let space : tie.After-put-bytes = search in
+    let number : tie.After-put-decimal = search in let start : tie.Start = search in
     let answer = timeAnswered (now (start .args .text)) in
     put-room (ascii "\n") (answered .put-answer .ensures)
     (put-room (answer ++ ascii "\n") (space .put-bytes .ensures)
@@ -48,10 +43,8 @@ put-bytes-requires-2 c κs =
 returns : tie.Need-returns
 unfolding lineOf
 returns c =
-    let feed = c .before .before in
-    let answered = feed .before .before .before .before .before in
-    let space = answered .before .before .before .before in
-    let number = space .before .before .before .before .before in
+    let feed : tie.After-put-bytes2 = search in let answered : tie.After-put-answer = search in
+    let space : tie.After-put-bytes = search in let number : tie.After-put-decimal = search in
     put-then (number .put-decimal .ensures)
     (put-then (space .put-bytes .ensures) (put-then (answered .put-answer .ensures) (feed .put-bytes2 .ensures)))
 

@@ -22,32 +22,37 @@ Inv-loop out₀ at input next₀ number₀ from₀ out next number from =
 abbrev μ-loop : tie.MeasureT-loop
 μ-loop out₀ at input next₀ number₀ from₀ out next number from = length input + 1 - from
 
+-- where the function began
+begun : tie.After-line-end Inv-loop μ-loop → tie.Start Inv-loop μ-loop
+begun c = search
+
 -- the line that a turn puts, and those after it
 turn : (c : tie.After-line-end Inv-loop μ-loop)
-    → numbered (c .before .before .loop .number) (linesOf (drop (c .before .before .loop .from) (now (c .before .before .before .before .before .args .input))))
+    → let start = begun c in numbered (c .before .before .loop .number) (linesOf (drop (c .before .before .loop .from) (now (start .args .input))))
     ≡ lineOf (c .before .before .loop .number)
-    (take (c .line-end .result - c .before .before .loop .from) (drop (c .before .before .loop .from) (now (c .before .before .before .before .before .args .input))))
-    ++ numbered (c .before .before .loop .number + 1) (linesOf (drop (c .line-end .result + 1) (now (c .before .before .before .before .before .args .input))))
+    (take (c .line-end .result - c .before .before .loop .from) (drop (c .before .before .loop .from) (now (start .args .input))))
+    ++ numbered (c .before .before .loop .number + 1) (linesOf (drop (c .line-end .result + 1) (now (start .args .input))))
+unfolding begun
 turn c = numbered-turn _ _ _ _ (c .before .loop-test .taken) (c .line-end .ensures .0)
 
 loop-holds : tie.Need-loop-holds Inv-loop μ-loop
 loop-holds c = (omega arith, omega arith, ([], put-none _ _ (omega arith), refl))
 
 put-line-requires : tie.Need-put-line-requires Inv-loop μ-loop
+unfolding begun
 put-line-requires c κs =
-    let line = c .before .before in
+    let line : tie.After-line-end Inv-loop μ-loop = search in
     let l = line .before .before .loop in
-    let start = line .before .before .before .before .before in
-    let s = now (start .args .input) in
+    let start : tie.Start Inv-loop μ-loop = search in let s = now (start .args .input) in
     let room = rw (sym (l .inv .2 .2), turn line) at (start .pre .1) in
     room-first (l .next) (lineOf (l .number) (take (line .line-end .result - l .from) (drop (l .from) s)))
     (numbered (l .number + 1) (linesOf (drop (line .line-end .result + 1) s)))
     (put-room _ (l .inv .2 .1) room)
 
 loop-again : tie.Need-loop-again Inv-loop μ-loop
+unfolding begun
 loop-again c =
-    let put = c .before .before in
-    let line = put .before .before .before in
+    let put : tie.After-put-line Inv-loop μ-loop = search in let line : tie.After-line-end Inv-loop μ-loop = search in
     let inv = line .before .before .loop .inv in (
       omega arith,
       omega arith,
@@ -60,8 +65,9 @@ loop-again c =
 
 returns : tie.Need-returns Inv-loop μ-loop
 returns c =
+    let start : tie.Start Inv-loop μ-loop = search in
     let l = c .before .loop in
-    let s = now (c .before .before .before .before .args .input) in
+    let s = now (start .args .input) in
     let rest = numbered-none (l .number) s (l .from) (c .loop-test .left) in
     rw (sym (append-nil (l .inv .2 .0)) ∙ sym (ap (λ r. l .inv .2 .0 ++ r) rest) ∙ l .inv .2 .2) at (l .inv .2 .1)
 

@@ -13,25 +13,23 @@ use Rattle.program_date_lines.proofs.report.Tie as tie
 
 returns : tie.Need-returns
 returns c =
-    let over = c .before .before .before in
+    let start : tie.Start = search in let over : tie.Then1 = search in
     let head = over .before in
-    rw (report-over (now (head .before .before .before .before .args .input)) (over .if1 .taken))
+    rw (report-over (now (start .args .input)) (over .if1 .taken))
     (put-whole (put-then (head .put-bytes .ensures) (c .put-bytes2 .ensures)))
 
 put-lines-requires : tie.Need-put-lines-requires
 put-lines-requires c κs =
-    let head = c .before .before in
-    let start = head .before .before .before .before in
-    let s = now (start .args .input) in
+    let head : tie.After-put-bytes = search in let start : tie.Start = search in let s = now (start .args .input) in
     let room : length (now (start .args .out)) ≡ 1114131 = search needs in
     let most = rw (report-lines s (c .before .if1 .left)) at (report-most s) in
     (c .before .if1 .left, put-room (numbered 1 (linesOf s)) (head .put-bytes .ensures) (omega arith))
 
 returns-2 : tie.Need-returns-2
 returns-2 c =
-    let lines = c .before .before in
+    let start : tie.Start = search in let lines : tie.Else1 = search in
     let head = lines .before in
-    rw (report-lines (now (head .before .before .before .before .args .input)) (lines .if1 .left))
+    rw (report-lines (now (start .args .input)) (lines .if1 .left))
     (put-whole (put-then (head .put-bytes .ensures) (c .put-lines .ensures)))
 
 pub report-spec : {M : Type 1} → statement M
