@@ -12,57 +12,66 @@ use Rattle.program_section_line.specs.Line.{headingText, sectionAnswered
 use Rattle.program_section_line.proofs.put_answer.Statement.{statement}
 use Rattle.program_section_line.proofs.put_answer.Tie as tie
 
-good-text : (c : tie.After-heading) → sectionAnswered (now (c .before .before .before .before .before .args .input))
+-- where the function began, from each of these places on
+begun-heading : tie.After-heading → tie.Start
+begun-heading c = search
+
+begun-r : tie.After-r → tie.Start
+begun-r c = search
+
+good-text : (c : tie.After-heading) → let start = begun-heading c in sectionAnswered (now (start .args .input))
     ≡ decimalOf (c .heading .given .0 .0 .number) ++ (ascii " " ++ decimalOf (c .heading .given .0 .1 .0))
-unfolding sectionAnswered
+unfolding sectionAnswered begun-heading
 good-text c = ap headingText (sym (c .before .before .judged .ensures) ∙ c .heading .given .1)
 
 good-room : (c : tie.After-heading)
-    → 0 + length (decimalOf (c .heading .given .0 .0 .number) ++ (ascii " " ++ decimalOf (c .heading .given .0 .1 .0)))
-    ≤ length (now (c .before .before .before .before .before .args .out))
-good-room c = simp zero-add (rw (good-text c) at (c .before .before .before .before .before .pre))
+    → let start = begun-heading c in 0 + length (decimalOf (c .heading .given .0 .0 .number) ++ (ascii " " ++ decimalOf (c .heading .given .0 .1 .0)))
+    ≤ length (now (start .args .out))
+unfolding begun-heading
+good-room c = let start = begun-heading c in simp zero-add (rw (good-text c) at (start .pre))
 
-refused-text : (c : tie.After-r) → sectionAnswered (now (c .before .before .before .before .before .args .input)) ≡ refusedText (c .r .given .0 .0)
-unfolding sectionAnswered
+refused-text : (c : tie.After-r) → let start = begun-r c in sectionAnswered (now (start .args .input)) ≡ refusedText (c .r .given .0 .0)
+unfolding sectionAnswered begun-r
 refused-text c = ap headingText (sym (c .before .before .judged .ensures) ∙ c .r .given .1)
 
 put-decimal-requires : tie.Need-put-decimal-requires
+unfolding begun-heading
 put-decimal-requires c κs =
-    let good = c .before .before .before in
+    let good : tie.After-heading = search in
     room-first 0 (decimalOf (good .heading .given .0 .0 .number)) (ascii " " ++ decimalOf (good .heading .given .0 .1 .0)) (good-room good)
 
 put-bytes-requires : tie.Need-put-bytes-requires
+unfolding begun-heading
 put-bytes-requires c κs =
-    let number = c .before .before .before .before in
-    let good = number .before .before .before .before in
+    let number : tie.After-put-decimal = search in let good : tie.After-heading = search in
     let length = decimalOf (good .heading .given .0 .1 .0) in
     room-first (number .put-decimal .result) (ascii " ") length (put-room (ascii " " ++ length) (number .put-decimal .ensures) (good-room good))
 
 put-decimal-requires-2 : tie.Need-put-decimal-requires-2
+unfolding begun-heading
 put-decimal-requires-2 c κs =
-    let space = c .before .before .before in
-    let number = space .before .before .before .before .before in
-    let good = number .before .before .before .before in
+    let space : tie.After-put-bytes = search in let number : tie.After-put-decimal = search in
+    let good : tie.After-heading = search in
     let length = decimalOf (good .heading .given .0 .1 .0) in
     put-room length (space .put-bytes .ensures) (put-room (ascii " " ++ length) (number .put-decimal .ensures) (good-room good))
 
 put-refused-requires : tie.Need-put-refused-requires
+unfolding begun-r
 put-refused-requires c κs =
-    let refused = c .before .before in
-    simp zero-add (rw (refused-text refused) at (refused .before .before .before .before .before .pre))
+    let start : tie.Start = search in let refused : tie.After-r = search in
+    simp zero-add (rw (refused-text refused) at (start .pre))
 
 returns : tie.Need-returns
+unfolding begun-heading
 returns c =
-    let length = c .before .before in
-    let space = length .before .before .before .before in
-    let number = space .before .before .before .before .before in
-    rw (good-text (number .before .before .before .before))
+    let length : tie.After-put-decimal2 = search in let space : tie.After-put-bytes = search in
+    let number : tie.After-put-decimal = search in
+    rw (good-text (search))
     (put-then (number .put-decimal .ensures) (put-then (space .put-bytes .ensures) (length .put-decimal2 .ensures)))
 
 returns-2 : tie.Need-returns-2
-returns-2 c =
-    let put = c .before .before in
-    rw (refused-text (put .before .before .before)) (put .put-refused .ensures)
+unfolding begun-r
+returns-2 c = let put : tie.After-put-refused = search in rw (refused-text (search)) (put .put-refused .ensures)
 
 pub put-answer-spec : {M : Type 1} → statement M
 put-answer-spec =
