@@ -37,66 +37,53 @@ placed-room : (c : tie.After-answer3) → c .before .before .before .args .at
 placed-room c = rw (placed-text c) at (c .before .before .before .pre)
 
 put-bytes-requires : tie.Need-put-bytes-requires
-put-bytes-requires c κs =
-    let told = c .before .before in
-    rw (accepted-text told) at (told .before .before .before .pre)
+put-bytes-requires c κs = let told : tie.After-enum-told = search in rw (accepted-text told) at (told .before .before .before .pre)
 
 put-digits-requires : tie.Need-put-digits-requires
 put-digits-requires c κs =
-    let field = c .before .before in
+    let field : tie.After-answer = search in
     let room = rw (field-text field) at (field .before .before .before .pre) in
     omega (arith, digits-length 16 10 (field .answer .given .0 .0), room)
 
 put-refused-requires : tie.Need-put-refused-requires
-put-refused-requires c κs =
-    let refused = c .before .before in
-    rw (refused-text refused) at (refused .before .before .before .pre)
+put-refused-requires c κs = let refused : tie.After-answer2 = search in rw (refused-text refused) at (refused .before .before .before .pre)
 
 put-refused-requires-2 : tie.Need-put-refused-requires-2
 put-refused-requires-2 c κs =
-    let placed = c .before .before in
+    let placed : tie.After-answer3 = search in
     let r = placed .answer3 .given .0 .0 in
     room-first (placed .before .before .before .args .at) (refusedText r) (ascii " at " ++ decimalOf (refusalPlace r)) (placed-room placed)
 
 put-bytes-requires-2 : tie.Need-put-bytes-requires-2
 put-bytes-requires-2 c κs =
-    let refused = c .before .before .before .before in
-    let placed = refused .before .before .before in
+    let refused : tie.After-put-refused2 = search in let placed : tie.After-answer3 = search in
     let place = decimalOf (refusalPlace (placed .answer3 .given .0 .0)) in
     room-first (refused .put-refused2 .result) (ascii " at ") place
     (put-room (ascii " at " ++ place) (refused .put-refused2 .ensures) (placed-room placed))
 
 put-decimal-requires : tie.Need-put-decimal-requires
 put-decimal-requires c κs =
-    let word = c .before .before .before .before in
-    let refused = word .before .before .before .before .before in
-    let placed = refused .before .before .before in
+    let word : tie.After-put-bytes2 = search in let refused : tie.After-put-refused2 = search in
+    let placed : tie.After-answer3 = search in
     let place = decimalOf (refusalPlace (placed .answer3 .given .0 .0)) in
     rw (c .place .ensures)
     (put-room place (word .put-bytes2 .ensures)
     (put-room (ascii " at " ++ place) (refused .put-refused2 .ensures) (placed-room placed)))
 
 returns : tie.Need-returns
-returns c =
-    let put = c .before .before in
-    rw (accepted-text (put .before .before .before)) (put .put-bytes .ensures)
+returns c = let put : tie.After-put-bytes = search in rw (accepted-text (search)) (put .put-bytes .ensures)
 
 returns-2 : tie.Need-returns-2
-returns-2 c =
-    let put = c .before .before in
-    rw (field-text (put .before .before .before)) (put .put-digits .ensures)
+returns-2 c = let put : tie.After-put-digits = search in rw (field-text (search)) (put .put-digits .ensures)
 
 returns-3 : tie.Need-returns-3
-returns-3 c =
-    let put = c .before .before in
-    rw (refused-text (put .before .before .before)) (put .put-refused .ensures)
+returns-3 c = let put : tie.After-put-refused = search in rw (refused-text (search)) (put .put-refused .ensures)
 
 returns-4 : tie.Need-returns-4
 returns-4 c =
-    let place = c .before .before in
-    let word = place .before .before .before .before .before in
-    let refused = word .before .before .before .before .before in
-    rw (placed-text (refused .before .before .before))
+    let place : tie.After-put-decimal = search in let word : tie.After-put-bytes2 = search in
+    let refused : tie.After-put-refused2 = search in
+    rw (placed-text (search))
     (put-then (refused .put-refused2 .ensures)
     (put-then (word .put-bytes2 .ensures) (rw (place .before .place .ensures) at (place .put-decimal .ensures))))
 

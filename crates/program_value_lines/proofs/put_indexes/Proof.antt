@@ -9,16 +9,14 @@ use Rattle.program_value_lines.proofs.put_indexes.Tie as tie
 put-line-requires : tie.Need-put-line-requires
 unfolding indexLines threeLine
 put-line-requires c κs =
-    let first = c .before .before .before .before .before .before .before in
-    let start = first .before .before .before in
+    let first : tie.After-index-answer = search in let start : tie.Start = search in
     rw (first .index-answer .ensures) (room-first (start .args .at) threeLine (twoLine ++ fourLine) (start .pre))
 
 put-line-requires-2 : tie.Need-put-line-requires-2
 unfolding indexLines threeLine twoLine
 put-line-requires-2 c κs =
-    let one = c .before .before .before .before .before in
-    let second = one .before .before .before .before .before .before in
-    let first = second .before .before in
+    let one : tie.After-put-line = search in let second : tie.After-index-answer2 = search in
+    let first : tie.After-index-answer = search in
     rw (second .index-answer2 .ensures)
     (room-first (one .put-line .result) twoLine fourLine
     (put-room (twoLine ++ fourLine) (rw (first .index-answer .ensures) at (one .put-line .ensures)) (first .before .before .before .pre)))
@@ -26,12 +24,9 @@ put-line-requires-2 c κs =
 put-line-requires-3 : tie.Need-put-line-requires-3
 unfolding indexLines threeLine twoLine fourLine
 put-line-requires-3 c κs =
-    let two = c .before .before .before .before .before in
-    let one = two .before .before .before .before .before .before in
-    let third = one .before .before .before .before in
-    let second = third .before .before in
-    let first = second .before .before in
-    let start = first .before .before .before in
+    let two : tie.After-put-line2 = search in let one : tie.After-put-line = search in
+    let third : tie.After-index-answer3 = search in let second : tie.After-index-answer2 = search in
+    let first : tie.After-index-answer = search in let start : tie.Start = search in
     rw (third .index-answer3 .ensures)
     (put-room fourLine (rw (second .index-answer2 .ensures) at (two .put-line2 .ensures))
     (put-room (twoLine ++ fourLine) (rw (first .index-answer .ensures) at (one .put-line .ensures)) (start .pre)))
@@ -39,12 +34,9 @@ put-line-requires-3 c κs =
 returns : tie.Need-returns
 unfolding indexLines threeLine twoLine fourLine
 returns c =
-    let three = c .before .before in
-    let two = three .before .before .before .before .before .before in
-    let one = two .before .before .before .before .before .before in
-    let third = one .before .before .before .before in
-    let second = third .before .before in
-    let first = second .before .before in
+    let three : tie.After-put-line3 = search in let two : tie.After-put-line2 = search in let one : tie.After-put-line = search in
+    let third : tie.After-index-answer3 = search in let second : tie.After-index-answer2 = search in
+    let first : tie.After-index-answer = search in
     put-then (rw (first .index-answer .ensures) at (one .put-line .ensures))
     (put-then (rw (second .index-answer2 .ensures) at (two .put-line2 .ensures)) (rw (third .index-answer3 .ensures) at (three .put-line3 .ensures)))
 

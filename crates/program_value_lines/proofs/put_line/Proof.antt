@@ -11,24 +11,21 @@ use Rattle.program_value_lines.proofs.put_line.Tie as tie
 put-bytes-requires : tie.Need-put-bytes-requires
 unfolding lineOf
 put-bytes-requires c κs =
-    let start = c .before .before .before .before in
+    let start : tie.Start = search in
     let rest = valueText (start .args .answer) ++ saidText (now (start .args .said)) in
     room-first (start .args .at) (now (start .args .name)) (ascii ": " ++ rest) (start .pre)
 
 put-bytes-requires-2 : tie.Need-put-bytes-requires-2
 unfolding lineOf
 put-bytes-requires-2 c κs =
-    let named = c .before .before .before .before in
-    let start = named .before .before .before .before .before in
+    let named : tie.After-put-bytes = search in let start : tie.Start = search in
     let rest = valueText (start .args .answer) ++ saidText (now (start .args .said)) in
     room-first (named .put-bytes .result) (ascii ": ") rest (put-room (ascii ": " ++ rest) (named .put-bytes .ensures) (start .pre))
 
 put-answer-requires : tie.Need-put-answer-requires
 unfolding lineOf
 put-answer-requires c κs =
-    let colon = c .before .before .before in
-    let named = colon .before .before .before .before .before in
-    let start = named .before .before .before .before .before in
+    let colon : tie.After-put-bytes2 = search in let named : tie.After-put-bytes = search in let start : tie.Start = search in
     let answer = valueText (start .args .answer) in
     let said = saidText (now (start .args .said)) in
     room-first (colon .put-bytes2 .result) answer said
@@ -38,10 +35,8 @@ put-answer-requires c κs =
 put-said-requires : tie.Need-put-said-requires
 unfolding lineOf
 put-said-requires c κs =
-    let answered = c .before .before .before in
-    let colon = answered .before .before .before .before in
-    let named = colon .before .before .before .before .before in
-    let start = named .before .before .before .before .before in
+    let answered : tie.After-put-answer = search in let colon : tie.After-put-bytes2 = search in
+    let named : tie.After-put-bytes = search in let start : tie.Start = search in
     let said = saidText (now (start .args .said)) in
     let rest = valueText (start .args .answer) ++ said in
     put-room said (answered .put-answer .ensures)
@@ -50,10 +45,9 @@ put-said-requires c κs =
 returns : tie.Need-returns
 unfolding lineOf
 returns c =
-    let beside = c .before .before in
-    let answered = beside .before .before .before .before in
-    let colon = answered .before .before .before .before in
-    put-then (colon .before .before .before .before .before .put-bytes .ensures)
+    let put-bytes : tie.After-put-bytes = search in let beside : tie.After-put-said = search in
+    let answered : tie.After-put-answer = search in let colon : tie.After-put-bytes2 = search in
+    put-then (put-bytes .put-bytes .ensures)
     (put-then (colon .put-bytes2 .ensures) (put-then (answered .put-answer .ensures) (beside .put-said .ensures)))
 
 pub put-line-spec : {M : Type 1} → statement M

@@ -8,15 +8,13 @@ use Rattle.program_value_lines.proofs.put_volumes.Tie as tie
 put-line-requires : tie.Need-put-line-requires
 unfolding volumeLines fullLine
 put-line-requires c κs =
-    let first = c .before .before .before .before in
-    let start = first .before .before in
+    let first : tie.After-volume-answer = search in let start : tie.Start = search in
     rw (first .volume-answer .ensures) (room-first (start .args .at) fullLine aboveLine (start .pre))
 
 put-line-requires-2 : tie.Need-put-line-requires-2
 unfolding volumeLines fullLine aboveLine
 put-line-requires-2 c κs =
-    let one = c .before .before .before .before .before in
-    let second = one .before .before .before .before in
+    let one : tie.After-put-line = search in let second : tie.After-volume-answer2 = search in
     let first = second .before in
     rw (second .volume-answer2 .ensures)
     (put-room aboveLine (rw (first .volume-answer .ensures) at (one .put-line .ensures)) (first .before .before .pre))
@@ -24,9 +22,8 @@ put-line-requires-2 c κs =
 returns : tie.Need-returns
 unfolding volumeLines fullLine aboveLine
 returns c =
-    let two = c .before .before in
-    let one = two .before .before .before .before .before .before in
-    let second = one .before .before .before .before in
+    let two : tie.After-put-line2 = search in let one : tie.After-put-line = search in
+    let second : tie.After-volume-answer2 = search in
     put-then (rw (second .before .volume-answer .ensures) at (one .put-line .ensures))
     (rw (second .volume-answer2 .ensures) at (two .put-line2 .ensures))
 
