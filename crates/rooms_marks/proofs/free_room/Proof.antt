@@ -17,9 +17,10 @@ first-unmarked-requires c κs = search needs
 
 returns : tie.Need-returns
 returns c =
-    let start = c .before .before .before .before .before .before .before .args in
+    let at-start : tie.Start = search in
+    let start = at-start .args in
     let found : c .first-unmarked .result ≡ freeMark (marksOf (now (start .one)) (now (start .two))) 1 (start .n) = cc in
-    let is = found ∙ free-means (now (start .one)) (now (start .two)) (start .n) (c .before .before .before .before .before .before .before .pre) in
+    let is = found ∙ free-means (now (start .one)) (now (start .two)) (start .n) (at-start .pre) in
     let most = free-most (start .n) (now (start .one)) (now (start .two)) in
     (is, omega arith)
 

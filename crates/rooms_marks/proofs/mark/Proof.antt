@@ -46,7 +46,7 @@ loop-less c = omega arith
 
 loop-again : tie.Need-loop-again Inv-loop μ-loop
 loop-again c =
-    let turn = c .before .before .before .before in
+    let turn : tie.At-loop Inv-loop μ-loop = search in
     let rooms = now (turn .before .before .before .args .rooms) in
     let marks = turn .loop .marks in
     let room = c .before .wide .ensures in (
@@ -65,7 +65,9 @@ same-length : tie.Need-same-length Inv-loop μ-loop
 same-length c = c .before .loop .inv .1
 
 returns : tie.Need-returns Inv-loop μ-loop
-returns c = let i = c .before .loop .inv in sym (i .2 ∙ mark-end (now (c .before .before .before .before .args .rooms)) (c .before .loop .k) _ (omega arith))
+returns c =
+    let start : tie.Start Inv-loop μ-loop = search in
+    let i = c .before .loop .inv in sym (i .2 ∙ mark-end (now (start .args .rooms)) (c .before .loop .k) _ (omega arith))
 
 pub mark-spec : {M : Type 1} → statement M
 mark-spec =

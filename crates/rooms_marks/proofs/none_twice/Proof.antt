@@ -15,9 +15,10 @@ marked-once-requires c κs = search needs
 
 returns : tie.Need-returns
 returns c =
-    let start = c .before .before .before .before .before .before .before .args in
+    let at-start : tie.Start = search in
+    let start = at-start .args in
     let found : c .marked-once .result ≡ allOnce (marksOf (now (start .one)) (now (start .two))) 1 (start .n) = cc in
-    found ∙ once-means (now (start .one)) (now (start .two)) (start .n) (c .before .before .before .before .before .before .before .pre)
+    found ∙ once-means (now (start .one)) (now (start .two)) (start .n) (at-start .pre)
 
 pub none-twice-spec : {M : Type 1} → statement M
 none-twice-spec = tie.close (tie.spec marks-of-requires marked-once-requires returns)
