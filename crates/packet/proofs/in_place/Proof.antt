@@ -18,12 +18,13 @@ in-place-spec =
     (λ c κs. search needs)
     (λ c. place-plain _ (λ e. omega arith) (omega arith) (unmet _ (c .before .has-start .ensures) (c .if4 .taken)))
     (λ c.
-    place-pointerless _ (λ e. omega arith) (omega arith) (λ e. omega arith) (met _ (c .before .before .has-start .ensures) (c .before .if4 .left)) (omega arith))
+    place-pointerless _ (λ e. omega arith) (omega arith) (λ e. omega arith)
+    (met _ (c .before .before .has-start .ensures) (c .before .if4 .left)) (omega arith))
     (λ c. search needs)
     (λ c κs. search needs)
     (λ c. search needs)
     (λ c.
-    let here = c .before .before in
+    let payload-at : tie.After-payload-at = search in let here : tie.Else4 = search in
     place-pointed _ (λ e. omega arith) (omega arith) (λ e. omega arith) (met _ (here .before .has-start .ensures) (here .if4 .left)) _ _ (omega arith)
-    (here .before .before .before .before .payload-at .ensures .0)
+    (payload-at .payload-at .ensures .0)
     (c .byte-at .ensures .0)))
