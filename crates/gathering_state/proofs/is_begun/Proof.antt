@@ -25,26 +25,19 @@ is-begun-spec =
     (λ c. search needs)
     (λ c. search needs)
     (λ c κs. search needs)
-    (λ c. let passed = c .before .before in not-begun-seen _ (passed .survey-of .ensures) (λ s b. omega arith))
-    (λ c. let passed = c .before .before .before .before in not-begun-seen _ (passed .survey-of .ensures) (λ s b. omega arith))
+    (λ c. let passed : tie.After-survey-of = search in not-begun-seen _ (passed .survey-of .ensures) (λ s b. omega arith))
+    (λ c. let passed : tie.After-survey-of = search in not-begun-seen _ (passed .survey-of .ensures) (λ s b. omega arith))
     (λ c. search needs)
     (λ c. search needs)
-    (λ c. let passed = c .before .before .before .before .before .before in not-begun-seen _ (passed .survey-of .ensures) (λ s b. omega arith))
+    (λ c. let passed : tie.After-survey-of = search in not-begun-seen _ (passed .survey-of .ensures) (λ s b. omega arith))
     (λ c. search needs)
     (λ c. search needs)
     (λ c. search needs)
+    (λ c. let passed : tie.After-survey-of = search in not-begun-seen _ (passed .survey-of .ensures) (λ s b. omega arith))
     (λ c.
-    let passed = c .before .before .before .before .before .before .before .before .before in
-    not-begun-seen _ (passed .survey-of .ensures) (λ s b. omega arith))
-    (λ c.
-    let counted = c .before .before in
-    let short = counted .before .before .before in
-    let some = short .before .before in
-    let below = some .before .before in
-    let passed = below .before .before in
-    let calm = passed .before .before .before in
-    let old = calm .before .before in
-    let known = old .before .before in
+    let counted : tie.Else7 = search in let short : tie.Else6 = search in let some : tie.Else5 = search in
+    let below : tie.Else4 = search in let passed : tie.After-survey-of = search in let calm : tie.Else3 = search in
+    let old : tie.Else2 = search in let known : tie.Else1 = search in
     let version = old .if2 .left in
     let spoiled = calm .if3 .left in
     let above = below .if4 .left in

@@ -1,4 +1,5 @@
--- `gathering_state::same_bytes` meets its contract. The loop's invariant: the byte strings are the same if `same` still says so and what is left of them is the same.
+-- `gathering_state::same_bytes` meets its contract. The loop's invariant:
+-- the byte strings are the same if `same` still says so and what is left of them is the same.
 use Prim.Native.Nat.{_≤_, _-_}
 use mathlib.Core.Bool.{_&&_}
 use mathlib.Core.Logic.{⊎-elim}
@@ -28,7 +29,9 @@ same-bytes-spec =
     (λ c. omega arith)
     (λ c. omega arith)
     (λ c. omega arith)
-    (λ c. let l = c .before .before .before .before .loop in ⊎-elim
+    (λ c.
+    let head : tie.At-loop Inv-loop μ-loop = search in
+    let l = head .loop in ⊎-elim
     (λ w. (omega arith, same-stop _ _ _ (l .inv .2) (l .same) (l .inv .1) (omega arith) (w .0 .taken) _ (w .1), l .inv .2))
     (λ w. (omega arith, same-step _ _ _ (l .inv .2) (l .same) (l .inv .1) (omega arith) (w .0 .left) _ (w .1), l .inv .2)) (c .if2 .came))
     (λ c. let v = c .before .loop .inv in same-end _ _ _ (v .2) _ (v .1) (c .loop-test .left)))

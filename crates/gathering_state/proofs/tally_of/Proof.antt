@@ -36,7 +36,7 @@ tally-of-spec =
     (λ c. omega arith)
     (λ c. omega arith)
     (λ c.
-    let here = c .before .before .before .before in
+    let here : tie.At-loop Inv-loop μ-loop = search in
     let s = now (here .before .before .args .s) in
     let most = greatest-step s (here .loop .i) (omega arith) in
     let held = held-step s (here .loop .i) (omega arith) in

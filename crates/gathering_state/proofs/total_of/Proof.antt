@@ -29,5 +29,7 @@ total-of-spec =
     (λ c. omega arith)
     (λ c. omega arith)
     (λ c. omega arith)
-    (λ c. let t = total-step (now (c .before .before .before .before .before .args .s)) (c .before .before .before .loop .i) (omega arith) in (omega arith, omega arith, omega arith))
+    (λ c.
+    let start : tie.Start Inv-loop μ-loop = search in
+    let t = total-step (now (start .args .s)) (c .before .before .before .loop .i) (omega arith) in (omega arith, omega arith, omega arith))
     (λ c. let t = total-end (now (c .before .before .before .args .s)) (c .before .loop .i) (omega arith) in omega arith))
