@@ -16,18 +16,16 @@ pack-spec =
     (λ c. search needs)
     (λ c. search needs)
     (λ c.
-    let good = c .before .before in
+    let good : tie.After--heading = search in
     by-refusal _ _ _ (packing-counter _ _ _ _ _ (sym (good .before .before .read-section .ensures) ∙ good .-heading .given .1) (c .if1 .taken)))
     (λ c. search needs)
     (λ c κs.
-    let good = c .before .before .before in
+    let good : tie.After--heading = search in
     (omega arith, good-short _ _ _ (sym (good .before .before .read-section .ensures) ∙ good .-heading .given .1)))
     (λ c. by-refusal _ _ _ (packing-not-good _ _ _ _ (sym (c .before .before .before .read-section .ensures) ∙ c .before .why .given .1)))
     (λ c. search needs)
     (λ c.
-    let packs = c .before .before in
-    let test = packs .before .before in
-    let good = test .before .before in
-    let out = now (good .before .before .before .before .before .args .out) in
+    let start : tie.Start = search in let packs : tie.After-pack-good = search in let test : tie.Else1 = search in
+    let good : tie.After--heading = search in let out = now (start .args .out) in
     let e = packing-good _ _ _ _ _ (sym (good .before .before .read-section .ensures) ∙ good .-heading .given .1) (test .if1 .left) in
     (packs .pack-good .ensures .0 ∙ ap packedBy (sym e), packs .pack-good .ensures .1 ∙ ap (λ v. outputBy v out) (sym e))))

@@ -18,8 +18,7 @@ put-continuing-spec =
     (λ c κs. search needs)
     (λ c. search needs)
     (λ c.
-    let third = c .before .before in
-    let second = third .before .before .before .before in
-    let one = second .before .before .before .before in
-    let q = one .before .before .before .before .pre in
+    let start : tie.Start = search in let third : tie.After-put-stuffing = search in let second : tie.After-copy-at = search in
+    let one : tie.After-put-header = search in
+    let q = start .pre in
     laid-packet _ _ _ _ _ _ _ _ _ (one .put-header .ensures) (second .copy-at .ensures) (third .put-stuffing .ensures) refl refl (q .2) (q .0)))

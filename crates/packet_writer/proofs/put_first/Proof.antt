@@ -17,10 +17,8 @@ put-first-spec =
     (λ c κs. search needs)
     (λ c. search needs)
     (λ c.
-    let fourth = c .before .before in
-    let third = fourth .before .before .before .before in
-    let second = third .before .before .before .before in
-    let one = second .before .before .before .before in
-    let q = one .before .before .before .before .pre in
+    let start : tie.Start = search in let fourth : tie.After-put-stuffing = search in let third : tie.After-copy-at = search in
+    let second : tie.After-put-byte = search in let one : tie.After-put-header = search in
+    let q = start .pre in
     laid-first _ _ _ _ _ _ _ _ _ (one .put-header .ensures) (second .put-byte .ensures) (third .copy-at .ensures)
     (fourth .put-stuffing .ensures) refl refl (q .2) (q .0)))

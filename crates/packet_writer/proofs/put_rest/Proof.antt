@@ -32,7 +32,7 @@ put-rest-spec =
     (λ c. search needs)
     (λ c. search needs)
     (λ c κs.
-    let here = c .before .before .before .before in
+    let here : tie.At-loop Inv-loop μ-loop = search in
     let v = here .loop .inv in
     let q = here .before .before .before .pre in
     let room = v .room in
@@ -40,17 +40,17 @@ put-rest-spec =
     let e = c .before .before .least .ensures in
     let from = firstRoom + nextRoom * here .loop .i in
     (omega arith, v .low, omega (arith, length-take (c .before .before .least .result - from) (drop from (now (here .before .before .before .args .section))))))
-    (λ c. let l = c .before .before .before .before .before .before .before .loop .inv .low in omega arith)
+    (λ c. let head : tie.At-loop Inv-loop μ-loop = search in let l = head .loop .inv .low in omega arith)
     (λ c. search needs)
     (λ c. search needs)
     (λ c.
-    let here = c .before .before .before .before .before .before .before in
-    let start = here .before .before .before in
+    let least : tie.After-least Inv-loop μ-loop = search in let here : tie.At-loop Inv-loop μ-loop = search in
+    let start : tie.Start Inv-loop μ-loop = search in
     let q = start .pre in
     let long = q .least in
     let less = q .most in
     laying-step _ _ _ _ _ _ _ (here .loop .inv) (omega arith) (q .room) _
-    (part-of (now (start .args .section)) (firstRoom + nextRoom * here .loop .i) _ (c .before .before .before .before .before .least .ensures) (omega arith))
+    (part-of (now (start .args .section)) (firstRoom + nextRoom * here .loop .i) _ (least .least .ensures) (omega arith))
     _ (c .before .before .put-continuing .ensures))
     (λ c. c .before .loop .inv .room)
     (λ c. laying-end _ _ _ _ _ _ _ (c .before .loop .inv) (c .loop-test .left)))
