@@ -17,20 +17,17 @@ cut-part-spec =
     (λ c κs. search needs)
     (λ c. search needs)
     (λ c.
-    let a = c .before .before .before .before .before .args in
+    let start : tie.Start = search in let a = start .args in
     let l = part-count (now (a .body)) (a .h .number) (c .before .least .result) (c .before .least .ensures) in
     too-small _ _ _ (omega arith))
     (λ c. search needs)
     (λ c. search needs)
     (λ c. search needs)
-    (λ c.
-    let p = place-within _ _ (c .before .before .before .before .before .pre .1) in
-    omega arith)
+    (λ c. let start : tie.Start = search in let p = place-within _ _ (start .pre .1) in omega arith)
     (λ c κs. search needs)
     (λ c. search needs)
     (λ c. search needs)
     (λ c.
-    let d = c .before .before .before .before .before .before in
-    let a = d .before .before .before .before .args in
+    let start : tie.Start = search in let d : tie.After-least = search in let a = start .args in
     let l = part-count (now (a .body)) (a .h .number) (d .least .result) (d .least .ensures) in
     fits _ _ _ _ _ (omega arith) (search needs) (rw (part-is _ _ _ (d .least .ensures)) at (c .before .before .put-section .ensures))))

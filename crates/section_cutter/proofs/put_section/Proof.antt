@@ -1,4 +1,5 @@
--- `section_cutter::put_section` meets its contract: the heading, the payload and the check are laid one after the other, and the check is that of the two before it.
+-- `section_cutter::put_section` meets its contract: the heading, the payload and the check are laid one after the other,
+-- and the check is that of the two before it.
 use mathlib.Core.Path.{sym}
 use native.Mathlib.Omega.{arith}
 use borrow.Author.Needs.{needs}
@@ -16,15 +17,12 @@ put-section-spec =
     (λ c κs. search needs)
     (λ c. search needs)
     (λ c.
-    let e = c .before .before .before in
-    let f = e .before .before .before .before in
+    let e : tie.After-copy-at = search in let f : tie.After-put-heading = search in
     let l = laid-length _ _ _ (search needs) _ _ (f .put-heading .ensures) (e .copy-at .ensures) in
     sym (length-take-le _ _ (omega arith)))
     (λ c κs. search needs)
     (λ c κs. search needs)
     (λ c. search needs)
     (λ c.
-    let d = c .before .before .before .before in
-    let e = d .before .before .before .before in
-    let f = e .before .before .before .before in
+    let d : tie.After-crc32 = search in let e : tie.After-copy-at = search in let f : tie.After-put-heading = search in
     laid-checked _ _ _ (search needs) _ _ (f .put-heading .ensures) (e .copy-at .ensures) _ _ (d .crc32 .ensures) (c .before .before .put-check .ensures)))
