@@ -17,7 +17,7 @@ returns-2 c = let a = c .before .before .before .args in sym (begins-past (now (
 
 returns-3 : tie.Need-returns-3
 returns-3 c =
-    let a = c .before .before .before .before .args in
+    let start : tie.Start = search in let a = start .args in
     begins-left (now (a .rows)) (a .at) (c .length-at .result) (length (now (a .rows)) - a .at) (c .length-at .ensures) (omega arith) (omega arith)
 
 pub row-begins-spec : {M : Type 1} → statement M
