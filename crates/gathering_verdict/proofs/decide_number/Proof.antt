@@ -11,10 +11,15 @@ use Rattle.gathering_verdict.proofs.Verdicts.{compared, number-new, num
 use Rattle.gathering_verdict.proofs.decide_number.Statement.{statement}
 use Rattle.gathering_verdict.proofs.decide_number.Tie as tie
 
+-- where the function began
+begun : tie.After-less-one → tie.Start
+begun c = search
+
 -- the held payload lies in the store
-within : (c : tie.After-less-one) → c .before .place-of .result + c .less-one .result ≤ length (now (c .before .before .before .before .before .before .before .args .store))
+within : (c : tie.After-less-one) → c .before .place-of .result + c .less-one .result ≤ length (now (begun c .args .store))
+unfolding begun
 within c =
-    let a = c .before .before .before .before .before .before .before in
+    let a = begun c in
     let p = place-within _ _ (a .args .h .number) (a .pre .0) (a .pre .1) in
     let n = greatest-at (now (a .args .held)) (a .args .h .number) in
     let m = a .pre .2 in
@@ -22,6 +27,7 @@ within c =
     omega arith
 
 pub decide-number-spec : {M : Type 1} → statement M
+unfolding begun
 decide-number-spec =
     tie.close
     (tie.spec
@@ -36,5 +42,11 @@ decide-number-spec =
     (λ c. search needs)
     within
     (λ c κs. search needs)
-    (λ c m. sym (number-same _ _ _ _ (omega arith) (compared _ _ _ _ _ _ (c .before .before .before .before .place-of .ensures) (c .before .before .before .less-one .ensures .0) _ (c .before .same-bytes .ensures) ∙ c .if2 .taken)))
-    (λ c m. sym (number-other _ _ _ _ (omega arith) (compared _ _ _ _ _ _ (c .before .before .before .before .place-of .ensures) (c .before .before .before .less-one .ensures .0) _ (c .before .same-bytes .ensures) ∙ c .if2 .left))))
+    (λ c m.
+    let place-of : tie.After-place-of = search in
+    sym (number-same _ _ _ _ (omega arith)
+    (compared _ _ _ _ _ _ (place-of .place-of .ensures) (c .before .before .before .less-one .ensures .0) _ (c .before .same-bytes .ensures) ∙ c .if2 .taken)))
+    (λ c m.
+    let place-of : tie.After-place-of = search in
+    sym (number-other _ _ _ _ (omega arith)
+    (compared _ _ _ _ _ _ (place-of .place-of .ensures) (c .before .before .before .less-one .ensures .0) _ (c .before .same-bytes .ensures) ∙ c .if2 .left))))
