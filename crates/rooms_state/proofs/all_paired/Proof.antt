@@ -37,7 +37,7 @@ is-paired-requires c κs = search needs
 
 returns : tie.Need-returns Inv-loop μ-loop
 returns c =
-    let turn = c .before .before .before .before .before in
+    let turn : tie.At-loop Inv-loop μ-loop = search in
     let args = turn .before .before .before .args in
     sym (turn .loop .inv .1
     ∙ pair-stop (args .n) (now (args .held)) (now (args .rooms)) (turn .loop .i) (turn .before .before .before .pre) (omega arith)
@@ -51,7 +51,7 @@ loop-less c = omega arith
 
 loop-again : tie.Need-loop-again Inv-loop μ-loop
 loop-again c =
-    let turn = c .before .before .before .before .before in
+    let turn : tie.At-loop Inv-loop μ-loop = search in
     let args = turn .before .before .before .args in (
       omega arith,
       turn .loop .inv .1
@@ -61,9 +61,9 @@ loop-again c =
 
 returns-2 : tie.Need-returns-2 Inv-loop μ-loop
 returns-2 c =
-    let args = c .before .before .before .before .args in
+    let start : tie.Start Inv-loop μ-loop = search in let args = start .args in
     sym (c .before .loop .inv .1
-    ∙ pair-end (args .n) (now (args .held)) (now (args .rooms)) (c .before .loop .i) (c .before .before .before .before .pre) (omega arith))
+    ∙ pair-end (args .n) (now (args .held)) (now (args .rooms)) (c .before .loop .i) (start .pre) (omega arith))
 
 pub all-paired-spec : {M : Type 1} → statement M
 all-paired-spec =

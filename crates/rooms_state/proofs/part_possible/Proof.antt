@@ -16,18 +16,18 @@ long c = (search needs, search needs)
 returns : tie.Need-returns
 returns c =
     let tested = c .before in
-    let copied = tested .before .before .before in
+    let copied : tie.After-numbers-of = search in
     let made = ap possibleOf (parts-make _ _ (copied .numbers-of .ensures)) in
-    let l = long (copied .before .before) in
+    let l = long (search) in
     part-not _ _ (l .0) (l .1) (unmet _ (tested .possible .ensures ∙ made) (c .if1 .taken))
 
 returns-2 : tie.Need-returns-2
 returns-2 c =
-    let passed = c .before .before .before .before .before .before .before in
+    let passed : tie.Else1 = search in
     let tested = passed .before in
-    let copied = tested .before .before .before in
+    let copied : tie.After-numbers-of = search in
     let made = ap possibleOf (parts-make _ _ (copied .numbers-of .ensures)) in
-    let l = long (copied .before .before) in
+    let l = long (search) in
     c .all-paired .ensures ∙ part-by _ _ (l .0) (l .1) (met _ (tested .possible .ensures ∙ made) (passed .if1 .left))
 
 pub part-possible-spec : {M : Type 1} → statement M

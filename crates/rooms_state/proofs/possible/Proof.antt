@@ -12,21 +12,18 @@ returns c = other-length _ _ (c .if1 .taken)
 
 returns-2 : tie.Need-returns-2
 returns-2 c =
-    let rooms = c .before .before .before in
+    let rooms : tie.After-rooms-in = search in
     one-not _ _ (omega arith) _ (rooms .rooms-in .ensures .0) (unmet _ (c .before .part-possible .ensures) (c .if2 .taken))
 
 returns-3 : tie.Need-returns-3
 returns-3 c =
-    let one = c .before .before .before in
-    let rooms = one .before .before .before in
+    let one : tie.Else2 = search in let rooms : tie.After-rooms-in = search in
     two-not _ _ (omega arith) _ (rooms .rooms-in .ensures .0) (met _ (one .before .part-possible .ensures) (one .if2 .left))
     (unmet _ (c .before .part-possible2 .ensures) (c .if3 .taken))
 
 returns-4 : tie.Need-returns-4
 returns-4 c =
-    let two = c .before .before .before .before .before .before .before in
-    let one = two .before .before .before in
-    let rooms = one .before .before .before in
+    let two : tie.Else3 = search in let one : tie.Else2 = search in let rooms : tie.After-rooms-in = search in
     c .none-twice .ensures
     ∙ both-are _ _ (omega arith) _ (rooms .rooms-in .ensures .0) (met _ (one .before .part-possible .ensures) (one .if2 .left))
     (met _ (two .before .part-possible2 .ensures) (two .if3 .left))
