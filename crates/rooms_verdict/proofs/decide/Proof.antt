@@ -13,16 +13,24 @@ use Rattle.rooms_verdict.proofs.Verdicts.{verdict-bad, verdict-good}
 use Rattle.rooms_verdict.proofs.decide.Statement.{statement}
 use Rattle.rooms_verdict.proofs.decide.Tie as tie
 
-read-at : (c : tie.After-h) → readSection (now (c .before .before .before .before .before .args .s)) ≡ Good (c .h .given .0 .0) (c .h .given .0 .1 .0)
+-- where the function began
+begun : tie.After-h → tie.Start
+begun c = search
+
+read-at : (c : tie.After-h) → readSection (now (begun c .args .s)) ≡ Good (c .h .given .0 .0) (c .h .given .0 .1 .0)
+unfolding begun
 read-at c = sym (c .before .before .read-section .ensures) ∙ c .h .given .1
 
-good-at : (c : tie.After-h) → Sized (now (c .before .before .before .before .before .args .s)) (c .h .given .0 .0) (c .h .given .0 .1 .0)
+good-at : (c : tie.After-h) → Sized (now (begun c .args .s)) (c .h .given .0 .0) (c .h .given .0 .1 .0)
+unfolding begun
 good-at c = sized _ _ _ (read-at c)
 
-within : (c : tie.After-known-told2) → 8 + c .before .h .given .0 .1 .0 ≤ length (now (c .before .before .before .before .before .before .args .s))
+within : (c : tie.After-known-told2) → 8 + c .before .h .given .0 .1 .0 ≤ length (now (begun (c .before) .args .s))
+unfolding begun
 within c = let q = good-at (c .before) in omega arith
 
 pub decide-spec : {M : Type 1} → statement M
+unfolding begun
 decide-spec =
     tie.close
     (tie.spec
@@ -33,8 +41,8 @@ decide-spec =
     (λ c. search needs)
     (λ c. search needs)
     within
-    (λ c κs. let here = c .before .before in (good-at here .versioned, here .before .before .before .before .before .pre))
+    (λ c κs. let start : tie.Start = search in let here : tie.After-h = search in (good-at here .versioned, start .pre))
     (λ c. sym (verdict-bad _ _ _ _ (sym (c .before .before .before .read-section .ensures) ∙ c .before .r .given .1)))
     (λ c.
-    let here = c .before .before .before in
+    let here : tie.After-h = search in
     c .decide-good .ensures ∙ ap (goodVerdict _ _ _) (payload-part _ _ _ (good-at here)) ∙ sym (verdict-good _ _ _ _ _ (read-at here))))

@@ -10,19 +10,23 @@ use Rattle.rooms_verdict.proofs.Verdicts.{compared, number-new, number-
 use Rattle.rooms_verdict.proofs.decide_number.Statement.{statement}
 use Rattle.rooms_verdict.proofs.decide_number.Tie as tie
 
+-- where the function began
+begun : tie.After-less-one → tie.Start
+begun c = search
+
 -- the held payload lies in the store
-within : (c : tie.After-less-one)
-    → let placed = c .before in
-    placed .room-place .result + c .less-one .result ≤ length (now (placed .before .before .before .before .before .before .before .before .args .store))
-unfolding roomAt
+within : (c : tie.After-less-one) → let placed = c .before in
+    placed .room-place .result + c .less-one .result ≤ length (now (begun c .args .store))
+unfolding roomAt begun
 within c =
-    let start = c .before .before .before .before .before .before .before .before .before in
+    let start = begun c in
     let w = start .pre .within (start .args .h .number) in
     let e = c .before .room-place .ensures in
     let f = c .less-one .ensures .0 in
     omega arith
 
 pub decide-number-spec : {M : Type 1} → statement M
+unfolding begun
 decide-number-spec =
     tie.close
     (tie.spec
@@ -41,12 +45,10 @@ decide-number-spec =
     within
     (λ c κs. search needs)
     (λ c m.
-    let placed = c .before .before .before .before in
-    let read = c .before .before .before in
+    let placed : tie.After-room-place = search in let read : tie.After-less-one = search in
     sym (number-same _ _ _ _ (omega arith)
     (compared _ _ _ _ _ _ (placed .room-place .ensures) (read .less-one .ensures .0) _ (c .before .same-bytes .ensures) ∙ c .if2 .taken)))
     (λ c m.
-    let placed = c .before .before .before .before in
-    let read = c .before .before .before in
+    let placed : tie.After-room-place = search in let read : tie.After-less-one = search in
     sym (number-other _ _ _ _ (omega arith)
     (compared _ _ _ _ _ _ (placed .room-place .ensures) (read .less-one .ensures .0) _ (c .before .same-bytes .ensures) ∙ c .if2 .left))))
