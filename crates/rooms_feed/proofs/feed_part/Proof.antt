@@ -23,21 +23,21 @@ begun-at : (c : tie.After-h)
     → let given = start (c .before .before) .args in
     verdictOf (given .t1) (now (given .store)) (now (given .s)) ≡ Begin (c .h .given .0 .0)
 begun-at c =
-    let decided = c .before .before in
+    let decided : tie.After-decide = search in
     decides _ _ _ _ (numbered decided .numbers-of .ensures) _ (decided .decide .ensures) ∙ c .h .given .1
 
 taken-at : (c : tie.After-h2)
     → let given = start (c .before .before) .args in
     verdictOf (given .t1) (now (given .store)) (now (given .s)) ≡ Take (c .h2 .given .0 .0)
 taken-at c =
-    let decided = c .before .before in
+    let decided : tie.After-decide = search in
     decides _ _ _ _ (numbered decided .numbers-of .ensures) _ (decided .decide .ensures) ∙ c .h2 .given .1
 
 numbers-of-requires : tie.Need-numbers-of-requires
 numbers-of-requires c κs = search needs
 
 decide-requires : tie.Need-decide-requires
-decide-requires c κs = let pre = c .before .before .before .before .before .before .before .before .before .pre in part-in-rooms _ _ _ (pre .1) (pre .2)
+decide-requires c κs = let start : tie.Start = search in let pre = start .pre in part-in-rooms _ _ _ (pre .1) (pre .2)
 
 enum-known-r : tie.Need-enum-known-r
 enum-known-r c = search needs
@@ -54,14 +54,14 @@ enum-known-h c = search needs
 open-part-requires : tie.Need-open-part-requires
 open-part-requires c κs =
     let here = c .before in
-    let pre = start (here .before .before) .pre in
+    let pre = start (search) .pre in
     first-versioned _ _ _ _ (pre .0) (pre .1) (pre .2) _ (begun-at here)
 
 take-free-requires : tie.Need-take-free-requires
 take-free-requires c κs =
     let opened = c .before in
-    let here = opened .before .before in
-    let pre = start (here .before .before) .pre in
+    let here : tie.After-h = search in
+    let pre = start (search) .pre in
     let counts = first-counts _ _ (opened .open-part .ensures) in
     (first-roomy _ _ _ _ (pre .0) (pre .1) (pre .2) _ (begun-at here), counts .0, counts .1)
 
@@ -70,8 +70,8 @@ enum-known-h-2 c = search needs
 
 take-free-requires-2 : tie.Need-take-free-requires-2
 take-free-requires-2 c κs =
-    let here = c .before .before in
-    let pre = start (here .before .before) .pre in
+    let here : tie.After-h2 = search in
+    let pre = start (search) .pre in
     let counts = further-counts _ _ _ _ (pre .0) (pre .1) (pre .2) _ (taken-at here) (search needs) in
     (further-roomy _ _ _ _ (pre .0) (pre .1) (pre .2) _ (taken-at here), counts .0, counts .1)
 
@@ -81,7 +81,7 @@ same-length c = search needs
 returns : tie.Need-returns
 returns c =
     let told = c .before in
-    let decided = told .before .before in
+    let decided : tie.After-decide = search in
     feeds-stop _ _ _ _ _ _ (decides _ _ _ _ (numbered decided .numbers-of .ensures) _ (decided .decide .ensures) ∙ told .r .given .1)
 
 same-length-2 : tie.Need-same-length-2
@@ -89,7 +89,7 @@ same-length-2 c = search needs
 
 returns-2 : tie.Need-returns-2
 returns-2 c =
-    let decided = c .before .before in
+    let decided : tie.After-decide = search in
     feeds-repeat _ _ _ _ _ (decides _ _ _ _ (numbered decided .numbers-of .ensures) _ (decided .decide .ensures) ∙ c .enum-told .given .1)
 
 same-length-3 : tie.Need-same-length-3
@@ -99,7 +99,7 @@ returns-3 : tie.Need-returns-3
 unfolding spoiledState
 returns-3 c =
     let told = c .before in
-    let decided = told .before .before in
+    let decided : tie.After-decide = search in
     feeds-clash _ _ _ _ _ (decides _ _ _ _ (numbered decided .numbers-of .ensures) _ (decided .decide .ensures) ∙ told .enum-told2 .given .1)
 
 same-length-4 : tie.Need-same-length-4
@@ -107,9 +107,7 @@ same-length-4 c = search needs
 
 returns-4 : tie.Need-returns-4
 returns-4 c =
-    let took = c .before .before in
-    let opened = took .before .before in
-    let here = opened .before .before in
+    let took : tie.After-take-free = search in let opened : tie.After-open-part = search in let here : tie.After-h = search in
     feeds-first _ _ _ _ _ _ _ _ (begun-at here) _ (opened .open-part .ensures) (took .take-free .ensures .0) (took .take-free .ensures .1)
 
 same-length-5 : tie.Need-same-length-5
@@ -117,8 +115,7 @@ same-length-5 c = search needs
 
 returns-5 : tie.Need-returns-5
 returns-5 c =
-    let took = c .before .before in
-    let here = took .before .before .before in
+    let took : tie.After-take-free2 = search in let here : tie.After-h2 = search in
     feeds-further _ _ _ _ _ _ _ _ (taken-at here) (took .take-free2 .ensures .0) (took .take-free2 .ensures .1)
 
 pub feed-part-spec : {M : Type 1} → statement M

@@ -17,10 +17,10 @@ put-payload-spec =
     (λ c. search needs)
     (λ c. search needs)
     (λ c κs.
-    let start = c .before .before .before .before in
+    let start : tie.Start = search in
     let room = fits-at _ _ _ (start .pre) in
     let short = start .pre .short in
     simp (length-take, length-drop) (omega arith))
     (λ c. search needs)
     (λ c. search needs)
-    (λ c. puts _ _ _ (c .before .before .before .before .before .before .before .pre) _ (c .before .before .copy-at .ensures)))
+    (λ c. let start : tie.Start = search in puts _ _ _ (start .pre) _ (c .before .before .copy-at .ensures)))

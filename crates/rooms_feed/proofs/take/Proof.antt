@@ -25,6 +25,7 @@ take-spec =
     (λ c. search needs)
     (λ c. search needs)
     (λ c.
-    let start = c .before .before .before .before .before .before .before .before .args in
-    let put = c .before .before .before .before in
+    let at-start : tie.Start = search in
+    let start = at-start .args in
+    let put : tie.After-put-payload = search in
     (ap (λ (n : ℕ). withRoom (start .p) (start .k) n (start .room)) (put .put-payload .ensures .0 .0), put .put-payload .ensures .1)))

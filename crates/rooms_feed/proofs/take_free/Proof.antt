@@ -12,8 +12,8 @@ returns c = takes-none _ _ _ _ _ _ _ _ (c .before .free-room .ensures .0) (c .if
 
 take-requires : tie.Need-take-requires
 take-requires c κs =
-    let found = c .before .before in
-    let pre = found .before .before .before .before .before .before .before .pre in
+    let start : tie.Start = search in let found : tie.After-free-room = search in
+    let pre = start .pre in
     (free-fits _ _ _ (pre .0) _ (c .before .if1 .left) (found .free-room .ensures .1), pre .1, pre .2)
 
 same-length : tie.Need-same-length
@@ -21,8 +21,7 @@ same-length c = search needs
 
 returns-2 : tie.Need-returns-2
 returns-2 c =
-    let took = c .before .before in
-    let passed = took .before .before in
+    let took : tie.After-take = search in let passed : tie.Else1 = search in
     takes-free _ _ _ _ _ _ _ _ (passed .before .free-room .ensures .0) (passed .if1 .left) _ (took .take .ensures .0) _ (took .take .ensures .1)
 
 pub take-free-spec : {M : Type 1} → statement M
