@@ -20,19 +20,14 @@ end-at-spec =
     (λ c. search needs)
     (λ c. timed-none stopFault stop-large _ _ _ (sym (c .before .r .given .1) ∙ c .before .before .before .entry-at .ensures))
     (λ c.
-    let judged = c .before .before .before in
-    let told = judged .before .before in
-    let taken = told .before .before in
+    let judged : tie.After-read-end = search in let told : tie.After-v = search in let taken : tie.After-entry-at = search in
     timed-no stopFault stop-large _ _ _ _ (sym (told .v .given .1) ∙ taken .entry-at .ensures) _
     (ap endFault (sym (judged .read-end .ensures) ∙ c .before .r2 .given .1)))
     (λ c.
-    let told = c .before .before .before .before in
-    let taken = told .before .before in
+    let told : tie.After-v = search in let taken : tie.After-entry-at = search in
     timed-is stopFault stop-large _ _ _ _ (sym (told .v .given .1) ∙ taken .entry-at .ensures)
     (ap endFault (sym (c .before .before .read-end .ensures) ∙ c .enum-told .given .1)))
     (λ c.
-    let judged = c .before .before .before in
-    let told = judged .before .before in
-    let taken = told .before .before in
+    let judged : tie.After-read-end = search in let told : tie.After-v = search in let taken : tie.After-entry-at = search in
     timed-is stopFault stop-large _ _ _ _ (sym (told .v .given .1) ∙ taken .entry-at .ensures)
     (ap endFault (sym (judged .read-end .ensures) ∙ c .before .m .given .1))))

@@ -15,33 +15,23 @@ number-among-spec =
     (λ c. search needs)
     (λ c. search needs)
     (λ c.
-    let taken = c .before .before .before .before in
-    let start = taken .before .before in
-    let a = start .args in
+    let taken : tie.After-entry-at = search in let start : tie.Start = search in let a = start .args in
     kept-large (now (a .tape)) (a .k) (a .bound) (a .lo) (a .hi) _ _ (sym (c .before .before .v .given .1) ∙ taken .entry-at .ensures) (omega arith))
     (λ c.
-    let told = c .before .before .before in
-    let taken = told .before .before in
-    let start = taken .before .before in
+    let told : tie.After-v = search in let taken : tie.After-entry-at = search in let start : tie.Start = search in
     let a = start .args in
     kept-outside (now (a .tape)) (a .k) (a .bound) (a .lo) (a .hi) _ _ (sym (told .v .given .1) ∙ taken .entry-at .ensures) (omega arith)
     (too-low (a .lo) (a .hi) _ (omega arith)))
     (λ c.
-    let told = c .before .before .before .before in
-    let taken = told .before .before in
-    let start = taken .before .before in
+    let told : tie.After-v = search in let taken : tie.After-entry-at = search in let start : tie.Start = search in
     let a = start .args in
     kept-outside (now (a .tape)) (a .k) (a .bound) (a .lo) (a .hi) _ _ (sym (told .v .given .1) ∙ taken .entry-at .ensures) (omega arith)
     (too-high (a .lo) (a .hi) _ (omega arith)))
     (λ c.
-    let taken = c .before .before .before in
-    let start = taken .before .before in
-    let a = start .args in
+    let taken : tie.After-entry-at = search in let start : tie.Start = search in let a = start .args in
     kept-none (now (a .tape)) (a .k) (a .bound) (a .lo) (a .hi) _ (sym (c .before .r .given .1) ∙ taken .entry-at .ensures))
     (λ c.
-    let told = c .before .before .before .before in
-    let taken = told .before .before in
-    let start = taken .before .before in
+    let told : tie.After-v = search in let taken : tie.After-entry-at = search in let start : tie.Start = search in
     let a = start .args in
     kept-is (now (a .tape)) (a .k) (a .bound) (a .lo) (a .hi) _ _ (sym (told .v .given .1) ∙ taken .entry-at .ensures) (omega arith) (omega arith)
     (omega arith)))

@@ -17,31 +17,27 @@ pen-bytes-spec =
     (λ c. search needs)
     (λ c. search needs)
     (λ c.
-    let part = c .before .before in
-    let spanned = part .before .before in
+    let part : tie.After-a = search in let spanned : tie.After-span-at = search in
     let s = (spanned .span-at .ensures .1 _ _ (part .a .given .1)) in
     bytes-length _ _ _ _ _ _ _ _ (spanned .before .before .x2 .given .1) _ _ (s .1) (s .2) (λ g. omega arith))
-    (λ c κs. (c .before .before .before .before .span-at .ensures .1 _ _ (c .before .before .a .given .1)) .1)
+    (λ c κs. let span-at : tie.After-span-at = search in (span-at .span-at .ensures .1 _ _ (c .before .before .a .given .1)) .1)
     (λ c.
-    let part = c .before .before .before .before in
-    let spanned = part .before .before in
+    let part : tie.After-a = search in let spanned : tie.After-span-at = search in
     let s = (spanned .span-at .ensures .1 _ _ (part .a .given .1)) in
-    bytes-outside _ _ _ _ _ _ _ _ (spanned .before .before .x2 .given .1) _ _ (s .1) (s .2) (omega arith) (unmet _ (c .before .all-among .ensures) (c .if2 .taken)))
+    bytes-outside _ _ _ _ _ _ _ _ (spanned .before .before .x2 .given .1) _ _ (s .1) (s .2) (omega arith)
+    (unmet _ (c .before .all-among .ensures) (c .if2 .taken)))
     (λ c κs. search needs)
     (λ c.
-    let part = c .before .before .before .before .before in
-    let spanned = part .before .before in
-    let start = spanned .before .before .before .before .before .before in
+    let part : tie.After-a = search in let spanned : tie.After-span-at = search in let start : tie.Start = search in
     omega (arith, (spanned .span-at .ensures .1 _ _ (part .a .given .1)) .0, start .good .1 .0 .1))
     (λ c. stopped _ _ _ _ _ (c .before .x .given .1))
     (λ c.
-    let spanned = c .before .before .before in
+    let spanned : tie.After-span-at = search in
     bytes-refused _ _ _ _ _ _ _ _ (spanned .before .before .x2 .given .1) _ (spanned .span-at .ensures .0 _ (c .before .r .given .1)))
     (λ c.
     let two = c .before in
     let judged = two .before in
-    let part = judged .before .before .before in
-    let spanned = part .before .before in
+    let part : tie.After-a = search in let spanned : tie.After-span-at = search in
     let s = (spanned .span-at .ensures .1 _ _ (part .a .given .1)) in
     bytes-passed _ _ _ _ _ _ _ _ (spanned .before .before .x2 .given .1) _ _ (s .1) (s .2) (omega arith) (met _ (judged .all-among .ensures) (two .if2 .left)) _
     (c .grown .ensures)))

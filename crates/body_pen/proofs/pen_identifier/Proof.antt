@@ -15,22 +15,20 @@ pen-identifier-spec =
     (λ c. search needs)
     (λ c. search needs)
     (λ c.
-    let digits = c .before .before .before in
+    let digits : tie.After-pen-digits = search in
     omega (arith, identifier-laid _ _ _ _ (digits .pen-digits .ensures) _ (digits .before .entry .ensures) _ _ (c .before .size .given .1) .0))
     (λ c.
-    let digits = c .before .before .before .before in
+    let digits : tie.After-pen-digits = search in
     omega (arith, identifier-laid _ _ _ _ (digits .pen-digits .ensures) _ (digits .before .entry .ensures) _ _ (c .before .before .size .given .1) .0))
     (λ c κs.
-    let digits = c .before .before .before .before in
+    let digits : tie.After-pen-digits = search in
     omega (arith, identifier-laid _ _ _ _ (digits .pen-digits .ensures) _ (digits .before .entry .ensures) _ _ (c .before .before .size .given .1) .1))
     (λ c.
-    let stood = c .before .before .before .before in
-    let digits = stood .before .before in
+    let stood : tie.After-size = search in let digits : tie.After-pen-digits = search in
     identifier-real _ _ _ _ (digits .pen-digits .ensures) _ (digits .before .entry .ensures) _ _ (stood .size .given .1)
     (sym (c .before .has-day .ensures) ∙ c .if1 .taken))
     (λ c. identifier-stopped _ _ _ _ (c .before .before .before .pen-digits .ensures) _ (c .before .r .given .1))
     (λ c.
-    let stood = c .before .before .before .before in
-    let digits = stood .before .before in
+    let stood : tie.After-size = search in let digits : tie.After-pen-digits = search in
     identifier-unreal _ _ _ _ (digits .pen-digits .ensures) _ (digits .before .entry .ensures) _ _ (stood .size .given .1)
     (sym (c .before .has-day .ensures) ∙ c .if1 .left)))

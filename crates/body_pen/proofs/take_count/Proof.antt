@@ -19,8 +19,8 @@ take-count-spec =
     (λ c κs. search needs)
     (λ c pool. count-stopped unprinted pool _ _ _ (c .before .x .given .1))
     (λ c pool.
-    let entry = c .before .before .before in
+    let entry : tie.After-entry-at = search in
     untaken pool _ _ _ _ (entry .before .before .x2 .given .1) _ (sym (c .before .r .given .1) ∙ entry .entry-at .ensures))
     (λ c pool.
-    let entry = c .before .before .before .before in
+    let entry : tie.After-entry-at = search in
     taken pool _ _ _ _ (entry .before .before .x2 .given .1) _ _ (sym (c .before .before .n .given .1) ∙ entry .entry-at .ensures) _ (c .grown .ensures)))
