@@ -20,13 +20,12 @@ abbrev μ-loop : tie.MeasureT-loop
 μ-loop d at₀ at = length d - at
 
 -- what stands at the place where the search is, by its answer
-front : (c : tie.After-front-of Inv-loop μ-loop) (f : Frame) → c .front-of .result ≡ f
-    → f ≡ frontOf (drop (c .before .before .loop .at) (now (c .before .before .before .before .args .d)))
-front c f e = sym e ∙ c .front-of .ensures ∙ ap frontOf (tail (now (c .before .before .before .before .args .d)) (c .before .before .loop .at))
+front : (c : tie.After-front-of Inv-loop μ-loop) (f : Frame) → c .front-of .result ≡ f → let head = c .before .before in
+    f ≡ frontOf (drop (head .loop .at) (now (head .before .before .args .d)))
+front c f e = let head = c .before .before in sym e ∙ c .front-of .ensures ∙ ap frontOf (tail (now (head .before .before .args .d)) (head .loop .at))
 
-found-at : (c : tie.After-n Inv-loop μ-loop)
-    → Finding (now (c .before .before .before .before .before .before .args .d)) (c .before .before .before .before .loop .at + c .n .given .0 .0)
-    × (3 ≤ c .n .given .0 .0)
+found-at : (c : tie.After-n Inv-loop μ-loop) → let here = c .before .before in let head = here .before .before in
+    Finding (now (head .before .before .args .d)) (head .loop .at + c .n .given .0 .0) × (3 ≤ c .n .given .0 .0)
 found-at c = let here = c .before .before in finding-whole _ _ (here .before .before .loop .inv) _ (front here _ (c .n .given .1))
 
 pub find-sections-spec : {M : Type 1} → statement M
@@ -44,9 +43,13 @@ find-sections-spec =
     let at = c .before .loop .at in
     rw (tail d at, length-drop at d) (omega arith))
     (λ c. search needs)
-    (λ c. let here = c .before .before in finding-nothing _ _ (here .before .before .loop .inv) (front here Nothing (c .enum-told .given .1)))
+    (λ c.
+    let here : tie.After-front-of Inv-loop μ-loop = search in
+    finding-nothing _ _ (here .before .before .loop .inv) (front here Nothing (c .enum-told .given .1)))
     (λ c. search needs)
-    (λ c. let here = c .before .before in finding-open _ _ (here .before .before .loop .inv) (front here Open (c .enum-told2 .given .1)))
+    (λ c.
+    let here : tie.After-front-of Inv-loop μ-loop = search in
+    finding-open _ _ (here .before .before .loop .inv) (front here Open (c .enum-told2 .given .1)))
     (λ c. search needs)
     (λ c. let w = found-at (c .before) .0 .within in omega arith)
     (λ c. let w = found-at (c .before) .0 .within in let l = found-at (c .before) .1 in omega arith)

@@ -26,7 +26,7 @@ frame-of-spec =
     tie.close
     (tie.spec
     (λ c. search needs)
-    (λ c. let start = c .before .before .before in frame-short (now (start .args .u)) (now (start .args .more)) (omega arith))
+    (λ c. let start : tie.Start = search in frame-short (now (start .args .u)) (now (start .args .more)) (omega arith))
     (λ c κs. search needs)
     (λ c. search needs)
     (λ c κs. search needs)
@@ -34,5 +34,5 @@ frame-of-spec =
     (λ c. let here = c .before in frame-long (u here) (more here) (omega arith) _ (read here) (omega arith))
     (λ c. search needs)
     (λ c. search needs)
-    (λ c. let here = c .before .before in frame-whole (u here) (more here) (omega arith) _ (read here) (omega arith) (omega arith))
-    (λ c. let here = c .before .before in frame-open (u here) (more here) (omega arith) _ (read here) (omega arith) (omega arith)))
+    (λ c. let here : tie.After-joint2 = search in frame-whole (u here) (more here) (omega arith) _ (read here) (omega arith) (omega arith))
+    (λ c. let here : tie.After-joint2 = search in frame-open (u here) (more here) (omega arith) _ (read here) (omega arith) (omega arith)))

@@ -18,6 +18,4 @@ front-of-spec =
     (λ c. search needs)
     (λ c. search needs)
     (λ c κs. search needs)
-    (λ c.
-    let start = c .before .before .before .before .before .before in
-    c .frame-of .ensures ∙ front-tail (now (start .args .d)) (λ e. omega arith) (λ e. omega arith)))
+    (λ c. let start : tie.Start = search in c .frame-of .ensures ∙ front-tail (now (start .args .d)) (λ e. omega arith) (λ e. omega arith)))

@@ -13,5 +13,5 @@ grow-spec =
     (λ c. grown-none _ _ (omega arith))
     (λ c κs. search needs)
     (λ c.
-    let start = c .before .before .before .before in
+    let start : tie.Start = search in
     grown-frame (now (start .args .u)) (now (start .args .more)) _ (λ e. omega arith) (start .pre .0) (c .frame-of .ensures)))

@@ -12,10 +12,10 @@ joint-spec =
     (tie.spec
     (λ c κs. search needs)
     (λ c.
-    let start = c .before .before .before .before in
+    let start : tie.Start = search in
     joint-left (now (start .args .u)) (now (start .args .more)) (start .args .i) _ (c .byte-at .ensures .1) (omega arith) (c .byte-at .ensures .0))
     (λ c. search needs)
     (λ c κs. search needs)
     (λ c.
-    let start = c .before .before .before .before in
+    let start : tie.Start = search in
     joint-right (now (start .args .u)) (now (start .args .more)) (start .args .i) _ (c .byte-at2 .ensures .1) (omega arith) (c .byte-at2 .ensures .0)))
