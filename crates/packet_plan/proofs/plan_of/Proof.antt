@@ -20,7 +20,7 @@ abbrev packet : tie.Else1 → List ℕ
 packet c = now (c .before .before .before .before .before .args .p)
 
 in-place : (c : tie.Else1) → Carried (packet c)
-in-place c = carried (packet c) (c .before .before .before .before .before .pre .1)
+in-place c = let start : tie.Start = search in carried (packet c) (start .pre .1)
 
 -- with a start indicator the pointer and its target are in the packet
 pointed-at : (c : tie.Else1) → (payloadAt (packet c) < packetBytes) × (pointedAt (packet c) < packetBytes)
@@ -34,7 +34,7 @@ plan-of-spec =
     (λ c κs. let q = carried _ (c .before .before .before .pre .1) .size in omega arith)
     (λ c κs.
     let here = c .before in
-    let start = here .before .before .before .before in
+    let start : tie.Start = search in
     let f = carried (now (start .args .p)) (start .pre .1) in
     let at = f .at in
     let e = here .before .payload-at .ensures .0 in
@@ -54,7 +54,7 @@ plan-of-spec =
     (λ c κs.
     let test = c .before in
     let here = test .before in
-    let start = here .before .before .before .before in
+    let start : tie.Start = search in
     let t = pointed-at test .1 in
     let e = here .before .payload-at .ensures .0 in
     let g = pointed-is (now (start .args .p)) _ _ e (c .byte-at .ensures .0) in

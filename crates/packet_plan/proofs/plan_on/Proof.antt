@@ -26,8 +26,7 @@ rest c =
 
 rest-short : (c : tie.After-grow) → length (rest c) ≤ packetBytes
 rest-short c =
-    let start = c .before .before .before .before in
-    let p = now (start .args .p) in
+    let start : tie.Start = search in let p = now (start .args .p) in
     let q = start .pre .size in
     omega (arith, length-take (length p - start .args .at) (drop (start .args .at) p))
 
@@ -37,7 +36,7 @@ grown c f e = grown-as (unfinished c) (rest c) _ f e (c .grow .ensures)
 between : (c : tie.After-size)
     → (length (unfinished (c .before .before)) < c .size .given .0 .0)
     × (c .size .given .0 .0 ≤ length (unfinished (c .before .before)) + length (rest (c .before .before)))
-between c = whole-between (unfinished (c .before .before)) (rest (c .before .before)) _ _ (c .size .given .1) (c .before .before .grow .ensures)
+between c = whole-between (unfinished (search)) (rest (search)) _ _ (c .size .given .1) (c .before .before .grow .ensures)
 
 pub plan-on-spec : {M : Type 1} → statement M
 plan-on-spec =
@@ -51,11 +50,17 @@ plan-on-spec =
     (λ c. search needs)
     (λ c. let b = between (c .before) in omega arith)
     (λ c.
-    let here = c .before .before .before in
+    let start : tie.Start = search in let here : tie.After-grow = search in
     let b = between (c .before) in
-    let s = here .before .before .before .before .pre .within in
+    let s = start .pre .within in
     omega (arith, rest-short here))
     (λ c. search needs)
-    (λ c. let here = c .before .before in plan-on-nothing _ _ _ (here .before .before .before .before .pre) (grown here Nothing (c .enum-told .given .1)))
-    (λ c. let here = c .before .before .before in plan-on-whole _ _ _ (here .before .before .before .before .pre) _ (grown here _ (c .before .size .given .1)))
-    (λ c. let here = c .before .before in plan-on-open _ _ _ (here .before .before .before .before .pre) (grown here Open (c .enum-told2 .given .1))))
+    (λ c.
+    let start : tie.Start = search in let here : tie.After-grow = search in
+    plan-on-nothing _ _ _ (start .pre) (grown here Nothing (c .enum-told .given .1)))
+    (λ c.
+    let start : tie.Start = search in let here : tie.After-grow = search in
+    plan-on-whole _ _ _ (start .pre) _ (grown here _ (c .before .size .given .1)))
+    (λ c.
+    let start : tie.Start = search in let here : tie.After-grow = search in
+    plan-on-open _ _ _ (start .pre) (grown here Open (c .enum-told2 .given .1))))

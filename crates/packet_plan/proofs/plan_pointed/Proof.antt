@@ -27,7 +27,7 @@ ahead c =
 
 ahead-short : (c : tie.After-grow) → length (ahead c) ≤ packetBytes
 ahead-short c =
-    let start = c .before .before .before .before .before .before .before .before in
+    let start : tie.Start = search in
     let q = start .pre .within in
     omega (arith, length-take (start .args .first - start .args .at) (drop (start .args .at) (now (start .args .p))))
 
@@ -37,7 +37,7 @@ grown c f e = grown-as (unfinished c) (ahead c) _ f e (c .grow .ensures)
 between : (c : tie.After-size)
     → (length (unfinished (c .before .before)) < c .size .given .0 .0)
     × (c .size .given .0 .0 ≤ length (unfinished (c .before .before)) + length (ahead (c .before .before)))
-between c = whole-between (unfinished (c .before .before)) (ahead (c .before .before)) _ _ (c .size .given .1) (c .before .before .grow .ensures)
+between c = whole-between (unfinished (search)) (ahead (search)) _ _ (c .size .given .1) (c .before .before .grow .ensures)
 
 pub plan-pointed-spec : {M : Type 1} → statement M
 plan-pointed-spec =
@@ -57,22 +57,19 @@ plan-pointed-spec =
     (λ c. search needs)
     (λ c. let b = between (c .before) in omega arith)
     (λ c.
-    let here = c .before .before .before in
+    let start : tie.Start = search in let here : tie.After-grow = search in
     let b = between (c .before) in
-    let q = here .before .before .before .before .before .before .before .before .pre in
+    let q = start .pre in
     let f = q .follows in
     let w = q .within in
     omega (arith, ahead-short here))
     (λ c. search needs)
     (λ c.
-    let here = c .before .before in
-    let found = here .before .before .before .before in
-    plan-pointed-nothing _ _ _ _ (found .before .before .before .before .pre) _ (found .find-sections .ensures) (grown here Nothing (c .enum-told .given .1)))
+    let start : tie.Start = search in let here : tie.After-grow = search in let found : tie.After-find-sections = search in
+    plan-pointed-nothing _ _ _ _ (start .pre) _ (found .find-sections .ensures) (grown here Nothing (c .enum-told .given .1)))
     (λ c.
-    let here = c .before .before .before in
-    let found = here .before .before .before .before in
-    plan-pointed-whole _ _ _ _ (found .before .before .before .before .pre) _ (found .find-sections .ensures) _ (grown here _ (c .before .size .given .1)))
+    let start : tie.Start = search in let here : tie.After-grow = search in let found : tie.After-find-sections = search in
+    plan-pointed-whole _ _ _ _ (start .pre) _ (found .find-sections .ensures) _ (grown here _ (c .before .size .given .1)))
     (λ c.
-    let here = c .before .before in
-    let found = here .before .before .before .before in
-    plan-pointed-open _ _ _ _ (found .before .before .before .before .pre) _ (found .find-sections .ensures) (grown here Open (c .enum-told2 .given .1))))
+    let start : tie.Start = search in let here : tie.After-grow = search in let found : tie.After-find-sections = search in
+    plan-pointed-open _ _ _ _ (start .pre) _ (found .find-sections .ensures) (grown here Open (c .enum-told2 .given .1))))
