@@ -20,15 +20,13 @@ going-on-spec =
     (λ c κs. search needs)
     (λ c. search needs)
     (λ c.
-    let here = c .before .before .before in
-    let start = here .before .before .before .before in
+    let here : tie.After-counter-of = search in let start : tie.Start = search in
     going-gap _ _ (met _ (start .pre .1) (here .before .if1 .left)) (start .pre .0) _ _ (here .counter-of .ensures .0) (c .before .counter-of2 .ensures .0)
     (λ e. omega arith))
     (λ c κs. search needs)
     (λ c.
-    let test = c .before in
-    let here = test .before .before .before in
-    let start = here .before .before .before .before in
+    let counter-of2 : tie.After-counter-of2 = search in let here : tie.After-counter-of = search in
+    let start : tie.Start = search in
     going-then _ _ (met _ (start .pre .1) (here .before .if1 .left)) (start .pre .0) _ _ _ (here .counter-of .ensures .0)
-    (test .before .counter-of2 .ensures .0)
+    (counter-of2 .counter-of2 .ensures .0)
     (omega arith) (c .kept-of .ensures .0)))

@@ -20,8 +20,6 @@ keep-spec =
     (λ c κs. search needs)
     (λ c. search needs)
     (λ c.
-    let third = c .before .before in
-    let second = third .before .before .before .before in
-    let one = second .before .before .before .before in
-    let start = one .before .before .before .before .before in
+    let third : tie.After-copy-at2 = search in let second : tie.After-put-mark = search in let one : tie.After-copy-at = search in
+    let start : tie.Start = search in
     state-stored _ _ _ _ _ _ _ (start .pre) (one .copy-at .ensures) (second .put-mark .ensures) (third .copy-at2 .ensures)))

@@ -20,7 +20,7 @@ abbrev packet : tie.After-has-start → List ℕ
 packet c = now (c .before .before .before .before .args .p)
 
 in-place : (c : tie.After-has-start) → Carried (packet c)
-in-place c = carried (packet c) (c .before .before .before .before .pre)
+in-place c = let start : tie.Start = search in carried (packet c) (start .pre)
 
 -- the payload begins in the packet
 plain-at : (c : tie.Then1) → c .before .before .payload-at .result ≤ length (packet (c .before))
@@ -45,19 +45,19 @@ first c = c .before .before .before .payload-at .result + 1 + c .byte-at .result
 target-at : (c : tie.After-byte-at)
     → (first c ≡ pointedAt (packet (c .before .before))) × (first c < length (packet (c .before .before))) × (length (packet (c .before .before)) ≡ packetBytes)
 target-at c =
-    let f = in-place (c .before .before) in
+    let f = in-place (search) in
     let a = f .pointed (met _ (c .before .before .has-start .ensures) (c .before .if1 .left)) .1 in
     let b = f .size in
-    let e = pointed-is (packet (c .before .before)) _ _ (c .before .before .before .payload-at .ensures .0) (c .byte-at .ensures .0) in
+    let e = pointed-is (packet (search)) _ _ (c .before .before .before .payload-at .ensures .0) (c .byte-at .ensures .0) in
     (e, omega arith, b)
 
 -- what it leaves begins in the packet
-left-at : (c : tie.After-struct-known)
-    → first (c .before .before .before) + c .before .find-sections .result .left ≤ length (packet (c .before .before .before .before .before))
+left-at : (c : tie.After-struct-known) → let here = c .before .before .before in
+    first here + c .before .find-sections .result .left ≤ length (packet (here .before .before))
 left-at c =
-    let here = c .before .before .before in
+    let here : tie.After-byte-at = search in
     let t = target-at here in
-    let p = packet (here .before .before) in
+    let p = packet (search) in
     let v = c .before .find-sections .ensures .left-within in
     omega (arith, length-take (length p - first here) (drop (first here) p))
 
@@ -72,7 +72,7 @@ may-leave-spec =
     (λ c. search needs)
     (λ c κs. search needs)
     (λ c.
-    let test = c .before .before in
+    let test : tie.Then1 = search in
     let here = test .before in
     c .ends-with .ensures ∙ may-plain (packet here) _ (unmet _ (here .has-start .ensures) (test .if1 .taken)) _ (here .before .payload-at .ensures .0))
     (λ c. search needs)
@@ -84,7 +84,7 @@ may-leave-spec =
     (λ c κs.
     let here = c .before in
     let t = target-at here in
-    let p = packet (here .before .before) in
+    let p = packet (search) in
     omega (arith, length-take (length p - first here) (drop (first here) p)))
     (λ c. search needs)
     (λ c. left-at c)
@@ -92,8 +92,7 @@ may-leave-spec =
     (λ c. search needs)
     (λ c κs. search needs)
     (λ c.
-    let found = c .before .before .before in
-    let here = found .before .before in
+    let found : tie.After-find-sections = search in let here : tie.After-byte-at = search in
     let test = here .before in
     c .same-bytes .ensures
     ∙ may-pointed (packet (test .before)) _ (met _ (test .before .has-start .ensures) (test .if1 .left)) _ (target-at here .0) _

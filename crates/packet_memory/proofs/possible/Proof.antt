@@ -22,8 +22,7 @@ possible-spec =
     (λ c. search needs)
     (λ c. search needs)
     (λ c κs. search needs)
-    (λ c.
-    possible-other (now (c .before .before .before .before .before .before .before .args .s)) (unmet _ (c .before .is-carrying .ensures) (c .if3 .taken)))
+    (λ c. let start : tie.Start = search in possible-other (now (start .args .s)) (unmet _ (c .before .is-carrying .ensures) (c .if3 .taken)))
     (λ c κs. search needs)
     (λ c. possible-above _ (omega arith))
     (λ c. search needs)
@@ -32,9 +31,8 @@ possible-spec =
     (λ c. search needs)
     (λ c κs. search needs)
     (λ c.
-    let kept = c .before .before .before .before in
-    let here = kept .before in
-    possible-not-begun (now (here .before .before .before .before .before .before .before .args .s)) _ (kept .kept-of .ensures .0)
+    let start : tie.Start = search in let kept : tie.After-kept-of = search in
+    possible-not-begun (now (start .args .s)) _ (kept .kept-of .ensures .0)
     (unmet _ (c .before .is-begun .ensures) (c .if5 .taken)))
     (λ c. search needs)
     (λ c. search needs)
@@ -42,15 +40,12 @@ possible-spec =
     (λ c. search needs)
     (λ c. search needs)
     (λ c. search needs)
-    (λ c κs.
-    let here = c .before .before .before .before .before .before .before in
-    carrying-is _ (met _ (here .before .is-carrying .ensures) (here .if3 .left)))
+    (λ c κs. let here : tie.Else3 = search in carrying-is _ (met _ (here .before .is-carrying .ensures) (here .if3 .left)))
     (λ c.
-    let begun = c .before .before .before .before in
-    let kept = begun .before .before .before in
+    let start : tie.Start = search in let begun : tie.After-is-begun = search in let kept : tie.After-kept-of = search in
     let here = kept .before in
     c .may-leave .ensures
-    ∙ possible-end (now (here .before .before .before .before .before .before .before .args .s)) _ (kept .kept-of .ensures .0)
+    ∙ possible-end (now (start .args .s)) _ (kept .kept-of .ensures .0)
     (omega arith) (omega arith)
     (met _ (here .before .is-carrying .ensures) (here .if3 .left)) (omega arith)
     (met _ (begun .is-begun .ensures) (c .before .before .before .if5 .left))))

@@ -15,11 +15,10 @@ unfolding lastOf
 repeats-spec =
     tie.close
     (tie.spec
-    (λ c. let start = c .before .before .before in repeat-fresh _ _ (unmet _ (start .pre .1) (c .if1 .taken)) (start .pre .2))
+    (λ c. let start : tie.Start = search in repeat-fresh _ _ (unmet _ (start .pre .1) (c .if1 .taken)) (start .pre .2))
     (λ c. search needs)
     (λ c.
-    let here = c .before .before in
-    let start = here .before .before .before in
+    let here : tie.Else1 = search in let start : tie.Start = search in
     repeat-second _ _ (met _ (start .pre .1) (here .if1 .left)) (omega arith))
     (λ c. search needs)
     (λ c. search needs)
@@ -27,11 +26,9 @@ repeats-spec =
     (λ c. search needs)
     (λ c. search needs)
     (λ c.
-    let here = c .before .before .before .before .before .before in
-    let start = here .before .before .before in
+    let here : tie.Else1 = search in let start : tie.Start = search in
     same-differs _ _ 3 (c .if3 .taken) ∙ repeat-then _ _ (met _ (start .pre .1) (here .if1 .left)) (λ e. omega arith))
     (λ c κs. search needs)
     (λ c.
-    let here = c .before .before .before .before .before .before .before in
-    let start = here .before .before .before in
+    let here : tie.Else1 = search in let start : tie.Start = search in
     c .same-bytes .ensures ∙ repeat-then _ _ (met _ (start .pre .1) (here .if1 .left)) (λ e. omega arith)))
