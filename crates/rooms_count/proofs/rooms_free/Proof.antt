@@ -24,8 +24,7 @@ rooms-in-requires c κs = search needs
 add-t15 : tie.Need-add-t15
 add-t15 c =
     let second = c .before in
-    let first = second .before .before .before .before in
-    let passed = first .before .before .before .before .before .before in
+    let first : tie.After-held-rooms = search in let passed : tie.Else1 = search in
     let ok = met _ (passed .before .possible .ensures) (passed .if1 .left) in
     let few = held-few _ _ ok _ _ (first .held-rooms .ensures) (second .held-rooms2 .ensures) in
     omega arith
@@ -33,16 +32,14 @@ add-t15 c =
 sub-t16 : tie.Need-sub-t16
 sub-t16 c =
     let second = c .before in
-    let first = second .before .before .before .before in
-    let passed = first .before .before .before .before .before .before in
+    let first : tie.After-held-rooms = search in let passed : tie.Else1 = search in
     let ok = met _ (passed .before .possible .ensures) (passed .if1 .left) in
     held-most _ _ ok _ _ (first .held-rooms .ensures) (second .held-rooms2 .ensures) _ (c .rooms-in .ensures .0)
 
 returns-2 : tie.Need-returns-2
 returns-2 c =
     let second = c .before in
-    let first = second .before .before .before .before in
-    let passed = first .before .before .before .before .before .before in
+    let first : tie.After-held-rooms = search in let passed : tie.Else1 = search in
     let ok = met _ (passed .before .possible .ensures) (passed .if1 .left) in
     free-counted _ _ ok _ _ (first .held-rooms .ensures) (second .held-rooms2 .ensures) _ (c .rooms-in .ensures .0)
 

@@ -20,20 +20,16 @@ held-rooms-requires-2 c κs = search needs
 
 add-t14 : tie.Need-add-t14
 add-t14 c =
-    let second = c in
-    let first = second .before .before .before .before in
-    let passed = first .before .before .before .before .before .before in
+    let first : tie.After-held-rooms = search in let passed : tie.Else1 = search in
     let ok = met _ (passed .before .possible .ensures) (passed .if1 .left) in
-    let few = held-few _ _ ok _ _ (first .held-rooms .ensures) (second .held-rooms2 .ensures) in
+    let few = held-few _ _ ok _ _ (first .held-rooms .ensures) (c .held-rooms2 .ensures) in
     omega arith
 
 returns-2 : tie.Need-returns-2
 returns-2 c =
-    let second = c in
-    let first = second .before .before .before .before in
-    let passed = first .before .before .before .before .before .before in
+    let first : tie.After-held-rooms = search in let passed : tie.Else1 = search in
     let ok = met _ (passed .before .possible .ensures) (passed .if1 .left) in
-    held-counted _ _ ok _ _ (first .held-rooms .ensures) (second .held-rooms2 .ensures)
+    held-counted _ _ ok _ _ (first .held-rooms .ensures) (c .held-rooms2 .ensures)
 
 pub rooms-held-spec : {M : Type 1} → statement M
 rooms-held-spec =
