@@ -86,7 +86,7 @@ module _ (c : tie.After-floor) where
 
   there : Carried (start .args .m) (start .args .minutes) (c .floor .result)
   there =
-      carried (start .args .m) (start .args .minutes) (start .fits .minutes) (start .pre) (here (c .before .before) .1)
+      carried (start .args .m) (start .args .minutes) (start .fits .minutes) (start .pre) (here (search) .1)
       (c .floor .result)
       (c .floor .ensures)
 
@@ -94,7 +94,7 @@ module _ (c : tie.After-floor) where
   answer : {r t : Bool} → r ≡ isInstant (to (start .args .m) (c .floor .result)) → r ≡ t
       → cond t (At (to (start .args .m) (c .floor .result))) (Refused (ImpossibleDay 0)) ≡ moved (start .args .m) (start .args .minutes)
   answer {t = t} p e =
-      let i = here (c .before .before) in
+      let i = here (search) in
       ap (λ (m : Moment). cond t (At m) (Refused (ImpossibleDay 0))) (there .is)
       ∙ sym (moved-to _ _ _ (i .0) (day-to _ _ (i .1) (start .pre)) (ap isInstant (sym (there .is)) ∙ sym p ∙ e))
 
@@ -107,11 +107,11 @@ later-spec =
     (λ c. search needs)
     (λ c. total-known _ _ (c .before .before .before .fits .minutes) (c .before .before .before .pre) (here (c .before) .1) .fits)
     (λ c κs. search needs)
-    (λ c. record { sfits = omega (arith, here (c .before .before .before) .1) })
-    (λ c. there (c .before .before .before) .day-known .fits)
-    (λ c. unsigned (there (c .before .before .before) .day-known) (there (c .before .before .before) .day-fits))
-    (λ c. omega (arith, there (c .before .before .before .before)))
-    (λ c. omega (arith, there (c .before .before .before .before .before)))
+    (λ c. record { sfits = omega (arith, here (search) .1) })
+    (λ c. there (search) .day-known .fits)
+    (λ c. unsigned (there (search) .day-known) (there (search) .day-fits))
+    (λ c. omega (arith, there (search)))
+    (λ c. omega (arith, there (search)))
     (λ c κs. search needs)
-    (λ c. answer (c .before .before .before .before .before .before .before) (c .before .is-instant2 .ensures) (not-true _ (c .if2 .taken)))
-    (λ c. answer (c .before .before .before .before .before .before .before) (c .before .is-instant2 .ensures) (not-false _ (c .if2 .left))))
+    (λ c. answer (search) (c .before .is-instant2 .ensures) (not-true _ (c .if2 .taken)))
+    (λ c. answer (search) (c .before .is-instant2 .ensures) (not-false _ (c .if2 .left))))
