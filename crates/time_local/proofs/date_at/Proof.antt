@@ -7,7 +7,9 @@ use Rattle.time_local.proofs.date_at.Tie as tie
 
 returns : tie.Need-returns
 unfolding dated atSecond
-returns c = ap (atSecond _) (sym (c .before .before .before .before .date .given .1) ∙ c .before .before .before .before .before .before .date-of .ensures)
+returns c =
+    let date : tie.After-date = search in let date-of : tie.After-date-of = search in
+    ap (atSecond _) (sym (date .date .given .1) ∙ date-of .date-of .ensures)
 
 returns-2 : tie.Need-returns-2
 unfolding dated atSecond

@@ -13,11 +13,11 @@ matched c = c .to-utc .ensures ∙ ap (toUtc (c .before .args .local)) (toZ-ofZ 
 
 returns : tie.Need-returns
 unfolding written
-returns c = c .write-time .ensures ∙ ap written (sym (c .before .before .utc .given .1) ∙ matched (c .before .before .before .before))
+returns c = c .write-time .ensures ∙ ap written (sym (c .before .before .utc .given .1) ∙ matched (search))
 
 returns-2 : tie.Need-returns-2
 unfolding written
-returns-2 c = ap written (sym (c .before .r .given .1) ∙ matched (c .before .before .before))
+returns-2 c = ap written (sym (c .before .r .given .1) ∙ matched (search))
 
 pub field-at-spec : {M : Type 1} → statement M
 field-at-spec =

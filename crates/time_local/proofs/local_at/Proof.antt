@@ -12,11 +12,11 @@ matched : (c : tie.After-to-local) → c .to-local .result ≡ toLocal (c .befor
 matched c = c .to-local .ensures ∙ ap (toLocal (c .before .args .utc)) (toZ-ofZ (c .before .fits .offset))
 
 returns : tie.Need-returns
-returns c = c .date-at .ensures ∙ ap dated (sym (c .before .before .local .given .1) ∙ matched (c .before .before .before .before))
+returns c = c .date-at .ensures ∙ ap dated (sym (c .before .before .local .given .1) ∙ matched (search))
 
 returns-2 : tie.Need-returns-2
 unfolding dated
-returns-2 c = ap dated (sym (c .before .r .given .1) ∙ matched (c .before .before .before))
+returns-2 c = ap dated (sym (c .before .r .given .1) ∙ matched (search))
 
 pub local-at-spec : {M : Type 1} → statement M
 local-at-spec =

@@ -29,7 +29,7 @@ bounds c = clock-within _ (passed c)
 
 returns-3 : tie.Need-returns-3
 unfolding secondOf
-returns-3 c = sym (on-day _ (found (c .before .before .before .before)) (passed (c .before .before .before)))
+returns-3 c = sym (on-day _ (found (search)) (passed (search)))
 
 pub local-moment-spec : {M : Type 1} → statement M
 local-moment-spec =
@@ -41,8 +41,8 @@ local-moment-spec =
     (λ c κs. search needs)
     (λ c. sym (on-day _ (found (c .before)) (unmet _ (c .before .is-clock .ensures) (c .if1 .taken))))
     (λ c. omega (arith, bounds (c .before)))
-    (λ c. omega (arith, bounds (c .before .before)))
-    (λ c. omega (arith, bounds (c .before .before)))
-    (λ c. omega (arith, bounds (c .before .before .before)))
+    (λ c. omega (arith, bounds (search)))
+    (λ c. omega (arith, bounds (search)))
+    (λ c. omega (arith, bounds (search)))
     (λ c. sym (no-day _ (sym (c .before .before .before .day-of .ensures) ∙ c .before .r .given .1)))
     returns-3)

@@ -40,11 +40,12 @@ loop-holds c = (omega arith, search needs, refl)
 
 loop-again : tie.Need-loop-again Inv-loop μ-loop
 loop-again c =
-    (omega arith, c .before .before .before .before .before .loop .inv .1, turned (c .before) (not-false _ (c .if2 .left)))
+    let head : tie.At-loop Inv-loop μ-loop = search in
+    (omega arith, head .loop .inv .1, turned (c .before) (not-false _ (c .if2 .left)))
 
 returns-3 : tie.Need-returns-3 Inv-loop μ-loop
 returns-3 c =
-    let a = c .before .before .before .before .before in
+    let a : tie.Start Inv-loop μ-loop = search in
     sym
     (c .before .loop .inv .2
     ∙ at-end (a .args .form .now) (a .args .text .now) (c .before .loop .i) (omega arith) (omega arith))

@@ -16,25 +16,28 @@ module _ (c : tie.After-field-at) where
   found = sym (c .before .before .before .before .local-moment .ensures) ∙ c .before .before .local .given .1
 
   field : c .field-at .result ≡ written (toUtc (c .before .before .local .given .0 .0) (c .before .before .before .before .before .args .offset))
-  field = c .field-at .ensures ∙ ap (λ (z : ℤ). written (toUtc (c .before .before .local .given .0 .0) z)) (toZ-ofZ (c .before .before .before .before .before .fits .offset))
+  field = c .field-at .ensures
+      ∙ ap (λ (z : ℤ). written (toUtc (c .before .before .local .given .0 .0) z)) (toZ-ofZ (c .before .before .before .before .before .fits .offset))
 
 returns : tie.Need-returns
 unfolding packedAs
 returns c =
     let asked = c .before .before .before in
-    let start = asked .before .before .before .before .before in
+    let start : tie.Start = search in
     sym (packs-moment _ _ (start .pre) (found asked) (sym (field asked) ∙ c .before .field .given .1))
 
 returns-2 : tie.Need-returns-2
 unfolding packedAs
 returns-2 c =
     let asked = c .before .before .before in
-    let start = asked .before .before .before .before .before in
+    let start : tie.Start = search in
     sym (no-utc _ _ (start .pre) (found asked) (sym (field asked) ∙ c .before .-why .given .1))
 
 returns-3 : tie.Need-returns-3
 unfolding packedAs
-returns-3 c = sym (no-moment _ _ (c .before .before .before .before .pre) (sym (c .before .before .before .local-moment .ensures) ∙ c .before .-why2 .given .1))
+returns-3 c =
+    let start : tie.Start = search in
+    sym (no-moment _ _ (start .pre) (sym (c .before .before .before .local-moment .ensures) ∙ c .before .-why2 .given .1))
 
 pub packed-spec : {M : Type 1} → statement M
 packed-spec =

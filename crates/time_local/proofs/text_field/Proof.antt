@@ -18,8 +18,12 @@ use Rattle.time_local.proofs.text_field.Tie as tie
 tested : (c : tie.Else1) → isOffset (c .before .before .before .args .offset) ≡ true
 tested c = offset-tested (c .before .before .before .fits .offset) (c .before .permitted .ensures) (not-false _ (c .if1 .left))
 
-of-the-form : (c : tie.Else2) → formed form (c .before .before .before .before .before .before .args .text .now) ≡ true
-unfolding form
+-- where the function began
+begun : tie.Else2 → tie.Start
+begun c = search
+
+of-the-form : (c : tie.Else2) → formed form (begun c .args .text .now) ≡ true
+unfolding form begun
 of-the-form c = met _ (c .before .of-form .ensures) (c .if2 .left)
 
 returns : tie.Need-returns
@@ -28,32 +32,36 @@ returns c = sym (no-offset _ _ (offset-tested (c .before .before .before .fits .
 
 returns-2 : tie.Need-returns-2
 unfolding form readAs
-returns-2 c = sym (by-form _ _ (tested (c .before .before .before)) (unmet _ (c .before .of-form .ensures) (c .if2 .taken)))
+returns-2 c = sym (by-form _ _ (tested (search)) (unmet _ (c .before .of-form .ensures) (c .if2 .taken)))
 
 -- the offset is one of the range where a field is asked for, whose bits are handed on
 packed-requires : tie.Need-packed-requires
-packed-requires c κs = let permitted = c .before .before .before .before in sym (permitted .before .permitted .ensures) ∙ not-false _ (permitted .if1 .left)
+packed-requires c κs =
+    let permitted : tie.Else1 = search in
+    sym (permitted .before .permitted .ensures) ∙ not-false _ (permitted .if1 .left)
 
 -- what is matched on is the definition's answer
 matched : (c : tie.After-packed)
-    → let a = c .before .before .before .before .before .before .before .before .args in packedAs (c .packed .result) ≡ readText (a .text .now) (a .offset)
+    → let a = begun (c .before .before) .args in packedAs (c .packed .result) ≡ readText (a .text .now) (a .offset)
+unfolding begun
 matched c =
-    let start = c .before .before .before .before .before .before .before .before in
-    let formal = c .before .before in
+    let start = begun (c .before .before) in
+    let formal : tie.Else2 = search in
     c .packed .ensures
     ∙ ap (λ (z : ℤ). packOf (c .before .time-of .result) z) (toZ-ofZ (start .fits .offset))
     ∙ ap (λ (t : LocalTime). packOf t (start .args .offset)) (c .before .time-of .ensures)
-    ∙ sym (by-form _ _ (tested (formal .before .before .before)) (of-the-form formal))
+    ∙ sym (by-form _ _ (tested (search)) (of-the-form formal))
 
 returns-3 : tie.Need-returns-3
-unfolding packedAs readAs
-returns-3 c = ap packedAs (sym (c .before .field .given .1)) ∙ matched (c .before .before .before)
+unfolding packedAs readAs begun
+returns-3 c = ap packedAs (sym (c .before .field .given .1)) ∙ matched (search)
 
 returns-4 : tie.Need-returns-4
-unfolding packedAs readAs
-returns-4 c = ap packedAs (sym (c .enum-told .given .1)) ∙ matched (c .before .before)
+unfolding packedAs readAs begun
+returns-4 c = ap packedAs (sym (c .enum-told .given .1)) ∙ matched (search)
 
 pub text-field-spec : {M : Type 1} → statement M
+unfolding begun
 text-field-spec =
     tie.close
     (tie.spec

@@ -9,11 +9,13 @@ use Rattle.time_local.proofs.time_of.Tie as tie
 returns : tie.Need-returns
 unfolding typed
 returns c =
+    let number-at3 : tie.After-number-at3 = search in let number-at2 : tie.After-number-at2 = search in
+    let number-at : tie.After-number-at = search in
     λ i.
     record {
-      year = c .before .before .before .before .number-at3 .ensures .0 i * 100 + c .before .before .before .number-at4 .ensures .0 i;
-      month = c .before .before .before .before .before .number-at2 .ensures .0 i;
-      day = c .before .before .before .before .before .before .number-at .ensures .0 i;
+      year = number-at3 .number-at3 .ensures .0 i * 100 + c .before .before .before .number-at4 .ensures .0 i;
+      month = number-at2 .number-at2 .ensures .0 i;
+      day = number-at .number-at .ensures .0 i;
       hour = c .before .before .number-at5 .ensures .0 i;
       minute = c .before .number-at6 .ensures .0 i;
       second = c .number-at7 .ensures .0 i;
@@ -27,9 +29,9 @@ time-of-spec =
     (λ c κs. places _ (c .before .before .pre) .month)
     (λ c κs. places _ (c .before .before .before .pre) .century)
     (λ c. search needs)
-    (λ c κs. places _ (c .before .before .before .before .pre) .year)
+    (λ c κs. let start : tie.Start = search in places _ (start .pre) .year)
     (λ c. search needs)
-    (λ c κs. places _ (c .before .before .before .before .before .pre) .hour)
-    (λ c κs. places _ (c .before .before .before .before .before .before .pre) .minute)
-    (λ c κs. places _ (c .before .before .before .before .before .before .before .pre) .second)
+    (λ c κs. let start : tie.Start = search in places _ (start .pre) .hour)
+    (λ c κs. let start : tie.Start = search in places _ (start .pre) .minute)
+    (λ c κs. let start : tie.Start = search in places _ (start .pre) .second)
     returns)

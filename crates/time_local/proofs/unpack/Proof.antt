@@ -22,19 +22,20 @@ returns c =
 returns-2 : tie.Need-returns-2
 unfolding unpackedAt
 returns-2 c =
-    let a = c .before .before .before .before .before .before .before in
+    let read-time : tie.After-read-time = search in let a : tie.Start = search in
     c .local-at .ensures
     ∙ ap (λ (z : ℤ). dated (toLocal (c .before .before .utc .given .0 .0) z)) (toZ-ofZ (a .fits .offset))
     ∙ ap (unpackedAt (a .args .offset))
-    (sym (c .before .before .utc .given .1) ∙ c .before .before .before .before .read-time .ensures)
-    ∙ sym (unpack-by _ _ (tested (c .before .before .before .before .before)))
+    (sym (c .before .before .utc .given .1) ∙ read-time .read-time .ensures)
+    ∙ sym (unpack-by _ _ (tested (search)))
 
 returns-3 : tie.Need-returns-3
 unfolding unpackedAt
 returns-3 c =
-    ap (unpackedAt (c .before .before .before .before .before .before .args .offset))
+    let start : tie.Start = search in
+    ap (unpackedAt (start .args .offset))
     (sym (c .before .r .given .1) ∙ c .before .before .before .read-time .ensures)
-    ∙ sym (unpack-by _ _ (tested (c .before .before .before .before)))
+    ∙ sym (unpack-by _ _ (tested (search)))
 
 pub unpack-spec : {M : Type 1} → statement M
 unpack-spec =
