@@ -22,15 +22,12 @@ returns c =
 returns-2 : tie.Need-returns-2
 unfolding liveText
 returns-2 c =
-    let put = c .before .before in
-    let live = put .before .before .before in
-    by-same _ _ (now (live .before .before .before .before .args .out)) _ _ (end-live _ _ (tested (live .before)) (live .if2 .taken)) (put .put .ensures)
+    let start : tie.Start = search in let put : tie.After-put = search in let live : tie.Then2 = search in
+    by-same _ _ (now (start .args .out)) _ _ (end-live _ _ (tested (live .before)) (live .if2 .taken)) (put .put .ensures)
 
 returns-3 : tie.Need-returns-3
 returns-3 c =
-    let printed = c .before .before in
-    let other = printed .before .before in
-    let start = other .before .before .before .before in
+    let printed : tie.After-print-start = search in let other : tie.Else2 = search in let start : tie.Start = search in
     by-same _ _ (now (start .args .out)) _ _
     (end-other _ _ (tested (other .before)) (other .if2 .left) ∙ ap (startText _) (sym (toZ-ofZ (start .fits .offset))))
     (printed .print-start .ensures)

@@ -14,21 +14,26 @@ use Rattle.time_printing.proofs.print_start.Tie as tie
 matched : (c : tie.After-unpack) → let a = c .before .before .args in c .unpack .result ≡ unpackOf (a .field) (a .offset)
 matched c = c .unpack .ensures ∙ ap (unpackOf _) (toZ-ofZ (c .before .before .fits .offset))
 
-told : (c : tie.After-t) → let a = c .before .before .before .before .args in unpackOf (a .field) (a .offset) ≡ At (c .t .given .0 .0)
-told c = sym (matched (c .before .before)) ∙ c .t .given .1
+-- where the function began
+begun : tie.After-t → tie.Start
+begun c = search
+
+told : (c : tie.After-t) → let a = begun c .args in unpackOf (a .field) (a .offset) ≡ At (c .t .given .0 .0)
+unfolding begun
+told c = sym (matched (search)) ∙ c .t .given .1
 
 characters-requires : tie.Need-characters-requires
+unfolding begun
 characters-requires c κs = unpacked-typable _ _ _ (told (c .before))
 
 returns : tie.Need-returns
+unfolding begun
 returns c =
-    let put = c .before .before in
-    let made = put .before .before .before in
-    let start = made .before .before .before .before .before .before in
-    by-same _ _ (now (start .args .out)) _ _ (start-at _ _ _ (told (made .before .before)) ∙ ap prints (sym (made .characters .ensures))) (put .put .ensures)
+    let put : tie.After-put = search in let made : tie.After-characters = search in let start : tie.Start = search in
+    by-same _ _ (now (start .args .out)) _ _ (start-at _ _ _ (told (search)) ∙ ap prints (sym (made .characters .ensures))) (put .put .ensures)
 
 returns-2 : tie.Need-returns-2
-returns-2 c = by-refusal _ _ _ (start-refused _ _ _ (sym (matched (c .before .before .before)) ∙ c .before .r .given .1))
+returns-2 c = by-refusal _ _ _ (start-refused _ _ _ (sym (matched (search)) ∙ c .before .r .given .1))
 
 pub print-start-spec : {M : Type 1} → statement M
 print-start-spec =
