@@ -12,7 +12,8 @@ use Rattle.ground_placing.proofs.Putting.{put-length}
 use Rattle.salvage.specs.Runs.{runAt, numbersOf}
 use Rattle.salvage.specs.Salvage.{sections, numbers}
 use Rattle.salvage.proofs.Pieces.{next-goes}
-use Rattle.salvage.proofs.Turns.{sectionsLeft, numbersLeft, sections-turn, sections-length, numbers-turn, sections-whole, numbers-whole, sections-end, numbers-end, runs-told, put-section}
+use Rattle.salvage.proofs.Turns.{sectionsLeft, sections-whole, sections-turn, sections-length, sections-end, put-section}
+use Rattle.salvage.proofs.Turns.{numbersLeft, numbers-whole, numbers-turn, numbers-end, runs-told}
 use Rattle.salvage.proofs.Writing.{Writing, writing-starts, writing-room, writing-count, writing-goes, writing-ends}
 use Rattle.salvage.proofs.Standing.{sections-most}
 use Rattle.salvage.proofs.write_runs.Statement.{statement}
@@ -29,29 +30,23 @@ loop-holds : tie.Need-loop-holds Inv-loop μ-loop
 loop-holds c =
     (omega arith, rw (sections-whole _) (writing-starts _ 0 _ (omega arith)), rw (numbers-whole _) (writing-starts _ 0 _ (omega arith)))
 
--- places of the code, from later ones on
-next-good-of : tie.After-copy-at Inv-loop μ-loop → tie.After-next-good Inv-loop μ-loop
-next-good-of c = search
+-- the turn in which a section is copied, and where the function began
+turn-of : tie.After-copy-at Inv-loop μ-loop → tie.After-next-good Inv-loop μ-loop
+turn-of c = search
 
-begun-copy-at : tie.After-copy-at Inv-loop μ-loop → tie.Start Inv-loop μ-loop
-begun-copy-at c = search
-
-begun-next-good : tie.After-next-good Inv-loop μ-loop → tie.Start Inv-loop μ-loop
-begun-next-good c = search
-
-begun-put-run : tie.After-put-run Inv-loop μ-loop → tie.Start Inv-loop μ-loop
-begun-put-run c = search
+begun : tie.After-next-good Inv-loop μ-loop → tie.Start Inv-loop μ-loop
+begun turn = search
 
 -- the numbers after the skipped run of a turn
-after-skipped : (c : tie.After-put-run Inv-loop μ-loop) → let start = begun-put-run c in let turn = c .before .before .before in
+after-skipped : (c : tie.After-put-run Inv-loop μ-loop) → let turn = c .before .before .before in let start = begun turn in
     let s = now (start .args .s) in
     let next = turn .next-good .result in
     Writing (now (start .args .list)) 0 (c .put-run .last .0) (c .put-run .result)
     (numbersOf (runAt true (next .at) (next .length)) ++ numbersLeft s (next .at + next .length)) (numbers s)
-unfolding begun-put-run
+unfolding begun
 after-skipped c =
     let turn : tie.After-next-good Inv-loop μ-loop = search in
-    let s = now (begun-put-run c .args .s) in
+    let s = now (begun turn .args .s) in
     let from = turn .before .before .loop .from in
     let next = turn .next-good .result in
     writing-goes (numbersOf (runAt false from (next .at - from))) (numbersOf (runAt true (next .at) (next .length)) ++ numbersLeft s (next .at + next .length))
@@ -71,7 +66,7 @@ put-run-requires c κs =
     )
 
 put-run-requires-2 : tie.Need-put-run-requires-2 Inv-loop μ-loop
-unfolding begun-put-run
+unfolding begun
 put-run-requires-2 c κs =
     let put : tie.After-put-run Inv-loop μ-loop = search in let turn : tie.After-next-good Inv-loop μ-loop = search in
     let start : tie.Start Inv-loop μ-loop = search in
@@ -82,19 +77,19 @@ put-run-requires-2 c κs =
     )
 
 -- there is room for the section of a turn
-section-room : (turn : tie.After-next-good Inv-loop μ-loop) → let start = begun-next-good turn in let next = turn .next-good .result in
+section-room : (turn : tie.After-next-good Inv-loop μ-loop) → let start = begun turn in let next = turn .next-good .result in
     turn .before .before .loop .bytes + length (take (next .length) (drop (next .at) (now (start .args .s))))
     ≤ length (turn .before .before .loop .out)
-unfolding begun-next-good
+unfolding begun
 section-room turn =
-    let start = begun-next-good turn in
+    let start = begun turn in
     let s = now (start .args .s) in
     let next = turn .next-good .result in
     writing-room (take (next .length) (drop (next .at) s)) (sectionsLeft s (next .at + next .length)) (turn .before .before .loop .inv .1)
     (sections-turn _ _ _ _ (turn .next-good .ensures)) (omega (arith, start .pre .1))
 
 copy-at-requires : tie.Need-copy-at-requires Inv-loop μ-loop
-unfolding begun-next-good
+unfolding begun
 copy-at-requires c κs =
     let turn : tie.After-next-good Inv-loop μ-loop = search in
     let next = turn .next-good .result in
@@ -108,18 +103,18 @@ loop-less c =
     omega (arith, turn .next-good .ensures .within)
 
 -- the section of a turn stands behind those before it
-copied : (c : tie.After-copy-at Inv-loop μ-loop) → let start = begun-copy-at c in let turn = next-good-of c in
+copied : (c : tie.After-copy-at Inv-loop μ-loop) → let turn = turn-of c in
     let next = turn .next-good .result in
     let loop = turn .before .before .loop in
-    Put (loop .out) (loop .bytes) (take (next .length) (drop (next .at) (now (start .args .s))))
+    Put (loop .out) (loop .bytes) (take (next .length) (drop (next .at) (now (begun turn .args .s))))
     (c .copy-at .last .1 .0) (loop .bytes + next .length)
-unfolding begun-copy-at begun-next-good next-good-of
+unfolding begun turn-of
 copied c =
-    let turn = next-good-of c in
+    let turn = turn-of c in
     put-section _ _ _ _ _ _ (turn .next-good .ensures .within) (section-room turn) (c .copy-at .ensures)
 
 loop-again : tie.Need-loop-again Inv-loop μ-loop
-unfolding begun-copy-at begun-put-run next-good-of
+unfolding begun turn-of
 loop-again c =
     let start : tie.Start Inv-loop μ-loop = search in let copy : tie.After-copy-at Inv-loop μ-loop = search in
     let put : tie.After-put-run2 Inv-loop μ-loop = search in let turn : tie.After-next-good Inv-loop μ-loop = search in
