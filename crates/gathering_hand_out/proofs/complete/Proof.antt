@@ -28,32 +28,32 @@ begun : (c : tie.Else2) → nothingBegun (given (c .before .before .before .befo
 unfolding nothingBegun
 begun c = ne-eqb _ _ (c .if2 .left)
 
-roomy : (c : tie.Else3) → let start = c .before .before .before .before .before .before in hasRoom (start .args .bytes) (start .args .m .last) ≡ true
+-- where the function began
+entry : tie.Else3 → tie.Start
+entry c = search
+
+roomy : (c : tie.Else3) → hasRoom (entry c .args .bytes) (entry c .args .m .last) ≡ true
+unfolding entry
 roomy c = met _ (c .before .has-room .ensures) (c .if3 .left)
 
 pub complete-spec : {M : Type 1} → statement M
-unfolding nothingBegun lengths
+unfolding nothingBegun lengths entry
 complete-spec =
     tie.close
     (tie.spec
     (λ c κs. search needs)
     (λ c. sym (complete-impossible _ _ (unmet _ (c .before .possible .ensures) (c .if1 .taken))))
-    (λ c. sym (complete-fresh _ _ (possible (c .before .before)) (eq-eqb _ _ (c .if2 .taken))))
+    (λ c. sym (complete-fresh _ _ (possible (search)) (eq-eqb _ _ (c .if2 .taken))))
     (λ c κs. search needs)
-    (λ c. sym (complete-short _ _ (possible (c .before .before .before .before)) (begun (c .before .before)) (unmet _ (c .before .has-room .ensures) (c .if3 .taken))))
-    (λ c.
-    let room = c .before .before in
-    let some = room .before .before in
-    sym (complete-spoiled _ _ (possible (some .before .before)) (begun some) (roomy room) (c .if4 .taken)))
+    (λ c. sym (complete-short _ _ (possible (search)) (begun (search)) (unmet _ (c .before .has-room .ensures) (c .if3 .taken))))
+    (λ c. sym (complete-spoiled _ _ (possible (search)) (begun (search)) (roomy (search)) (c .if4 .taken)))
     (λ c. search needs)
     (λ c. search needs)
     (λ c κs.
-    let start = c .before .before .before .before .before .before .before .before .before .before in
+    let start : tie.Start = search in
     let n : length (now (start .args .held)) ≡ 256 = search needs in
     let f : Fits w8 (start .args .m .last) = search needs in
     omega arith)
     (λ c.
-    let calm = c .before .before .before in
-    let room = calm .before .before in
-    let some = room .before .before in
-    c .missing .ensures ∙ sym (complete-calm _ _ (possible (some .before .before)) (begun some) (roomy room) (calm .if4 .left))))
+    let calm : tie.Else4 = search in
+    c .missing .ensures ∙ sym (complete-calm _ _ (possible (search)) (begun (search)) (roomy (search)) (calm .if4 .left))))

@@ -10,8 +10,9 @@ hand-held-spec =
     tie.close
     (tie.spec
     (λ c κs. c .before .before .before .pre .few)
-    (λ c. held-small _ _ _ (c .before .before .before .before .before .pre) _ (c .before .total-of .ensures) (c .if1 .taken))
-    (λ c κs. (c .before .before .before .before .before .before .pre, omega arith))
+    (λ c. let start : tie.Start = search in held-small _ _ _ (start .pre) _ (c .before .total-of .ensures) (c .if1 .taken))
+    (λ c κs. let start : tie.Start = search in (start .pre, omega arith))
     (λ c. search needs)
-    (λ c. let joined = c .before .before in let totalled = joined .before .before .before in
-    held-body _ _ _ (totalled .before .before .before .before .pre) _ (totalled .total-of .ensures) (omega arith) _ (joined .join .ensures)))
+    (λ c.
+    let start : tie.Start = search in let joined : tie.After-join = search in let totalled : tie.After-total-of = search in
+    held-body _ _ _ (start .pre) _ (totalled .total-of .ensures) (omega arith) _ (joined .join .ensures)))

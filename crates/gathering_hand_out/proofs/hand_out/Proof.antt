@@ -22,15 +22,19 @@ among c =
     let f : Fits w8 (c .args .t1 .last) = search needs in
     (omega arith, omega arith)
 
-complete-at : (c : tie.After-enum-told)
-    → let start = c .before .before .before .before .before .before .before .before .args in
+-- where the function began
+begun : tie.After-enum-told → tie.Start
+begun c = search
+
+complete-at : (c : tie.After-enum-told) → let start = begun c .args in
     completeOf (start .t1) (length (now (start .store))) ≡ Complete
+unfolding begun
 complete-at c =
-    let found = c .before .before in
+    let found : tie.After-complete = search in
     completes _ _ _ (found .before .before .before .numbers-of .ensures) _ (found .complete .ensures) ∙ c .enum-told .given .1
 
 pub hand-out-spec : {M : Type 1} → statement M
-unfolding lengths bodyHeld
+unfolding lengths bodyHeld begun
 hand-out-spec =
     tie.close
     (tie.spec
@@ -41,14 +45,14 @@ hand-out-spec =
     (λ c. search needs)
     (λ c. search needs)
     (λ c κs.
-    let told = c .before .before .before .before in
-    let few = among (told .before .before .before .before .before .before .before .before) in
+    let told : tie.After-enum-told = search in
+    let few = among (search) in
     (few .0, whole-in-store _ _ (few .1) (complete-whole _ _ (complete-at told))))
     (λ c.
     let told = c .before in
-    let found = told .before .before in
+    let found : tie.After-complete = search in
     hands-refused _ _ _ _ (completes _ _ _ (found .before .before .before .numbers-of .ensures) _ (found .complete .ensures) ∙ told .r .given .1))
     (λ c. search needs)
     (λ c.
-    let handed = c .before .before in
-    hands-complete _ _ _ (complete-at (handed .before .before .before .before .before)) _ (handed .hand-first .ensures .0) _ (handed .hand-first .ensures .1)))
+    let handed : tie.After-hand-first = search in
+    hands-complete _ _ _ (complete-at (search)) _ (handed .hand-first .ensures .0) _ (handed .hand-first .ensures .1)))

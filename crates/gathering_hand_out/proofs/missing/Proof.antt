@@ -19,11 +19,5 @@ missing-spec =
     (tie.spec
     (λ c. sym (length-take-le _ _ (search needs)))
     (λ c κs. search needs)
-    (λ c.
-    let few = counted (c .before .before .before .before) in
-    let test = c .if1 .taken in
-    missing-some _ _ (c .before .smallest-missing .ensures) (omega arith))
-    (λ c.
-    let few = counted (c .before .before .before .before) in
-    let test = c .if1 .left in
-    missing-none _ _ (c .before .smallest-missing .ensures) (omega arith)))
+    (λ c. let few = counted (search) in let test = c .if1 .taken in missing-some _ _ (c .before .smallest-missing .ensures) (omega arith))
+    (λ c. let few = counted (search) in let test = c .if1 .left in missing-none _ _ (c .before .smallest-missing .ensures) (omega arith)))
