@@ -10,6 +10,6 @@ move-first-spec =
     tie.close
     (tie.spec
     (λ c. sym (length-take-le _ _ (search needs)))
-    (λ c κs. c .before .before .before .before .pre .1)
+    (λ c κs. let start : tie.Start = search in start .pre .1)
     (λ c. search needs)
     (λ c. c .before .before .move-together .ensures))

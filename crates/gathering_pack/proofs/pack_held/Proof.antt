@@ -1,4 +1,5 @@
--- `gathering_pack::pack_held` meets its contract: a table that is not complete is refused as its completeness says, and of a whole one the payloads lie in the store.
+-- `gathering_pack::pack_held` meets its contract: a table that is not complete is refused as its completeness says,
+-- and of a whole one the payloads lie in the store.
 use Prim.Native.Nat.{_+_, _≤_}
 use mathlib.Core.Path.{_≡_, _∙_}
 use native.Mathlib.Omega.{arith}
@@ -22,11 +23,18 @@ among c =
     let f : Fits w8 (c .args .t1 .last) = search needs in
     (omega arith, omega arith)
 
-all-there : (c : tie.After-enum-told) → let start = c .before .before .before .before .before .before .before .args in completeOf (start .t1) (length (now (start .store))) ≡ Complete
-all-there c = completes _ _ _ (c .before .before .before .before .before .numbers-of .ensures) _ (c .before .before .complete .ensures) ∙ c .enum-told .given .1
+-- where the function began
+begun : tie.After-enum-told → tie.Start
+begun c = search
+
+all-there : (c : tie.After-enum-told) → let start = begun c .args in completeOf (start .t1) (length (now (start .store))) ≡ Complete
+unfolding begun
+all-there c =
+    let numbers-of : tie.After-numbers-of = search in
+    completes _ _ _ (numbers-of .numbers-of .ensures) _ (c .before .before .complete .ensures) ∙ c .enum-told .given .1
 
 pub pack-held-spec : {M : Type 1} → statement M
-unfolding lengths bodyHeld
+unfolding lengths bodyHeld begun
 pack-held-spec =
     tie.close
     (tie.spec
@@ -36,12 +44,12 @@ pack-held-spec =
     (λ c. search needs)
     (λ c. search needs)
     (λ c. search needs)
-    (λ c κs. let told = c .before .before .before .before in let few = among (told .before .before .before .before .before .before .before) in (few .0, packs-in-store _ _ (few .1) (all-there told)))
+    (λ c κs. let told : tie.After-enum-told = search in let few = among (search) in (few .0, packs-in-store _ _ (few .1) (all-there told)))
     (λ c.
+    let numbers-of : tie.After-numbers-of = search in
     let told = c .before in
-    answers-refused _ _ _ (completes _ _ _ (told .before .before .before .before .before .numbers-of .ensures) _ (told .before .before .complete .ensures) ∙ told .r .given .1))
+    answers-refused _ _ _ (completes _ _ _ (numbers-of .numbers-of .ensures) _ (told .before .before .complete .ensures) ∙ told .r .given .1))
     (λ c. search needs)
     (λ c.
-    let moved = c .before .before in
-    let told = moved .before .before .before .before .before in
-    answers-body _ _ (among (told .before .before .before .before .before .before .before) .1) (all-there told) _ (moved .move-first .ensures .0) _ (moved .move-first .ensures .1)))
+    let moved : tie.After-move-first = search in let told : tie.After-enum-told = search in
+    answers-body _ _ (among (search) .1) (all-there told) _ (moved .move-first .ensures .0) _ (moved .move-first .ensures .1)))

@@ -15,11 +15,12 @@ pack-step-spec =
     (λ c κs. search needs)
     (λ c. search needs)
     (λ c.
+    let pack-held : tie.After-pack-held = search in
     let told = c .before in
-    let packed = told .before .before .before .before .pack-held .ensures in
+    let packed = pack-held .pack-held .ensures in
     (state-refused _ _ _ (sym (told .answer .given .1) ∙ packed .0), packed .1))
     (λ c. search needs)
     (λ c.
-    let told = c .before .before in
-    let packed = told .before .before .before .before .pack-held .ensures in
+    let pack-held : tie.After-pack-held = search in let told : tie.After-answer2 = search in
+    let packed = pack-held .pack-held .ensures in
     (state-packed _ _ _ (sym (told .answer2 .given .1) ∙ packed .0) _ (c .fresh .ensures), packed .1)))
