@@ -15,7 +15,7 @@ hand-first-spec =
     (tie.spec
     (λ c. sym (length-take-le _ _ (search needs)))
     (λ c κs.
-    let start = c .before .before .before .before .before .before in
+    let start : tie.Start = search in
     let few = length-take (start .args .count) (now (start .args .held)) in
     let pre = start .pre in
     let a = pre .1 in

@@ -9,11 +9,10 @@ pub hand-held-spec : {M : Type 1} → statement M
 hand-held-spec =
     tie.close
     (tie.spec
-    (λ c κs. c .before .before .before .before .pre .0)
-    (λ c. held-small _ _ _ _ (c .before .before .before .before .before .before .pre .2) _ (c .before .total-of .ensures) (c .if1 .taken))
-    (λ c κs. let start = c .before .before .before .before .before .before .before in (start .pre .1, start .pre .2, omega arith))
+    (λ c κs. let start : tie.Start = search in start .pre .0)
+    (λ c. let start : tie.Start = search in held-small _ _ _ _ (start .pre .2) _ (c .before .total-of .ensures) (c .if1 .taken))
+    (λ c κs. let start : tie.Start = search in (start .pre .1, start .pre .2, omega arith))
     (λ c. search needs)
     (λ c.
-    let joined = c .before .before in
-    let totalled = joined .before .before .before in
-    held-body _ _ _ _ (totalled .before .before .before .before .before .pre .2) _ (totalled .total-of .ensures) (omega arith) _ (joined .join .ensures)))
+    let start : tie.Start = search in let joined : tie.After-join = search in let totalled : tie.After-total-of = search in
+    held-body _ _ _ _ (start .pre .2) _ (totalled .total-of .ensures) (omega arith) _ (joined .join .ensures)))

@@ -22,12 +22,11 @@ hand-part-spec =
     (λ c κs. search needs)
     (λ c.
     let told = c .before in
-    let found = told .before .before in
+    let found : tie.After-complete = search in
     hands-refused _ _ _ _ (completes _ _ _ (found .before .before .before .numbers-of .ensures) _ (found .complete .ensures) ∙ told .r .given .1))
     (λ c. search needs)
     (λ c.
-    let handed = c .before .before in
-    let told = handed .before .before .before .before .before .before .before .before in
-    let found = told .before .before in
+    let handed : tie.After-hand-first = search in let told : tie.After-enum-told = search in
+    let found : tie.After-complete = search in
     hands-complete _ _ _ (completes _ _ _ (found .before .before .before .numbers-of .ensures) _ (found .complete .ensures) ∙ told .enum-told .given .1)
     _ (handed .hand-first .ensures .0) _ (handed .hand-first .ensures .1)))

@@ -16,29 +16,37 @@ Inv-loop held rooms store out₀ k₀ o₀ out k o = Joining (roomAt rooms) stor
 abbrev μ-loop : tie.MeasureT-loop
 μ-loop held rooms store out₀ k₀ o₀ out k o = length held - k
 
+-- places of the code, from later ones on
+head-of : tie.After-room-place Inv-loop μ-loop → tie.At-loop Inv-loop μ-loop
+head-of c = search
+
+begun : tie.After-room-place Inv-loop μ-loop → tie.Start Inv-loop μ-loop
+begun c = search
+
 -- the payload lies in the store, and has room in the output
 in-store : (c : tie.After-room-place Inv-loop μ-loop)
-    → let turn = c .before .before .before .before .before in
-    c .room-place .result + c .before .before .less-one .result ≤ length (now (turn .before .before .before .before .before .args .store))
-unfolding roomAt
+    → c .room-place .result + c .before .before .less-one .result ≤ length (now (begun c .args .store))
+unfolding roomAt begun
 in-store c =
-    let turn = c .before .before .before .before .before in
-    let w = turn .before .before .before .before .before .pre .1 .within (turn .loop .k) in
+    let start = begun c in
+    let turn : tie.At-loop Inv-loop μ-loop = search in
+    let w = start .pre .1 .within (turn .loop .k) in
     let p = c .room-place .ensures in
     let n = c .before .before .less-one .ensures .0 in
     omega arith
 
-in-output : (c : tie.After-room-place Inv-loop μ-loop)
-    → let turn = c .before .before .before .before .before in
+in-output : (c : tie.After-room-place Inv-loop μ-loop) → let turn = head-of c in
     turn .loop .o + c .before .before .less-one .result ≤ length (turn .loop .out)
+unfolding head-of
 in-output c =
-    let turn = c .before .before .before .before .before in
-    let r = join-room _ _ _ _ _ _ _ (turn .loop .inv) (omega arith) (turn .before .before .before .before .before .pre .2) in
+    let start : tie.Start Inv-loop μ-loop = search in
+    let turn = head-of c in
+    let r = join-room _ _ _ _ _ _ _ (turn .loop .inv) (omega arith) (start .pre .2) in
     let n = c .before .before .less-one .ensures .0 in
     omega arith
 
 pub join-spec : {M : Type 1} → statement M
-unfolding roomAt
+unfolding roomAt begun head-of
 join-spec =
     tie.close
     (tie.spec
@@ -55,14 +63,14 @@ join-spec =
     (λ c. omega arith)
     (λ c. search needs)
     in-store
-    (λ c κs. let f = in-output (c .before .before) in simp (length-take, length-drop) (omega arith))
-    (λ c. let f = in-output (c .before .before .before .before .before) in omega arith)
+    (λ c κs. let f = in-output (search) in simp (length-take, length-drop) (omega arith))
+    (λ c. let f = in-output (search) in omega arith)
     (λ c. omega arith)
     (λ c. omega arith)
     (λ c.
-    let turn = c .before .before .before .before .before .before .before .before .before .before in
-    let placed = c .before .before .before .before .before in
-    join-step _ _ _ _ _ _ _ (turn .loop .inv) (omega arith) (turn .before .before .before .before .before .pre .2)
+    let start : tie.Start Inv-loop μ-loop = search in let turn : tie.At-loop Inv-loop μ-loop = search in
+    let placed : tie.After-room-place Inv-loop μ-loop = search in
+    join-step _ _ _ _ _ _ _ (turn .loop .inv) (omega arith) (start .pre .2)
     _ (placed .before .before .less-one .ensures .0) _ (placed .room-place .ensures)
     (in-store placed) _ (c .before .before .copy-at .ensures))
     (λ c. c .before .loop .inv .long)
