@@ -21,7 +21,7 @@ row-end-requires c κs = sym (c .before .row-begins .ensures) ∙ c .if1 .taken
 
 returns : tie.Need-returns Inv-loop μ-loop
 returns c =
-    let row = c .before .before .before .before in
+    let row : tie.After-row-end Inv-loop μ-loop = search in
     let test = row .before in
     let here = test .before .before .loop in
     let begins = sym (test .before .row-begins .ensures) ∙ test .if1 .taken in
@@ -29,7 +29,7 @@ returns c =
 
 loop-again : tie.Need-loop-again Inv-loop μ-loop
 loop-again c =
-    let row = c .before .before .before .before in
+    let row : tie.After-row-end Inv-loop μ-loop = search in
     let test = row .before in
     let here = test .before .before .loop in
     let begins = sym (test .before .row-begins .ensures) ∙ test .if1 .taken in

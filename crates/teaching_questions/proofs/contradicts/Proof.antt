@@ -13,24 +13,30 @@ use Rattle.teaching_questions.proofs.contradicts.Tie as tie
 returns : tie.Need-returns
 returns c = differs-absent _ _ _ (unmet (c .before .is-number .result) (c .before .is-number .ensures) (c .if1 .taken))
 
+-- where the function began
+begun : tie.Else1 → tie.Start
+begun c = search
+
 -- what is known where it is the section of that number
-known : (c : tie.Else1)
-    → Numbered (c .before .before .before .before .args .t) (now (c .before .before .before .before .args .s)) (c .before .before .before .before .args .k)
+known : (c : tie.Else1) → let start = begun c in Numbered (start .args .t) (now (start .args .s)) (start .args .k)
+unfolding begun
 known c = numbered _ _ _ (met (c .before .is-number .result) (c .before .is-number .ensures) (c .if1 .left))
 
 sub-end : tie.Need-sub-end
+unfolding begun
 sub-end c = omega (arith, known c .long)
 
 sub-same-bytes : tie.Need-sub-same-bytes
+unfolding begun
 sub-same-bytes c = omega (arith, known c .long)
 
 part-same-bytes-start : tie.Need-part-same-bytes-start
+unfolding begun
 part-same-bytes-start c = omega (arith, known c .long)
 
 returns-2 : tie.Need-returns-2
-returns-2 c =
-    let is = known (c .before .before) .is in
-    ap not (c .same-bytes .ensures ∙ ap (sameBytes _) (payload-part _)) ∙ differs-one _ _ _ _ is
+unfolding begun
+returns-2 c = let is = known (search) .is in ap not (c .same-bytes .ensures ∙ ap (sameBytes _) (payload-part _)) ∙ differs-one _ _ _ _ is
 
 pub contradicts-spec : {M : Type 1} → statement M
 contradicts-spec =

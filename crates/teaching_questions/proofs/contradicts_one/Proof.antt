@@ -11,29 +11,38 @@ use Rattle.teaching_questions.proofs.contradicts_one.Tie as tie
 
 returns : tie.Need-returns
 returns c =
-    let arm = c .before .before .before in
+    let arm : tie.After-h = search in
     let h = said-section _ _ (sym (arm .before .before .hear .ensures) ∙ arm .h .given .1) in
     clash-none _ _ _ (other-section _ _ _ h (unmet (c .before .same-table .result) (c .before .same-table .ensures) (c .if1 .taken)))
 
+-- where the function began
+begun : tie.Else1 → tie.Start
+begun c = search
+
 -- what is known where it is a section of the table
-known : (c : tie.Else1) → Current (now (c .before .before .before .before .before .before .before .before .args .s)) (c .before .before .before .h .given .0 .0)
-known c = let arm = c .before .before .before in said-section _ _ (sym (arm .before .before .hear .ensures) ∙ arm .h .given .1)
+known : (c : tie.Else1) → Current (now (begun c .args .s)) (c .before .before .before .h .given .0 .0)
+unfolding begun
+known c = let arm : tie.After-h = search in said-section _ _ (sym (arm .before .before .hear .ensures) ∙ arm .h .given .1)
 
 sub-end : tie.Need-sub-end
+unfolding begun
 sub-end c = omega (arith, known c .long)
 
 sub-differs-from-one : tie.Need-sub-differs-from-one
+unfolding begun
 sub-differs-from-one c = omega (arith, known c .long)
 
 part-differs-from-one-start : tie.Need-part-differs-from-one-start
+unfolding begun
 part-differs-from-one-start c = omega (arith, known c .long)
 
 returns-2 : tie.Need-returns-2
 returns-2 c = clash-none _ _ _ (nothing-section _ _ (sym (c .before .before .hear .ensures) ∙ c .enum-told .given .1))
 
 returns-3 : tie.Need-returns-3
+unfolding begun
 returns-3 c =
-    let test = c .before .before in
+    let test : tie.Else1 = search in
     let own = own-section _ _ _ (known test) (met (test .before .same-table .result) (test .before .same-table .ensures) (test .if1 .left)) in
     clash-one _ _ _ _ own _ (payload-part _) _ (c .differs-from-one .ensures)
 
