@@ -9,19 +9,19 @@ use Rattle.teaching_table.proofs.fixed_after.Tie as tie
 
 begins-requires : tie.Need-begins-requires
 begins-requires c κs =
+    let start : tie.Start = search in
     let arm = c .before in
-    (c .before .before .before .before .before .pre, said-section _ _ (sym (arm .before .before .hear .ensures) ∙ arm .h .given .1) .versioned)
+    (start .pre, said-section _ _ (sym (arm .before .before .hear .ensures) ∙ arm .h .given .1) .versioned)
 
 returns : tie.Need-returns
 returns c =
-    let arm = c .before .before .before in
+    let arm : tie.After-h = search in
     let h = said-section _ _ (sym (arm .before .before .hear .ensures) ∙ arm .h .given .1) in
     after-other _ _ _ _ _ h (unmet (c .before .begins .result) (c .before .begins .ensures) (c .if1 .taken))
 
 returns-2 : tie.Need-returns-2
 returns-2 c =
-    let test = c .before .before in
-    let arm = test .before .before .before in
+    let test : tie.Else1 = search in let arm : tie.After-h = search in
     let h = said-section _ _ (sym (arm .before .before .hear .ensures) ∙ arm .h .given .1) in
     after-short _ _ _ _ _ h (met (test .before .begins .result) (test .before .begins .ensures) (test .if1 .left))
     (unmet (c .before .has-room .result) (c .before .has-room .ensures) (c .if2 .taken))
@@ -31,8 +31,7 @@ returns-3 c = after-nothing _ _ _ _ (sym (c .before .before .hear .ensures) ∙ 
 
 returns-4 : tie.Need-returns-4
 returns-4 c =
-    let test = c .before .before in
-    let arm = test .before .before .before in
+    let test : tie.Else1 = search in let arm : tie.After-h = search in
     let h = said-section _ _ (sym (arm .before .before .hear .ensures) ∙ arm .h .given .1) in
     after-begun _ _ _ _ _ h (met (test .before .begins .result) (test .before .begins .ensures) (test .if1 .left))
     (met (c .before .has-room .result) (c .before .has-room .ensures) (c .if2 .left))

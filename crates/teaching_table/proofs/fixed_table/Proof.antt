@@ -19,11 +19,11 @@ row-end-requires : tie.Need-row-end-requires Inv-loop μ-loop
 row-end-requires c κs = sym (c .before .row-begins .ensures) ∙ c .if1 .taken
 
 fixed-after-requires : tie.Need-fixed-after-requires Inv-loop μ-loop
-fixed-after-requires c κs = standing-versioned (c .before .before .before .before .loop .inv .1)
+fixed-after-requires c κs = let head : tie.At-loop Inv-loop μ-loop = search in standing-versioned (head .loop .inv .1)
 
 loop-again : tie.Need-loop-again Inv-loop μ-loop
 loop-again c =
-    let row = c .before .before in
+    let row : tie.After-row-end Inv-loop μ-loop = search in
     let test = row .before in
     let here = test .before .before .loop in
     let begins = sym (test .before .row-begins .ensures) ∙ test .if1 .taken in
