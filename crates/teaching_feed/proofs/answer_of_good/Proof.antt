@@ -10,32 +10,32 @@ use Rattle.teaching_feed.proofs.answer_of_good.Tie as tie
 
 is-newer-requires : tie.Need-is-newer-requires
 is-newer-requires c κs =
+    let start : tie.Start = search in
     let arm = c .before in
-    ((found-table (arm .before .before .fixed-table .ensures) _ _ (arm .t .given .1)) .versioned, c .before .before .before .before .before .before .pre .0)
+    ((found-table (arm .before .before .fixed-table .ensures) _ _ (arm .t .given .1)) .versioned, start .pre .0)
 
 returns : tie.Need-returns
 returns c =
-    let arm = c .before .before .before .before in
+    let arm : tie.After-t = search in
     let newer = c .before in
     good-newer _ _ _ _ _ _ _ (found-table (arm .before .before .fixed-table .ensures) _ _ (arm .t .given .1))
     (sym (newer .before .is-newer .ensures) ∙ newer .if1 .taken) (c .answer-of-first2 .ensures)
 
 returns-2 : tie.Need-returns-2
 returns-2 c =
-    let arm = c .before .before .before .before .before in
-    let newer = c .before .before in
+    let arm : tie.After-t = search in let newer : tie.Else1 = search in
     good-other _ _ _ _ _ _ _ (found-table (arm .before .before .fixed-table .ensures) _ _ (arm .t .given .1))
     (sym (newer .before .is-newer .ensures) ∙ newer .if1 .left)
     (unmet (c .before .same-table .result) (c .before .same-table .ensures) (c .if2 .taken)) refl
 
 sub-answer-of-table : tie.Need-sub-answer-of-table
 sub-answer-of-table c =
-    let arm = c .before .before .before .before .before in
+    let arm : tie.After-t = search in
     (found-table (arm .before .before .fixed-table .ensures) _ _ (arm .t .given .1)) .among
 
 part-answer-of-table-start : tie.Need-part-answer-of-table-start
 part-answer-of-table-start c =
-    let arm = c .before .before .before .before .before in
+    let arm : tie.After-t = search in
     (found-table (arm .before .before .fixed-table .ensures) _ _ (arm .t .given .1)) .among
 
 returns-3 : tie.Need-returns-3
@@ -44,9 +44,7 @@ returns-3 c =
 
 returns-4 : tie.Need-returns-4
 returns-4 c =
-    let arm = c .before .before .before .before .before .before .before in
-    let same = c .before .before in
-    let newer = same .before .before in
+    let arm : tie.After-t = search in let same : tie.Else2 = search in let newer : tie.Else1 = search in
     good-same _ _ _ _ _ _ _ (found-table (arm .before .before .fixed-table .ensures) _ _ (arm .t .given .1))
     (sym (newer .before .is-newer .ensures) ∙ newer .if1 .left)
     (met (same .before .same-table .result) (same .before .same-table .ensures) (same .if2 .left)) (c .answer-of-table .ensures)

@@ -14,10 +14,14 @@ use Rattle.teaching_feed.proofs.Keeping.{fed-kept}
 use Rattle.teaching_feed.proofs.feed.Statement.{statement}
 use Rattle.teaching_feed.proofs.feed.Tie as tie
 
+-- where the function began
+begun : tie.Else1 → tie.Start
+begun c = search
+
 -- the row fits
-fits : (c : tie.Else1)
-    → c .before .before .before .before .args .used + (lengthBytes + length (now (c .before .before .before .before .args .s)))
-    ≤ length (now (c .before .before .before .before .args .buffer))
+fits : (c : tie.Else1) → let start = begun c in start .args .used + (lengthBytes + length (now (start .args .s)))
+    ≤ length (now (start .args .buffer))
+unfolding begun
 fits c = fits-room _ _ _ (met (c .before .row-fits .result) (c .before .row-fits .ensures) (c .if1 .left))
 
 returns : tie.Need-returns
@@ -25,32 +29,36 @@ returns c = fed-full _ _ _ _ (unmet (c .before .row-fits .result) (c .before .ro
 
 returns-2 : tie.Need-returns-2
 returns-2 c =
-    let row = c .before .before .before in
+    let row : tie.Else1 = search in
     fed-impossible _ _ _ _ (met (row .before .row-fits .result) (row .before .row-fits .ensures) (row .if1 .left))
     (unmet (c .before .in-use .result) (c .before .in-use .ensures) (c .if2 .taken))
 
 slice-reshare-prefix-answer-to : tie.Need-slice-reshare-prefix-answer-to
-slice-reshare-prefix-answer-to c = omega (arith, fits (c .before .before .before))
+unfolding begun
+slice-reshare-prefix-answer-to c = omega (arith, fits (search))
 
 slice-aggregate-answer-to : tie.Need-slice-aggregate-answer-to
-slice-aggregate-answer-to c = sym (length-take-le _ _ (omega (arith, fits (c .before .before .before .before))))
+unfolding begun
+slice-aggregate-answer-to c = sym (length-take-le _ _ (omega (arith, fits (search))))
 
 put-row-requires : tie.Need-put-row-requires
-put-row-requires c κs = omega (arith, fits (c .before .before .before .before .before .before))
+unfolding begun
+put-row-requires c κs = omega (arith, fits (search))
 
 add-t7 : tie.Need-add-t7
-add-t7 c = omega (arith, fits (c .before .before .before .before .before .before .before .before .before))
+unfolding begun
+add-t7 c = omega (arith, fits (search))
 
 add-t21 : tie.Need-add-t21
-add-t21 c = omega (arith, fits (c .before .before .before .before .before .before .before .before .before))
+unfolding begun
+add-t21 c = omega (arith, fits (search))
 
 returns-3 : tie.Need-returns-3
 returns-3 c =
-    let row = c .before .before .before .before .before .before .before .before .before in
-    let whole = c .before .before .before .before .before .before in
+    let answer-to : tie.After-answer-to = search in let row : tie.Else1 = search in let whole : tie.Else2 = search in
     fed-kept _ _ _ _ (met (row .before .row-fits .result) (row .before .row-fits .ensures) (row .if1 .left))
     (met (whole .before .in-use .result) (whole .before .in-use .ensures) (whole .if2 .left))
-    _ (c .before .before .before .before .answer-to .ensures) _ (omega arith) _ (c .before .before .put-row .ensures)
+    _ (answer-to .answer-to .ensures) _ (omega arith) _ (c .before .before .put-row .ensures)
 
 pub feed-spec : {M : Type 1} → statement M
 feed-spec =
