@@ -16,7 +16,7 @@ returns c = kept-13 _ _ _ (found-nothing (c .before .before .fixed-table .ensure
 
 returns-2 : tie.Need-returns-2
 returns-2 c =
-    let arm = c .before .before .before .before .before .before in
+    let arm : tie.After-t = search in
     kept-table _ _ _ _ _ (found-table (arm .before .before .fixed-table .ensures) _ _ (arm .t .given .1)) _ _
     (c .before .before .hand-table .ensures)
 

@@ -17,7 +17,7 @@ slice-aggregate c =
 
 returns-2 : tie.Need-returns-2
 returns-2 c =
-    let whole = c .before .before .before .before .before in
+    let whole : tie.Else1 = search in
     handed-kept _ _ _ (met (whole .before .in-use .result) (whole .before .in-use .ensures) (whole .if1 .left)) _ _ _ (c .before .before .hand-kept .ensures)
 
 pub hand-out-spec : {M : Type 1} → statement M

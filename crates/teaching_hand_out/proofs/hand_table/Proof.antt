@@ -11,14 +11,14 @@ returns c = table-11 _ _ _ (unmet (c .before .agree .result) (c .before .agree .
 
 returns-2 : tie.Need-returns-2
 returns-2 c =
-    let missing = c .before .before in
+    let missing : tie.After-smallest-missing = search in
     let agrees = missing .before in
     table-13 _ _ _ (met (agrees .before .agree .result) (agrees .before .agree .ensures) (agrees .if1 .left)) _
     (missing .smallest-missing .ensures) (omega arith)
 
 returns-3 : tie.Need-returns-3
 returns-3 c =
-    let missing = c .before .before .before .before in
+    let missing : tie.After-smallest-missing = search in
     let agrees = missing .before in
     table-21 _ _ _ (met (agrees .before .agree .result) (agrees .before .agree .ensures) (agrees .if1 .left)) _
     (missing .smallest-missing .ensures) (omega arith)
@@ -26,11 +26,11 @@ returns-3 c =
 
 returns-4 : tie.Need-returns-4
 returns-4 c =
-    let missing = c .before .before .before .before .before .before .before .before in
+    let body-length : tie.After-body-length = search in let missing : tie.After-smallest-missing = search in
     let agrees = missing .before in
     table-body _ _ _ (met (agrees .before .agree .result) (agrees .before .agree .ensures) (agrees .if1 .left)) _
     (missing .smallest-missing .ensures) (omega arith)
-    _ (c .before .before .before .before .before .body-length .ensures) (omega arith) _ (c .before .before .join .ensures)
+    _ (body-length .body-length .ensures) (omega arith) _ (c .before .before .join .ensures)
 
 pub hand-table-spec : {M : Type 1} → statement M
 hand-table-spec =

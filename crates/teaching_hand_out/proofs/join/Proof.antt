@@ -27,8 +27,8 @@ sub-copy-at c = c .contents-of .ensures .ordered
 
 copy-at-requires : tie.Need-copy-at-requires Inv-loop μ-loop
 copy-at-requires c κs =
-    let start = c .before .before .before .before .before .before .before .before in
-    let here = c .before .before .before .before .loop in
+    let head : tie.At-loop Inv-loop μ-loop = search in let start : tie.Start Inv-loop μ-loop = search in
+    let here = head .loop in
     let room : length (now (start .args .out)) ≡ length (here .out) = sym (here .inv .2) in
     rw room at
     (part-room _ _ _ _ _ (c .before .before .contents-of .ensures) (here .n) (start .args .t .last + 1) (length (now (start .args .out)))
@@ -37,11 +37,12 @@ copy-at-requires c κs =
 
 add-n : tie.Need-add-n Inv-loop μ-loop
 add-n c =
-    let start = c .before .before .before .before .before .before .before .before .before .before .before in
-    let here = c .before .before .before .before .before .before .before .loop in
+    let head : tie.At-loop Inv-loop μ-loop = search in let contents-of : tie.After-contents-of Inv-loop μ-loop = search in
+    let start : tie.Start Inv-loop μ-loop = search in
+    let here = head .loop in
     omega (
       arith,
-      room-turn _ _ _ _ _ (c .before .before .before .before .before .contents-of .ensures) (here .n) (start .args .t .last + 1)
+      room-turn _ _ _ _ _ (contents-of .contents-of .ensures) (here .n) (start .args .t .last + 1)
           (length (now (start .args .out)))
           (here .inv .3) (omega arith)
           (start .pre),
@@ -49,9 +50,10 @@ add-n c =
 
 loop-again : tie.Need-loop-again Inv-loop μ-loop
 loop-again c =
-    let start = c .before .before .before .before .before .before .before .before .before .before .before in
-    let here = c .before .before .before .before .before .before .before .loop in
-    let part = c .before .before .before .before .before .contents-of .ensures in
+    let head : tie.At-loop Inv-loop μ-loop = search in let contents-of : tie.After-contents-of Inv-loop μ-loop = search in
+    let start : tie.Start Inv-loop μ-loop = search in
+    let here = head .loop in
+    let part = contents-of .contents-of .ensures in
     let S = sectionsOfTable (start .args .t) (stringsIn (now (start .args .rows))) in
     let room = start .pre in
     let most = order-most (here .k) (start .args .t .last + 1) S (omega arith) in
@@ -78,7 +80,7 @@ join-spec =
     (λ c. c .contents-of .ensures .ordered)
     (λ c. c .contents-of .ensures .within)
     copy-at-requires
-    (λ c. c .before .before .before .before .before .contents-of .ensures .ordered)
+    (λ c. let contents-of : tie.After-contents-of Inv-loop μ-loop = search in contents-of .contents-of .ensures .ordered)
     add-n
     (λ c. search needs)
     (λ c. search needs)

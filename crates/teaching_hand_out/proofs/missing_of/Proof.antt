@@ -16,5 +16,6 @@ missing-of-spec =
     (λ c. sym (length-take-le _ _ (c .before .before .before .first-contradiction .ensures .within)))
     (λ c κs. search needs)
     (λ c.
-    let undisputed = c .before .before .before .before .first-contradiction .ensures in
+    let first-contradiction : tie.After-first-contradiction = search in
+    let undisputed = first-contradiction .first-contradiction .ensures in
     lacking-is _ _ _ (undisputed .are) _ _ (c .before .before .missing-count .ensures) (c .smallest-missing .ensures)))
