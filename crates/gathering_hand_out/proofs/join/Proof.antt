@@ -17,7 +17,7 @@ Inv-loop held store out₀ k₀ o₀ out k o = Joining place store held out₀ k
 abbrev μ-loop : tie.MeasureT-loop
 μ-loop held store out₀ k₀ o₀ out k o = length held - k
 
--- places of the code, from later ones on
+-- the loop's head, and where the function began
 head-of : tie.After-place-of Inv-loop μ-loop → tie.At-loop Inv-loop μ-loop
 head-of c = search
 

@@ -14,7 +14,7 @@ Inv-loop held store₀ k₀ o₀ store k o = Together held store₀ k o store
 abbrev μ-loop : tie.MeasureT-loop
 μ-loop held store₀ k₀ o₀ store k o = length held - k
 
--- places of the code, from later ones on
+-- the loop's head
 head-of : tie.After-place-of Inv-loop μ-loop → tie.At-loop Inv-loop μ-loop
 head-of c = search
 

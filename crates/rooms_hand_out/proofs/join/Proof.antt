@@ -16,7 +16,7 @@ Inv-loop held rooms store out₀ k₀ o₀ out k o = Joining (roomAt rooms) stor
 abbrev μ-loop : tie.MeasureT-loop
 μ-loop held rooms store out₀ k₀ o₀ out k o = length held - k
 
--- places of the code, from later ones on
+-- the loop's head, and where the function began
 head-of : tie.After-room-place Inv-loop μ-loop → tie.At-loop Inv-loop μ-loop
 head-of c = search
 
