@@ -1,6 +1,6 @@
 -- Laws of the code's tests and answers: what a test makes of a reading, and what an answer says of the reading behind it.
 use Prim.Native.Nat.{ℕ, _+_, _-_, _≤_, _<_}
-use mathlib.Core.Path.{_≡_, refl, sym, ap}
+use mathlib.Core.Path.{_≡_, refl, sym, ap, _∙_}
 use mathlib.Core.List.{List}
 use mathlib.Core.Bool.{Bool, true, false, _&&_}
 use native.Mathlib.Omega.{arith}
@@ -11,13 +11,14 @@ use Rattle.ground_choices.proofs.Tests.{both}
 use Rattle.ground_refusal.specs.declared.Refusal.{Refusal}
 use Rattle.ground_refusal.specs.declared.Refusal.the-variants.{OutsideSet}
 use Rattle.body_formats.specs.Reading.{Reading, found, refused, need}
-use Rattle.body_formats.specs.Format.{Format, count, number}
-use Rattle.body_formats.specs.Answers.{stepOf, numberOf, partOf, numberRead}
+use Rattle.body_formats.specs.Format.{Format, numberAt, count, number}
+use Rattle.body_formats.specs.Answers.{stepOf, numberOf, partOf, numberRead, partRead}
 use Rattle.body_formats.specs.declared.Step.the-variants.{At, Refused as NoStep}
 use Rattle.body_formats.specs.declared.Part.the-variants.{Of, Refused as NoPart}
 use Rattle.body_formats.proofs.Outcomes.{need-found}
 use Rattle.body_formats.proofs.Classes.{Bytes}
 use Rattle.body_formats.proofs.Bits.{number-is-count}
+use Rattle.body_formats.proofs.Readers.{number-is, part-of, least-is, least-none}
 use Rattle.body_asking.specs.Asking.{fieldIn}
 
 -- ---- tests
@@ -65,6 +66,13 @@ module _ (s : List ℕ) (at n : ℕ) where
 
   pub asked : {A : Type 0} (F : Format A) (k : ℕ) (a : A) (r : ℕ) → at + n ≤ length s → F .parse s (at + n) (at + k) ≡ found a r → fieldIn F k s at n ≡ found a r
   asked F k a r h e = rw (le-leb (at + n) (length s) h, e)
+
+-- ---- a part after its length of w bytes, which lies inside
+
+pub part-there : (s : List ℕ) → Bytes s → (l : ℕ) → l ≤ length s → (p w m q : ℕ) → m ≡ numberAt s p w → q ≡ p + w → q + m ≤ l → Of q m ≡ partRead w s l p
+part-there s b l inside p w m q e f h =
+    let told = number-is s l p w (omega arith) (omega arith) m q e f in
+    part-of s l p q m (omega arith) _ _ h (le-leb 0 m (omega arith)) ∙ least-is s l p w 0 m q b told ∙ least-none s l p w
 
 -- ---- from an answer back to what was read
 

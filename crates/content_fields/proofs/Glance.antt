@@ -17,10 +17,10 @@ use Rattle.body_formats.specs.declared.Number.the-variants.{Is}
 use Rattle.body_formats.specs.declared.Part.the-variants.{Of}
 use Rattle.body_formats.proofs.Classes as classes
 use Rattle.body_formats.proofs.Bits.{reserved-is, number-among}
-use Rattle.body_formats.proofs.Readers.{number-is, part-of, least-is, least-none, all-done, all-go}
+use Rattle.body_formats.proofs.Readers.{number-is, all-done, all-go}
 use Rattle.body_numbers.proofs.Numbers.{number-one, number-two}
 use Rattle.body_asking.specs.Asking.{headedPart, nthOf}
-use Rattle.body_asking.proofs.Answers.{needed}
+use Rattle.body_asking.proofs.Answers.{needed, part-there}
 use Rattle.body_asking.proofs.Entries.{nth-there, entry-at}
 use Rattle.content_variant.specs.Variant.{widthOf}
 use Rattle.content_variant.specs.declared.Width.the-variants.{Bytes, Refused as NoWidth}
@@ -48,18 +48,13 @@ module _ (s : List ℕ) (p w x y z : ℕ) (e : x ≡ getD s p 0) (f : y ≡ getD
   unfolding numberAt
   length-four u h k = let first : getD s (p + 0) 0 ≡ getD s p 0 = ap (λ i. getD s i 0) (add-zero p) in rw h (omega arith)
 
--- ---- a part after its length of w bytes, and a file with its type before that
+-- ---- a file: its type, and a part after its length of w bytes
 
 module _ (s : List ℕ) (b : classes.Bytes s) (l : ℕ) (inside : l ≤ length s) where
-  part-there : (p w m q : ℕ) → m ≡ numberAt s p w → q ≡ p + w → q + m ≤ l → Of q m ≡ partRead w s l p
-  part-there p w m q e f h =
-      let told = number-is s l p w (omega arith) (omega arith) m q e f in
-      part-of s l p q m (omega arith) _ _ h (le-leb 0 m (omega arith)) ∙ least-is s l p w 0 m q b told ∙ least-none s l p w
-
   pub file-ends : (p w m q : ℕ) → m ≡ numberAt s (p + 1) w → q ≡ p + 1 + w → q + m ≤ l → At (q + m) ≡ ended (headedPart 1 w) s l p
   file-ends p w m q e f h =
       let type = number-is s l p 1 (omega arith) (omega arith) (numberAt s p 1) (p + 1) refl refl in
-      entry-at s l p 1 w (numberAt s p 1) (p + 1) type q m (part-there (p + 1) w m q e f h)
+      entry-at s l p 1 w (numberAt s p 1) (p + 1) type q m (part-there s b l inside (p + 1) w m q e f h)
 
 -- ---- the auxiliary count, after the text and the agency
 
