@@ -3,10 +3,12 @@
 use body_formats::Number;
 use body_formats::Part;
 use body_formats::Step;
+use ground_numbers::wide;
 use ground_refusal::Refusal;
 use index::STREAM_DESCRIPTORS_PLACE;
 use index::STREAM_PID_PLACE;
 ghost use mathlib.Core.Path.{_≡_};
+ghost use mathlib.Core.Bool.{true};
 ghost use Prim.Native.Nat.{_+_, _≤_, _<_};
 ghost use lib.ListN.{length};
 ghost use Rattle.body_formats.specs.Format.{many};
@@ -30,8 +32,22 @@ pub fn descriptor_tag(s: &[u8], at: usize, n: usize) -> Number
     first_byte(s, at, n)
 }
 
-// The part of the body that the descriptor's data fill.
-pub fn descriptor_part(s: &[u8], at: usize, n: usize) -> Part
+// Whether the n bytes from at on lie in the body, at least k: nearly all that is asked for is there, and is found by few tests. What is wrong with the rest is
+// looked for field by field.
+fn holds(s: &[u8], at: usize, n: usize, k: usize) -> bool
+    ensures { λ r. ⌜ (r ≡ true → (k ≤ n) × (at + n ≤ length (now (s .entry)))) ⌝ }
+{
+    if n < k {
+        return false;
+    }
+    if s.len() < at {
+        return false;
+    }
+    n <= s.len() - at
+}
+
+// A descriptor's data, or why there are none.
+fn part_walked(s: &[u8], at: usize, n: usize) -> Part
     ensures { λ r. ⌜ r ≡ descriptorPart (now (s .entry)) at n ⌝ }
 {
     if body_asking::in_part(s, at, n) {
@@ -40,13 +56,27 @@ pub fn descriptor_part(s: &[u8], at: usize, n: usize) -> Part
     Part::Refused(Refusal::OutsideSet(0))
 }
 
+// The part of the body that the descriptor's data fill.
+pub fn descriptor_part(s: &[u8], at: usize, n: usize) -> Part
+    ensures { λ r. ⌜ r ≡ descriptorPart (now (s .entry)) at n ⌝ }
+{
+    if holds(s, at, n, 2) {
+        let m = wide(s[at + 1]) as usize;
+        if m <= n - 2 {
+            return Part::Of(at + 2, m);
+        }
+    }
+    part_walked(s, at, n)
+}
+
 pub fn stream_type(s: &[u8], at: usize, n: usize) -> Number
     ensures { λ r. ⌜ r ≡ streamType (now (s .entry)) at n ⌝ }
 {
     first_byte(s, at, n)
 }
 
-pub fn stream_pid(s: &[u8], at: usize, n: usize) -> Number
+// A stream's PID, or why there is none.
+fn pid_walked(s: &[u8], at: usize, n: usize) -> Number
     ensures { λ r. ⌜ r ≡ streamPid (now (s .entry)) at n ⌝ }
 {
     if body_asking::in_part(s, at, n) {
@@ -55,14 +85,44 @@ pub fn stream_pid(s: &[u8], at: usize, n: usize) -> Number
     Number::Refused(Refusal::OutsideSet(0))
 }
 
-// The part of the body that the stream's descriptors fill.
-pub fn stream_descriptors(s: &[u8], at: usize, n: usize) -> Part
+pub fn stream_pid(s: &[u8], at: usize, n: usize) -> Number
+    ensures { λ r. ⌜ r ≡ streamPid (now (s .entry)) at n ⌝ }
+{
+    if holds(s, at, n, 3) {
+        let high = wide(s[at + 1]);
+        if 0xE0 <= high {
+            return Number::Is((high - 0xE0) * 256 + wide(s[at + 2]), at + 3);
+        }
+    }
+    pid_walked(s, at, n)
+}
+
+// A stream's descriptors, or why there are none.
+fn descriptors_walked(s: &[u8], at: usize, n: usize) -> Part
     ensures { λ r. ⌜ r ≡ streamDescriptors (now (s .entry)) at n ⌝ }
 {
     if body_asking::in_part(s, at, n) {
         return body_parts::read_part12(s, at + n, at + STREAM_DESCRIPTORS_PLACE);
     }
     Part::Refused(Refusal::OutsideSet(0))
+}
+
+// The part of the body that the stream's descriptors fill.
+pub fn stream_descriptors(s: &[u8], at: usize, n: usize) -> Part
+    ensures { λ r. ⌜ r ≡ streamDescriptors (now (s .entry)) at n ⌝ }
+{
+    if holds(s, at, n, 5) {
+        let field = wide(s[at + 3]) * 256 + wide(s[at + 4]);
+        if 0xF000 <= field {
+            let m = field - 0xF000;
+            if m < 1024 {
+                if m <= (n - 5) as u64 {
+                    return Part::Of(at + 5, m as usize);
+                }
+            }
+        }
+    }
+    descriptors_walked(s, at, n)
 }
 
 // Past the descriptor at p, whose tag stands in the part.

@@ -1,4 +1,4 @@
--- `index_stream_fields::descriptor_part` meets its contract: it is asked for where the part lies in the body and has a byte.
+-- `index_stream_fields::part_walked` meets its contract: it is asked for where the part lies in the body and has a byte.
 use Prim.Native.Nat.{_+_, _≤_, _<_}
 use mathlib.Core.Path.{sym, ap, _∙_}
 use Rattle.body_formats.specs.Answers.{partOf, partRead}
@@ -7,15 +7,15 @@ use Rattle.index_stream_fields.specs.Asked.{descriptorPart}
 use native.Mathlib.Omega.{arith}
 use lib.ListN.{length}
 use borrow.Author.Needs.{needs}
-use Rattle.index_stream_fields.proofs.descriptor_part.Statement.{statement}
-use Rattle.index_stream_fields.proofs.descriptor_part.Tie as tie
+use Rattle.index_stream_fields.proofs.part_walked.Statement.{statement}
+use Rattle.index_stream_fields.proofs.part_walked.Tie as tie
 
 -- the part lies in the body
 there : (c : tie.Then1) → let a = c .before .before .before .args in (0 < a .n) × (a .at + a .n ≤ length (a .s .now))
 there c = let a = c .before .before .before .args in in-part (a .s .now) (a .at) (a .n) (sym (c .before .in-part .ensures) ∙ c .if1 .taken)
 
-pub descriptor-part-spec : {M : Type 1} → statement M
-descriptor-part-spec =
+pub part-walked-spec : {M : Type 1} → statement M
+part-walked-spec =
     tie.close
     (tie.spec
     (λ c κs. search needs)
