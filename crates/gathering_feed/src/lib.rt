@@ -32,7 +32,7 @@ fn put_payload(k: u8, store: &mut [u8], s: &[u8]) -> usize
 {
     let end = s.len() - 4;
     let at = gathering_state::place_of(k);
-    ground_copying::copy_at(&s[8..end], store, at);
+    ground_copying::copy_long(&s[8..end], store, at);
     end - 8
 }
 

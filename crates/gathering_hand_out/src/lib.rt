@@ -64,7 +64,7 @@ fn join(held: &[u16], store: &[u8], out: &mut [u8])
         let n = gathering_state::less_one(held[k]);
         let at = gathering_state::place_of(k as u8);
         let end = at + n;
-        ground_copying::copy_at(&store[at..end], out, o);
+        ground_copying::copy_long(&store[at..end], out, o);
         o += n;
         k += 1;
     }

@@ -1,4 +1,4 @@
-// Bytes copied into a lent buffer by pieces that the compiler moves as one, and the last piece over what stands there already.
+// Bytes copied into a lent buffer by pieces that the compiler moves as one, the last one over what stands there already, or by blocks and then the rest.
 ghost use mathlib.Core.Path.{_≡_};
 ghost use Prim.Native.Nat.{_+_, _≤_};
 ghost use lib.ListN.{length, take, drop};
@@ -135,8 +135,8 @@ fn block(src: &[u8], i: usize, dst: &mut [u8], at: usize)
     ground_placing::copy_at(&held, dst, at);
 }
 
-// src into dst, 1,024 bytes a turn, and then the rest.
-fn by_blocks(src: &[u8], dst: &mut [u8], at: usize)
+// The bytes of src into dst, from index at on, for what is mostly long, as payloads are: 1,024 bytes a turn, and then the rest.
+pub fn copy_long(src: &[u8], dst: &mut [u8], at: usize)
     requires { ⌜ at + length (now src) ≤ length (now dst) ⌝ }
     ensures { λ _. ⌜ now (dst .exit) ≡ placed (now (dst .entry)) at (now (src .entry)) ⌝ }
 {
@@ -149,17 +149,30 @@ fn by_blocks(src: &[u8], dst: &mut [u8], at: usize)
     ground_placing::copy_at(&src[i..], dst, at + i);
 }
 
-// The bytes of src into dst, from index at on. From 256 bytes on the compiler's own loop is faster than pieces of up to 32, and from 1,024 on blocks are.
+// The bytes of src into dst, from index at on. Long ones go the plain way: the compiler's own loop is faster for them than pieces, and blocks would make this
+// too long to be laid into those that call it.
 pub fn copy_at(src: &[u8], dst: &mut [u8], at: usize)
     requires { ⌜ at + length (now src) ≤ length (now dst) ⌝ }
     ensures { λ _. ⌜ now (dst .exit) ≡ placed (now (dst .entry)) at (now (src .entry)) ⌝ }
 {
+    if src.len() < 4 {
+        ground_placing::copy_at(src, dst, at);
+        return;
+    }
     if 256 <= src.len() {
-        by_blocks(src, dst, at);
+        ground_placing::copy_at(src, dst, at);
+        return;
+    }
+    if src.len() < 8 {
+        by_fours(src, dst, at);
+        return;
+    }
+    if src.len() < 16 {
+        by_eights(src, dst, at);
         return;
     }
     if src.len() < 32 {
-        copy_few(src, dst, at);
+        by_sixteens(src, dst, at);
         return;
     }
     by_thirty_twos(src, dst, at);

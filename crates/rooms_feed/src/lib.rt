@@ -48,7 +48,7 @@ fn put_payload(room: usize, store: &mut [u8], s: &[u8]) -> usize
 {
     let end = s.len() - 4;
     let at = (room - 1) * PAYLOAD_MOST;
-    ground_copying::copy_at(&s[8..end], store, at);
+    ground_copying::copy_long(&s[8..end], store, at);
     end - 8
 }
 

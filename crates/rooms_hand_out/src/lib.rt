@@ -26,7 +26,7 @@ fn join(held: &[u16], rooms: &[u16], store: &[u8], out: &mut [u8])
         let n = gathering_state::less_one(held[k]);
         let at = rooms_state::room_place(rooms[k]);
         let end = at + n;
-        ground_copying::copy_at(&store[at..end], out, o);
+        ground_copying::copy_long(&store[at..end], out, o);
         o += n;
         k += 1;
     }

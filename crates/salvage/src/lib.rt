@@ -152,7 +152,7 @@ fn write_runs(s: &[u8], out: &mut [u8], list: &mut [u32]) -> Tally
         let end = at + next.length;
         entries = put_run(list, entries, false, from, at - from);
         entries = put_run(list, entries, true, at, next.length);
-        ground_copying::copy_at(&s[at..end], out, bytes);
+        ground_copying::copy_long(&s[at..end], out, bytes);
         bytes += next.length;
         from = end;
     }

@@ -70,7 +70,7 @@ fn put_section(h: Heading, payload: &[u8], out: &mut [u8])
     let n = payload.len();
     let end = 8 + n;
     put_heading(h, n, out);
-    ground_copying::copy_at(payload, out, 8);
+    ground_copying::copy_long(payload, out, 8);
     let check = crc::crc32(&out[..end]);
     put_check(check, out, end);
 }

@@ -19,4 +19,4 @@ put-payload-spec =
     (λ c.
     let copied = c .before .before in
     let placed = copied .before .before .before in
-    puts _ _ _ (placed .before .before .before .pre) _ (placed .place-of .ensures) _ (copied .copy-at .ensures)))
+    puts _ _ _ (placed .before .before .before .pre) _ (placed .place-of .ensures) _ (copied .copy-long .ensures)))

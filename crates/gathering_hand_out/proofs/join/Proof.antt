@@ -66,6 +66,6 @@ join-spec =
     let head : tie.At-loop Inv-loop μ-loop = search in let start : tie.Start Inv-loop μ-loop = search in
     let less-one : tie.After-less-one Inv-loop μ-loop = search in let place-of : tie.After-place-of Inv-loop μ-loop = search in
     join-step _ _ _ _ _ _ _ (head .loop .inv) (omega arith) (start .pre .1) _ (less-one .less-one .ensures .0) _
-    (place-of .place-of .ensures) (in-store place-of) _ (c .before .before .copy-at .ensures))
+    (place-of .place-of .ensures) (in-store place-of) _ (c .before .before .copy-long .ensures))
     (λ c. c .before .loop .inv .long)
     (λ c. join-end _ _ _ _ _ _ _ (c .before .loop .inv) (c .loop-test .left)))

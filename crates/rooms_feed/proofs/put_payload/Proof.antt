@@ -23,4 +23,4 @@ put-payload-spec =
     simp (length-take, length-drop) (omega arith))
     (λ c. search needs)
     (λ c. search needs)
-    (λ c. let start : tie.Start = search in puts _ _ _ (start .pre) _ (c .before .before .copy-at .ensures)))
+    (λ c. let start : tie.Start = search in puts _ _ _ (start .pre) _ (c .before .before .copy-long .ensures)))

@@ -72,6 +72,6 @@ join-spec =
     let placed : tie.After-room-place Inv-loop μ-loop = search in
     join-step _ _ _ _ _ _ _ (turn .loop .inv) (omega arith) (start .pre .2)
     _ (placed .before .before .less-one .ensures .0) _ (placed .room-place .ensures)
-    (in-store placed) _ (c .before .before .copy-at .ensures))
+    (in-store placed) _ (c .before .before .copy-long .ensures))
     (λ c. c .before .loop .inv .long)
     (λ c. join-end _ _ _ _ _ _ _ (c .before .loop .inv) (c .loop-test .left)))

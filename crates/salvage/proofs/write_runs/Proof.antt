@@ -31,7 +31,7 @@ loop-holds c =
     (omega arith, rw (sections-whole _) (writing-starts _ 0 _ (omega arith)), rw (numbers-whole _) (writing-starts _ 0 _ (omega arith)))
 
 -- the turn in which a section is copied, and where the function began
-turn-of : tie.After-copy-at Inv-loop μ-loop → tie.After-next-good Inv-loop μ-loop
+turn-of : tie.After-copy-long Inv-loop μ-loop → tie.After-next-good Inv-loop μ-loop
 turn-of c = search
 
 begun : tie.After-next-good Inv-loop μ-loop → tie.Start Inv-loop μ-loop
@@ -88,9 +88,9 @@ section-room turn =
     writing-room (take (next .length) (drop (next .at) s)) (sectionsLeft s (next .at + next .length)) (turn .before .before .loop .inv .1)
     (sections-turn _ _ _ _ (turn .next-good .ensures)) (omega (arith, start .pre .1))
 
-copy-at-requires : tie.Need-copy-at-requires Inv-loop μ-loop
+copy-long-requires : tie.Need-copy-long-requires Inv-loop μ-loop
 unfolding begun
-copy-at-requires c κs =
+copy-long-requires c κs =
     let turn : tie.After-next-good Inv-loop μ-loop = search in
     let next = turn .next-good .result in
     let size : next .at + next .length - next .at ≡ next .length = omega arith in
@@ -103,20 +103,20 @@ loop-less c =
     omega (arith, turn .next-good .ensures .within)
 
 -- the section of a turn stands behind those before it
-copied : (c : tie.After-copy-at Inv-loop μ-loop) → let turn = turn-of c in
+copied : (c : tie.After-copy-long Inv-loop μ-loop) → let turn = turn-of c in
     let next = turn .next-good .result in
     let loop = turn .before .before .loop in
     Put (loop .out) (loop .bytes) (take (next .length) (drop (next .at) (now (begun turn .args .s))))
-    (c .copy-at .last .1 .0) (loop .bytes + next .length)
+    (c .copy-long .last .1 .0) (loop .bytes + next .length)
 unfolding begun turn-of
 copied c =
     let turn = turn-of c in
-    put-section _ _ _ _ _ _ (turn .next-good .ensures .within) (section-room turn) (c .copy-at .ensures)
+    put-section _ _ _ _ _ _ (turn .next-good .ensures .within) (section-room turn) (c .copy-long .ensures)
 
 loop-again : tie.Need-loop-again Inv-loop μ-loop
 unfolding begun turn-of
 loop-again c =
-    let start : tie.Start Inv-loop μ-loop = search in let copy : tie.After-copy-at Inv-loop μ-loop = search in
+    let start : tie.Start Inv-loop μ-loop = search in let copy : tie.After-copy-long Inv-loop μ-loop = search in
     let put : tie.After-put-run2 Inv-loop μ-loop = search in let turn : tie.After-next-good Inv-loop μ-loop = search in
     let s = now (start .args .s) in
     let next = turn .next-good .result in
@@ -160,7 +160,7 @@ write-runs-spec =
     (λ c. search needs)
     (λ c. search needs)
     (λ c. let next-good : tie.After-next-good Inv-loop μ-loop = search in let within = next-good .next-good .ensures .within in search needs)
-    copy-at-requires
+    copy-long-requires
     add-bytes
     loop-less
     loop-again

@@ -17,12 +17,12 @@ put-section-spec =
     (λ c κs. search needs)
     (λ c. search needs)
     (λ c.
-    let e : tie.After-copy-at = search in let f : tie.After-put-heading = search in
-    let l = laid-length _ _ _ (search needs) _ _ (f .put-heading .ensures) (e .copy-at .ensures) in
+    let e : tie.After-copy-long = search in let f : tie.After-put-heading = search in
+    let l = laid-length _ _ _ (search needs) _ _ (f .put-heading .ensures) (e .copy-long .ensures) in
     sym (length-take-le _ _ (omega arith)))
     (λ c κs. search needs)
     (λ c κs. search needs)
     (λ c. search needs)
     (λ c.
-    let d : tie.After-crc32 = search in let e : tie.After-copy-at = search in let f : tie.After-put-heading = search in
-    laid-checked _ _ _ (search needs) _ _ (f .put-heading .ensures) (e .copy-at .ensures) _ _ (d .crc32 .ensures) (c .before .before .put-check .ensures)))
+    let d : tie.After-crc32 = search in let e : tie.After-copy-long = search in let f : tie.After-put-heading = search in
+    laid-checked _ _ _ (search needs) _ _ (f .put-heading .ensures) (e .copy-long .ensures) _ _ (d .crc32 .ensures) (c .before .before .put-check .ensures)))

@@ -1,4 +1,4 @@
--- `ground_copying::by_blocks` meets its contract: the bytes so far stand, and then the rest.
+-- `ground_copying::copy_long` meets its contract: the bytes so far stand, and then the rest.
 use Prim.Native.Nat.{_-_, _≤_}
 use mathlib.Core.Path.{_≡_, refl, sym}
 use lib.ListN.{length, take}
@@ -7,8 +7,8 @@ use borrow.Author.Needs.{needs}
 use Rattle.ground_placing.specs.Placed.{placed}
 use Rattle.ground_placing.proofs.Placing.{placed-none}
 use Rattle.ground_copying.proofs.Pieces.{turn, rest}
-use Rattle.ground_copying.proofs.by_blocks.Statement.{statement}
-use Rattle.ground_copying.proofs.by_blocks.Tie as tie
+use Rattle.ground_copying.proofs.copy_long.Statement.{statement}
+use Rattle.ground_copying.proofs.copy_long.Tie as tie
 
 abbrev Inv-loop : tie.InvT-loop
 Inv-loop src dst₀ at n i₀ dst i = (dst ≡ placed dst₀ at (take i src)) × (i ≤ n) × (length dst ≡ length dst₀)
@@ -26,8 +26,8 @@ whole c =
     let v = at-loop .loop in
     rest (given .dst .now) (given .at) (given .src .now) _ (v .i) (omega arith) (v .inv .0) _ _ (omega arith) refl (c .copy-at .ensures)
 
-pub by-blocks-spec : {M : Type 1} → statement M
-by-blocks-spec =
+pub copy-long-spec : {M : Type 1} → statement M
+copy-long-spec =
     tie.close
     (tie.spec
     Inv-loop
