@@ -1,15 +1,18 @@
 -- The check of a string, walked some bytes a turn: what a loop knows of its register, where it starts, its turns, and where it ends.
-use mathlib.Core.Bool.{Bool}
+use mathlib.Core.Bool.{Bool, false}
 use mathlib.Core.List.{List, [], _∷_, _++_, append-nil, append-assoc}
 use mathlib.Core.Path.{_≡_, sym, ap, ap₂, _∙_}
 use Prim.Native.Nat.{ℕ, suc, _+_, _-_, _*_, _/_, _^_, _<_, _≤_}
 use native.Mathlib.Numerals.{add-one}
+use native.Mathlib.Nat.{add-zero}
 use native.Mathlib.Omega.{arith}
-use lib.ListN.{length, getD, take, drop, take-append-drop, length-drop}
-use lib.Seq.{drop-cons, take-add, take-all, drop-at}
+use lib.Bits.{bitXor}
+use lib.ListN.{length, getD, take, drop, replicate, take-append-drop, length-drop}
+use lib.Seq.{drop-cons, take-add, take-all, drop-at, getD-take, getD-drop, length-take-le}
 use Rattle.crc_register.specs.Register.{bitsOf, bytesBits, crc}
 use Rattle.crc_register.proofs.Bits.{length-bits, bits-above, bits-append}
-use Rattle.crc_register.proofs.Laws.{crc-none, crc-append, crc-bytes-append}
+use Rattle.crc_register.proofs.Laws.{crc-none, crc-append, crc-bytes-append, bytes-append}
+use Rattle.crc_register.proofs.Lanes.{two-words}
 
 -- r is the check of the first i bytes of xs
 pub record Walk (w p s : ℕ) (xs : List ℕ) (i r : ℕ) : Type 0 where
@@ -77,7 +80,7 @@ after-four w p s (x ∷ xs) q r h e e′ =
     ∙ ap (crc w p s) (sym (ap (λ (l : List Bool). drop 4 (l ++ rest)) (bits-append 4 4 x)
     ∙ ap (drop 4) (append-assoc (bitsOf 4 (x / 16)) low rest) ∙ drop-at (bitsOf 4 (x / 16)) (low ++ rest) 4 (length-bits 4 (x / 16))))
 
--- ---- four bytes as one number
+-- ---- bytes as one number
 
 pub four-bytes : (xs : List ℕ) → length xs ≡ 4 → xs ≡ getD xs 0 0 ∷ getD xs 1 0 ∷ getD xs 2 0 ∷ getD xs 3 0 ∷ []
 four-bytes xs h =
@@ -86,6 +89,10 @@ four-bytes xs h =
     ∙ ap (λ (l : List ℕ). getD xs 1 0 ∷ l) (part-cons 1 2 xs (omega arith)
     ∙ ap (λ (l : List ℕ). getD xs 2 0 ∷ l) (part-cons 0 3 xs (omega arith))))
 
+pub bits-pair : (a b : ℕ) → b < 256 → bitsOf 16 (a * 256 + b) ≡ bytesBits (a ∷ b ∷ [])
+unfolding bytesBits
+bits-pair a b h = bits-above 8 8 a b h ∙ ap (λ (l : List Bool). bitsOf 8 a ++ l) (sym (append-nil (bitsOf 8 b)))
+
 pub bits-joined : (a b c d : ℕ) → b < 256 → c < 256 → d < 256 → bitsOf 32 (a * 16777216 + (b * 65536 + (c * 256 + d))) ≡ bytesBits (a ∷ b ∷ c ∷ d ∷ [])
 unfolding bytesBits
 bits-joined a b c d hb hc hd =
@@ -93,3 +100,25 @@ bits-joined a b c d hb hc hd =
     ∙ ap (λ (l : List Bool). bitsOf 8 a ++ l) (bits-above 8 16 b (c * 256 + d) (omega arith)
     ∙ ap (λ (l : List Bool). bitsOf 8 b ++ l) (bits-above 8 8 c d hd
     ∙ ap (λ (l : List Bool). bitsOf 8 c ++ l) (sym (append-nil (bitsOf 8 d)))))
+
+-- ---- four bytes as two numbers of 16 bits
+
+four-at : (xs : List ℕ) (i : ℕ) → i + 4 ≤ length xs → take 4 (drop i xs) ≡ getD xs i 0 ∷ getD xs (i + 1) 0 ∷ getD xs (i + 2) 0 ∷ getD xs (i + 3) 0 ∷ []
+four-at xs i h =
+    let l : length (take 4 (drop i xs)) ≡ 4 = length-take-le 4 (drop i xs) (rw length-drop (omega arith)) in
+    four-bytes (take 4 (drop i xs)) l ∙ rw (there 0 (omega arith), there 1 (omega arith), there 2 (omega arith), there 3 (omega arith), add-zero)
+  where
+    there : (k : ℕ) → k < 4 → getD (take 4 (drop i xs)) k 0 ≡ getD xs (i + k) 0
+    there k m = rw (getD-take, getD-drop)
+
+-- a turn: a is what the first two bytes and the register come to before the other two, and b what these come to
+pub walk-four : {p s : ℕ} {xs : List ℕ} {i r : ℕ} (d e a b : ℕ) → Walk 16 p s xs i r → i + 4 ≤ length xs
+    → bitsOf 16 d ≡ bytesBits (getD xs i 0 ∷ getD xs (i + 1) 0 ∷ []) → bitsOf 16 e ≡ bytesBits (getD xs (i + 2) 0 ∷ getD xs (i + 3) 0 ∷ [])
+    → a ≡ crc 16 p 0 (bitsOf 16 (bitXor r d) ++ replicate 16 false) → b ≡ crc 16 p 0 (bitsOf 16 e)
+    → Walk 16 p s xs (i + 4) (bitXor b a)
+walk-four {p} {s} {xs} {i} {r} d e a b v h hd he ea eb =
+    let first : List ℕ = getD xs i 0 ∷ getD xs (i + 1) 0 ∷ [] in
+    let second : List ℕ = getD xs (i + 2) 0 ∷ getD xs (i + 3) 0 ∷ [] in
+    walk-more 4 (bitXor b a) v
+    (two-words 16 p r d e 0 a b ea (eb ∙ ap (crc 16 p 0) (sym (append-nil (bitsOf 16 e))))
+    ∙ ap (crc 16 p r) (append-nil (bitsOf 16 d ++ bitsOf 16 e) ∙ ap₂ _++_ hd he ∙ sym (bytes-append first second) ∙ ap bytesBits (sym (four-at xs i h))))

@@ -143,11 +143,47 @@ fn by_nibbles(reg: u16, s: &[u8]) -> u16
     r
 }
 
+// Two bytes as one number, the first the higher.
+fn pair(a: u8, b: u8) -> u16
+    ensures { λ r. ⌜ bitsOf 16 r ≡ bytesBits (a ∷ b ∷ []) ⌝ }
+{
+    (a as u16) * 256 + (b as u16)
+}
+
+// CRC-16's register, from zero, after the 16 bits of x and 16 zeros.
+fn far16(x: u16) -> u16
+    ensures { λ r. ⌜ r ≡ crc 16 0x1021 0 (bitsOf 16 x ++ replicate 16 false) ⌝ }
+{
+    nibbles16::table7(x / 4096)
+        ^ (nibbles16::table6(x / 256) ^ (nibbles16::table5(x / 16) ^ nibbles16::table4(x)))
+}
+
+// CRC-16's register, from zero, after the 16 bits of x.
+fn near16(x: u16) -> u16
+    ensures { λ r. ⌜ r ≡ crc 16 0x1021 0 (bitsOf 16 x) ⌝ }
+{
+    nibbles16::table3(x / 4096)
+        ^ (nibbles16::table2(x / 256) ^ (nibbles16::table1(x / 16) ^ nibbles16::table0(x)))
+}
+
+// The register after the bytes of s, four a turn, of which only the first two wait for the turn before; then the last bytes.
+fn by_fours(reg: u16, s: &[u8]) -> u16
+    ensures { λ r. ⌜ r ≡ crc 16 0x1021 reg (bytesBits (now (s .entry))) ⌝ }
+{
+    let mut r = reg;
+    let mut i: usize = 0;
+    while 4 <= s.len() - i {
+        r = near16(pair(s[i + 2], s[i + 3])) ^ far16(r ^ pair(s[i], s[i + 1]));
+        i += 4;
+    }
+    by_nibbles(r, &s[i..])
+}
+
 // CRC-16 of s.
 pub fn crc16(s: &[u8]) -> u16
     ensures { λ r. ⌜ r ≡ crc16Of (now (s .entry)) ⌝ }
 {
-    by_nibbles(0xFFFF, &s[0..])
+    by_fours(0xFFFF, &s[0..])
 }
 
 // CRC-16 of the bits of s without the first four: the low half of its first byte, and the bytes after that. Of no byte no bit is left.
@@ -157,5 +193,5 @@ pub fn crc16_after_four(s: &[u8]) -> u16
     if s.len() == 0 {
         return 0xFFFF;
     }
-    by_nibbles(nibble16(0xFFFF, s[0]), &s[1..])
+    by_fours(nibble16(0xFFFF, s[0]), &s[1..])
 }

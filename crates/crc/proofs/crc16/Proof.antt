@@ -13,4 +13,4 @@ crc16-spec =
     (λ c. search needs)
     (λ c. search needs)
     (λ c κs. search needs)
-    (λ c. unfold crc16Of in walk-rest (walk-start (search needs)) (c .by-nibbles .ensures)))
+    (λ c. unfold crc16Of in walk-rest (walk-start (search needs)) (c .by-fours .ensures)))

@@ -11,7 +11,7 @@ returns c = after-none _ _ _ _ (search needs) (search needs)
 
 returns-2 : tie.Need-returns-2
 unfolding crc16AfterFour crc16Bits
-returns-2 c = after-four _ _ _ _ _ _ (search needs) (cc) (c .by-nibbles .ensures)
+returns-2 c = after-four _ _ _ _ _ _ (search needs) (cc) (c .by-fours .ensures)
 
 pub crc16-after-four-spec : {M : Type 1} → statement M
 crc16-after-four-spec =
