@@ -39,11 +39,15 @@ bytes c =
     λ i. known .shared-slice-known .given i .fits
 
 -- a body that is not refused is good but for its extension
-good : (c : tie.Joined1) → At (c .if1 .end)
+abbrev Good : tie.Joined1 → Type 0
+Good c = At (c .if1 .end)
     ≡ bodyRead (content (wide-of c .w .given .0 .0)) contentKind (start-of (wide-of c) .args .kind) (start-of (wide-of c) .args .s .now)
+
+good : (c : tie.Joined1) → Good c
 good c =
     let from = is-opened _ _ _ _ (width (wide-of c)) in
-    ⊎-elim (λ walked. ap At (walked .8) ∙ read-walked _ _ from (walked .2 .ensures) (sym (walked .6 .given .1) ∙ walked .4 .ensures))
+    ⊎-elim {C = Good c}
+    (λ walked. ap At (walked .8) ∙ read-walked _ _ from (walked .2 .ensures) (sym (walked .6 .given .1) ∙ walked .4 .ensures))
     (λ glanced. ap At (glanced .1) ∙ read-filled _ _ from (c .before .good-content .ensures (not-false _ (glanced .0 .left))))
     (c .if1 .came)
 
