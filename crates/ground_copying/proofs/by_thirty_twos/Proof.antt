@@ -29,8 +29,10 @@ by-thirty-twos-spec =
     (λ c. omega arith)
     (λ c. omega arith)
     (λ c.
-    let given = c .before .before .before .before .before .before .before .before .args in
-    let v = c .before .before .before .before .before .loop in
+    let start : tie.Start Inv-loop μ-loop = search in
+    let given = start .args in
+    let head : tie.At-loop Inv-loop μ-loop = search in
+    let v = head .loop in
     let t = turn (given .dst .now) (given .at) (given .src .now) _ (v .i) (omega arith) (v .inv .0) _
     32 (omega arith) (c .before .before .thirty-two .ensures) in
     (t .0, omega arith, t .1))
@@ -39,12 +41,16 @@ by-thirty-twos-spec =
     (λ c. omega arith)
     (λ c κs. (omega arith, omega arith))
     (λ c.
-    let given = c .before .before .before .before .before .before .before .before .args in
-    let v = c .before .before .before .before .before .loop in
+    let start : tie.Start Inv-loop μ-loop = search in
+    let given = start .args in
+    let head : tie.At-loop Inv-loop μ-loop = search in
+    let v = head .loop in
     end (given .dst .now) (given .at) (given .src .now) _ (v .i) (omega arith) (v .inv .0) _
     32 (omega arith) (omega arith) (omega arith) (c .before .before .thirty-two2 .ensures) .1)
     (λ c.
-    let given = c .before .before .before .before .before .before .before .before .args in
-    let v = c .before .before .before .before .before .loop in
+    let start : tie.Start Inv-loop μ-loop = search in
+    let given = start .args in
+    let head : tie.At-loop Inv-loop μ-loop = search in
+    let v = head .loop in
     end (given .dst .now) (given .at) (given .src .now) _ (v .i) (omega arith) (v .inv .0) _
     32 (omega arith) (omega arith) (omega arith) (c .before .before .thirty-two2 .ensures) .0))

@@ -16,17 +16,23 @@ Inv-loop src dst₀ at n i₀ dst i = (dst ≡ placed dst₀ at (take i src)) ×
 abbrev μ-loop : tie.MeasureT-loop
 μ-loop src dst₀ at n i₀ dst i = n - i
 
+-- where the function began
+begun : tie.After-copy-at Inv-loop μ-loop → tie.Start Inv-loop μ-loop
+begun c = search
+
 -- what stands once the rest is copied, and how long it is
 whole : (c : tie.After-copy-at Inv-loop μ-loop)
-    → let start = c .before .before .before .before .before .before .before in
-    (c .copy-at .last .1 .0 ≡ placed (start .args .dst .now) (start .args .at) (start .args .src .now)) × (length (c .copy-at .last .1 .0) ≡ length (start .args .dst .now))
+    → let given = begun c .args in
+    (c .copy-at .last .1 .0 ≡ placed (given .dst .now) (given .at) (given .src .now)) × (length (c .copy-at .last .1 .0) ≡ length (given .dst .now))
+unfolding begun
 whole c =
-    let at-loop = c .before .before .before .before in
-    let given = at-loop .before .before .before .args in
+    let at-loop : tie.At-loop Inv-loop μ-loop = search in
+    let given = begun c .args in
     let v = at-loop .loop in
     rest (given .dst .now) (given .at) (given .src .now) _ (v .i) (omega arith) (v .inv .0) _ _ (omega arith) refl (c .copy-at .ensures)
 
 pub copy-long-spec : {M : Type 1} → statement M
+unfolding begun
 copy-long-spec =
     tie.close
     (tie.spec
@@ -39,8 +45,9 @@ copy-long-spec =
     (λ c. omega arith)
     (λ c. omega arith)
     (λ c.
-    let at-loop = c .before .before .before .before .before in
-    let given = at-loop .before .before .before .args in
+    let at-loop : tie.At-loop Inv-loop μ-loop = search in
+    let start : tie.Start Inv-loop μ-loop = search in
+    let given = start .args in
     let v = at-loop .loop in
     let t = turn (given .dst .now) (given .at) (given .src .now) _ (v .i) (omega arith) (v .inv .0) _
     1024 (omega arith) (c .before .before .block .ensures) in

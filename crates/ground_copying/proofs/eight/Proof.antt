@@ -9,10 +9,12 @@ use Rattle.ground_copying.proofs.eight.Tie as tie
 
 returns : tie.Need-returns
 returns c =
-    let given = c .before .before .before .before .before .before .before .before .before .before .before .args in
+    let start : tie.Start = search in
+    let given = start .args in
+    let held : tie.After-copy-at = search in
     c .before .before .copy-at2 .ensures
     ∙ ap (placed (given .dst .now) (given .at))
-    (held-piece _ (given .src .now) _ (given .i) 8 (c .before .before .before .before .before .before .copy-at .ensures) refl (omega arith))
+    (held-piece _ (given .src .now) _ (given .i) 8 (held .copy-at .ensures) refl (omega arith))
 
 pub eight-spec : {M : Type 1} → statement M
 eight-spec =

@@ -9,10 +9,12 @@ use Rattle.ground_copying.proofs.thirty_two.Tie as tie
 
 returns : tie.Need-returns
 returns c =
-    let given = c .before .before .before .before .before .before .before .before .before .before .before .args in
+    let start : tie.Start = search in
+    let given = start .args in
+    let held : tie.After-copy-at = search in
     c .before .before .copy-at2 .ensures
     ∙ ap (placed (given .dst .now) (given .at))
-    (held-piece _ (given .src .now) _ (given .i) 32 (c .before .before .before .before .before .before .copy-at .ensures) refl (omega arith))
+    (held-piece _ (given .src .now) _ (given .i) 32 (held .copy-at .ensures) refl (omega arith))
 
 pub thirty-two-spec : {M : Type 1} → statement M
 thirty-two-spec =
