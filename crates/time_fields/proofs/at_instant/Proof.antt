@@ -11,19 +11,25 @@ returns c = sym (shows-impossible _ _ _ (unmet _ (c .before .is-instant .ensures
 
 returns-2 : tie.Need-returns-2
 returns-2 c =
+    let tested : tie.After-is-instant = search in
+    let possible : tie.Else1 = search in
+    let began : tie.After-read-time = search in
     sym
     (shows-no-start _ _ _
-    (met _ (c .before .before .before .before .before .is-instant .ensures) (c .before .before .before .before .if1 .left))
-    (sym (c .before .before .before .read-time .ensures) ∙ c .before .r .given .1))
+    (met _ (tested .is-instant .ensures) (possible .if1 .left))
+    (sym (began .read-time .ensures) ∙ c .before .r .given .1))
 
 returns-3 : tie.Need-returns-3
 returns-3 c =
+    let tested : tie.After-is-instant = search in
+    let possible : tie.Else1 = search in
+    let began : tie.After-read-time = search in
+    let told : tie.After-from = search in
     c .shown-by .ensures
     ∙ sym
     (shows-by _ _ _
-    (met _ (c .before .before .before .before .before .before .before .is-instant .ensures)
-    (c .before .before .before .before .before .before .if1 .left))
-    (sym (c .before .before .before .before .before .read-time .ensures) ∙ c .before .before .before .from .given .1)
+    (met _ (tested .is-instant .ensures) (possible .if1 .left))
+    (sym (began .read-time .ensures) ∙ told .from .given .1)
     (sym (c .before .read-end .ensures)))
 
 pub at-instant-spec : {M : Type 1} → statement M

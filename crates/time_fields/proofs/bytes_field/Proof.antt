@@ -7,10 +7,13 @@ use Rattle.time_fields.proofs.bytes_field.Tie as tie
 returns : tie.Need-returns
 unfolding bytesField
 returns c =
+    let first : tie.After-wide = search in
+    let second : tie.After-wide2 = search in
+    let third : tie.After-wide3 = search in
     simp (
-      c .before .before .before .before .wide .ensures .0,
-      c .before .before .before .wide2 .ensures .0,
-      c .before .before .wide3 .ensures .0,
+      first .wide .ensures .0,
+      second .wide2 .ensures .0,
+      third .wide3 .ensures .0,
       c .before .wide4 .ensures .0,
       c .wide5 .ensures .0,
     )

@@ -20,9 +20,12 @@ returns-2 c =
 returns-3 : tie.Need-returns-3
 unfolding isDecimal
 returns-3 c =
+    let first : tie.After-decimal-pair = search in
+    let first-met : tie.Else1 = search in
+    let second : tie.After-decimal-pair2 = search in
     simp (
-      met _ (c .before .before .before .before .decimal-pair .ensures) (c .before .before .before .if1 .left),
-      met _ (c .before .before .decimal-pair2 .ensures) (c .before .if2 .left),
+      met _ (first .decimal-pair .ensures) (first-met .if1 .left),
+      met _ (second .decimal-pair2 .ensures) (c .before .if2 .left),
       c .decimal-pair3 .ensures,
     )
 

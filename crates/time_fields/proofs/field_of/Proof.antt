@@ -7,9 +7,11 @@ use Rattle.time_fields.proofs.field_of.Tie as tie
 returns : tie.Need-returns
 unfolding fieldOf
 returns c =
+    let hours : tie.After-two-digits = search in
+    let minutes : tie.After-two-digits2 = search in
     simp (
-      c .before .before .before .before .before .two-digits .ensures .0,
-      c .before .before .before .two-digits2 .ensures .0,
+      hours .two-digits .ensures .0,
+      minutes .two-digits2 .ensures .0,
       c .before .two-digits3 .ensures .0,
     )
 

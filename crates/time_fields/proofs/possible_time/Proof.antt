@@ -22,10 +22,14 @@ returns-2 c =
 returns-3 : tie.Need-returns-3
 unfolding possible
 returns-3 c =
+    let ranged : tie.After-in-range = search in
+    let in-day : tie.Else1 = search in
+    let hours : tie.After-pair-worth = search in
+    let in-hours : tie.Else2 = search in
     simp (
-      met _ (c .before .before .before .before .before .in-range .ensures) (c .before .before .before .before .if1 .left),
-      ← (c .before .before .before .pair-worth .ensures .0),
-      le-leb _ _ (c .before .before .if2 .left),
+      met _ (ranged .in-range .ensures) (in-day .if1 .left),
+      ← (hours .pair-worth .ensures .0),
+      le-leb _ _ (in-hours .if2 .left),
       ← (c .before .pair-worth2 .ensures .0),
       lt-leb _ _ (c .if3 .taken),
     )
@@ -33,12 +37,16 @@ returns-3 c =
 returns-4 : tie.Need-returns-4
 unfolding possible
 returns-4 c =
+    let ranged : tie.After-in-range = search in
+    let in-day : tie.Else1 = search in
+    let hours : tie.After-pair-worth = search in
+    let in-hours : tie.Else2 = search in
+    let minutes : tie.After-pair-worth2 = search in
     simp (
-      met _ (c .before .before .before .before .before .before .in-range .ensures)
-          (c .before .before .before .before .before .if1 .left),
-      ← (c .before .before .before .before .pair-worth .ensures .0),
-      le-leb _ _ (c .before .before .before .if2 .left),
-      ← (c .before .before .pair-worth2 .ensures .0),
+      met _ (ranged .in-range .ensures) (in-day .if1 .left),
+      ← (hours .pair-worth .ensures .0),
+      le-leb _ _ (in-hours .if2 .left),
+      ← (minutes .pair-worth2 .ensures .0),
       le-leb _ _ (c .before .if3 .left),
       ← (c .pair-worth3 .ensures .0),
     )

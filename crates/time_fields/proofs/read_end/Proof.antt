@@ -11,13 +11,17 @@ returns c = sym (end-live _ _ (c .if1 .taken))
 
 returns-2 : tie.Need-returns-2
 returns-2 c =
-    ap asEnd (sym (c .before .m .given .1) ∙ c .before .before .before .read-time .ensures)
-    ∙ sym (end-timed _ _ (c .before .before .before .before .if1 .left))
+    let not-live : tie.Else1 = search in
+    let read : tie.After-read-time = search in
+    ap asEnd (sym (c .before .m .given .1) ∙ read .read-time .ensures)
+    ∙ sym (end-timed _ _ (not-live .if1 .left))
 
 returns-3 : tie.Need-returns-3
 returns-3 c =
-    ap asEnd (sym (c .before .r .given .1) ∙ c .before .before .before .read-time .ensures)
-    ∙ sym (end-timed _ _ (c .before .before .before .before .if1 .left))
+    let not-live : tie.Else1 = search in
+    let read : tie.After-read-time = search in
+    ap asEnd (sym (c .before .r .given .1) ∙ read .read-time .ensures)
+    ∙ sym (end-timed _ _ (not-live .if1 .left))
 
 pub read-end-spec : {M : Type 1} → statement M
 read-end-spec =

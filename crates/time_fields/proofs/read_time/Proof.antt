@@ -18,18 +18,25 @@ returns-2 c =
 
 returns-3 : tie.Need-returns-3
 returns-3 c =
+    let narrow : tie.Else1 = search in
+    let tested : tie.After-decimal-digits = search in
+    let decimal : tie.Else2 = search in
     sym
-    (reads-impossible _ _ (c .before .before .before .before .if1 .left)
-    (met _ (c .before .before .before .decimal-digits .ensures) (c .before .before .if2 .left))
+    (reads-impossible _ _ (narrow .if1 .left)
+    (met _ (tested .decimal-digits .ensures) (decimal .if2 .left))
     (unmet _ (c .before .possible-time .ensures) (c .if3 .taken)))
 
 returns-4 : tie.Need-returns-4
 returns-4 c =
+    let narrow : tie.Else1 = search in
+    let tested : tie.After-decimal-digits = search in
+    let decimal : tie.Else2 = search in
+    let timed : tie.After-possible-time = search in
     ap At (c .moment-of .ensures)
     ∙ sym
-    (reads-time _ _ (c .before .before .before .before .before .if1 .left)
-    (met _ (c .before .before .before .before .decimal-digits .ensures) (c .before .before .before .if2 .left))
-    (met _ (c .before .before .possible-time .ensures) (c .before .if3 .left)))
+    (reads-time _ _ (narrow .if1 .left)
+    (met _ (tested .decimal-digits .ensures) (decimal .if2 .left))
+    (met _ (timed .possible-time .ensures) (c .before .if3 .left)))
 
 pub read-time-spec : {M : Type 1} → statement M
 read-time-spec =

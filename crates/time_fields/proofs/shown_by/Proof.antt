@@ -18,9 +18,12 @@ before c =
 on : tie.Need-returns-3
 unfolding shownBy
 on c =
+    let told : tie.After-end2 = search in
+    let tested : tie.After-is-earlier2 = search in
+    let not-before : tie.Else2 = search in
     simp (
-      c .before .before .before .before .before .end2 .given .1,
-      sym (c .before .before .before .is-earlier2 .ensures) ∙ c .before .before .if2 .left,
+      told .end2 .given .1,
+      sym (tested .is-earlier2 .ensures) ∙ not-before .if2 .left,
       sym (c .before .is-earlier3 .ensures) ∙ c .if3 .taken,
     )
 
@@ -36,9 +39,12 @@ live-on c =
 ended : tie.Need-returns-6
 unfolding shownBy
 ended c =
+    let told : tie.After-end2 = search in
+    let tested : tie.After-is-earlier2 = search in
+    let not-before : tie.Else2 = search in
     simp (
-      c .before .before .before .before .before .end2 .given .1,
-      sym (c .before .before .before .is-earlier2 .ensures) ∙ c .before .before .if2 .left,
+      told .end2 .given .1,
+      sym (tested .is-earlier2 .ensures) ∙ not-before .if2 .left,
       sym (c .before .is-earlier3 .ensures) ∙ c .if3 .left,
     )
 
