@@ -19,4 +19,4 @@ heading-of-spec =
     (λ c. search needs)
     (λ c. search needs)
     (λ c. search needs)
-    (λ c. heading-of-is _ _ (c .before .before .before .before .word-of .ensures .0)))
+    (λ c. let word : tie.After-word-of = search in heading-of-is _ _ (word .word-of .ensures .0)))

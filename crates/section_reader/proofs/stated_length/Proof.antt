@@ -13,14 +13,20 @@ use Rattle.section_reader.proofs.Reading.{cut-off, none-stated, states}
 use Rattle.section_reader.proofs.stated_length.Statement.{statement}
 use Rattle.section_reader.proofs.stated_length.Tie as tie
 
+-- where the function began
+begun : tie.After-length-in-range → tie.Start
+begun c = search
+
 -- the test's answer is the definition's
-tested : (c : tie.After-length-in-range) → c .length-in-range .result ≡ lengthInRange (sectionLength (now (c .before .before .before .before .args .s)))
+tested : (c : tie.After-length-in-range) → c .length-in-range .result ≡ lengthInRange (sectionLength (now (begun c .args .s)))
+unfolding begun
 tested c = c .length-in-range .ensures ∙ ap lengthInRange (c .before .section-length .ensures)
 
 counted : (c : tie.Else2) → c .before .before .section-length .result ≤ sectionLengthMost
 counted c = within-known 9 _ sectionLengthMost (sym (c .before .length-in-range .ensures) ∙ not-false _ (c .if2 .left)) .1
 
 pub stated-length-spec : {M : Type 1} → statement M
+unfolding begun
 stated-length-spec =
     tie.close
     (tie.spec
