@@ -13,23 +13,24 @@ carry-spec =
     (tie.spec
     (λ c κs. search needs)
     (λ c κs.
-    let start = c .before .before .before .before .before .before in
+    let start : tie.Start = search in
     (start .pre .0, c .before .possible .ensures, carried (now (start .args .p)) (start .pre .1) .size))
     (λ c κs. search needs)
     (λ c. search needs)
     (λ c.
-    let marks = c .before .before in
-    let test = marks .before .before in
+    let marks : tie.After-mark-repeat = search in
+    let test : tie.Then1 = search in
     carry-repeat _ _ _ (sym (test .before .repeats .ensures) ∙ test .if1 .taken) _ (marks .mark-repeat .ensures))
     (λ c κs.
-    let start = c .before .before .before .before .before .before .before .before .before in
-    (start .pre .0, c .before .before .before .before .possible .ensures, carried (now (start .args .p)) (start .pre .1) .size))
+    let start : tie.Start = search in
+    let known : tie.After-possible = search in
+    (start .pre .0, known .possible .ensures, carried (now (start .args .p)) (start .pre .1) .size))
     (λ c κs. search needs)
     (λ c. search needs)
     (λ c. search needs)
     (λ c.
-    let reads = c .before .before .before .before in
-    let goes = reads .before .before .before in
-    let test = goes .before .before in
+    let reads : tie.After-read-on = search in
+    let goes : tie.After-going-on = search in
+    let test : tie.Else1 = search in
     carry-read _ _ _ (sym (test .before .repeats .ensures) ∙ test .if1 .left) (goes .going-on .result) (goes .going-on .ensures .is) _ _ _
     (reads .read-on .ensures)))

@@ -16,9 +16,9 @@ unfolding piece given
 put-sections-spec =
     tie.close
     (tie.spec
-    (λ c. let start = c .before .before .before .before in sym (length-take-le (start .args .n .ended) (now (start .args .u)) (start .pre .0 .ended)))
+    (λ c. let start : tie.Start = search in sym (length-take-le (start .args .n .ended) (now (start .args .u)) (start .pre .0 .ended)))
     (λ c κs.
-    let start = c .before .before .before .before .before in
+    let start : tie.Start = search in
     let l = length-take-le (start .args .n .ended) (now (start .args .u)) (start .pre .0 .ended) in
     let q = start .pre .1 in
     omega arith)
@@ -34,10 +34,10 @@ put-sections-spec =
     (λ c κs. search needs)
     (λ c. search needs)
     (λ c.
-    let third = c .before .before in
-    let second = third .before .before .before .before .before in
-    let one = second .before .before .before .before .before in
-    let start = one .before .before .before .before .before .before in
+    let third : tie.After-copy-at3 = search in
+    let second : tie.After-copy-at2 = search in
+    let one : tie.After-copy-at = search in
+    let start : tie.Start = search in
     let n = start .args .n in
     let p = now (start .args .p) in
     let v = start .pre .0 in

@@ -17,15 +17,15 @@ read-on-spec =
     (λ c. search needs)
     (λ c. search needs)
     (λ c κs.
-    let start = c .before .before .before .before .before in
+    let start : tie.Start = search in
     let q = start .pre in
     (part-may (now (start .args .s)) (start .args .kept) (q .begun) .0, q .carries))
     (λ c. search needs)
     (λ c. search needs)
     (λ c. search needs)
     (λ c.
-    let here = c .before .before .before in
-    let start = here .before .before .before .before .before .before in
+    let here : tie.After-plan-of = search in
+    let start : tie.Start = search in
     let q = start .pre in
     let v = here .plan-of .ensures in
     let m = part-may (now (start .args .s)) (start .args .kept) (q .begun) .1 in
@@ -36,24 +36,24 @@ read-on-spec =
     omega arith)
     (λ c. search needs)
     (λ c.
-    let here = c .before .before .before .before in
-    let start = here .before .before .before .before .before .before in
+    let here : tie.After-plan-of = search in
+    let start : tie.Start = search in
     read-small (now (start .args .s)) (now (start .args .p)) (start .args .kept) (start .pre) _ (here .plan-of .ensures) _ _ refl (c .if1 .taken))
     (λ c. search needs)
     (λ c. search needs)
     (λ c. search needs)
     (λ c κs. search needs)
     (λ c κs.
-    let here = c .before .before .before .before .before .before .before .before .before .before .before in
-    let start = here .before .before .before .before .before .before in
+    let here : tie.After-plan-of = search in
+    let start : tie.Start = search in
     leaves (now (start .args .s)) (now (start .args .p)) (start .args .kept) (start .pre) _ (here .plan-of .ensures))
     (λ c. search needs)
     (λ c. search needs)
     (λ c.
-    let keeps = c .before .before in
-    let sections = keeps .before .before .before .before in
-    let test = sections .before .before .before .before in
-    let here = test .before .before .before .before in
-    let start = here .before .before .before .before .before .before in
+    let keeps : tie.After-keep = search in
+    let sections : tie.After-put-sections = search in
+    let test : tie.Else1 = search in
+    let here : tie.After-plan-of = search in
+    let start : tie.Start = search in
     read-fits (now (start .args .s)) (now (start .args .p)) (start .args .kept) (start .pre) _ (here .plan-of .ensures) _ _ refl (test .if1 .left) _ _
     (sections .put-sections .ensures) (keeps .keep .ensures)))

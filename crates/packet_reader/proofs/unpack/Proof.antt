@@ -30,5 +30,5 @@ unpack-spec =
     (λ c. unpack-skipped _ _ _ (sym (c .before .before .judge .ensures) ∙ c .enum-told2 .given .1))
     (λ c. search needs)
     (λ c.
-    let here = c .before .before .before .before .before in
+    let here : tie.After-enum-told3 = search in
     unpack-carries _ _ _ (sym (here .before .before .judge .ensures) ∙ here .enum-told3 .given .1) _ _ _ (c .before .before .carry .ensures)))
