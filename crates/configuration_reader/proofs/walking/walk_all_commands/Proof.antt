@@ -24,6 +24,10 @@ walk-all-commands-spec =
     (λ c κs. search needs)
     (λ c. search needs)
     (λ c. search needs)
-    (λ c. times-turn command (c .before .before .before .before .before .loop .left) command-lawful (c .before .before .before .before .loop-test .taken) (c .before .before .before .before .before .loop .inv) (c .before .before .walk-command .ensures) (search needs))
+    (λ c.
+    let head : tie.At-loop Inv-loop μ-loop = search in
+    let turn : tie.In-loop Inv-loop μ-loop = search in
+    let walked : tie.After-walk-command Inv-loop μ-loop = search in
+    times-turn command (head .loop .left) command-lawful (turn .loop-test .taken) (head .loop .inv) (walked .walk-command .ensures) (search needs))
     (λ c. c .before .loop .inv .same)
     (λ c. times-done command (c .before .loop .left) (omega arith) (c .before .loop .inv)))

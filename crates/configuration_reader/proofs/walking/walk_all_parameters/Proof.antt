@@ -23,6 +23,10 @@ walk-all-parameters-spec =
     (λ c κs. search needs)
     (λ c. search needs)
     (λ c. search needs)
-    (λ c. times-turn (number 1) (c .before .before .before .before .before .loop .left) (number-lawful 1) (c .before .before .before .before .loop-test .taken) (c .before .before .before .before .before .loop .inv) (c .before .before .walk-number .ensures) (search needs))
+    (λ c.
+    let head : tie.At-loop Inv-loop μ-loop = search in
+    let turn : tie.In-loop Inv-loop μ-loop = search in
+    let walked : tie.After-walk-number Inv-loop μ-loop = search in
+    times-turn (number 1) (head .loop .left) (number-lawful 1) (turn .loop-test .taken) (head .loop .inv) (walked .walk-number .ensures) (search needs))
     (λ c. c .before .loop .inv .same)
     (λ c. times-done (number 1) (c .before .loop .left) (omega arith) (c .before .loop .inv)))

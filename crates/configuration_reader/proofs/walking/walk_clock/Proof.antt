@@ -20,8 +20,8 @@ walk-clock-spec =
     (λ c κs. search needs)
     (λ c. search needs)
     (λ c.
-    let third = c .before .before .before .before in
-    let second = third .before .before .before .before in
-    let first = second .before .before .before .before in
-    three-walk 1 (λ hour minute second. leb hour 23 && (leb minute 59 && leb second 59)) (λ z at. refl) _ (first .walk-count .ensures) (second .walk-count2 .ensures) (third .walk-count3 .ensures)
-    (c .before .is-time .ensures) (c .possible .ensures)))
+    let third : tie.After-walk-count3 = search in
+    let second : tie.After-walk-count2 = search in
+    let first : tie.After-walk-count = search in
+    three-walk 1 (λ hour minute second. leb hour 23 && (leb minute 59 && leb second 59)) (λ z at. refl) _
+    (first .walk-count .ensures) (second .walk-count2 .ensures) (third .walk-count3 .ensures) (c .before .is-time .ensures) (c .possible .ensures)))

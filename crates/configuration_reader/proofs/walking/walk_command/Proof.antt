@@ -15,8 +15,8 @@ walk-command-spec =
     (λ c κs. search needs)
     (λ c. search needs)
     (λ c.
-    let said : tie.After-walk-said = c .before .before in
-    let part : tie.After-enter-least = said .before .before in
-    let tag : tie.After-walk-count = part .before .before .before .before in
+    let said : tie.After-walk-said = search in
+    let part : tie.After-enter-least = search in
+    let tag : tie.After-walk-count = search in
     command-walk (number-told 1 (λ i. tag .before .before .before .shared-slice-known .given i .fits) (tag .walk-count .ensures))
     (part .before .least-content .ensures) (part .enter-least .ensures) (said .walk-said .ensures)))

@@ -23,9 +23,13 @@ walk-configuration-spec =
     (λ c κs. search needs)
     (λ c κs. search needs)
     (λ c. search needs)
-    (λ c. exact-walk LeftOver
+    (λ c.
+    let counted : tie.After-walk-count = search in
+    let all : tie.After-walk-all-commands = search in
+    let part : tie.After-walk-part = search in
+    exact-walk LeftOver
     (view-walk _ _ (λ a. refl)
     (pair (list-lawful command command-lawful (count 1) (count-lawful 1)) (opaque-lawful 2 .formal)
-    (list-walk (count-lawful 1) command-lawful (c .before .before .before .before .before .before .before .before .before .before .before .walk-count .ensures) (c .before .before .before .before .before .before .before .walk-all-commands .ensures))
-    (c .before .before .before .walk-part .ensures)))
+    (list-walk (count-lawful 1) command-lawful (counted .walk-count .ensures) (all .walk-all-commands .ensures))
+    (part .walk-part .ensures)))
     (c .finish .ensures)))

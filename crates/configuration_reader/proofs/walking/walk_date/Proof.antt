@@ -19,8 +19,8 @@ walk-date-spec =
     (λ c κs. search needs)
     (λ c. search needs)
     (λ c.
-    let third = c .before .before .before .before in
-    let second = third .before .before .before .before in
-    let first = second .before .before .before .before in
-    three-walk 2 hasDay (λ z at. day-fault (z .0) (z .1 .0) (z .1 .1) at) _ (first .walk-count .ensures) (second .walk-count2 .ensures) (third .walk-count3 .ensures)
-    (c .before .is-day .ensures) (c .possible .ensures)))
+    let third : tie.After-walk-count3 = search in
+    let second : tie.After-walk-count2 = search in
+    let first : tie.After-walk-count = search in
+    three-walk 2 hasDay (λ z at. day-fault (z .0) (z .1 .0) (z .1 .1) at) _
+    (first .walk-count .ensures) (second .walk-count2 .ensures) (third .walk-count3 .ensures) (c .before .is-day .ensures) (c .possible .ensures)))

@@ -21,5 +21,9 @@ walk-query-spec =
     (λ c κs. search needs)
     (λ c κs. search needs)
     (λ c. search needs)
-    (λ c. exact-pair PastPart (list-lawful (number 1) (number-lawful 1) (count 1) (count-lawful 1)) terminals-lawful
-    (list-walk (count-lawful 1) (number-lawful 1) (c .before .before .before .before .before .before .before .before .before .before .walk-count .ensures) (c .before .before .before .before .before .before .walk-all-parameters .ensures)) (c .before .before .walk-terminals .ensures)))
+    (λ c.
+    let counted : tie.After-walk-count = search in
+    let all : tie.After-walk-all-parameters = search in
+    let last : tie.After-walk-terminals = search in
+    exact-pair PastPart (list-lawful (number 1) (number-lawful 1) (count 1) (count-lawful 1)) terminals-lawful
+    (list-walk (count-lawful 1) (number-lawful 1) (counted .walk-count .ensures) (all .walk-all-parameters .ensures)) (last .walk-terminals .ensures)))

@@ -16,4 +16,7 @@ walk-set-clock-spec =
     (λ c κs. search needs)
     (λ c κs. search needs)
     (λ c. search needs)
-    (λ c. exact-walk PastPart (pair date-lawful (clock-lawful .formal) (c .before .before .before .before .before .before .before .walk-date .ensures) (c .before .before .before .walk-clock .ensures)) (c .leave .ensures)))
+    (λ c.
+    let day : tie.After-walk-date = search in
+    let time : tie.After-walk-clock = search in
+    exact-walk PastPart (pair date-lawful (clock-lawful .formal) (day .walk-date .ensures) (time .walk-clock .ensures)) (c .leave .ensures)))

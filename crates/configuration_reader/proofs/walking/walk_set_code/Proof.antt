@@ -18,4 +18,8 @@ walk-set-code-spec =
     (λ c κs. search needs)
     (λ c κs. search needs)
     (λ c. search needs)
-    (λ c. exact-walk PastPart (pair (opaque-lawful 1) (digits-lawful resourcePairs .formal) (c .before .before .before .before .before .before .before .walk-part .ensures) (c .before .before .before .walk-digits .ensures)) (c .leave .ensures)))
+    (λ c.
+    let part : tie.After-walk-part = search in
+    let digits : tie.After-walk-digits = search in
+    exact-walk PastPart (pair (opaque-lawful 1) (digits-lawful resourcePairs .formal)
+    (part .walk-part .ensures) (digits .walk-digits .ensures)) (c .leave .ensures)))

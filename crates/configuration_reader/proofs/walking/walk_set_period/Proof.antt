@@ -16,4 +16,7 @@ walk-set-period-spec =
     (λ c κs. search needs)
     (λ c κs. search needs)
     (λ c. search needs)
-    (λ c. exact-pair PastPart (number-lawful 4) terminals-lawful (c .before .before .before .before .before .before .walk-number .ensures) (c .before .before .walk-terminals .ensures)))
+    (λ c.
+    let period : tie.After-walk-number = search in
+    let last : tie.After-walk-terminals = search in
+    exact-pair PastPart (number-lawful 4) terminals-lawful (period .walk-number .ensures) (last .walk-terminals .ensures)))

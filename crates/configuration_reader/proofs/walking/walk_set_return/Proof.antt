@@ -25,6 +25,11 @@ walk-set-return-spec =
     (λ c κs. search needs)
     (λ c κs. search needs)
     (λ c. search needs)
-    (λ c. exact-last PastPart (among 1 3 (number 1)) (λ kind. address kind ▷ terminals)
-    (told-walk (among-lawful 1 3 (number 1) (number-lawful 1)) (λ kind. exact-filling PastPart _ (from-address kind) .formal) (c .before .before .before .before .before .before .before .before .before .before .walk-told-among .ensures)
-    (exact-pair PastPart (address-lawful _) terminals-lawful (c .before .before .before .before .before .before .walk-address .ensures) (c .before .before .walk-terminals .ensures)))))
+    (λ c.
+    let told : tie.After-walk-told-among = search in
+    let to : tie.After-walk-address = search in
+    let last : tie.After-walk-terminals = search in
+    exact-last PastPart (among 1 3 (number 1)) (λ kind. address kind ▷ terminals)
+    (told-walk (among-lawful 1 3 (number 1) (number-lawful 1)) (λ kind. exact-filling PastPart _ (from-address kind) .formal)
+    (told .walk-told-among .ensures)
+    (exact-pair PastPart (address-lawful _) terminals-lawful (to .walk-address .ensures) (last .walk-terminals .ensures)))))

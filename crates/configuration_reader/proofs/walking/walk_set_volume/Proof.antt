@@ -18,4 +18,7 @@ walk-set-volume-spec =
     (λ c κs. search needs)
     (λ c κs. search needs)
     (λ c. search needs)
-    (λ c. exact-pair PastPart (among-lawful 0 100 (number 1) (number-lawful 1)) terminals-lawful (c .before .before .before .before .before .before .walk-among .ensures) (c .before .before .walk-terminals .ensures)))
+    (λ c.
+    let volume : tie.After-walk-among = search in
+    let last : tie.After-walk-terminals = search in
+    exact-pair PastPart (among-lawful 0 100 (number 1) (number-lawful 1)) terminals-lawful (volume .walk-among .ensures) (last .walk-terminals .ensures)))

@@ -31,6 +31,11 @@ walk-tune-spec =
     (λ c κs. search needs)
     (λ c κs. search needs)
     (λ c. search needs)
-    (λ c. exact-pair PastPart (number-lawful 4) from-rate (c .before .before .before .before .before .before .before .before .before .before .before .before .before .before .walk-number .ensures)
-    (exact-pair PastPart (number-lawful 4) from-mapping (c .before .before .before .before .before .before .before .before .before .before .walk-number2 .ensures)
-    (exact-pair PastPart mapping-lawful terminals-lawful (c .before .before .before .before .before .before .walk-among .ensures) (c .before .before .walk-terminals .ensures)))))
+    (λ c.
+    let frequency : tie.After-walk-number = search in
+    let rate : tie.After-walk-number2 = search in
+    let mapping : tie.After-walk-among = search in
+    let last : tie.After-walk-terminals = search in
+    exact-pair PastPart (number-lawful 4) from-rate (frequency .walk-number .ensures)
+    (exact-pair PastPart (number-lawful 4) from-mapping (rate .walk-number2 .ensures)
+    (exact-pair PastPart mapping-lawful terminals-lawful (mapping .walk-among .ensures) (last .walk-terminals .ensures)))))
