@@ -13,4 +13,4 @@ walk-all-streams-spec =
     (λ c κs. search needs)
     (λ c. stays (c .before .x .given .1))
     (λ c. search needs)
-    (λ c. from (c .before .before .before .before .before .x2 .given .1) (c .before .before .walk-each-stream .ensures)))
+    (λ c. let here : tie.After-x2 = search in from (here .x2 .given .1) (c .before .before .walk-each-stream .ensures)))

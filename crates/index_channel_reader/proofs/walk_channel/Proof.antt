@@ -25,24 +25,12 @@ from-program = followed-lawful _ _ (number-lawful 2) (λ a. from-pid)
 from-stream : Lawful (number 2 ▷ (number 2 ▷ (reserved 3 1 ▷ (descriptors ▷ streams))))
 from-stream = followed-lawful _ _ (number-lawful 2) (λ a. from-program)
 
--- from each call back to the one before
-abbrev descriptors-of : tie.After-walk-streams → tie.After-walk-descriptors
-descriptors-of c = c .before .before .before .before
-
-abbrev pid-of : tie.After-walk-streams → tie.After-walk-reserved
-pid-of c = descriptors-of c .before .before .before .before
-
-abbrev program-of : tie.After-walk-streams → tie.After-walk-number3
-program-of c = pid-of c .before .before .before .before
-
-abbrev stream-of : tie.After-walk-streams → tie.After-walk-number2
-stream-of c = program-of c .before .before .before .before
-
-abbrev network-of : tie.After-walk-streams → tie.After-walk-number
-network-of c = stream-of c .before .before .before .before
+-- the walk of the network's number, from the last call
+first-call : tie.After-walk-streams → tie.After-walk-number
+first-call c = search
 
 pub walk-channel-spec : {M : Type 1} → statement M
-unfolding channel channelFields
+unfolding channel channelFields first-call
 walk-channel-spec =
     tie.close
     (tie.spec
@@ -53,12 +41,17 @@ walk-channel-spec =
     (λ c κs. search needs)
     (λ c κs. search needs)
     -- the first call lies too far back for the search to reach by itself
-    (λ c. search (needs, network-of (c .before .before) .walk-number .kept .1 .1 .1 .1 .0))
+    (λ c. search (needs, first-call (c .before .before) .walk-number .kept .1 .1 .1 .1 .0))
     (λ c.
-    let streams = c .before .before in
+    let all-streams : tie.After-walk-streams = search in
+    let all-descriptors : tie.After-walk-descriptors = search in
+    let pid : tie.After-walk-reserved = search in
+    let program : tie.After-walk-number3 = search in
+    let transport : tie.After-walk-number2 = search in
+    let network : tie.After-walk-number = search in
     view-walk _ _ (λ a. refl)
-    (pair (number-lawful 2) (from-stream .formal) (network-of streams .walk-number .ensures)
-    (pair (number-lawful 2) (from-program .formal) (stream-of streams .walk-number2 .ensures)
-    (pair (number-lawful 2) (from-pid .formal) (program-of streams .walk-number3 .ensures)
-    (pair (reserved-lawful 3 1 (omega arith)) (from-descriptors .formal) (pid-of streams .walk-reserved .ensures .past)
-    (pair descriptors-lawful (streams-lawful .formal) (descriptors-of streams .walk-descriptors .ensures) (streams .walk-streams .ensures))))))))
+    (pair (number-lawful 2) (from-stream .formal) (network .walk-number .ensures)
+    (pair (number-lawful 2) (from-program .formal) (transport .walk-number2 .ensures)
+    (pair (number-lawful 2) (from-pid .formal) (program .walk-number3 .ensures)
+    (pair (reserved-lawful 3 1 (omega arith)) (from-descriptors .formal) (pid .walk-reserved .ensures .past)
+    (pair descriptors-lawful (streams-lawful .formal) (all-descriptors .walk-descriptors .ensures) (all-streams .walk-streams .ensures))))))))

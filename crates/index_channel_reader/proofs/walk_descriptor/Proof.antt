@@ -16,7 +16,7 @@ walk-descriptor-spec =
     (λ c κs. search needs)
     (λ c. search needs)
     (λ c.
-    let at-walk-part = c .before .before in
-    let at-walk-number = at-walk-part .before .before .before .before in
-    view-walk _ _ (λ a. refl) (pair (number-lawful 1) (opaque-lawful 1 .formal) (at-walk-number .walk-number .ensures)
-    (at-walk-part .walk-part .ensures))))
+    let part : tie.After-walk-part = search in
+    let tag : tie.After-walk-number = search in
+    view-walk _ _ (λ a. refl) (pair (number-lawful 1) (opaque-lawful 1 .formal) (tag .walk-number .ensures)
+    (part .walk-part .ensures))))

@@ -27,36 +27,36 @@ walk-each-stream-spec =
     (λ c. search needs)
     (λ c. search needs)
     (λ c.
-    let at-walk-stream = c .before .before .before .before .before in
-    let at-loop-test = at-walk-stream .before .before in
-    let at-loop = at-loop-test .before in
-    let at-shared-slice-known = at-loop .before .before .before in
-    let at-pre = at-shared-slice-known .before in
-    many-stop stream-lawful stream-takes (λ i. at-shared-slice-known .shared-slice-known .given i .fits) (at-pre .pre)
-    (at-loop-test .loop-test .taken) (at-walk-stream .walk-stream .ensures) (at-loop .loop .inv) (c .before .r .given .1))
+    let walked : tie.After-walk-stream Inv-loop μ-loop = search in
+    let turn : tie.In-loop Inv-loop μ-loop = search in
+    let head : tie.At-loop Inv-loop μ-loop = search in
+    let known : tie.After-shared-slice-known Inv-loop μ-loop = search in
+    let start : tie.Start Inv-loop μ-loop = search in
+    many-stop stream-lawful stream-takes (λ i. known .shared-slice-known .given i .fits) (start .pre)
+    (turn .loop-test .taken) (walked .walk-stream .ensures) (head .loop .inv) (c .before .r .given .1))
     (λ c. search needs)
     (λ c.
-    let at-loop = c .before .before .before .before .before .before .before .before in
-    omega (arith, at-loop .loop .inv .small))
+    let head : tie.At-loop Inv-loop μ-loop = search in
+    omega (arith, head .loop .inv .small))
     (λ c.
-    let at-walk-stream = c .before .before .before .before .before in
-    let at-loop-test = at-walk-stream .before .before in
-    let at-shared-slice-known = at-loop-test .before .before .before .before in
-    let at-pre = at-shared-slice-known .before in
-    let near = many-nearer stream-lawful stream-takes (λ i. at-shared-slice-known .shared-slice-known .given i .fits) (at-pre .pre)
-    (at-loop-test .loop-test .taken) (at-walk-stream .walk-stream .ensures) (c .before .q .given .1) in
+    let walked : tie.After-walk-stream Inv-loop μ-loop = search in
+    let turn : tie.In-loop Inv-loop μ-loop = search in
+    let known : tie.After-shared-slice-known Inv-loop μ-loop = search in
+    let start : tie.Start Inv-loop μ-loop = search in
+    let near = many-nearer stream-lawful stream-takes (λ i. known .shared-slice-known .given i .fits) (start .pre)
+    (turn .loop-test .taken) (walked .walk-stream .ensures) (c .before .q .given .1) in
     omega (arith, near .0, near .1))
     (λ c.
-    let at-walk-stream = c .before .before .before .before .before in
-    let at-loop-test = at-walk-stream .before .before in
-    let at-loop = at-loop-test .before in
-    let at-shared-slice-known = at-loop .before .before .before in
-    let at-pre = at-shared-slice-known .before in
-    many-turn stream-lawful stream-takes (λ i. at-shared-slice-known .shared-slice-known .given i .fits) (at-pre .pre)
-    (at-loop-test .loop-test .taken) (at-walk-stream .walk-stream .ensures) (at-loop .loop .inv) (c .before .q .given .1) (search needs))
+    let walked : tie.After-walk-stream Inv-loop μ-loop = search in
+    let turn : tie.In-loop Inv-loop μ-loop = search in
+    let head : tie.At-loop Inv-loop μ-loop = search in
+    let known : tie.After-shared-slice-known Inv-loop μ-loop = search in
+    let start : tie.Start Inv-loop μ-loop = search in
+    many-turn stream-lawful stream-takes (λ i. known .shared-slice-known .given i .fits) (start .pre)
+    (turn .loop-test .taken) (walked .walk-stream .ensures) (head .loop .inv) (c .before .q .given .1) (search needs))
     (λ c κs. search needs)
-    (λ c. omega (arith, c .before .before .before .before .before .loop .inv .ahead .same))
+    (λ c. let head : tie.At-loop Inv-loop μ-loop = search in omega (arith, head .loop .inv .ahead .same))
     (λ c.
-    let at-lay-entry = c .before .before in
-    let at-loop = at-lay-entry .before .before .before in
-    many-done (omega arith) (at-loop .loop .inv) (at-lay-entry .lay-entry .ensures .dry) (at-lay-entry .lay-entry .ensures .there)))
+    let laid : tie.After-lay-entry Inv-loop μ-loop = search in
+    let head : tie.At-loop Inv-loop μ-loop = search in
+    many-done (omega arith) (head .loop .inv) (laid .lay-entry .ensures .dry) (laid .lay-entry .ensures .there)))

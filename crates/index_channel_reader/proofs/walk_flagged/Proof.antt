@@ -15,11 +15,13 @@ walk-flagged-spec =
     (tie.spec
     (λ c κs. search needs)
     (λ c. search needs)
-    (λ c. flag-off (reserved-lawful 7 0 (omega arith)) (channel-lawful .formal) (c .before .before .before .before .walk-reserved .ensures) (c .if1 .taken))
+    (λ c.
+    let flag : tie.After-walk-reserved = search in
+    flag-off (reserved-lawful 7 0 (omega arith)) (channel-lawful .formal) (flag .walk-reserved .ensures) (c .if1 .taken))
     (λ c κs. search needs)
     (λ c. search needs)
     (λ c.
-    let at-walk-channel = c .before .before in
-    let at-walk-reserved = at-walk-channel .before .before .before .before .before .before in
-    flag-on (reserved-lawful 7 0 (omega arith)) (channel-lawful .formal) (at-walk-reserved .walk-reserved .ensures) (omega arith)
-    (at-walk-channel .walk-channel .ensures)))
+    let walked : tie.After-walk-channel = search in
+    let flag : tie.After-walk-reserved = search in
+    flag-on (reserved-lawful 7 0 (omega arith)) (channel-lawful .formal) (flag .walk-reserved .ensures) (omega arith)
+    (walked .walk-channel .ensures)))

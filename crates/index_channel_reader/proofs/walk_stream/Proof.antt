@@ -26,9 +26,9 @@ walk-stream-spec =
     (λ c κs. search needs)
     (λ c. search needs)
     (λ c.
-    let descriptors : tie.After-walk-descriptors = c .before .before in
-    let pid : tie.After-walk-reserved = descriptors .before .before .before .before in
-    let type : tie.After-walk-number = pid .before .before .before .before in
+    let descriptors : tie.After-walk-descriptors = search in
+    let pid : tie.After-walk-reserved = search in
+    let type : tie.After-walk-number = search in
     view-walk _ _ (λ a. refl)
     (pair (number-lawful 1) (from-pid .formal) (type .walk-number .ensures)
     (pair (reserved-lawful 3 1 (omega arith)) (descriptors-lawful .formal) (pid .walk-reserved .ensures .past)
