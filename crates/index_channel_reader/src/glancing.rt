@@ -1,6 +1,10 @@
 // A message's channel at a glance, from its descriptors up: whether each is good, yes or no. A walk tells what is wrong.
 use body_glance::two_bytes;
 use ground_numbers::wide;
+use index::CHANNEL_DESCRIPTORS_PLACE;
+use index::PCR_PID_PLACE;
+use index::STREAM_DESCRIPTORS_PLACE;
+use index::STREAM_PID_PLACE;
 ghost use mathlib.Core.Path.{_≡_};
 ghost use Prim.Native.Nat.{_+_, _≤_, _<_};
 ghost use lib.ListN.{length};
@@ -32,10 +36,10 @@ fn good_stream(s: &[u8], p: usize, l: usize) -> bool
     requires { ⌜ (p + 5 ≤ l) × (l < p + 5 + 1024) × (l ≤ length (now s)) ⌝ }
     ensures { λ r. ⌜ Good stream (now (s .entry)) p l r ⌝ }
 {
-    if s[p + 1] < 0xE0 {
+    if s[p + STREAM_PID_PLACE] < 0xE0 {
         return false;
     }
-    if two_bytes(s, p + 3) != 0xF000 + (l - p - 5) {
+    if two_bytes(s, p + STREAM_DESCRIPTORS_PLACE) != 0xF000 + (l - p - 5) {
         return false;
     }
     good_descriptors(s, p + 5, l)
@@ -51,7 +55,7 @@ fn good_streams(s: &[u8], p: usize, l: usize) -> bool
         if l - at < 5 {
             return false;
         }
-        let n = two_bytes(s, at + 3) % 1024;
+        let n = two_bytes(s, at + STREAM_DESCRIPTORS_PLACE) % 1024;
         if l - at - 5 < n {
             return false;
         }
@@ -72,10 +76,10 @@ fn good_channel(s: &[u8], p: usize, l: usize) -> bool
     if l - p < 12 {
         return false;
     }
-    if s[p + 6] < 0xE0 {
+    if s[p + PCR_PID_PLACE] < 0xE0 {
         return false;
     }
-    let size = two_bytes(s, p + 8);
+    let size = two_bytes(s, p + CHANNEL_DESCRIPTORS_PLACE);
     if size / 1024 != 60 {
         return false;
     }

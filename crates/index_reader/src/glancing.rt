@@ -2,11 +2,19 @@
 use body_formats::RESOURCE_BYTES;
 use body_glance::two_bytes;
 use ground_numbers::wide;
+use index::CLASS_PLACE;
+use index::END_PLACE;
+use index::RESOURCE_COUNT_PLACE;
+use index::START_PLACE;
+use index::TYPE_PLACE;
 ghost use Prim.Native.Nat.{_+_, _≤_};
 ghost use lib.ListN.{length};
 ghost use Rattle.body_formats.specs.Format.{bytesAmong, nibblesAmong};
 ghost use Rattle.body_glance.specs.Glance.{Good, Filled};
 ghost use Rattle.index.specs.Index.{head, messageFields, index};
+
+// Where the resources begin, after their count.
+const RESOURCES_PLACE: usize = RESOURCE_COUNT_PLACE + 1;
 
 // "type five bytes each at most 0x7F".
 fn good_type(s: &[u8], p: usize) -> bool
@@ -38,16 +46,16 @@ fn good_head(s: &[u8], p: usize) -> bool
     if !body_glance::good_identifier(s, p) {
         return false;
     }
-    if !body_glance::good_time(s, p + 20) {
+    if !body_glance::good_time(s, p + START_PLACE) {
         return false;
     }
-    if !body_glance::good_end(s, p + 25) {
+    if !body_glance::good_end(s, p + END_PLACE) {
         return false;
     }
-    if !good_type(s, p + 30) {
+    if !good_type(s, p + TYPE_PLACE) {
         return false;
     }
-    good_class_and_level(s, p + 35)
+    good_class_and_level(s, p + CLASS_PLACE)
 }
 
 // The fields of a message, which end at l.
@@ -61,12 +69,12 @@ fn good_message(s: &[u8], p: usize, l: usize) -> bool
     if !good_head(s, p) {
         return false;
     }
-    let resources = wide(s[p + 36]) as usize;
-    let end = p + 37 + resources * RESOURCE_BYTES;
+    let resources = wide(s[p + RESOURCE_COUNT_PLACE]) as usize;
+    let end = p + RESOURCES_PLACE + resources * RESOURCE_BYTES;
     if l <= end {
         return false;
     }
-    if !body_glance::good_resources(s, p + 37, resources) {
+    if !body_glance::good_resources(s, p + RESOURCES_PLACE, resources) {
         return false;
     }
     index_channel_reader::glancing::good_flagged(s, end, l)
