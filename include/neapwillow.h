@@ -208,7 +208,7 @@ uint32_t nw_crc32(const uint8_t *s, size_t n);
 
 /* CRC-16 of the n bytes at s: polynomial 0x1021, register of all ones at the start. Of an identifier's
  * 18 bytes it is NOT the extension of the content table, which leaves out the four reserved bits:
- * nw_message_extension, nw_content_extension and nw_content_write tell that one. Stack: 16 bytes. */
+ * nw_message_extension, nw_content_extension and nw_content_write tell that one. Stack: 80 bytes. */
 uint32_t nw_crc16(const uint8_t *s, size_t n);
 
 /* ---- Days -------------------------------------------------------------------------------------
@@ -318,7 +318,7 @@ nw_answer nw_section_count(size_t length);
  * bytes of out after them stay. Refusals, in this order, with nothing written: 2, no such kind; 19,
  * a version above 31 or an extension above 65,535; 14, an empty body; 22, more than NW_MOST_BODY
  * bytes; 6, a number past the last; 21, out is too small for the section: NW_MOST_SECTION bytes are
- * enough for any. The body must not overlap out. Stack: 128 bytes. */
+ * enough for any. The body must not overlap out. Stack: 160 bytes. */
 nw_answer nw_section_cut(const uint8_t *body, size_t n, uint32_t kind, uint32_t extension,
                          uint32_t version, uint32_t number, uint8_t *out, size_t room);
 
@@ -361,7 +361,7 @@ static inline nw_run nw_run_at(const uint32_t *list, size_t i)
  * A capture of good sections is gone over once. The worst, in which each byte begins a section that
  * only fails its check, costs a check of up to 4,096 bytes at each byte: no more than 2^28 steps, and
  * twice that where out or list have less room than the macros above tell.
- * Stack: 176 bytes. */
+ * Stack: 240 bytes. */
 nw_salvaged nw_salvage(const uint8_t *capture, size_t n, uint8_t *out, size_t room, uint32_t *list,
                        size_t numbers);
 
@@ -466,7 +466,7 @@ enum nw_fed { NW_FED_TAKEN = 0, NW_FED_HELD_ALREADY = 1 };
  * held and no contradiction was fed. Refusals, in this order, with nothing written: 12, not a
  * possible state; 13, nothing is begun (place 0); 10, the store is too short; 11, spoiled; 13, with
  * the smallest missing number as its place; 21, out is too small: g->bytes are enough, and no body is
- * longer than NW_MOST_BODY bytes. Stack: 656 bytes. */
+ * longer than NW_MOST_BODY bytes. Stack: 736 bytes. */
 nw_answer nw_gathering_hand_out(const nw_gathering *g, const uint8_t *store, size_t store_bytes,
                                 uint8_t *out, size_t out_bytes);
 
@@ -544,7 +544,7 @@ size_t nw_networks_start(nw_networks *x, size_t store_bytes);
  * already; 35, the section would be taken, and every room is held. There is no 10. A refused call changes
  * nothing, so that a first section refused with 35 begins nothing, but that 11 for a contradiction spoils
  * the network's gathering, which keeps its counts and its rooms: end it to begin again, or wait for a
- * newer version. Stack: 23,784 bytes. */
+ * newer version. Stack: 23,824 bytes. */
 nw_answer nw_networks_feed(nw_networks *x, uint32_t network, uint8_t *store, size_t store_bytes,
                            const uint8_t *s, size_t n);
 
@@ -554,7 +554,7 @@ nw_answer nw_networks_feed(nw_networks *x, uint32_t network, uint8_t *store, siz
  * with nothing written: 19, a network other than 1 or 2; 12, as for nw_networks_feed; 13, nothing is
  * begun (place 0); 11, spoiled; 13, with the smallest missing number as its place; 21, out is too small:
  * gathering.bytes of that network are enough, and no body is longer than NW_MOST_BODY bytes. There is no
- * 10. Stack: 11,712 bytes. */
+ * 10. Stack: 11,760 bytes. */
 nw_answer nw_networks_hand_out(const nw_networks *x, uint32_t network, const uint8_t *store,
                                size_t store_bytes, uint8_t *out, size_t out_bytes);
 
@@ -896,14 +896,14 @@ typedef struct nw_record {
  * descriptors counts by its low ten bits, and is then 17 if one of the two bits above them is 1. Bytes
  * left in a message are 15, at the first of them. Reserved bits are a field before the one whose byte
  * they share. NW_LIVE is a good end, and 18 as a start. An end before its start is accepted.
- * Stack: 608 bytes. */
+ * Stack: 784 bytes. */
 nw_answer nw_index_read(uint32_t kind, const uint8_t *body, size_t n);
 
 /* Judges a body and writes a record for each message at the start of list, which has room for so many;
  * records after them stay. Value: the count of messages. Refusals, with no record written: those of
  * nw_index_read, then 21, the list has less room than there are messages: nw_index_message_count tells
  * how many, and NW_MOST_MESSAGES are always enough. The list must not overlap the body.
- * Stack: 672 bytes. */
+ * Stack: 832 bytes. */
 nw_answer nw_index_records(uint32_t kind, const uint8_t *body, size_t n, nw_record *list, size_t room);
 
 /* The messages and the signature, asked for without reading inside a message, whatever else is wrong
@@ -934,7 +934,7 @@ nw_part nw_message_identifier(const uint8_t *body, size_t n, size_t at, size_t l
 /* Stack: 96 bytes. */
 nw_answer nw_message_identifier_digit(const uint8_t *body, size_t n, size_t at, size_t length,
                                       uint64_t i);
-/* Stack: 160 bytes. */
+/* Stack: 144 bytes. */
 nw_answer nw_message_extension(const uint8_t *body, size_t n, size_t at, size_t length);
 nw_answer nw_message_network(const uint8_t *body, size_t n, size_t at, size_t length);
 nw_answer nw_message_start(const uint8_t *body, size_t n, size_t at, size_t length);
@@ -1072,7 +1072,7 @@ static inline const char *nw_character_set_text(uint64_t number)
  * 4, a language count that is not 1 to 5, an auxiliary count above 2; 20, the identifier has no real
  * day. A length is 14 or 15 too if what it counts passes an end. Bytes left in a language are 15, at the
  * first of them. Reserved bits are a field before the one whose byte they share.
- * Stack: 368 bytes. */
+ * Stack: 432 bytes. */
 nw_answer nw_content_read(uint32_t kind, uint32_t variant, uint32_t extension, const uint8_t *body,
                           size_t n);
 
@@ -1089,7 +1089,7 @@ nw_answer nw_content_read(uint32_t kind, uint32_t variant, uint32_t extension, c
  * Stack: 80 bytes. */
 nw_part nw_content_identifier(const uint8_t *body, size_t n);
 nw_answer nw_content_identifier_digit(const uint8_t *body, size_t n, uint64_t i);
-/* Stack: 160 bytes. */
+/* Stack: 128 bytes. */
 nw_answer nw_content_extension(const uint8_t *body, size_t n);
 /* Stack: 16 bytes. */
 nw_answer nw_content_language_count(const uint8_t *body, size_t n);
@@ -1105,7 +1105,7 @@ nw_part nw_content_signature(const uint8_t *body, size_t n);
  * what stands after the agency, those of its length; for a file, those of the auxiliary count, then 19,
  * there is no i-th (place 0), then 14 or 15 of a type or a length before it; last 14 to 19 of the field
  * itself, at its place, which may lie after the body's end.
- * Stack: 208 bytes. */
+ * Stack: 192 bytes. */
 nw_part nw_language_letters(const uint8_t *body, size_t n, size_t at, size_t length);
 nw_answer nw_language_character_set(const uint8_t *body, size_t n, size_t at, size_t length);
 nw_part nw_language_text(const uint8_t *body, size_t n, size_t at, size_t length);
@@ -1191,7 +1191,7 @@ enum nw_command {
  * A content shorter than its least, 7, 13, 10, 3, 5, 2, 2 bytes for tags 1 to 7, is 15 at its length;
  * bytes left in it are 15, at the first of them. An address of kind 1 or 2 of another length is 15 at
  * its length, any other wrong return address 19 where it begins. Reserved bits are a field before the
- * digits whose byte they share. Stack: 480 bytes. */
+ * digits whose byte they share. Stack: 544 bytes. */
 nw_answer nw_configuration_read(uint32_t kind, const uint8_t *body, size_t n);
 
 /* How many commands there are, the part that the i-th command fills, from its tag to the end of its
@@ -1231,7 +1231,7 @@ nw_part nw_command_content(const uint8_t *body, size_t n, size_t at);
 nw_answer nw_command_clock_year(const uint8_t *body, size_t n, size_t at);
 nw_answer nw_command_clock_month(const uint8_t *body, size_t n, size_t at);
 nw_answer nw_command_clock_day(const uint8_t *body, size_t n, size_t at);
-/* Stack: 240 bytes. */
+/* Stack: 256 bytes. */
 nw_answer nw_command_clock_hour(const uint8_t *body, size_t n, size_t at);
 nw_answer nw_command_clock_minute(const uint8_t *body, size_t n, size_t at);
 nw_answer nw_command_clock_second(const uint8_t *body, size_t n, size_t at);
