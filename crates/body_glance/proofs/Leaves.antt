@@ -1,5 +1,5 @@
 -- What the tests of a glance say of digits, identifiers and times: their formats find them.
-use Prim.Native.Nat.{ℕ, suc, _+_, _-_, _*_, _/_, _%_, _^_, _≤_, _<_}
+use Prim.Native.Nat.{ℕ, suc, _+_, _*_, _/_, _%_, _^_, _≤_, _<_}
 use mathlib.Core.Path.{_≡_, refl, sym, ap, _∙_}
 use mathlib.Core.List.{List}
 use mathlib.Core.Bool.{Bool, true, false, _&&_, cond, false≢true}
@@ -26,7 +26,6 @@ use Rattle.body_formats.proofs.Classes.{Bytes}
 use Rattle.body_formats.proofs.Leaves.{number-below}
 use Rattle.body_formats.proofs.Identifiers.{digitsIn}
 use Rattle.body_formats.proofs.Strings.{first-digit}
-use Rattle.body_digits.proofs.Digits.{digitsAt, digits-last}
 use Rattle.body_identifier.proofs.Days.{digits-read}
 use Rattle.body_glance.specs.Glance.{Reads}
 use Rattle.body_glance.proofs.Finds.{reads-only, reads-to, reads-number, reads-digits}
@@ -43,12 +42,6 @@ digits-good s p h k from until d =
     let first : getD s p 0 % 16 < 10 = omega arith in
     let all = first-digit s p h k ∙ and-of (lt-ltb (getD s p 0 % 16) 10 first) d in
     (_, reads-to (ap (λ n. p + n) (sym (add-one h))) (reads-digits s p h (omega arith) all))
-
--- 11 bytes by two tests of eight, of which the second asks for five once more
-pub eleven-good : (s : List ℕ) (p : ℕ) → digitsAt s (p + 1) 8 ≡ true → digitsAt s (p + 4) 8 ≡ true → digitsAt s (p + 1) 11 ≡ true
-eleven-good s p first last =
-    let z : p + 1 + (11 - 8) ≡ p + 4 = omega arith in
-    sym (digits-last s (p + 1) 11 8 first 8 (omega arith) (omega arith)) ∙ ap (λ q. digitsAt s q 8) z ∙ last
 
 -- ---- an identifier
 
