@@ -1191,7 +1191,7 @@ enum nw_command {
  * A content shorter than its least, 7, 13, 10, 3, 5, 2, 2 bytes for tags 1 to 7, is 15 at its length;
  * bytes left in it are 15, at the first of them. An address of kind 1 or 2 of another length is 15 at
  * its length, any other wrong return address 19 where it begins. Reserved bits are a field before the
- * digits whose byte they share. Stack: 544 bytes. */
+ * digits whose byte they share. Stack: 560 bytes. */
 nw_answer nw_configuration_read(uint32_t kind, const uint8_t *body, size_t n);
 
 /* How many commands there are, the part that the i-th command fills, from its tag to the end of its
