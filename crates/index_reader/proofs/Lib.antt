@@ -1,3 +1,2 @@
 -- The laws that the functions' proofs cite.
-mod Identifiers
 mod Glances

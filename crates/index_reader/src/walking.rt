@@ -1,36 +1,15 @@
 // Walks through the body of an index table, from a message's fields up to the whole: each is one field of the format of its name.
-use body_formats::IDENTIFIER_BYTES;
-use body_formats::IDENTIFIER_PAIRS;
 use body_walk::Walk;
-use ground_refusal::Refusal;
 ghost use lib.ListN.{length};
 ghost use Rattle.body_formats.specs.Format.{times};
-ghost use Rattle.body_formats.specs.Identifier.{identifier};
 ghost use Rattle.body_walk.specs.Walked.{Walked};
 ghost use Rattle.index.specs.Index.{head, message, index};
-
-// Past a message's identifier: its digits, and then their day. What body_walk's walk of this name does, but called here alone: so the compiler
-// lays it into the loop over the messages, which it does not with a walk of this size that another table calls too.
-fn walk_identifier(s: &[u8], l: usize, x: Walk, tape: &mut [u64], wet: bool) -> Walk
-    ensures { λ r. ⌜ Walked identifier (now (s .entry)) l x wet (now (tape .entry)) r (now (tape .exit)) ⌝ }
-{
-    match body_walk::walk_digits(s, l, x, IDENTIFIER_PAIRS, tape, wet) {
-        Walk::Refused(r) => Walk::Refused(r),
-        Walk::At(q, room) => {
-            let p = q - IDENTIFIER_BYTES;
-            if body_identifier::has_decimal_day(s, p) {
-                return Walk::At(q, room);
-            }
-            Walk::Refused(Refusal::ImpossibleDay(p))
-        }
-    }
-}
 
 // From the identifier to the level.
 fn walk_head(s: &[u8], l: usize, x: Walk, tape: &mut [u64], wet: bool) -> Walk
     ensures { λ r. ⌜ Walked head (now (s .entry)) l x wet (now (tape .entry)) r (now (tape .exit)) ⌝ }
 {
-    let a = walk_identifier(s, l, x, tape, wet);
+    let a = body_walk::walk_identifier(s, l, x, tape, wet);
     let b = body_walk::walk_number(s, l, a, 2, tape, wet);
     let c = body_walk::walk_time(s, l, b, tape, wet);
     let d = body_walk::walk_end(s, l, c, tape, wet);
