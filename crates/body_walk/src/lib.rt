@@ -4,11 +4,10 @@ use body_formats::Part;
 use body_formats::RESOURCE_PAIRS;
 use body_formats::Step;
 use ground_numbers::less;
+use ground_numbers::within;
 use ground_refusal::Refusal;
 ghost use mathlib.Core.Path.{_≡_};
 ghost use mathlib.Core.List.{[], _∷_};
-ghost use mathlib.Core.Bool.{_&&_};
-ghost use lib.Dec.{leb};
 ghost use Prim.Native.Nat.{_-_, _≤_};
 ghost use Rattle.body_formats.specs.Format.{count, among, number, nibblesAmong, reserved, bytesAmong, digits, times, rest, lengthOf, leastOf, length12, opaque};
 ghost use Rattle.body_formats.specs.Time.{time, endTime};
@@ -308,16 +307,6 @@ pub fn walk_identifier(s: &[u8], l: usize, x: Walk, tape: &mut [u64], wet: bool)
     }
 }
 
-// Whether v is from lo to hi.
-fn is_among(v: u64, lo: u64, hi: u64) -> bool
-    ensures { λ r. ⌜ r ≡ (leb lo v && leb v hi) ⌝ }
-{
-    if v < lo {
-        return false;
-    }
-    v <= hi
-}
-
 // Past two numbers of four bits from lo to hi, in one byte.
 pub fn walk_nibbles(
     s: &[u8],
@@ -337,8 +326,8 @@ pub fn walk_nibbles(
             Number::Is(v, q) => {
                 let high = v / 16;
                 let low = v % 16;
-                if is_among(high, lo, hi) {
-                    if is_among(low, lo, hi) {
+                if within(lo, high, hi) {
+                    if within(lo, low, hi) {
                         lay_two(tape, room, high, low, wet);
                         return Walk::At(q, less(room, 2));
                     }

@@ -23,14 +23,14 @@ walk-nibbles-spec =
     (λ c.
     let at-lay-two = c .before .before .before in
     let at-if2 = at-lay-two .before .before in
-    let at-is-among2 = at-if2 .before in
-    let at-if1 = at-is-among2 .before in
-    let at-is-among = at-if1 .before in
-    let at-v = at-is-among .before .before in
+    let at-within2 = at-if2 .before in
+    let at-if1 = at-within2 .before in
+    let at-within = at-if1 .before in
+    let at-v = at-within .before .before in
     let at-read-number = at-v .before .before in
     let at-x2 = at-read-number .before .before in
     both-in _ _ _ _ _ _ _ _ _ (at-x2 .x2 .given .1) _ _ (sym (at-v .v .given .1) ∙ at-read-number .read-number .ensures)
-    (sym (at-is-among .is-among .ensures) ∙ at-if1 .if1 .taken) (sym (at-is-among2 .is-among2 .ensures) ∙ at-if2 .if2 .taken) _ _ (c .less .ensures)
+    (sym (at-within .within .ensures) ∙ at-if1 .if1 .taken) (sym (at-within2 .within2 .ensures) ∙ at-if2 .if2 .taken) _ _ (c .less .ensures)
     (at-lay-two .lay-two .ensures))
     (λ c. stays (c .before .x .given .1))
     (λ c.
@@ -39,15 +39,15 @@ walk-nibbles-spec =
     nibbles-no _ _ _ _ _ _ _ _ _ (at-x2 .x2 .given .1) _ (sym (c .before .r .given .1) ∙ at-read-number .read-number .ensures))
     (λ c.
     let at-if1 = c .before .before in
-    let at-is-among = at-if1 .before in
-    let at-v = at-is-among .before .before in
+    let at-within = at-if1 .before in
+    let at-v = at-within .before .before in
     let at-read-number = at-v .before .before in
     let at-x2 = at-read-number .before .before in
     low-out _ _ _ _ _ _ _ _ _ (at-x2 .x2 .given .1) _ _ (sym (at-v .v .given .1) ∙ at-read-number .read-number .ensures)
-    (sym (at-is-among .is-among .ensures) ∙ at-if1 .if1 .taken) (sym (c .before .is-among2 .ensures) ∙ c .if2 .left))
+    (sym (at-within .within .ensures) ∙ at-if1 .if1 .taken) (sym (c .before .within2 .ensures) ∙ c .if2 .left))
     (λ c.
     let at-v = c .before .before .before in
     let at-read-number = at-v .before .before in
     let at-x2 = at-read-number .before .before in
     high-out _ _ _ _ _ _ _ _ _ (at-x2 .x2 .given .1) _ _ (sym (at-v .v .given .1) ∙ at-read-number .read-number .ensures)
-    (sym (c .before .is-among .ensures) ∙ c .if1 .left)))
+    (sym (c .before .within .ensures) ∙ c .if1 .left)))
