@@ -23,9 +23,19 @@ skip-entries-spec =
     (λ c. search needs)
     (λ c κs. search needs)
     (λ c. search needs)
-    (λ c. let v = c .before .before .before .before .before .loop in all-stop _ _ _ _ (v .left) _ (c .before .before .before .before .loop-test .taken) (sym (c .before .r .given .1) ∙ c .before .before .before .skip-entry .ensures) ∙ sym (v .inv))
+    (λ c.
+    let head : tie.At-loop Inv-loop μ-loop = search in
+    let turn : tie.In-loop Inv-loop μ-loop = search in
+    let at-skip-entry : tie.After-skip-entry Inv-loop μ-loop = search in
+    let v = head .loop in
+    all-stop _ _ _ _ (v .left) _ (turn .loop-test .taken) (sym (c .before .r .given .1) ∙ at-skip-entry .skip-entry .ensures) ∙ sym (v .inv))
     (λ c. search needs)
     (λ c. search needs)
     (λ c. search needs)
-    (λ c. let v = c .before .before .before .before .before .loop in v .inv ∙ all-go _ _ _ _ (v .left) _ (c .before .before .before .before .loop-test .taken) (sym (c .before .q .given .1) ∙ c .before .before .before .skip-entry .ensures))
+    (λ c.
+    let head : tie.At-loop Inv-loop μ-loop = search in
+    let turn : tie.In-loop Inv-loop μ-loop = search in
+    let at-skip-entry : tie.After-skip-entry Inv-loop μ-loop = search in
+    let v = head .loop in
+    v .inv ∙ all-go _ _ _ _ (v .left) _ (turn .loop-test .taken) (sym (c .before .q .given .1) ∙ at-skip-entry .skip-entry .ensures))
     (λ c. let v = c .before .loop in all-done _ _ _ _ (v .left) (omega arith) ∙ sym (v .inv)))

@@ -19,5 +19,15 @@ skip-entry-spec =
     (λ c. search needs)
     (λ c. omega (arith, part-facts _ _ _ _ _ _ (sym (c .before .a .given .1) ∙ c .before .before .before .read-part .ensures) .0))
     (λ c. head-no _ _ _ _ _ _ (sym (c .before .r .given .1) ∙ c .before .before .before .read-number .ensures))
-    (λ c. entry-no _ _ _ _ _ _ _ (sym (c .before .before .before .before .before .v .given .1) ∙ c .before .before .before .before .before .before .before .read-number .ensures) _ (sym (c .before .r2 .given .1) ∙ c .before .before .before .read-part .ensures))
-    (λ c. entry-at _ _ _ _ _ _ _ (sym (c .before .before .before .before .before .v .given .1) ∙ c .before .before .before .before .before .before .before .read-number .ensures) _ _ (sym (c .before .a .given .1) ∙ c .before .before .before .read-part .ensures)))
+    (λ c.
+    let at-v : tie.After-v = search in
+    let at-read-number : tie.After-read-number = search in
+    let at-read-part : tie.After-read-part = search in
+    entry-no _ _ _ _ _ _ _ (sym (at-v .v .given .1) ∙ at-read-number .read-number .ensures) _
+    (sym (c .before .r2 .given .1) ∙ at-read-part .read-part .ensures))
+    (λ c.
+    let at-v : tie.After-v = search in
+    let at-read-number : tie.After-read-number = search in
+    let at-read-part : tie.After-read-part = search in
+    entry-at _ _ _ _ _ _ _ (sym (at-v .v .given .1) ∙ at-read-number .read-number .ensures) _ _
+    (sym (c .before .a .given .1) ∙ at-read-part .read-part .ensures)))

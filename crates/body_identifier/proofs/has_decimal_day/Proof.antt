@@ -20,9 +20,10 @@ has-decimal-day-spec =
     (λ c. search needs)
     (λ c κs. search needs)
     (λ c.
-    let last : tie.After-usual-last = c .before in
-    let year : tie.After-two-bytes = last .before .before .before in
-    let given = year .before .before .before .before .args in
+    let start : tie.Start = search in
+    let last : tie.After-usual-last = search in
+    let year : tie.After-two-bytes = search in
+    let given = start .args in
     usual-day (given .s .now) (given .p) (search needs) (search needs) _ _ _ _ (year .two-bytes .ensures) refl refl (last .usual-last .ensures)
     (c .if1 .taken))
     (λ c κs. search needs)

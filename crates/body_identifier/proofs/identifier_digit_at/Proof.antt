@@ -19,6 +19,7 @@ identifier-digit-at-spec =
     identifier-each _ _ _ _ _ (λ i. read .before .shared-slice-known .given i .fits) (sym (c .before .a .given .1) ∙ read .read-identifier .ensures) .0)
     (λ c. digit-no identifier _ _ _ _ _ (sym (c .before .r .given .1) ∙ c .before .before .before .read-identifier .ensures))
     (λ c.
-    let read : tie.After-read-identifier = c .before .before .before .before in
+    let at-a : tie.After-a = search in
+    let read : tie.After-read-identifier = search in
     c .digit-of .ensures
-    ∙ identifier-each _ _ _ _ _ (λ i. read .before .shared-slice-known .given i .fits) (sym (c .before .before .a .given .1) ∙ read .read-identifier .ensures) .1 _))
+    ∙ identifier-each _ _ _ _ _ (λ i. read .before .shared-slice-known .given i .fits) (sym (at-a .a .given .1) ∙ read .read-identifier .ensures) .1 _))

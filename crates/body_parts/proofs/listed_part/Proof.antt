@@ -19,4 +19,7 @@ listed-part-spec =
     let at-read-number = at-n .before .before in
     c .part-after .ensures ∙ listed-part _ _ _ _ _ _ _ _ (sym (at-n .n .given .1) ∙ at-read-number .read-number .ensures) (omega arith))
     (λ c. listed-no _ _ _ _ _ _ _ (sym (c .before .r .given .1) ∙ c .before .before .before .read-number .ensures))
-    (λ c. listed-none _ _ _ _ _ _ _ _ (sym (c .before .before .n .given .1) ∙ c .before .before .before .before .read-number .ensures) (omega arith)))
+    (λ c.
+    let at-n : tie.After-n = search in
+    let at-read-number : tie.After-read-number = search in
+    listed-none _ _ _ _ _ _ _ _ (sym (at-n .n .given .1) ∙ at-read-number .read-number .ensures) (omega arith)))

@@ -14,4 +14,7 @@ read-part12-spec =
     (λ c. search needs)
     (λ c κs. reserved-inside _ _ _ _ _ _ _ (sym (c .before .n .given .1) ∙ c .before .before .before .read-reserved .ensures))
     (λ c. part12-no _ _ _ _ (sym (c .before .r .given .1) ∙ c .before .before .before .read-reserved .ensures))
-    (λ c. c .part-from .ensures ∙ part12-is _ _ _ _ _ (sym (c .before .before .n .given .1) ∙ c .before .before .before .before .read-reserved .ensures)))
+    (λ c.
+    let at-n : tie.After-n = search in
+    let at-read-reserved : tie.After-read-reserved = search in
+    c .part-from .ensures ∙ part12-is _ _ _ _ _ (sym (at-n .n .given .1) ∙ at-read-reserved .read-reserved .ensures)))

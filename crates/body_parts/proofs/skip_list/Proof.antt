@@ -14,4 +14,7 @@ skip-list-spec =
     (λ c. search needs)
     (λ c κs. search needs)
     (λ c. list-no _ _ _ _ _ _ (sym (c .before .r .given .1) ∙ c .before .before .before .read-number .ensures))
-    (λ c. c .skip-parts .ensures ∙ list-all _ _ _ _ _ _ _ (sym (c .before .before .n .given .1) ∙ c .before .before .before .before .read-number .ensures)))
+    (λ c.
+    let at-n : tie.After-n = search in
+    let at-read-number : tie.After-read-number = search in
+    c .skip-parts .ensures ∙ list-all _ _ _ _ _ _ _ (sym (at-n .n .given .1) ∙ at-read-number .read-number .ensures)))

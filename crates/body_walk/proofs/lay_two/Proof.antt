@@ -14,8 +14,8 @@ lay-two-spec =
     (λ c κs. search needs)
     (λ c. search needs)
     (λ c.
-    let at-lay-entry2 = c .before .before in
-    let at-less = at-lay-entry2 .before in
-    let at-lay-entry = at-less .before .before .before .before in
+    let at-lay-entry2 : tie.After-lay-entry2 = search in
+    let at-less : tie.After-less = search in
+    let at-lay-entry : tie.After-lay-entry = search in
     laid-both _ _ _ (_ ∷ []) (_ ∷ []) _ _ _ (at-lay-entry .lay-entry .ensures) (search needs) (at-less .less .ensures)
     (at-lay-entry2 .lay-entry2 .ensures)))

@@ -14,7 +14,9 @@ past-part-spec =
     (λ c. search needs)
     (λ c. search needs)
     (λ c κs. search needs)
-    (λ c. omega (arith, ap endOf (c .before .before .before .before .before .x2 .given .1)))
+    (λ c.
+    let at-x2 : tie.After-x2 = search in
+    omega (arith, ap endOf (at-x2 .x2 .given .1)))
     (λ c κs. search needs)
     (λ c. stepped (pastPart _) spanOf _ _ (c .before .x .given .1) _ _ _ _ _ refl (laid-none _ _ _))
     (λ c. search needs)

@@ -12,7 +12,15 @@ possible-spec =
     (λ c. search needs)
     (λ c. search needs)
     (λ c. search needs)
-    (λ c. judged-holds _ _ (c .before .before .before .before .before .x2 .given .1) (c .before .before .y2 .given .1) (c .if1 .taken))
+    (λ c.
+    let at-x2 : tie.After-x2 = search in
+    let at-y2 : tie.After-y2 = search in
+    judged-holds _ _ (at-x2 .x2 .given .1) (at-y2 .y2 .given .1) (c .if1 .taken))
     (λ c. judged-before _ _ (c .before .x .given .1))
-    (λ c. judged-refused _ _ (c .before .before .before .before .x2 .given .1) (c .before .y .given .1))
-    (λ c. judged-fails _ _ (c .before .before .before .before .before .x2 .given .1) (c .before .before .y2 .given .1) (c .if1 .left)))
+    (λ c.
+    let at-x2 : tie.After-x2 = search in
+    judged-refused _ _ (at-x2 .x2 .given .1) (c .before .y .given .1))
+    (λ c.
+    let at-x2 : tie.After-x2 = search in
+    let at-y2 : tie.After-y2 = search in
+    judged-fails _ _ (at-x2 .x2 .given .1) (at-y2 .y2 .given .1) (c .if1 .left)))

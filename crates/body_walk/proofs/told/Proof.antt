@@ -13,6 +13,8 @@ told-spec =
     (λ c. search needs)
     (λ c. search needs)
     (λ c. search needs)
-    (λ c. record { past = c .before .before .before .before .before .past-number .ensures; value = sym (ap numberWorth (c .before .x .given .1)) })
+    (λ c.
+    let at-past-number : tie.After-past-number = search in
+    record { past = at-past-number .past-number .ensures; value = sym (ap numberWorth (c .before .x .given .1)) })
     (λ c. search needs)
     (λ c. search needs))

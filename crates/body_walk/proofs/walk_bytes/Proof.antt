@@ -16,8 +16,8 @@ walk-bytes-spec =
     (λ c. search needs)
     (λ c κs. search needs)
     (λ c κs.
-    let at-x2 = c .before .before .before in
-    let at-args = at-x2 .before .before .before .before in
+    let at-x2 : tie.After-x2 = search in
+    let at-args : tie.Start = search in
     let t = at-args .args in
     omega (
       arith,

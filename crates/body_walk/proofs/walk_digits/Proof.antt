@@ -17,13 +17,16 @@ walk-digits-spec =
     (λ c. search needs)
     (λ c κs. search needs)
     (λ c κs.
-    let here : tie.After-x2 = c .before .before .before in
-    let t = here .before .before .before .before .args in
+    let start : tie.Start = search in
+    let here : tie.After-x2 = search in
+    let t = start .args in
     let D = digits (t .h) in
     omega (arith, field-end D _ (digits-entries _) (now (t .s)) (t .l) (here .x2 .given .0 .0) (digits-fit _ _ _ _) _ (c .before .read-digits .ensures)))
     (λ c. stays (c .before .x .given .1))
     (λ c. search needs)
     (λ c.
-    let read : tie.After-read-digits = c .before .before .before .before in
-    field-leaf _ _ (digits-entries _) _ _ _ (digits-fit _ _ _ _) _ (read .read-digits .ensures) _ _ _ _ (read .before .before .x2 .given .1)
-    _ _ (c .before .before .past-part .ensures)))
+    let at-x2 : tie.After-x2 = search in
+    let at-past-part : tie.After-past-part = search in
+    let read : tie.After-read-digits = search in
+    field-leaf _ _ (digits-entries _) _ _ _ (digits-fit _ _ _ _) _ (read .read-digits .ensures) _ _ _ _ (at-x2 .x2 .given .1)
+    _ _ (at-past-part .past-part .ensures)))

@@ -17,12 +17,16 @@ walk-identifier-spec =
     (λ c. search needs)
     (λ c κs. search needs)
     (λ c κs.
-    let here : tie.After-x2 = c .before .before .before in
-    let t = here .before .before .before .before .args in
-    omega (arith, field-end identifier _ identifier-entries (now (t .s)) (t .l) (here .x2 .given .0 .0) (identifier-fits _ _ _) _ (c .before .read-identifier .ensures)))
+    let start : tie.Start = search in
+    let here : tie.After-x2 = search in
+    let t = start .args in
+    omega (arith, field-end identifier _ identifier-entries (now (t .s)) (t .l) (here .x2 .given .0 .0) (identifier-fits _ _ _) _
+    (c .before .read-identifier .ensures)))
     (λ c. stays (c .before .x .given .1))
     (λ c. search needs)
     (λ c.
-    let read : tie.After-read-identifier = c .before .before .before .before in
-    field-leaf _ _ identifier-entries _ _ _ (identifier-fits _ _ _) _ (read .read-identifier .ensures) _ _ _ _ (read .before .before .x2 .given .1)
-    _ _ (c .before .before .past-part .ensures)))
+    let at-x2 : tie.After-x2 = search in
+    let at-past-part : tie.After-past-part = search in
+    let read : tie.After-read-identifier = search in
+    field-leaf _ _ identifier-entries _ _ _ (identifier-fits _ _ _) _ (read .read-identifier .ensures) _ _ _ _ (at-x2 .x2 .given .1)
+    _ _ (at-past-part .past-part .ensures)))

@@ -14,6 +14,6 @@ walk-resources-spec =
     (λ c κs. search needs)
     (λ c. search needs)
     (λ c.
-    let at-walk-all-resources = c .before .before in
-    let at-walk-count = at-walk-all-resources .before .before .before .before in
+    let at-walk-all-resources : tie.After-walk-all-resources = search in
+    let at-walk-count : tie.After-walk-count = search in
     list-walk (count-lawful 1) (digits-lawful resourcePairs) (at-walk-count .walk-count .ensures) (at-walk-all-resources .walk-all-resources .ensures)))
