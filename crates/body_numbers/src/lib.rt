@@ -6,7 +6,7 @@ use ground_refusal::Refusal;
 use time_fields::EndTimed;
 use time_fields::Timed;
 ghost use mathlib.Core.Path.{_≡_};
-ghost use Prim.Native.Nat.{_+_, _^_, _≤_};
+ghost use Prim.Native.Nat.{_+_, _^_, _≤_, _<_};
 ghost use lib.ListN.{length};
 ghost use Rattle.body_formats.specs.Format.{numberAt, reserved};
 ghost use Rattle.body_formats.specs.Time.{time, endTime};
@@ -27,6 +27,26 @@ fn long_number_at(s: &[u8], p: usize, w: usize) -> u64
     v
 }
 
+// The number in two bytes at p, the high one first.
+pub fn two_bytes(s: &[u8], p: usize) -> usize
+    requires { ⌜ p + 2 ≤ length (now s) ⌝ }
+    ensures { λ r. ⌜ (r ≡ numberAt (now (s .entry)) p 2) × (r < 65536) ⌝ }
+{
+    (wide(s[p]) * 256 + wide(s[p + 1])) as usize
+}
+
+// The number in w bytes at p, three or four: no turn for each.
+pub fn three_or_four_bytes(s: &[u8], p: usize, w: usize) -> usize
+    requires { ⌜ (p + w ≤ length (now s)) × (3 ≤ w) × (w ≤ 4) ⌝ }
+    ensures { λ r. ⌜ r ≡ numberAt (now (s .entry)) p w ⌝ }
+{
+    let three = two_bytes(s, p) * 256 + (wide(s[p + 2]) as usize);
+    if w == 3 {
+        return three;
+    }
+    three * 256 + (wide(s[p + 3]) as usize)
+}
+
 // The number in w bytes at p, the high one first: nearly all have one or two.
 fn number_at(s: &[u8], p: usize, w: usize) -> u64
     requires { ⌜ (p + w ≤ length (now s)) × (w ≤ 7) ⌝ }
@@ -36,7 +56,7 @@ fn number_at(s: &[u8], p: usize, w: usize) -> u64
         return wide(s[p]);
     }
     if w == 2 {
-        return wide(s[p]) * 256 + wide(s[p + 1]);
+        return two_bytes(s, p) as u64;
     }
     long_number_at(s, p, w)
 }

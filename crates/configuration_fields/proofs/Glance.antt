@@ -1,5 +1,5 @@
 -- Laws of a glance at a command: what its tests find is where the list of terminals begins.
-use Prim.Native.Nat.{ℕ, _+_, _-_, _*_, _≤_, _<_}
+use Prim.Native.Nat.{ℕ, _+_, _-_, _≤_, _<_}
 use mathlib.Core.Path.{_≡_, refl, sym, ap, _∙_}
 use mathlib.Core.List.{List}
 use native.Mathlib.Omega.{arith}
@@ -11,7 +11,7 @@ use Rattle.body_formats.specs.declared.Number.the-variants.{Is}
 use Rattle.body_formats.specs.declared.Part.the-variants.{Of}
 use Rattle.body_formats.proofs.Classes.{Bytes}
 use Rattle.body_formats.proofs.Readers.{number-is, part-of, least-is}
-use Rattle.body_numbers.proofs.Numbers.{number-one, number-two}
+use Rattle.body_numbers.proofs.Numbers.{number-one}
 use Rattle.configuration.specs.Configuration.{least}
 use Rattle.configuration_fields.specs.declared.Place.the-variants.{In}
 use Rattle.configuration_fields.specs.Asked.{addressIn, commandTag, commandContent}
@@ -48,11 +48,6 @@ module _ (s : List ℕ) (l q : ℕ) where
       record { lowest = omega arith; highest = omega arith; enough = rw e (omega arith); begins = rw e (after-parameters s l q n (q + 1) count) }
 
 -- ---- in the command at p
-
-pub end-is : (s : List ℕ) (p a b : ℕ) → a ≡ getD s (p + 1) 0 → b ≡ getD s (p + 2) 0 → p + 3 + (a * 256 + b) ≡ contentEnd s p
-end-is s p a b e f =
-    let next : p + 2 ≡ p + 1 + 1 = omega arith in
-    ap (λ (n : ℕ). p + 3 + n) (number-two s (p + 1) 2 a b refl e (f ∙ ap (λ (i : ℕ). getD s i 0) next))
 
 module _ (s : List ℕ) (b : Bytes s) (p tag l : ℕ) (there : p + 3 ≤ length s) (same : l ≡ contentEnd s p) (inside : l ≤ length s) (e : tag ≡ getD s p 0) where
   tagged : Is tag (p + 1) ≡ commandTag s p

@@ -566,7 +566,7 @@ fn content_end(s: &[u8], p: usize) -> usize
     requires { ⌜ p + 3 ≤ length (now s) ⌝ }
     ensures { λ r. ⌜ r ≡ contentEnd (now (s .entry)) p ⌝ }
 {
-    p + 3 + ((wide(s[p + 1]) * 256 + wide(s[p + 2])) as usize)
+    p + 3 + body_numbers::two_bytes(s, p + 1)
 }
 
 // In the command at p.

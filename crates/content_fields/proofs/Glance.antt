@@ -1,10 +1,9 @@
 -- Laws of a glance at a language: what its tests find is where an auxiliary file begins.
-use Prim.Native.Nat.{ℕ, _+_, _-_, _*_, _/_, _%_, _≤_, _<_}
+use Prim.Native.Nat.{ℕ, _+_, _-_, _/_, _%_, _≤_, _<_}
 use mathlib.Core.Path.{_≡_, refl, sym, ap, _∙_}
 use mathlib.Core.List.{List}
 use mathlib.Core.Bool.{Bool, true, false}
 use native.Mathlib.Omega.{arith}
-use native.Mathlib.Nat.{add-zero}
 use lib.ListN.{length, getD}
 use lib.Dec.{eqb}
 use borrow.Author.Tests.{le-leb}
@@ -14,11 +13,10 @@ use Rattle.body_formats.specs.Format.{Format, numberAt, among, reserved}
 use Rattle.body_formats.specs.Answers.{stepOf, numberOf, partOf, numberAmong, ended, partRead}
 use Rattle.body_formats.specs.declared.Step.the-variants.{At}
 use Rattle.body_formats.specs.declared.Number.the-variants.{Is}
-use Rattle.body_formats.specs.declared.Part.the-variants.{Of}
 use Rattle.body_formats.proofs.Classes as classes
 use Rattle.body_formats.proofs.Bits.{reserved-is, number-among}
 use Rattle.body_formats.proofs.Readers.{number-is, all-done, all-go}
-use Rattle.body_numbers.proofs.Numbers.{number-one, number-two}
+use Rattle.body_numbers.proofs.Numbers.{number-one}
 use Rattle.body_asking.specs.Asking.{headedPart, nthOf}
 use Rattle.body_asking.proofs.Answers.{needed, part-there}
 use Rattle.body_asking.proofs.Entries.{nth-there, entry-at}
@@ -39,15 +37,6 @@ width-least v w e = go (eqb v 24) (eqb v 32) e
     go false true f = let z : w ≡ 4 = cc in omega arith
     go false false f = absurd (let z : _≡_ {A = ℕ} 0 1 = cc in omega arith)
 
-module _ (s : List ℕ) (p w x y z : ℕ) (e : x ≡ getD s p 0) (f : y ≡ getD s (p + 1) 0) (g : z ≡ getD s (p + 2) 0) where
-  pub length-three : w ≡ 3 → (x * 256 + y) * 256 + z ≡ numberAt s p w
-  unfolding numberAt
-  length-three h = let first : getD s (p + 0) 0 ≡ getD s p 0 = ap (λ i. getD s i 0) (add-zero p) in rw h (omega arith)
-
-  pub length-four : (u : ℕ) → w ≡ 4 → u ≡ getD s (p + 3) 0 → ((x * 256 + y) * 256 + z) * 256 + u ≡ numberAt s p w
-  unfolding numberAt
-  length-four u h k = let first : getD s (p + 0) 0 ≡ getD s p 0 = ap (λ i. getD s i 0) (add-zero p) in rw h (omega arith)
-
 -- ---- a file: its type, and a part after its length of w bytes
 
 module _ (s : List ℕ) (b : classes.Bytes s) (l : ℕ) (inside : l ≤ length s) where
@@ -58,16 +47,13 @@ module _ (s : List ℕ) (b : classes.Bytes s) (l : ℕ) (inside : l ≤ length s
 
 -- ---- the auxiliary count, after the text and the agency
 
-module _ (s : List ℕ) (b : classes.Bytes s) (at n : ℕ) (inside : at + n ≤ length s) (x y k : ℕ) where
-  pub count-at : x ≡ getD s (at + 4) 0 → y ≡ getD s (at + 5) 0 → at + 6 + (x * 256 + y) < at + n → k ≡ getD s (at + 6 + (x * 256 + y)) 0
-      → at + 6 + (x * 256 + y) + 1 + k < at + n → CountAt s at n (at + 6 + (x * 256 + y) + 1 + k)
+module _ (s : List ℕ) (b : classes.Bytes s) (at n : ℕ) (inside : at + n ≤ length s) (m k : ℕ) where
+  pub count-at : m ≡ numberAt s (at + 4) 2 → at + 6 + m < at + n → k ≡ getD s (at + 6 + m) 0 → at + 6 + m + 1 + k < at + n
+      → CountAt s at n (at + 6 + m + 1 + k)
   unfolding textPart textIn partRead
-  count-at e f g h i =
-      let m = x * 256 + y in
+  count-at e g h i =
       let t = at + 6 + m in
-      let next : at + 5 ≡ at + 4 + 1 = omega arith in
-      let long = number-two s (at + 4) 2 x y refl e (f ∙ ap (λ (j : ℕ). getD s j 0) next) in
-      let text = part-there s b (at + n) inside (at + 4) 2 m (at + 6) long (omega arith) (omega arith)
+      let text = part-there s b (at + n) inside (at + 4) 2 m (at + 6) e (omega arith) (omega arith)
       ∙ ap partOf (needed _ _ _ (le-leb (at + n) (length s) inside)) in
       let agency = part-there s b (at + n) inside t 1 k (t + 1) (number-one s t 1 k refl h) refl (omega arith) ∙ agency-is s at n (at + 6) m text in
       record { inside = inside; lies = i; is = count-is s at n (t + 1) k agency }

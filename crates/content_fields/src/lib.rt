@@ -8,7 +8,7 @@ use ground_refusal::Refusal;
 ghost use mathlib.Core.Path.{_≡_};
 ghost use Prim.Native.Nat.{_+_, _≤_, _<_};
 ghost use lib.ListN.{length};
-ghost use Rattle.body_formats.specs.Format.{numberAt, among, reserved};
+ghost use Rattle.body_formats.specs.Format.{among, reserved};
 ghost use Rattle.body_formats.specs.Answers.{stepOf, numberOf, ended};
 ghost use Rattle.body_formats.specs.declared.Step.the-variants.{At};
 ghost use Rattle.body_asking.specs.Asking.{headedPart, nthOf};
@@ -145,7 +145,7 @@ fn count_place(s: &[u8], at: usize, n: usize) -> usize
         return 0;
     }
     let l = at + n;
-    let t = at + 6 + ((wide(s[at + 4]) * 256 + wide(s[at + 5])) as usize);
+    let t = at + 6 + body_numbers::two_bytes(s, at + 4);
     if l <= t {
         return 0;
     }
@@ -154,18 +154,6 @@ fn count_place(s: &[u8], at: usize, n: usize) -> usize
         return 0;
     }
     q
-}
-
-// A length of three or four bytes.
-fn length_at(s: &[u8], p: usize, w: usize) -> u64
-    requires { ⌜ (p + w ≤ length (now s)) × (3 ≤ w) × (w ≤ 4) ⌝ }
-    ensures { λ r. ⌜ r ≡ numberAt (now (s .entry)) p w ⌝ }
-{
-    let three = (wide(s[p]) * 256 + wide(s[p + 1])) * 256 + wide(s[p + 2]);
-    if w == 3 {
-        return three;
-    }
-    three * 256 + wide(s[p + 3])
 }
 
 // Past the file at p, to one more in the part.
@@ -177,11 +165,11 @@ fn past_file(w: usize, s: &[u8], l: usize, p: usize) -> usize
         return 0;
     }
     let q = p + 1 + w;
-    let m = length_at(s, p + 1, w);
-    if (l - q) as u64 <= m {
+    let m = body_numbers::three_or_four_bytes(s, p + 1, w);
+    if l - q <= m {
         return 0;
     }
-    q + (m as usize)
+    q + m
 }
 
 // The i-th of m files, of which the first begins at p: there are two at most.

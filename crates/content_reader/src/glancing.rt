@@ -3,23 +3,10 @@
 use body_glance::two_bytes;
 use ground_numbers::wide;
 ghost use Prim.Native.Nat.{_+_, _≤_, _<_};
-ghost use mathlib.Core.Path.{_≡_};
 ghost use lib.ListN.{length};
-ghost use Rattle.body_formats.specs.Format.{_▷_, numberAt, among, reserved, listOf, opaque};
+ghost use Rattle.body_formats.specs.Format.{_▷_, among, reserved, listOf, opaque};
 ghost use Rattle.body_glance.specs.Glance.{Good, Filled};
 ghost use Rattle.content.specs.Content.{auxiliaries, languageFields, language, content};
-
-// The number in the w bytes at p.
-fn long_length(s: &[u8], p: usize, w: usize) -> usize
-    requires { ⌜ (p + w ≤ length (now s)) × (3 ≤ w) × (w ≤ 4) ⌝ }
-    ensures { λ r. ⌜ r ≡ numberAt (now (s .entry)) p w ⌝ }
-{
-    let three = wide(s[p]) * 65536 + wide(s[p + 1]) * 256 + wide(s[p + 2]);
-    if w == 3 {
-        return three as usize;
-    }
-    (three * 256 + wide(s[p + 3])) as usize
-}
 
 // "4 reserved, auxiliary count 4 bits (0 to 2), each with type 8 (free), length 24, data", and no byte left at l.
 fn good_auxiliaries(s: &[u8], p: usize, l: usize, w: usize) -> bool
@@ -40,7 +27,7 @@ fn good_auxiliaries(s: &[u8], p: usize, l: usize, w: usize) -> bool
             return false;
         }
         let data = at + 1 + w;
-        let n = long_length(s, at + 1, w);
+        let n = body_numbers::three_or_four_bytes(s, at + 1, w);
         if l - data < n {
             return false;
         }
@@ -101,7 +88,7 @@ fn good_languages(s: &[u8], p: usize, w: usize) -> bool
             return false;
         }
         let fields = at + 4;
-        let n = long_length(s, at, 4);
+        let n = body_numbers::three_or_four_bytes(s, at, 4);
         if l - fields < n {
             return false;
         }

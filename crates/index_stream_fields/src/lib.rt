@@ -89,9 +89,9 @@ pub fn stream_pid(s: &[u8], at: usize, n: usize) -> Number
     ensures { λ r. ⌜ r ≡ streamPid (now (s .entry)) at n ⌝ }
 {
     if holds(s, at, n, 3) {
-        let high = wide(s[at + 1]);
-        if 0xE0 <= high {
-            return Number::Is((high - 0xE0) * 256 + wide(s[at + 2]), at + 3);
+        let field = body_numbers::two_bytes(s, at + STREAM_PID_PLACE);
+        if 0xE000 <= field {
+            return Number::Is((field - 0xE000) as u64, at + 3);
         }
     }
     pid_walked(s, at, n)
@@ -112,12 +112,12 @@ pub fn stream_descriptors(s: &[u8], at: usize, n: usize) -> Part
     ensures { λ r. ⌜ r ≡ streamDescriptors (now (s .entry)) at n ⌝ }
 {
     if holds(s, at, n, 5) {
-        let field = wide(s[at + 3]) * 256 + wide(s[at + 4]);
+        let field = body_numbers::two_bytes(s, at + STREAM_DESCRIPTORS_PLACE);
         if 0xF000 <= field {
             let m = field - 0xF000;
             if m < 1024 {
-                if m <= (n - 5) as u64 {
-                    return Part::Of(at + 5, m as usize);
+                if m <= n - 5 {
+                    return Part::Of(at + 5, m);
                 }
             }
         }

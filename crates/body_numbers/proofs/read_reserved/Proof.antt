@@ -17,7 +17,9 @@ read-reserved-spec =
     (λ c. search needs)
     (λ c. search needs)
     (λ c κs. search needs)
-    (λ c. omega (arith, c .power .ensures, pow-pos (c .before .before .before .before .before .before .args .k)))
+    (λ c.
+    let start : tie.Start = search in
+    omega (arith, c .power .ensures, pow-pos (start .args .k)))
     (λ c.
     let at-first = c .before .before .before in
     let at-read-number = at-first .before .before in

@@ -7,9 +7,10 @@ use Rattle.content_fields.proofs.past_file.Tie as tie
 
 returns-3 : tie.Need-returns-3
 returns-3 c h =
-    let length = c .before in
-    let start = length .before .before in
-    (omega arith, file-ends _ (λ i. start .shared-slice-known .given i .fits) _ (omega arith) _ _ _ _ (length .length-at .ensures) (omega arith) (omega arith))
+    let length : tie.After-three-or-four-bytes = search in
+    let known : tie.After-shared-slice-known = search in
+    (omega arith, file-ends _ (λ i. known .shared-slice-known .given i .fits) _ (omega arith) _ _ _ _ (length .three-or-four-bytes .ensures)
+    (omega arith) (omega arith))
 
 pub past-file-spec : {M : Type 1} → statement M
 past-file-spec =

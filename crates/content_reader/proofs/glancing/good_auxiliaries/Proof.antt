@@ -41,10 +41,10 @@ good-auxiliaries-spec =
     (λ c. search needs)
     (λ c. search needs)
     (λ c.
-    let n : tie.After-long-length Inv-loop μ-loop = search in
+    let n : tie.After-three-or-four-bytes Inv-loop μ-loop = search in
     let turn : tie.In-loop Inv-loop μ-loop = search in
     let known : tie.After-shared-slice-known Inv-loop μ-loop = search in
-    let found = reads-auxiliary _ _ _ (λ i. known .shared-slice-known .given i .fits) _ (n .long-length .ensures) in
+    let found = reads-auxiliary _ _ _ (λ i. known .shared-slice-known .given i .fits) _ (n .three-or-four-bytes .ensures) in
     (omega arith, coming-turn (auxiliary _) _ _ _ (turn .before .loop .inv .1) (turn .loop-test .taken) found))
     (λ c e.
     let loop : tie.At-loop Inv-loop μ-loop = search in

@@ -50,10 +50,10 @@ good-languages-spec =
     (λ c.
     let known : tie.After-shared-slice-known Inv-loop μ-loop = search in
     let turn : tie.In-loop Inv-loop μ-loop = search in
-    let n : tie.After-long-length Inv-loop μ-loop = search in
+    let n : tie.After-three-or-four-bytes Inv-loop μ-loop = search in
     let fields : tie.After-good-language Inv-loop μ-loop = search in
     let filled = fields .good-language .ensures (not-false _ (c .if5 .left)) in
-    let found = reads-language _ _ _ (bytes known) _ (n .long-length .ensures) (omega arith) filled in
+    let found = reads-language _ _ _ (bytes known) _ (n .three-or-four-bytes .ensures) (omega arith) filled in
     (omega arith, coming-turn (language _) _ _ _ (turn .before .loop .inv .1) (turn .loop-test .taken) found))
     (λ c. search needs)
     (λ c. not-good)
