@@ -15,5 +15,16 @@ address-in-spec =
     (λ c. search needs)
     (λ c. search needs)
     (λ c κs. search needs)
-    (λ c. kind-no _ _ _ _ (sym (c .before .r .given .1) ∙ c .before .before .before .among .ensures ∙ ap (numberAmong _ _ _) (c .before .before .before .before .read-number .ensures) ∙ among-read _ (λ i. c .before .before .before .before .before .shared-slice-known .given i .fits) _ _ _ _))
-    (λ c. c .judged-address .ensures ∙ kind-is _ _ _ _ _ (sym (c .before .before .kind .given .1) ∙ c .before .before .before .before .among .ensures ∙ ap (numberAmong _ _ _) (c .before .before .before .before .before .read-number .ensures) ∙ among-read _ (λ i. c .before .before .before .before .before .before .shared-slice-known .given i .fits) _ _ _ _)))
+    (λ c.
+    let at-among : tie.After-among = search in
+    let at-read-number : tie.After-read-number = search in
+    let known : tie.After-shared-slice-known = search in
+    kind-no _ _ _ _ (sym (c .before .r .given .1) ∙ at-among .among .ensures ∙ ap (numberAmong _ _ _) (at-read-number .read-number .ensures) ∙ among-read _
+    (λ i. known .shared-slice-known .given i .fits) _ _ _ _))
+    (λ c.
+    let at-kind : tie.After-kind = search in
+    let at-among : tie.After-among = search in
+    let at-read-number : tie.After-read-number = search in
+    let known : tie.After-shared-slice-known = search in
+    c .judged-address .ensures ∙ kind-is _ _ _ _ _ (sym (at-kind .kind .given .1) ∙ at-among .among .ensures ∙ ap (numberAmong _ _ _)
+    (at-read-number .read-number .ensures) ∙ among-read _ (λ i. known .shared-slice-known .given i .fits) _ _ _ _)))

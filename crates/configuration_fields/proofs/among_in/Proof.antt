@@ -17,7 +17,21 @@ among-in-spec =
     (λ c. search needs)
     (λ c. omega (arith, inside _ _ _ _ _ (sym (c .before .q .given .1) ∙ c .before .before .before .content .ensures)))
     (λ c κs. search needs)
-    (λ c. omega (arith, inside _ _ _ _ _ (sym (c .before .before .q .given .1) ∙ c .before .before .before .before .content .ensures)))
+    (λ c.
+    let at-q : tie.After-q = search in
+    let at-content : tie.After-content = search in
+    omega (arith, inside _ _ _ _ _ (sym (at-q .q .given .1) ∙ at-content .content .ensures)))
     (λ c κs. search needs)
-    (λ c. let a = c .before .before .before .before .before .args in ap numberOf (in-command-no (among (a .lo) (a .hi) (number 1)) _ _ _ _ _ (sym (c .before .r .given .1) ∙ c .before .before .before .content .ensures)))
-    (λ c. let a = c .before .before .before .before .before .before .before .args in c .among .ensures ∙ ap (numberAmong (a .lo) (a .hi) _) (c .before .read-number .ensures) ∙ among-read _ (λ i. c .before .before .before .before .before .before .shared-slice-known .given i .fits) (a .lo) (a .hi) _ _ ∙ ap numberOf (in-command (among (a .lo) (a .hi) (number 1)) _ _ _ _ _ _ (sym (c .before .before .before .q .given .1) ∙ c .before .before .before .before .before .content .ensures))))
+    (λ c.
+    let start : tie.Start = search in
+    let at-content : tie.After-content = search in
+    let a = start .args in
+    ap numberOf (in-command-no (among (a .lo) (a .hi) (number 1)) _ _ _ _ _ (sym (c .before .r .given .1) ∙ at-content .content .ensures)))
+    (λ c.
+    let start : tie.Start = search in
+    let known : tie.After-shared-slice-known = search in
+    let at-q : tie.After-q = search in
+    let at-content : tie.After-content = search in
+    let a = start .args in
+    c .among .ensures ∙ ap (numberAmong (a .lo) (a .hi) _) (c .before .read-number .ensures) ∙ among-read _ (λ i. known .shared-slice-known .given i .fits)
+    (a .lo) (a .hi) _ _ ∙ ap numberOf (in-command (among (a .lo) (a .hi) (number 1)) _ _ _ _ _ _ (sym (at-q .q .given .1) ∙ at-content .content .ensures))))

@@ -17,17 +17,23 @@ clock-date-spec =
     (λ c. search needs)
     (λ c κs. search needs)
     (λ c.
-    let read = c .before .before .before in
-    let content = read .before .before .before .before in
-    date-is _ _ _ _ (sym (content .q .given .1) ∙ content .before .before .content .ensures)
-    _ _ _ _ (sym (read .year .given .1) ∙ read .before .before .read-three .ensures) (sym (c .before .is-day .ensures) ∙ c .if1 .taken))
+    let at-content : tie.After-content = search in
+    let at-read-three : tie.After-read-three = search in
+    let read : tie.After-year = search in
+    let content : tie.After-q = search in
+    date-is _ _ _ _ (sym (content .q .given .1) ∙ at-content .content .ensures)
+    _ _ _ _ (sym (read .year .given .1) ∙ at-read-three .read-three .ensures) (sym (c .before .is-day .ensures) ∙ c .if1 .taken))
     (λ c. date-no _ _ _ (sym (c .before .r .given .1) ∙ c .before .before .before .content .ensures))
     (λ c.
-    let content = c .before .before .before .before .before in
-    date-bad _ _ _ _ (sym (content .q .given .1) ∙ content .before .before .content .ensures)
-    _ (sym (c .before .r2 .given .1) ∙ c .before .before .before .read-three .ensures))
+    let at-content : tie.After-content = search in
+    let at-read-three : tie.After-read-three = search in
+    let content : tie.After-q = search in
+    date-bad _ _ _ _ (sym (content .q .given .1) ∙ at-content .content .ensures)
+    _ (sym (c .before .r2 .given .1) ∙ at-read-three .read-three .ensures))
     (λ c.
-    let read = c .before .before .before in
-    let content = read .before .before .before .before in
-    date-impossible _ _ _ _ (sym (content .q .given .1) ∙ content .before .before .content .ensures)
-    _ _ _ _ (sym (read .year .given .1) ∙ read .before .before .read-three .ensures) (sym (c .before .is-day .ensures) ∙ c .if1 .left)))
+    let at-content : tie.After-content = search in
+    let at-read-three : tie.After-read-three = search in
+    let read : tie.After-year = search in
+    let content : tie.After-q = search in
+    date-impossible _ _ _ _ (sym (content .q .given .1) ∙ at-content .content .ensures)
+    _ _ _ _ (sym (read .year .given .1) ∙ at-read-three .read-three .ensures) (sym (c .before .is-day .ensures) ∙ c .if1 .left)))

@@ -18,8 +18,27 @@ clock-time-spec =
     (λ c. search needs)
     (λ c. search needs)
     (λ c κs. search needs)
-    (λ c. clock-is _ _ _ _ (sym (c .before .before .before .before .before .before .before .q .given .1) ∙ c .before .before .before .before .before .before .before .before .before .content .ensures) _ _ _ _ (sym (c .before .before .before .hour .given .1) ∙ c .before .before .before .before .before .read-three .ensures) (sym (c .before .is-time .ensures) ∙ c .if1 .taken))
-    (λ c. omega (arith, inside _ _ _ _ _ (sym (c .before .before .before .before .before .before .before .q .given .1) ∙ c .before .before .before .before .before .before .before .before .before .content .ensures)))
+    (λ c.
+    let at-q : tie.After-q = search in
+    let at-content : tie.After-content = search in
+    let at-hour : tie.After-hour = search in
+    let at-read-three : tie.After-read-three = search in
+    clock-is _ _ _ _ (sym (at-q .q .given .1) ∙ at-content .content .ensures) _ _ _ _ (sym (at-hour .hour .given .1) ∙ at-read-three .read-three .ensures)
+    (sym (c .before .is-time .ensures) ∙ c .if1 .taken))
+    (λ c.
+    let at-q : tie.After-q = search in
+    let at-content : tie.After-content = search in
+    omega (arith, inside _ _ _ _ _ (sym (at-q .q .given .1) ∙ at-content .content .ensures)))
     (λ c. clock-no _ _ _ (sym (c .before .r .given .1) ∙ c .before .before .before .content .ensures))
-    (λ c. clock-bad _ _ _ _ (sym (c .before .before .before .before .before .q .given .1) ∙ c .before .before .before .before .before .before .before .content .ensures) _ (sym (c .before .r2 .given .1) ∙ c .before .before .before .read-three .ensures))
-    (λ c. clock-impossible _ _ _ _ (sym (c .before .before .before .before .before .before .before .q .given .1) ∙ c .before .before .before .before .before .before .before .before .before .content .ensures) _ _ _ _ (sym (c .before .before .before .hour .given .1) ∙ c .before .before .before .before .before .read-three .ensures) (sym (c .before .is-time .ensures) ∙ c .if1 .left)))
+    (λ c.
+    let at-q : tie.After-q = search in
+    let at-content : tie.After-content = search in
+    let at-read-three : tie.After-read-three = search in
+    clock-bad _ _ _ _ (sym (at-q .q .given .1) ∙ at-content .content .ensures) _ (sym (c .before .r2 .given .1) ∙ at-read-three .read-three .ensures))
+    (λ c.
+    let at-q : tie.After-q = search in
+    let at-content : tie.After-content = search in
+    let at-hour : tie.After-hour = search in
+    let at-read-three : tie.After-read-three = search in
+    clock-impossible _ _ _ _ (sym (at-q .q .given .1) ∙ at-content .content .ensures) _ _ _ _
+    (sym (at-hour .hour .given .1) ∙ at-read-three .read-three .ensures) (sym (c .before .is-time .ensures) ∙ c .if1 .left)))

@@ -14,4 +14,7 @@ code-address-spec =
     (λ c. search needs)
     (λ c κs. search needs)
     (λ c. code-address-no _ _ _ (sym (c .before .r .given .1) ∙ c .before .before .before .content .ensures))
-    (λ c. c .read-part .ensures ∙ code-address-is _ _ _ _ (sym (c .before .before .q .given .1) ∙ c .before .before .before .before .content .ensures)))
+    (λ c.
+    let at-q : tie.After-q = search in
+    let at-content : tie.After-content = search in
+    c .read-part .ensures ∙ code-address-is _ _ _ _ (sym (at-q .q .given .1) ∙ at-content .content .ensures)))

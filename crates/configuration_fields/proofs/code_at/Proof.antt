@@ -19,5 +19,13 @@ code-at-spec =
     (λ c. search needs)
     (λ c. omega (arith, part-facts _ _ _ _ _ _ (sym (c .before .a .given .1) ∙ c .before .before .before .read-part .ensures)))
     (λ c. code-no _ _ _ (sym (c .before .r .given .1) ∙ c .before .before .before .content .ensures))
-    (λ c. code-bad _ _ _ _ (sym (c .before .before .before .before .before .q .given .1) ∙ c .before .before .before .before .before .before .before .content .ensures) _ (sym (c .before .r2 .given .1) ∙ c .before .before .before .read-part .ensures))
-    (λ c. code-is _ _ _ _ (sym (c .before .before .before .before .before .q .given .1) ∙ c .before .before .before .before .before .before .before .content .ensures) _ _ (sym (c .before .a .given .1) ∙ c .before .before .before .read-part .ensures)))
+    (λ c.
+    let at-q : tie.After-q = search in
+    let at-content : tie.After-content = search in
+    let at-read-part : tie.After-read-part = search in
+    code-bad _ _ _ _ (sym (at-q .q .given .1) ∙ at-content .content .ensures) _ (sym (c .before .r2 .given .1) ∙ at-read-part .read-part .ensures))
+    (λ c.
+    let at-q : tie.After-q = search in
+    let at-content : tie.After-content = search in
+    let at-read-part : tie.After-read-part = search in
+    code-is _ _ _ _ (sym (at-q .q .given .1) ∙ at-content .content .ensures) _ _ (sym (c .before .a .given .1) ∙ at-read-part .read-part .ensures)))

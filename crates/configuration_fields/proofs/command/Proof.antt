@@ -18,10 +18,15 @@ command-spec =
     (λ c κs. search needs)
     (λ c. command-no _ _ _ (sym (c .before .r .given .1) ∙ c .before .before .before .command-count .ensures))
     (λ c.
-    let counted = c .before .before .before .before .before in
-    command-none _ _ _ _ (sym (counted .n .given .1) ∙ counted .before .before .command-count .ensures)
-    (c .before .before .before .nth-entry .ensures) _ (c .before .r2 .given .1))
+    let at-command-count : tie.After-command-count = search in
+    let at-nth-entry : tie.After-nth-entry = search in
+    let counted : tie.After-n = search in
+    command-none _ _ _ _ (sym (counted .n .given .1) ∙ at-command-count .command-count .ensures)
+    (at-nth-entry .nth-entry .ensures) _ (c .before .r2 .given .1))
     (λ c.
-    let counted = c .before .before .before .before .before .before in
-    c .whole .ensures ∙ command-at _ _ _ _ (sym (counted .n .given .1) ∙ counted .before .before .command-count .ensures)
-    (c .before .before .before .before .nth-entry .ensures) _ (c .before .before .p .given .1)))
+    let at-command-count : tie.After-command-count = search in
+    let at-nth-entry : tie.After-nth-entry = search in
+    let at-p : tie.After-p = search in
+    let counted : tie.After-n = search in
+    c .whole .ensures ∙ command-at _ _ _ _ (sym (counted .n .given .1) ∙ at-command-count .command-count .ensures)
+    (at-nth-entry .nth-entry .ensures) _ (at-p .p .given .1)))

@@ -15,4 +15,8 @@ command-content-spec =
     (λ c κs. search needs)
     (λ c κs. search needs)
     (λ c. content-no _ _ _ (sym (c .before .r .given .1) ∙ c .before .before .before .command-tag .ensures))
-    (λ c. c .read-part-least .ensures ∙ content-is _ _ _ _ _ (sym (c .before .before .before .tag .given .1) ∙ c .before .before .before .before .before .command-tag .ensures) (c .before .least-content .ensures)))
+    (λ c.
+    let at-tag : tie.After-tag = search in
+    let at-command-tag : tie.After-command-tag = search in
+    c .read-part-least .ensures ∙ content-is _ _ _ _ _ (sym (at-tag .tag .given .1) ∙ at-command-tag .command-tag .ensures)
+    (c .before .least-content .ensures)))

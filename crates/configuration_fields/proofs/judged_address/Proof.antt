@@ -16,8 +16,33 @@ judged-address-spec =
     (λ c. search needs)
     (λ c. search needs)
     (λ c κs. search needs)
-    (λ c. address-length _ (λ i. c .before .before .before .before .before .before .shared-slice-known .given i .fits) _ _ _ _ _ (sym (c .before .before .before .a .given .1) ∙ c .before .before .before .before .before .read-part .ensures) (sym (c .before .length-fits .ensures) ∙ not-true _ (c .if1 .taken)))
-    (λ c κs. omega (arith, part-facts _ _ _ _ _ _ (sym (c .before .before .before .a .given .1) ∙ c .before .before .before .before .before .read-part .ensures)))
-    (λ c. address-is _ (λ i. c .before .before .before .before .before .before .before .before .shared-slice-known .given i .fits) _ _ _ _ _ (sym (c .before .before .before .before .before .a .given .1) ∙ c .before .before .before .before .before .before .before .read-part .ensures) (sym (c .before .before .before .length-fits .ensures) ∙ not-false _ (c .before .before .if1 .left)) (sym (c .before .is-address .ensures) ∙ c .if2 .taken))
-    (λ c. address-no _ (λ i. c .before .before .before .before .shared-slice-known .given i .fits) _ _ _ _ (sym (c .before .r .given .1) ∙ c .before .before .before .read-part .ensures))
-    (λ c. address-bad _ (λ i. c .before .before .before .before .before .before .before .before .shared-slice-known .given i .fits) _ _ _ _ _ (sym (c .before .before .before .before .before .a .given .1) ∙ c .before .before .before .before .before .before .before .read-part .ensures) (sym (c .before .before .before .length-fits .ensures) ∙ not-false _ (c .before .before .if1 .left)) (sym (c .before .is-address .ensures) ∙ c .if2 .left)))
+    (λ c.
+    let known : tie.After-shared-slice-known = search in
+    let at-a : tie.After-a = search in
+    let at-read-part : tie.After-read-part = search in
+    address-length _ (λ i. known .shared-slice-known .given i .fits) _ _ _ _ _ (sym (at-a .a .given .1) ∙ at-read-part .read-part .ensures)
+    (sym (c .before .length-fits .ensures) ∙ not-true _ (c .if1 .taken)))
+    (λ c κs.
+    let at-a : tie.After-a = search in
+    let at-read-part : tie.After-read-part = search in
+    omega (arith, part-facts _ _ _ _ _ _ (sym (at-a .a .given .1) ∙ at-read-part .read-part .ensures)))
+    (λ c.
+    let known : tie.After-shared-slice-known = search in
+    let at-a : tie.After-a = search in
+    let at-read-part : tie.After-read-part = search in
+    let at-length-fits : tie.After-length-fits = search in
+    let at-else1 : tie.Else1 = search in
+    address-is _ (λ i. known .shared-slice-known .given i .fits) _ _ _ _ _ (sym (at-a .a .given .1) ∙ at-read-part .read-part .ensures)
+    (sym (at-length-fits .length-fits .ensures) ∙ not-false _ (at-else1 .if1 .left)) (sym (c .before .is-address .ensures) ∙ c .if2 .taken))
+    (λ c.
+    let known : tie.After-shared-slice-known = search in
+    let at-read-part : tie.After-read-part = search in
+    address-no _ (λ i. known .shared-slice-known .given i .fits) _ _ _ _ (sym (c .before .r .given .1) ∙ at-read-part .read-part .ensures))
+    (λ c.
+    let known : tie.After-shared-slice-known = search in
+    let at-a : tie.After-a = search in
+    let at-read-part : tie.After-read-part = search in
+    let at-length-fits : tie.After-length-fits = search in
+    let at-else1 : tie.Else1 = search in
+    address-bad _ (λ i. known .shared-slice-known .given i .fits) _ _ _ _ _ (sym (at-a .a .given .1) ∙ at-read-part .read-part .ensures)
+    (sym (at-length-fits .length-fits .ensures) ∙ not-false _ (at-else1 .if1 .left)) (sym (c .before .is-address .ensures) ∙ c .if2 .left)))

@@ -13,8 +13,28 @@ list-at-spec =
     (λ c κs. search needs)
     (λ c. search needs)
     (λ c. search needs)
-    (λ c. let a = c .before .before .before .before .before .before .args in omega (arith, list-small (a .s .now) (a .l) (a .q) (a .w) (a .i) _ _ (sym (c .before .before .n .given .1) ∙ c .before .before .before .before .read-number .ensures) (λ i. c .before .before .before .before .before .shared-slice-known .given i .fits) (omega arith) (c .if1 .taken)))
-    (λ c. let a = c .before .before .before .before .before .before .args in omega (arith, list-small (a .s .now) (a .l) (a .q) (a .w) (a .i) _ _ (sym (c .before .before .n .given .1) ∙ c .before .before .before .before .read-number .ensures) (λ i. c .before .before .before .before .before .shared-slice-known .given i .fits) (omega arith) (c .if1 .taken)))
-    (λ c. list-is _ _ _ _ _ _ _ (sym (c .before .before .n .given .1) ∙ c .before .before .before .before .read-number .ensures) (c .if1 .taken))
+    (λ c.
+    let start : tie.Start = search in
+    let at-n : tie.After-n = search in
+    let at-read-number : tie.After-read-number = search in
+    let known : tie.After-shared-slice-known = search in
+    let a = start .args in
+    omega (arith, list-small (a .s .now) (a .l) (a .q) (a .w) (a .i) _ _ (sym (at-n .n .given .1) ∙ at-read-number .read-number .ensures)
+    (λ i. known .shared-slice-known .given i .fits) (omega arith) (c .if1 .taken)))
+    (λ c.
+    let start : tie.Start = search in
+    let at-n : tie.After-n = search in
+    let at-read-number : tie.After-read-number = search in
+    let known : tie.After-shared-slice-known = search in
+    let a = start .args in
+    omega (arith, list-small (a .s .now) (a .l) (a .q) (a .w) (a .i) _ _ (sym (at-n .n .given .1) ∙ at-read-number .read-number .ensures)
+    (λ i. known .shared-slice-known .given i .fits) (omega arith) (c .if1 .taken)))
+    (λ c.
+    let at-n : tie.After-n = search in
+    let at-read-number : tie.After-read-number = search in
+    list-is _ _ _ _ _ _ _ (sym (at-n .n .given .1) ∙ at-read-number .read-number .ensures) (c .if1 .taken))
     (λ c. list-none-told _ _ _ _ _ _ (sym (c .before .r .given .1) ∙ c .before .before .before .read-number .ensures))
-    (λ c. list-past _ _ _ _ _ _ _ (sym (c .before .before .n .given .1) ∙ c .before .before .before .before .read-number .ensures) (c .if1 .left)))
+    (λ c.
+    let at-n : tie.After-n = search in
+    let at-read-number : tie.After-read-number = search in
+    list-past _ _ _ _ _ _ _ (sym (at-n .n .given .1) ∙ at-read-number .read-number .ensures) (c .if1 .left)))

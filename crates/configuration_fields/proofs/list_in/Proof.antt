@@ -10,7 +10,8 @@ use Rattle.configuration_fields.proofs.list_in.Tie as tie
 
 returns-2 : tie.Need-returns-2
 returns-2 c h =
-    let given = c .before .before .before .before .args in
+    let start : tie.Start = search in
+    let given = start .args in
     let four : 4 ≡ given .tag = omega arith in
     subst (λ (t : ℕ). ListIn t (given .s .now) (given .l) (given .q) (c .list-after-address .result)) four (c .list-after-address .ensures h)
 

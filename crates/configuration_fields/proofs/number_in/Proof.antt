@@ -18,4 +18,7 @@ number-in-spec =
     (λ c. omega (arith, inside _ _ _ _ _ (sym (c .before .q .given .1) ∙ c .before .before .before .content .ensures)))
     (λ c κs. search needs)
     (λ c. ap numberOf (in-command-no (count _) _ _ _ _ _ (sym (c .before .r .given .1) ∙ c .before .before .before .content .ensures)))
-    (λ c. unfold numberRead in c .read-number .ensures ∙ ap numberOf (in-command (count _) _ _ _ _ _ _ (sym (c .before .before .q .given .1) ∙ c .before .before .before .before .content .ensures))))
+    (λ c.
+    let at-q : tie.After-q = search in
+    let at-content : tie.After-content = search in
+    unfold numberRead in c .read-number .ensures ∙ ap numberOf (in-command (count _) _ _ _ _ _ _ (sym (at-q .q .given .1) ∙ at-content .content .ensures))))

@@ -14,4 +14,9 @@ parameter-spec =
     (λ c. search needs)
     (λ c κs. search needs)
     (λ c. parameter-no _ _ _ _ (sym (c .before .r .given .1) ∙ c .before .before .before .parameter-at .ensures))
-    (λ c. c .read-number .ensures ∙ parameter-is _ _ _ (λ i. c .before .before .before .before .before .shared-slice-known .given i .fits) _ _ (sym (c .before .before .q .given .1) ∙ c .before .before .before .before .parameter-at .ensures)))
+    (λ c.
+    let known : tie.After-shared-slice-known = search in
+    let at-q : tie.After-q = search in
+    let at-parameter-at : tie.After-parameter-at = search in
+    c .read-number .ensures ∙ parameter-is _ _ _ (λ i. known .shared-slice-known .given i .fits) _ _
+    (sym (at-q .q .given .1) ∙ at-parameter-at .parameter-at .ensures)))

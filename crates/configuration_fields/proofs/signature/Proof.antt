@@ -17,5 +17,16 @@ signature-spec =
     (λ c. search needs)
     (λ c κs. search needs)
     (λ c. signature-no _ _ (sym (c .before .r .given .1) ∙ c .before .before .before .command-count .ensures))
-    (λ c. signature-past _ _ _ (sym (c .before .before .before .before .before .n .given .1) ∙ c .before .before .before .before .before .before .before .command-count .ensures) _ (sym (c .before .r2 .given .1) ∙ c .before .before .before .skip-entries .ensures))
-    (λ c. c .read-part .ensures ∙ signature-is _ _ _ (sym (c .before .before .before .before .before .before .n .given .1) ∙ c .before .before .before .before .before .before .before .before .command-count .ensures) _ (sym (c .before .before .end .given .1) ∙ c .before .before .before .before .skip-entries .ensures)))
+    (λ c.
+    let at-n : tie.After-n = search in
+    let at-command-count : tie.After-command-count = search in
+    let at-skip-entries : tie.After-skip-entries = search in
+    signature-past _ _ _ (sym (at-n .n .given .1) ∙ at-command-count .command-count .ensures) _
+    (sym (c .before .r2 .given .1) ∙ at-skip-entries .skip-entries .ensures))
+    (λ c.
+    let at-n : tie.After-n = search in
+    let at-command-count : tie.After-command-count = search in
+    let at-end : tie.After-end = search in
+    let at-skip-entries : tie.After-skip-entries = search in
+    c .read-part .ensures ∙ signature-is _ _ _ (sym (at-n .n .given .1) ∙ at-command-count .command-count .ensures) _
+    (sym (at-end .end .given .1) ∙ at-skip-entries .skip-entries .ensures)))

@@ -14,4 +14,7 @@ terminal-count-spec =
     (λ c. search needs)
     (λ c κs. search needs)
     (λ c. terminal-count-no _ _ _ (sym (c .before .r .given .1) ∙ c .before .before .before .list-begin .ensures))
-    (λ c. c .read-number .ensures ∙ terminal-count-is _ _ _ _ (sym (c .before .before .q .given .1) ∙ c .before .before .before .before .list-begin .ensures)))
+    (λ c.
+    let at-q : tie.After-q = search in
+    let at-list-begin : tie.After-list-begin = search in
+    c .read-number .ensures ∙ terminal-count-is _ _ _ _ (sym (at-q .q .given .1) ∙ at-list-begin .list-begin .ensures)))

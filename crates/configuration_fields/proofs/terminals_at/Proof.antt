@@ -13,12 +13,35 @@ terminals-at-spec =
     (λ c κs. search needs)
     (λ c. search needs)
     (λ c. search needs)
-    (λ c. terminals-low _ _ _ _ (sym (c .before .before .tag .given .1) ∙ c .before .before .before .before .command-tag .ensures) (c .if1 .taken))
-    (λ c. terminals-high _ _ _ _ (sym (c .before .before .before .tag .given .1) ∙ c .before .before .before .before .before .command-tag .ensures) (c .before .if1 .left) (c .if2 .taken))
+    (λ c.
+    let at-tag : tie.After-tag = search in
+    let at-command-tag : tie.After-command-tag = search in
+    terminals-low _ _ _ _ (sym (at-tag .tag .given .1) ∙ at-command-tag .command-tag .ensures) (c .if1 .taken))
+    (λ c.
+    let at-tag : tie.After-tag = search in
+    let at-command-tag : tie.After-command-tag = search in
+    terminals-high _ _ _ _ (sym (at-tag .tag .given .1) ∙ at-command-tag .command-tag .ensures) (c .before .if1 .left) (c .if2 .taken))
     (λ c κs. search needs)
     (λ c. search needs)
     (λ c. search needs)
-    (λ c κs. let h = inside _ _ _ _ _ (sym (c .before .q .given .1) ∙ c .before .before .before .content .ensures) in (omega (arith, h), omega arith, omega arith))
+    (λ c κs.
+    let at-content : tie.After-content = search in
+    let h = inside _ _ _ _ _ (sym (c .before .q .given .1) ∙ at-content .content .ensures) in (omega (arith, h), omega arith, omega arith))
     (λ c. terminals-no _ _ _ (sym (c .before .r .given .1) ∙ c .before .before .before .command-tag .ensures))
-    (λ c. terminals-bad _ _ _ _ (sym (c .before .before .before .before .before .before .before .tag .given .1) ∙ c .before .before .before .before .before .before .before .before .before .command-tag .ensures) (c .before .before .before .before .before .if1 .left) (c .before .before .before .before .if2 .left) _ (sym (c .before .r2 .given .1) ∙ c .before .before .before .content .ensures))
-    (λ c. c .terminals-in .ensures ∙ terminals-is _ _ _ _ (sym (c .before .before .before .before .before .before .before .before .tag .given .1) ∙ c .before .before .before .before .before .before .before .before .before .before .command-tag .ensures) (c .before .before .before .before .before .before .if1 .left) (c .before .before .before .before .before .if2 .left) _ _ (sym (c .before .before .q .given .1) ∙ c .before .before .before .before .content .ensures)))
+    (λ c.
+    let at-tag : tie.After-tag = search in
+    let at-command-tag : tie.After-command-tag = search in
+    let at-else1 : tie.Else1 = search in
+    let at-else2 : tie.Else2 = search in
+    let at-content : tie.After-content = search in
+    terminals-bad _ _ _ _ (sym (at-tag .tag .given .1) ∙ at-command-tag .command-tag .ensures) (at-else1 .if1 .left) (at-else2 .if2 .left) _
+    (sym (c .before .r2 .given .1) ∙ at-content .content .ensures))
+    (λ c.
+    let at-tag : tie.After-tag = search in
+    let at-command-tag : tie.After-command-tag = search in
+    let at-else1 : tie.Else1 = search in
+    let at-else2 : tie.Else2 = search in
+    let at-q : tie.After-q = search in
+    let at-content : tie.After-content = search in
+    c .terminals-in .ensures ∙ terminals-is _ _ _ _ (sym (at-tag .tag .given .1) ∙ at-command-tag .command-tag .ensures) (at-else1 .if1 .left)
+    (at-else2 .if2 .left) _ _ (sym (at-q .q .given .1) ∙ at-content .content .ensures)))

@@ -15,10 +15,16 @@ terminals-in-spec =
     (λ c. search needs)
     (λ c. after-mapping _ _ _ _ (c .if1 .taken))
     (λ c κs. search needs)
-    (λ c. let a = c .before .before .before .before .args in c .after-address .ensures ∙ ap (λ (t : ℕ). placeRead (terminalsIn t (a .s .now) (a .l) (a .q))) (sym (c .before .if2 .taken)))
+    (λ c.
+    let start : tie.Start = search in
+    let a = start .args in
+    c .after-address .ensures ∙ ap (λ (t : ℕ). placeRead (terminalsIn t (a .s .now) (a .l) (a .q))) (sym (c .before .if2 .taken)))
     (λ c. search needs)
     (λ c. after-period _ _ _ _ (c .if3 .taken))
     (λ c. search needs)
     (λ c. after-volume _ _ _ _ (c .if4 .taken))
     (λ c κs. search needs)
-    (λ c. let a = c .before .before .before .before .before .before .args in c .after-parameters .ensures ∙ ap (λ (t : ℕ). placeRead (terminalsIn t (a .s .now) (a .l) (a .q))) (let z : 7 ≡ a .tag = omega arith in z)))
+    (λ c.
+    let start : tie.Start = search in
+    let a = start .args in
+    c .after-parameters .ensures ∙ ap (λ (t : ℕ). placeRead (terminalsIn t (a .s .now) (a .l) (a .q))) (let z : 7 ≡ a .tag = omega arith in z)))

@@ -17,4 +17,7 @@ agency-spec =
     (λ c. omega (arith, after-text _ _ _ _ _ (sym (c .before .a .given .1) ∙ c .before .before .before .text .ensures)))
     (λ c κs. search needs)
     (λ c. agency-no _ _ _ _ (sym (c .before .r .given .1) ∙ c .before .before .before .text .ensures))
-    (λ c. c .read-part .ensures ∙ agency-is _ _ _ _ _ (sym (c .before .before .a .given .1) ∙ c .before .before .before .before .text .ensures)))
+    (λ c.
+    let at-a : tie.After-a = search in
+    let at-text : tie.After-text = search in
+    c .read-part .ensures ∙ agency-is _ _ _ _ _ (sym (at-a .a .given .1) ∙ at-text .text .ensures)))

@@ -18,4 +18,7 @@ auxiliary-spec =
     let width = sym (c .before .w .given .1) ∙ c .before .before .before .width-of .ensures in
     (width-least _ _ width, width-most _ _ width))
     (λ c. variant-part-no _ _ (sym (c .before .r .given .1) ∙ c .before .before .before .width-of .ensures) _ _ _ _)
-    (λ c. c .part-wide .ensures ∙ variant-part-is _ _ (sym (c .before .before .w .given .1) ∙ c .before .before .before .before .width-of .ensures) _ _ _ _))
+    (λ c.
+    let at-w : tie.After-w = search in
+    let at-width-of : tie.After-width-of = search in
+    c .part-wide .ensures ∙ variant-part-is _ _ (sym (at-w .w .given .1) ∙ at-width-of .width-of .ensures) _ _ _ _))

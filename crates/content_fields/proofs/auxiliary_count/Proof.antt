@@ -17,4 +17,7 @@ auxiliary-count-spec =
     (λ c. omega (arith, after-agency _ _ _ _ _ (sym (c .before .a .given .1) ∙ c .before .before .before .agency .ensures)))
     (λ c κs. search needs)
     (λ c. count-no _ _ _ _ (sym (c .before .r .given .1) ∙ c .before .before .before .agency .ensures))
-    (λ c. c .number-among .ensures ∙ count-is _ _ _ _ _ (sym (c .before .before .a .given .1) ∙ c .before .before .before .before .agency .ensures)))
+    (λ c.
+    let at-a : tie.After-a = search in
+    let at-agency : tie.After-agency = search in
+    c .number-among .ensures ∙ count-is _ _ _ _ _ (sym (at-a .a .given .1) ∙ at-agency .agency .ensures)))

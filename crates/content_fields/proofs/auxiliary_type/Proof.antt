@@ -18,4 +18,7 @@ auxiliary-type-spec =
     let width = sym (c .before .w .given .1) ∙ c .before .before .before .width-of .ensures in
     (width-least _ _ width, width-most _ _ width))
     (λ c. variant-type-no _ _ (sym (c .before .r .given .1) ∙ c .before .before .before .width-of .ensures) _ _ _ _)
-    (λ c. c .type-wide .ensures ∙ variant-type-is _ _ (sym (c .before .before .w .given .1) ∙ c .before .before .before .before .width-of .ensures) _ _ _ _))
+    (λ c.
+    let at-w : tie.After-w = search in
+    let at-width-of : tie.After-width-of = search in
+    c .type-wide .ensures ∙ variant-type-is _ _ (sym (at-w .w .given .1) ∙ at-width-of .width-of .ensures) _ _ _ _))

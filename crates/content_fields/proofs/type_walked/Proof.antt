@@ -1,4 +1,5 @@
--- `content_fields::type_walked` meets its contract: it stands after the auxiliary files before it, as many as the count allows, and is not refused for its value.
+-- `content_fields::type_walked` meets its contract: it stands after the auxiliary files before it, as many as the count allows,
+-- and is not refused for its value.
 use mathlib.Core.Path.{sym, _∙_}
 use Rattle.content_fields.proofs.Answers.{type-no, after-count, type-none, type-is}
 use native.Mathlib.Omega.{arith}
@@ -18,8 +19,8 @@ type-walked-spec =
     (λ c. search needs)
     (λ c. search needs)
     (λ c.
-    let at-m = c .before .before .before .before .before in
-    let at-auxiliary-count = at-m .before .before in
+    let at-m : tie.After-m = search in
+    let at-auxiliary-count : tie.After-auxiliary-count = search in
     omega (arith, after-count _ _ _ _ _ (sym (at-m .m .given .1) ∙ at-auxiliary-count .auxiliary-count .ensures)))
     (λ c κs. search needs)
     (λ c. type-no _ _ _ _ _ _ (sym (c .before .r .given .1) ∙ c .before .before .before .auxiliary-count .ensures))

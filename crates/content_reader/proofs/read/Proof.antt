@@ -23,10 +23,10 @@ use Rattle.content_reader.proofs.read.Tie as tie
 
 -- from where the body has been judged back to where its width is known, and from there to the start
 abbrev wide-of : tie.Joined1 → tie.After-w
-wide-of judged = judged .before .before .before
+wide-of judged = search
 
 abbrev start-of : tie.After-w → tie.Start
-start-of wide = wide .before .before .before .before
+start-of wide = search
 
 width : (c : tie.After-w) → Wide (c .w .given .0 .0) ≡ opened (start-of c .args .kind) (start-of c .args .variant) (length (start-of c .args .s .now))
 width c =

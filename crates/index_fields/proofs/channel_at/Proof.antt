@@ -12,6 +12,12 @@ channel-at-spec =
     (λ c κs. search needs)
     (λ c. search needs)
     (λ c. search needs)
-    (λ c. channel-is _ _ _ _ _ (sym (c .before .before .f .given .1) ∙ c .before .before .before .before .flag .ensures) (c .if1 .taken))
+    (λ c.
+    let at-f : tie.After-f = search in
+    let at-flag : tie.After-flag = search in
+    channel-is _ _ _ _ _ (sym (at-f .f .given .1) ∙ at-flag .flag .ensures) (c .if1 .taken))
     (λ c. channel-no _ _ _ _ (sym (c .before .r .given .1) ∙ c .before .before .before .flag .ensures))
-    (λ c. channel-none _ _ _ _ _ (sym (c .before .before .f .given .1) ∙ c .before .before .before .before .flag .ensures) (c .if1 .left)))
+    (λ c.
+    let at-f : tie.After-f = search in
+    let at-flag : tie.After-flag = search in
+    channel-none _ _ _ _ _ (sym (at-f .f .given .1) ∙ at-flag .flag .ensures) (c .if1 .left)))

@@ -20,4 +20,9 @@ channel-number-spec =
     (λ c. omega (arith, channel-in _ _ _ _ _ (sym (c .before .f .given .1) ∙ c .before .before .before .channel-at .ensures)))
     (λ c κs. search needs)
     (λ c. ap numberOf (in-channel-no _ _ _ (number 2) _ _ (sym (c .before .r .given .1) ∙ c .before .before .before .channel-at .ensures)))
-    (λ c. unfold numberRead in c .read-number .ensures ∙ count-number 2 _ _ _ (λ i. c .before .before .before .before .before .shared-slice-known .given i .fits) ∙ ap numberOf (in-channel _ _ _ _ _ (sym (c .before .before .f .given .1) ∙ c .before .before .before .before .channel-at .ensures) (number 2) _)))
+    (λ c.
+    let known : tie.After-shared-slice-known = search in
+    let at-f : tie.After-f = search in
+    let at-channel-at : tie.After-channel-at = search in
+    unfold numberRead in c .read-number .ensures ∙ count-number 2 _ _ _ (λ i. known .shared-slice-known .given i .fits) ∙ ap numberOf
+    (in-channel _ _ _ _ _ (sym (at-f .f .given .1) ∙ at-channel-at .channel-at .ensures) (number 2) _)))

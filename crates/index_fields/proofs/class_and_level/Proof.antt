@@ -14,7 +14,28 @@ class-and-level-spec =
     (λ c. search needs)
     (λ c. search needs)
     (λ c κs. search needs)
-    (λ c. let a = c .before .before .before .before .before .before .before .args in shared-is (a .s .now) (a .at) (a .n) _ _ (sym (c .before .before .before .b .given .1) ∙ c .before .before .before .before .before .number-in .ensures) (sym (c .before .halves-good .ensures) ∙ c .if1 .taken))
-    (λ c. let a = c .before .before .before .before .before .before .before .args in omega (arith, shared-in (a .s .now) (a .at) (a .n) _ _ (sym (c .before .before .before .b .given .1) ∙ c .before .before .before .before .before .number-in .ensures)))
-    (λ c. let a = c .before .before .before .before .before .args in shared-no (a .s .now) (a .at) (a .n) _ (sym (c .before .r .given .1) ∙ c .before .before .before .number-in .ensures))
-    (λ c. let a = c .before .before .before .before .before .before .before .args in shared-bad (a .s .now) (a .at) (a .n) _ _ (sym (c .before .before .before .b .given .1) ∙ c .before .before .before .before .before .number-in .ensures) (sym (c .before .halves-good .ensures) ∙ c .if1 .left)))
+    (λ c.
+    let start : tie.Start = search in
+    let at-b : tie.After-b = search in
+    let at-number-in : tie.After-number-in = search in
+    let a = start .args in
+    shared-is (a .s .now) (a .at) (a .n) _ _ (sym (at-b .b .given .1) ∙ at-number-in .number-in .ensures)
+    (sym (c .before .halves-good .ensures) ∙ c .if1 .taken))
+    (λ c.
+    let start : tie.Start = search in
+    let at-b : tie.After-b = search in
+    let at-number-in : tie.After-number-in = search in
+    let a = start .args in
+    omega (arith, shared-in (a .s .now) (a .at) (a .n) _ _ (sym (at-b .b .given .1) ∙ at-number-in .number-in .ensures)))
+    (λ c.
+    let start : tie.Start = search in
+    let at-number-in : tie.After-number-in = search in
+    let a = start .args in
+    shared-no (a .s .now) (a .at) (a .n) _ (sym (c .before .r .given .1) ∙ at-number-in .number-in .ensures))
+    (λ c.
+    let start : tie.Start = search in
+    let at-b : tie.After-b = search in
+    let at-number-in : tie.After-number-in = search in
+    let a = start .args in
+    shared-bad (a .s .now) (a .at) (a .n) _ _ (sym (at-b .b .given .1) ∙ at-number-in .number-in .ensures)
+    (sym (c .before .halves-good .ensures) ∙ c .if1 .left)))

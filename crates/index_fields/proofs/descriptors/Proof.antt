@@ -19,5 +19,11 @@ descriptors-spec =
     (λ c. omega (arith, channel-in _ _ _ _ _ (sym (c .before .f .given .1) ∙ c .before .before .before .channel-at .ensures)))
     (λ c. omega (arith, channel-in _ _ _ _ _ (sym (c .before .f .given .1) ∙ c .before .before .before .channel-at .ensures)))
     (λ c κs. search needs)
-    (λ c. unfold descriptorsPart in ap partOf (in-channel-no _ _ _ (counted length12 rest) _ _ (sym (c .before .r .given .1) ∙ c .before .before .before .channel-at .ensures)))
-    (λ c. unfold descriptorsPart in c .read-part12 .ensures ∙ ap partOf (in-channel _ _ _ _ _ (sym (c .before .before .f .given .1) ∙ c .before .before .before .before .channel-at .ensures) (counted length12 rest) _)))
+    (λ c.
+    let at-channel-at : tie.After-channel-at = search in
+    unfold descriptorsPart in ap partOf (in-channel-no _ _ _ (counted length12 rest) _ _ (sym (c .before .r .given .1) ∙ at-channel-at .channel-at .ensures)))
+    (λ c.
+    let at-f : tie.After-f = search in
+    let at-channel-at : tie.After-channel-at = search in
+    unfold descriptorsPart in c .read-part12 .ensures ∙ ap partOf
+    (in-channel _ _ _ _ _ (sym (at-f .f .given .1) ∙ at-channel-at .channel-at .ensures) (counted length12 rest) _)))

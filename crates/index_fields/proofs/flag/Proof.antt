@@ -13,9 +13,24 @@ flag-spec =
     (λ c κs. search needs)
     (λ c. search needs)
     (λ c. search needs)
-    (λ c. omega (arith, resources-in _ _ _ _ _ (sym (c .before .m .given .1) ∙ c .before .before .before .resource-count .ensures) (λ i. c .before .before .before .before .shared-slice-known .given i .fits)))
-    (λ c. omega (arith, resources-in _ _ _ _ _ (sym (c .before .m .given .1) ∙ c .before .before .before .resource-count .ensures) (λ i. c .before .before .before .before .shared-slice-known .given i .fits)))
-    (λ c. omega (arith, resources-in _ _ _ _ _ (sym (c .before .m .given .1) ∙ c .before .before .before .resource-count .ensures) (λ i. c .before .before .before .before .shared-slice-known .given i .fits)))
+    (λ c.
+    let at-resource-count : tie.After-resource-count = search in
+    let known : tie.After-shared-slice-known = search in
+    omega (arith, resources-in _ _ _ _ _ (sym (c .before .m .given .1) ∙ at-resource-count .resource-count .ensures)
+    (λ i. known .shared-slice-known .given i .fits)))
+    (λ c.
+    let at-resource-count : tie.After-resource-count = search in
+    let known : tie.After-shared-slice-known = search in
+    omega (arith, resources-in _ _ _ _ _ (sym (c .before .m .given .1) ∙ at-resource-count .resource-count .ensures)
+    (λ i. known .shared-slice-known .given i .fits)))
+    (λ c.
+    let at-resource-count : tie.After-resource-count = search in
+    let known : tie.After-shared-slice-known = search in
+    omega (arith, resources-in _ _ _ _ _ (sym (c .before .m .given .1) ∙ at-resource-count .resource-count .ensures)
+    (λ i. known .shared-slice-known .given i .fits)))
     (λ c κs. search needs)
     (λ c. flag-no _ _ _ _ (sym (c .before .r .given .1) ∙ c .before .before .before .resource-count .ensures))
-    (λ c. c .read-reserved .ensures ∙ flag-is _ _ _ _ _ (sym (c .before .before .m .given .1) ∙ c .before .before .before .before .resource-count .ensures)))
+    (λ c.
+    let at-m : tie.After-m = search in
+    let at-resource-count : tie.After-resource-count = search in
+    c .read-reserved .ensures ∙ flag-is _ _ _ _ _ (sym (at-m .m .given .1) ∙ at-resource-count .resource-count .ensures)))

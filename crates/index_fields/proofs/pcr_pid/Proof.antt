@@ -20,4 +20,8 @@ pcr-pid-spec =
     (λ c. omega (arith, channel-in _ _ _ _ _ (sym (c .before .f .given .1) ∙ c .before .before .before .channel-at .ensures)))
     (λ c κs. search needs)
     (λ c. unfold pcrPid in ap numberOf (in-channel-no _ _ _ (reserved 3 1) _ _ (sym (c .before .r .given .1) ∙ c .before .before .before .channel-at .ensures)))
-    (λ c. unfold pcrPid in c .read-reserved .ensures ∙ ap numberOf (in-channel _ _ _ _ _ (sym (c .before .before .f .given .1) ∙ c .before .before .before .before .channel-at .ensures) (reserved 3 1) _)))
+    (λ c.
+    let at-f : tie.After-f = search in
+    let at-channel-at : tie.After-channel-at = search in
+    unfold pcrPid in c .read-reserved .ensures ∙ ap numberOf (in-channel _ _ _ _ _ (sym (at-f .f .given .1) ∙ at-channel-at .channel-at .ensures)
+    (reserved 3 1) _)))

@@ -16,4 +16,7 @@ resource-spec =
     (λ c. omega (arith, resource-in _ _ _ _ _ _ (sym (c .before .m .given .1) ∙ c .before .before .before .resource-at .ensures)))
     (λ c κs. search needs)
     (λ c. resource-part-no _ _ _ _ _ (sym (c .before .r .given .1) ∙ c .before .before .before .resource-at .ensures))
-    (λ c. c .read-digits .ensures ∙ resource-part _ _ _ _ _ _ (sym (c .before .before .m .given .1) ∙ c .before .before .before .before .resource-at .ensures)))
+    (λ c.
+    let at-m : tie.After-m = search in
+    let at-resource-at : tie.After-resource-at = search in
+    c .read-digits .ensures ∙ resource-part _ _ _ _ _ _ (sym (at-m .m .given .1) ∙ at-resource-at .resource-at .ensures)))

@@ -13,8 +13,24 @@ resource-at-spec =
     (λ c κs. search needs)
     (λ c. search needs)
     (λ c. search needs)
-    (λ c. omega (arith, resources-in _ _ _ _ _ (sym (c .before .before .m .given .1) ∙ c .before .before .before .before .resource-count .ensures) (λ i. c .before .before .before .before .before .shared-slice-known .given i .fits)))
-    (λ c. omega (arith, resources-in _ _ _ _ _ (sym (c .before .before .m .given .1) ∙ c .before .before .before .before .resource-count .ensures) (λ i. c .before .before .before .before .before .shared-slice-known .given i .fits)))
-    (λ c. resource-is _ _ _ _ _ (sym (c .before .before .m .given .1) ∙ c .before .before .before .before .resource-count .ensures) _ (c .if1 .taken))
+    (λ c.
+    let at-m : tie.After-m = search in
+    let at-resource-count : tie.After-resource-count = search in
+    let known : tie.After-shared-slice-known = search in
+    omega (arith, resources-in _ _ _ _ _ (sym (at-m .m .given .1) ∙ at-resource-count .resource-count .ensures)
+    (λ i. known .shared-slice-known .given i .fits)))
+    (λ c.
+    let at-m : tie.After-m = search in
+    let at-resource-count : tie.After-resource-count = search in
+    let known : tie.After-shared-slice-known = search in
+    omega (arith, resources-in _ _ _ _ _ (sym (at-m .m .given .1) ∙ at-resource-count .resource-count .ensures)
+    (λ i. known .shared-slice-known .given i .fits)))
+    (λ c.
+    let at-m : tie.After-m = search in
+    let at-resource-count : tie.After-resource-count = search in
+    resource-is _ _ _ _ _ (sym (at-m .m .given .1) ∙ at-resource-count .resource-count .ensures) _ (c .if1 .taken))
     (λ c. resource-no _ _ _ _ (sym (c .before .r .given .1) ∙ c .before .before .before .resource-count .ensures) _)
-    (λ c. resource-none _ _ _ _ _ (sym (c .before .before .m .given .1) ∙ c .before .before .before .before .resource-count .ensures) _ (c .if1 .left)))
+    (λ c.
+    let at-m : tie.After-m = search in
+    let at-resource-count : tie.After-resource-count = search in
+    resource-none _ _ _ _ _ (sym (at-m .m .given .1) ∙ at-resource-count .resource-count .ensures) _ (c .if1 .left)))

@@ -14,4 +14,7 @@ signature-spec =
     (λ c. search needs)
     (λ c κs. search needs)
     (λ c. signature-no _ _ (sym (c .before .r .given .1) ∙ c .before .before .before .skip-list .ensures))
-    (λ c. c .read-part .ensures ∙ signature-is _ _ (sym (c .before .before .q .given .1) ∙ c .before .before .before .before .skip-list .ensures)))
+    (λ c.
+    let at-q : tie.After-q = search in
+    let at-skip-list : tie.After-skip-list = search in
+    c .read-part .ensures ∙ signature-is _ _ (sym (at-q .q .given .1) ∙ at-skip-list .skip-list .ensures)))

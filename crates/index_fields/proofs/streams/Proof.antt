@@ -17,4 +17,7 @@ streams-spec =
     (λ c. omega (arith, streams-in _ _ _ _ _ (sym (c .before .a .given .1) ∙ c .before .before .before .descriptors .ensures)))
     (λ c κs. search needs)
     (λ c. streams-no _ _ _ _ (sym (c .before .r .given .1) ∙ c .before .before .before .descriptors .ensures))
-    (λ c. c .read-part .ensures ∙ streams-is _ _ _ _ _ (sym (c .before .before .a .given .1) ∙ c .before .before .before .before .descriptors .ensures)))
+    (λ c.
+    let at-a : tie.After-a = search in
+    let at-descriptors : tie.After-descriptors = search in
+    c .read-part .ensures ∙ streams-is _ _ _ _ _ (sym (at-a .a .given .1) ∙ at-descriptors .descriptors .ensures)))

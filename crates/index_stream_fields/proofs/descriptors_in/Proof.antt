@@ -15,18 +15,29 @@ Inv-loop s l p at₀ m₀ at m = Counted descriptor s l p m at
 abbrev μ-loop : tie.MeasureT-loop
 μ-loop s l p at₀ m₀ at m = l - at
 
+-- where the function began, and its loop
+begun : tie.After-known-told2 Inv-loop μ-loop → tie.Start Inv-loop μ-loop
+begun c = search
+
+looped : tie.After-known-told2 Inv-loop μ-loop → tie.At-loop Inv-loop μ-loop
+looped c = search
+
 -- a turn that goes on
 turned : (c : tie.After-known-told2 Inv-loop μ-loop)
-    → let loop = c .before .before .before .before .before in
-    let a = loop .before .before .args in
+    → let loop = looped c in
+    let a = begun c .args in
     Turn descriptor (a .s .now) (a .l) (a .p) (loop .loop .m) (loop .loop .at) (c .before .q .given .0 .0)
+unfolding begun looped
 turned c =
-    let here = c .before .before .before .before in
+    let known : tie.After-shared-slice-known Inv-loop μ-loop = search in
+    let at-skip-descriptor : tie.After-skip-descriptor Inv-loop μ-loop = search in
+    let here : tie.In-loop Inv-loop μ-loop = search in
     count-go _ _ _ _ _ _ (here .before .loop .inv) descriptor-lawful descriptor-takes
-    (λ i. here .before .before .shared-slice-known .given i .fits) (omega arith) _ (here .loop-test .taken)
-    (sym (c .before .q .given .1) ∙ c .before .before .before .skip-descriptor .ensures)
+    (λ i. known .shared-slice-known .given i .fits) (omega arith) _ (here .loop-test .taken)
+    (sym (c .before .q .given .1) ∙ at-skip-descriptor .skip-descriptor .ensures)
 
 pub descriptors-in-spec : {M : Type 1} → statement M
+unfolding begun looped
 descriptors-in-spec =
     tie.close
     (tie.spec
@@ -35,11 +46,15 @@ descriptors-in-spec =
     (λ c. count-start _ _ _ _)
     (λ c κs. search needs)
     (λ c. search needs)
-    (λ c. let here = c .before .before .before .before in
+    (λ c.
+    let at-skip-descriptor : tie.After-skip-descriptor Inv-loop μ-loop = search in
+    let here : tie.In-loop Inv-loop μ-loop = search in
     count-stop _ _ _ _ _ _ (here .before .loop .inv) _ (here .loop-test .taken)
-    (sym (c .before .r .given .1) ∙ c .before .before .before .skip-descriptor .ensures))
+    (sym (c .before .r .given .1) ∙ at-skip-descriptor .skip-descriptor .ensures))
     (λ c. search needs)
     (λ c. omega (arith, turned c .small))
-    (λ c. omega (arith, turned c .nearer, c .before .before .before .before .loop-test .taken))
+    (λ c.
+    let turn : tie.In-loop Inv-loop μ-loop = search in
+    omega (arith, turned c .nearer, turn .loop-test .taken))
     (λ c. turned c .again)
     (λ c. count-done _ _ _ _ _ _ (c .before .loop .inv) (omega arith)))

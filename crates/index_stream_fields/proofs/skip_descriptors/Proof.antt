@@ -10,10 +10,18 @@ use Rattle.index_stream_fields.proofs.Counting.{into-part, descriptors-
 use Rattle.index_stream_fields.proofs.skip_descriptors.Statement.{statement}
 use Rattle.index_stream_fields.proofs.skip_descriptors.Tie as tie
 
-part-in : (c : tie.After-known-told2) → let n = c .before .a .given .0 in n .0 + n .1 .0 ≤ length (c .before .before .before .before .before .args .s .now)
-part-in c = into-part length12 (many descriptor) _ _ _ _ _ (sym (c .before .a .given .1) ∙ c .before .before .before .read-part12 .ensures) .0
+-- where the function began
+begun : tie.After-known-told2 → tie.Start
+begun c = search
+
+part-in : (c : tie.After-known-told2) → let n = c .before .a .given .0 in n .0 + n .1 .0 ≤ length (begun c .args .s .now)
+unfolding begun
+part-in c =
+    let at-read-part12 : tie.After-read-part12 = search in
+    into-part length12 (many descriptor) _ _ _ _ _ (sym (c .before .a .given .1) ∙ at-read-part12 .read-part12 .ensures) .0
 
 pub skip-descriptors-spec : {M : Type 1} → statement M
+unfolding begun
 skip-descriptors-spec =
     tie.close
     (tie.spec
@@ -25,9 +33,15 @@ skip-descriptors-spec =
     (λ c. search needs)
     (λ c. search needs)
     (λ c. descriptors-no _ _ _ _ (sym (c .before .r .given .1) ∙ c .before .before .before .read-part12 .ensures))
-    (λ c. let part = c .before .before .before .before in
-    descriptors-bad _ _ _ _ _ (sym (part .before .a .given .1) ∙ part .before .before .before .read-part12 .ensures) _
-    (sym (c .before .r2 .given .1) ∙ c .before .before .before .descriptors-in .ensures))
-    (λ c. let part = c .before .before .before .before in
-    descriptors-at _ _ _ _ _ (sym (part .before .a .given .1) ∙ part .before .before .before .read-part12 .ensures) _ _
-    (sym (c .before .k .given .1) ∙ c .before .before .before .descriptors-in .ensures)))
+    (λ c.
+    let at-read-part12 : tie.After-read-part12 = search in
+    let at-descriptors-in : tie.After-descriptors-in = search in
+    let at-a : tie.After-a = search in
+    descriptors-bad _ _ _ _ _ (sym (at-a .a .given .1) ∙ at-read-part12 .read-part12 .ensures) _
+    (sym (c .before .r2 .given .1) ∙ at-descriptors-in .descriptors-in .ensures))
+    (λ c.
+    let at-read-part12 : tie.After-read-part12 = search in
+    let at-descriptors-in : tie.After-descriptors-in = search in
+    let at-a : tie.After-a = search in
+    descriptors-at _ _ _ _ _ (sym (at-a .a .given .1) ∙ at-read-part12 .read-part12 .ensures) _ _
+    (sym (c .before .k .given .1) ∙ at-descriptors-in .descriptors-in .ensures)))

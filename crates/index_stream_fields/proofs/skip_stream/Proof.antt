@@ -18,7 +18,9 @@ skip-stream-spec =
     (λ c. let here = c .before .before .before in
     stream-no _ (λ i. here .before .shared-slice-known .given i .fits) _ _ (omega arith) (omega arith) _
     (sym (c .before .r .given .1) ∙ here .read-reserved .ensures))
-    (λ c. let here = c .before .before .before .before in
+    (λ c.
+    let at-v : tie.After-v = search in
+    let here : tie.After-read-reserved = search in
     c .skip-descriptors .ensures
     ∙ stream-is _ (λ i. here .before .shared-slice-known .given i .fits) _ _ (omega arith) (omega arith) _ _
-    (sym (c .before .before .v .given .1) ∙ here .read-reserved .ensures)))
+    (sym (at-v .v .given .1) ∙ here .read-reserved .ensures)))

@@ -19,7 +19,7 @@ walk-auxiliaries-spec =
     (λ c κs. search needs)
     (λ c. search needs)
     (λ c.
-    let at-walk-all-auxiliaries = c .before .before in
-    let at-walk-reserved-among = at-walk-all-auxiliaries .before .before .before .before in
+    let at-walk-all-auxiliaries : tie.After-walk-all-auxiliaries = search in
+    let at-walk-reserved-among : tie.After-walk-reserved-among = search in
     list-walk (among-lawful 0 2 (reserved 4 0) (reserved-lawful 4 0 (omega arith))) (auxiliary-lawful _)
     (at-walk-reserved-among .walk-reserved-among .ensures) (at-walk-all-auxiliaries .walk-all-auxiliaries .ensures)))

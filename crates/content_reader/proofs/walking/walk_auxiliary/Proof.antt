@@ -16,7 +16,7 @@ walk-auxiliary-spec =
     (λ c κs. search needs)
     (λ c. search needs)
     (λ c.
-    let at-walk-part = c .before .before in
-    let at-walk-number = at-walk-part .before .before .before .before in
+    let at-walk-part : tie.After-walk-part = search in
+    let at-walk-number : tie.After-walk-number = search in
     view-walk _ _ (λ a. refl) (pair (number-lawful 1) (opaque-lawful _ .formal) (at-walk-number .walk-number .ensures)
     (at-walk-part .walk-part .ensures))))

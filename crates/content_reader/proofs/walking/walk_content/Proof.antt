@@ -40,10 +40,10 @@ walk-content-spec =
     (λ c κs. search needs)
     (λ c. search needs)
     (λ c.
-    let signature : tie.After-walk-part = c .before .before .before in
-    let languages : tie.After-walk-all-languages = signature .before .before .before .before in
-    let many : tie.After-walk-reserved-among = languages .before .before .before .before in
-    let first : tie.After-walk-identifier = many .before .before .before .before in
+    let signature : tie.After-walk-part = search in
+    let languages : tie.After-walk-all-languages = search in
+    let many : tie.After-walk-reserved-among = search in
+    let first : tie.After-walk-identifier = search in
     exact-walk LeftOver
     (view-walk _ _ (λ a. refl)
     (pair identifier-lawful (from-languages _ .formal) (first .walk-identifier .ensures)

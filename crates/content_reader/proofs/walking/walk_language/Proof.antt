@@ -20,7 +20,8 @@ walk-language-spec =
     (λ c κs. search needs)
     (λ c. search needs)
     (λ c.
-    let at-enter = c .before .before .before .before .before in
+    let at-walk-language-fields : tie.After-walk-language-fields = search in
+    let at-enter : tie.After-enter = search in
     counted-walk (length-counts 4 _) (exact-filling PastPart _ (view-lawful _ _ _ (λ a. refl) (λ b. refl) (language-fields-lawful _)))
     (at-enter .enter .ensures)
-    (exact-walk PastPart (view-walk _ _ (λ a. refl) (c .before .before .before .walk-language-fields .ensures)) (c .leave .ensures))))
+    (exact-walk PastPart (view-walk _ _ (λ a. refl) (at-walk-language-fields .walk-language-fields .ensures)) (c .leave .ensures))))

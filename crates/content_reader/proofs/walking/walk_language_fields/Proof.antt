@@ -39,11 +39,11 @@ walk-language-fields-spec =
     (λ c κs. search needs)
     (λ c. search needs)
     (λ c.
-    let files : tie.After-walk-auxiliaries = c .before .before in
-    let agency : tie.After-walk-part2 = files .before .before .before .before in
-    let text : tie.After-walk-part = agency .before .before .before .before in
-    let set : tie.After-walk-reserved-among = text .before .before .before .before in
-    let letters : tie.After-walk-bytes = set .before .before .before .before in
+    let files : tie.After-walk-auxiliaries = search in
+    let agency : tie.After-walk-part2 = search in
+    let text : tie.After-walk-part = search in
+    let set : tie.After-walk-reserved-among = search in
+    let letters : tie.After-walk-bytes = search in
     pair (bytes-among-lawful 0x61 0x7A 3) (from-set _ .formal) (letters .walk-bytes .ensures)
     (pair set-lawful (from-text _ .formal) (set .walk-reserved-among .ensures .past)
     (pair (opaque-lawful 2) (from-agency _ .formal) (text .walk-part .ensures)
