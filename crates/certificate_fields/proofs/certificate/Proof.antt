@@ -14,4 +14,7 @@ certificate-spec =
     (λ c. search needs)
     (λ c κs. search needs)
     (λ c. part-no _ _ (sym (c .before .r .given .1) ∙ c .before .before .before .skip-list .ensures) _)
-    (λ c. c .listed-part .ensures ∙ part-is _ _ (sym (c .before .before .a .given .1) ∙ c .before .before .before .before .skip-list .ensures) _))
+    (λ c.
+    let at-a : tie.After-a = search in
+    let at-skip-list : tie.After-skip-list = search in
+    c .listed-part .ensures ∙ part-is _ _ (sym (at-a .a .given .1) ∙ at-skip-list .skip-list .ensures) _))

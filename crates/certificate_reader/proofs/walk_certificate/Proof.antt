@@ -19,9 +19,9 @@ walk-certificate-spec =
     (λ c κs. search needs)
     (λ c. search needs)
     (λ c.
-    let at-walk-part = c .before .before .before in
-    let at-walk-list2 = at-walk-part .before .before .before .before in
-    let at-walk-list = at-walk-list2 .before .before .before .before in
+    let at-walk-part : tie.After-walk-part = search in
+    let at-walk-list2 : tie.After-walk-list2 = search in
+    let at-walk-list : tie.After-walk-list = search in
     unfold certificate fields in exact-walk LeftOver
     (view-walk named unnamed (λ a. refl) (pair (parts-lawful 2) (followed-lawful _ _ (parts-lawful 1) (λ a. opaque-lawful 2) .formal)
     (at-walk-list .walk-list .ensures) (pair (parts-lawful 1) (opaque-lawful 2 .formal) (at-walk-list2 .walk-list2 .ensures)

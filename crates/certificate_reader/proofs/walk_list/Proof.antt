@@ -14,6 +14,6 @@ walk-list-spec =
     (λ c κs. search needs)
     (λ c. search needs)
     (λ c.
-    let at-walk-parts = c .before .before in
-    let at-walk-count = at-walk-parts .before .before .before .before in
+    let at-walk-parts : tie.After-walk-parts = search in
+    let at-walk-count : tie.After-walk-count = search in
     list-walk (count-lawful 1) (opaque-lawful _) (at-walk-count .walk-count .ensures) (at-walk-parts .walk-parts .ensures)))

@@ -14,7 +14,14 @@ is-host-and-port-spec =
     (λ c. let a = c .before .before .args in host-empty (a .s .now) (a .p) (a .n) (omega arith) (c .if1 .taken))
     (λ c. search needs)
     (λ c κs. search needs)
-    (λ c. let a = c .before .before .before .before .before .args in host-fails (a .s .now) (a .p) (a .n) (omega arith) (omega arith) (unmet _ (c .before .in-name .ensures) (c .if2 .taken)))
+    (λ c.
+    let start : tie.Start = search in
+    let a = start .args in
+    host-fails (a .s .now) (a .p) (a .n) (omega arith) (omega arith) (unmet _ (c .before .in-name .ensures) (c .if2 .taken)))
     (λ c. search needs)
     (λ c κs. search needs)
-    (λ c. let a = c .before .before .before .before .before .before .args in c .is-named .ensures ∙ host-named (a .s .now) (a .p) (a .n) (omega arith) (omega arith) (met _ (c .before .before .in-name .ensures) (c .before .if2 .left))))
+    (λ c.
+    let start : tie.Start = search in
+    let at-in-name : tie.After-in-name = search in
+    let a = start .args in
+    c .is-named .ensures ∙ host-named (a .s .now) (a .p) (a .n) (omega arith) (omega arith) (met _ (at-in-name .in-name .ensures) (c .before .if2 .left))))

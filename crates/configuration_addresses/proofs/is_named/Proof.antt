@@ -28,9 +28,20 @@ is-named-spec =
     (λ c. search needs)
     (λ c. search needs)
     (λ c κs. search needs)
-    (λ c. let v = c .before .before .before .before .loop in c .is-port .ensures ∙ name-ends _ (v .k) _ _ (v .inv) (omega arith) (omega arith) (c .before .if1 .taken))
+    (λ c.
+    let head : tie.At-loop Inv-loop μ-loop = search in
+    let v = head .loop in
+    c .is-port .ensures ∙ name-ends _ (v .k) _ _ (v .inv) (omega arith) (omega arith) (c .before .if1 .taken))
     (λ c κs. search needs)
-    (λ c. let v = c .before .before .before .before .before .loop in name-fails _ (v .k) _ _ (v .inv) (omega arith) (omega arith) (c .before .before .if1 .left) (unmet _ (c .before .in-name .ensures) (c .if2 .taken)))
+    (λ c.
+    let head : tie.At-loop Inv-loop μ-loop = search in
+    let at-else1 : tie.Else1 Inv-loop μ-loop = search in
+    let v = head .loop in
+    name-fails _ (v .k) _ _ (v .inv) (omega arith) (omega arith) (at-else1 .if1 .left) (unmet _ (c .before .in-name .ensures) (c .if2 .taken)))
     (λ c. search needs)
-    (λ c. let v = c .before .before .before .before .before .loop in name-next _ (v .k) _ _ (v .inv) (omega arith) (omega arith) (c .before .before .if1 .left) (met _ (c .before .in-name .ensures) (c .if2 .left)))
+    (λ c.
+    let head : tie.At-loop Inv-loop μ-loop = search in
+    let at-else1 : tie.Else1 Inv-loop μ-loop = search in
+    let v = head .loop in
+    name-next _ (v .k) _ _ (v .inv) (omega arith) (omega arith) (at-else1 .if1 .left) (met _ (c .before .in-name .ensures) (c .if2 .left)))
     (λ c. let v = c .before .loop in name-done _ (v .k) _ _ (v .inv) (omega arith)))

@@ -27,12 +27,21 @@ is-port-spec =
     (λ c. let a = c .before .before .args in (port-start (a .s .now) (a .p) (a .n) (omega arith) _ refl (omega arith) (omega arith), omega arith))
     (λ c. search needs)
     (λ c. let v = c .before .before .before .loop in port-low _ (v .k) _ (v .worth) _ (v .inv .0) (omega arith) (omega arith) (c .if3 .taken))
-    (λ c. let v = c .before .before .before .before .loop in port-high _ (v .k) _ (v .worth) _ (v .inv .0) (omega arith) (omega arith) (omega arith) (c .if4 .taken))
+    (λ c.
+    let head : tie.At-loop Inv-loop μ-loop = search in
+    let v = head .loop in
+    port-high _ (v .k) _ (v .worth) _ (v .inv .0) (omega arith) (omega arith) (omega arith) (c .if4 .taken))
     (λ c. search needs)
     (λ c. search needs)
     (λ c. search needs)
-    (λ c. let v = c .before .before .before .before .before .loop in port-much _ (v .k) _ (v .worth) _ (v .inv .0) (omega arith) (omega arith) (omega arith) (omega arith) (c .if5 .taken))
+    (λ c.
+    let head : tie.At-loop Inv-loop μ-loop = search in
+    let v = head .loop in
+    port-much _ (v .k) _ (v .worth) _ (v .inv .0) (omega arith) (omega arith) (omega arith) (omega arith) (c .if5 .taken))
     (λ c. search needs)
     (λ c. search needs)
-    (λ c. let v = c .before .before .before .before .before .loop in (port-next _ (v .k) _ (v .worth) _ (v .inv .0) (omega arith) (omega arith) (omega arith) (omega arith), omega arith))
+    (λ c.
+    let head : tie.At-loop Inv-loop μ-loop = search in
+    let v = head .loop in
+    (port-next _ (v .k) _ (v .worth) _ (v .inv .0) (omega arith) (omega arith) (omega arith) (omega arith), omega arith))
     (λ c. let v = c .before .loop in port-done _ (v .k) _ (v .worth) _ (v .inv .0) (omega arith) (omega arith)))

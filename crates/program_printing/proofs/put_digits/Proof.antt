@@ -23,8 +23,10 @@ digit-requires c κs = omega (arith, mod-lt (c .before .loop .rest) (c .before .
 
 loop-again : tie.Need-loop-again Inv-loop μ-loop
 loop-again c =
-    let l = c .before .before .loop in
-    let a = c .before .before .before .before .args in (
+    let head : tie.At-loop Inv-loop μ-loop = search in
+    let start : tie.Start Inv-loop μ-loop = search in
+    let l = head .loop in
+    let a = start .args in (
       search needs,
       search needs,
       rw (c .digit .ensures)

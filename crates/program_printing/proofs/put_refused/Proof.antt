@@ -9,21 +9,21 @@ use Rattle.program_printing.proofs.put_refused.Tie as tie
 put-bytes-requires : tie.Need-put-bytes-requires
 unfolding refusedText
 put-bytes-requires c κs =
-    let start = c .before .before .before in
+    let start : tie.Start = search in
     room-first (start .args .at) (ascii "refused ") (decimalOf (refusalNumber (start .args .r))) (start .pre)
 
 put-decimal-requires : tie.Need-put-decimal-requires
 unfolding refusedText
 put-decimal-requires c κs =
-    let word = c .before .before .before .before in
-    let start = word .before .before .before .before in
+    let word : tie.After-put-bytes = search in
+    let start : tie.Start = search in
     rw (c .number .ensures) (put-room (decimalOf (refusalNumber (start .args .r))) (word .put-bytes .ensures) (start .pre))
 
 returns : tie.Need-returns
 unfolding refusedText
 returns c =
-    let told = c .before .before in
-    let word = told .before .before .before .before .before in
+    let told : tie.After-put-decimal = search in
+    let word : tie.After-put-bytes = search in
     put-then (word .put-bytes .ensures) (rw (told .before .number .ensures) at (told .put-decimal .ensures))
 
 pub put-refused-spec : {M : Type 1} → statement M

@@ -16,9 +16,11 @@ within c = in-range-only _ (met _ (c .before .in-range .ensures) (c .if1 .left))
 returns-2 : tie.Need-returns-2
 unfolding yearOf monthOf
 returns-2 c =
-    let k = c .before .before .month-of .result in
-    let e = c .before .before .before .before .before in
-    let n = e .before .before .args .day in
+    let at-month-of : tie.After-month-of = search in
+    let start : tie.Start = search in
+    let k = at-month-of .month-of .result in
+    let e : tie.Else1 = search in
+    let n = start .args .day in
     ap (λ (s : ℕ). On (dateAt k (n - s + 1))) (c .start-of .ensures)
     ∙ sym (date-given n k (within e .0) (within e .1) (record { from = omega arith; until = omega arith }))
 
@@ -29,7 +31,7 @@ date-of-spec =
     (λ c κs. search needs)
     (λ c. sym (date-refused _ (not-in-range _ (unmet _ (c .before .in-range .ensures) (c .if1 .taken)))))
     (λ c κs. search needs)
-    (λ c κs. let w = within (c .before .before) in search needs)
+    (λ c κs. let w = within (search) in search needs)
     (λ c κs. search needs)
     (λ c. search needs)
     (λ c. search needs)
@@ -38,5 +40,5 @@ date-of-spec =
     (λ c. search needs)
     (λ c. search needs)
     (λ c. search needs)
-    (λ c. omega (arith, within (c .before .before .before .before .before)))
+    (λ c. omega (arith, within (search)))
     returns-2)

@@ -12,7 +12,8 @@ use Rattle.time_days.proofs.day_of.Tie as tie
 returns-6 : tie.Need-returns-6
 unfolding monthsFrom
 returns-6 c =
-    let a = c .before .before .before .before .before .before .before .before .args in
+    let start : tie.Start = search in
+    let a = start .args in
     let e = of-months (a .year) (a .month) (omega arith) (omega arith) (omega arith) in
     c .day-in .ensures ∙ ap₂ (λ (y m : ℕ). dayOf y m (a .day)) (e .0) (e .1)
 

@@ -14,11 +14,19 @@ use Rattle.time_local.proofs.local_moment.Tie as tie
 
 -- where the time of day was tested
 module _ (c : tie.After-is-clock) where
-  abbrev t : LocalTime
-  t = c .before .before .before .before .before .args .t
+  abbrev begun : tie.Start
+  begun = search
 
-  found : dayOf (t .year) (t .month) (t .day) ≡ Day (c .before .before .day .given .0 .0)
-  found = sym (c .before .before .before .before .day-of .ensures) ∙ c .before .before .day .given .1
+  abbrev t : LocalTime
+  t = begun .args .t
+
+  abbrev at-day : tie.After-day
+  at-day = search
+
+  found : dayOf (t .year) (t .month) (t .day) ≡ Day (at-day .day .given .0 .0)
+  found =
+      let asked : tie.After-day-of = search in
+      sym (asked .day-of .ensures) ∙ at-day .day .given .1
 
 -- and passed
 passed : (c : tie.Else1) → isClock (t (c .before)) ≡ true

@@ -21,17 +21,20 @@ abbrev μ-loop : tie.MeasureT-loop
 -- one turn, by what the test of the byte said
 module _ (c : tie.After-fitting Inv-loop μ-loop) where
   abbrev start : tie.Start Inv-loop μ-loop
-  start = c .before .before .before .before .before .before .before .before
+  start = search
+
+  abbrev head : tie.At-loop Inv-loop μ-loop
+  head = search
 
   abbrev i : ℕ
-  i = c .before .before .before .before .loop .i
+  i = head .loop .i
 
   abbrev rest : Bool
   rest = formed (drop (i + 1) (start .args .form .now)) (drop (i + 1) (start .args .text .now))
 
   turned : {t : Bool} → c .fitting .result ≡ t → formed (start .args .form .now) (start .args .text .now) ≡ (t && rest)
   turned e =
-      c .before .before .before .before .loop .inv .2
+      head .loop .inv .2
       ∙ turn (start .args .form .now) (start .args .text .now) i (omega arith) (omega arith)
       ∙ ap (λ (u : Bool). u && rest) (sym (c .fitting .ensures) ∙ e)
 

@@ -12,12 +12,19 @@ use Rattle.time_local.proofs.packed.Tie as tie
 
 -- where the field was asked for
 module _ (c : tie.After-field-at) where
-  found : localMoment (c .before .before .before .before .before .args .t) ≡ At (c .before .before .local .given .0 .0)
-  found = sym (c .before .before .before .before .local-moment .ensures) ∙ c .before .before .local .given .1
+  abbrev begun : tie.Start
+  begun = search
 
-  field : c .field-at .result ≡ written (toUtc (c .before .before .local .given .0 .0) (c .before .before .before .before .before .args .offset))
-  field = c .field-at .ensures
-      ∙ ap (λ (z : ℤ). written (toUtc (c .before .before .local .given .0 .0) z)) (toZ-ofZ (c .before .before .before .before .before .fits .offset))
+  abbrev at-local : tie.After-local
+  at-local = search
+
+  found : localMoment (begun .args .t) ≡ At (at-local .local .given .0 .0)
+  found =
+      let moment : tie.After-local-moment = search in
+      sym (moment .local-moment .ensures) ∙ at-local .local .given .1
+
+  field : c .field-at .result ≡ written (toUtc (at-local .local .given .0 .0) (begun .args .offset))
+  field = c .field-at .ensures ∙ ap (λ (z : ℤ). written (toUtc (at-local .local .given .0 .0) z)) (toZ-ofZ (begun .fits .offset))
 
 returns : tie.Need-returns
 unfolding packedAs

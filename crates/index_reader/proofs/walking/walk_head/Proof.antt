@@ -38,12 +38,12 @@ walk-head-spec =
     (λ c κs. search needs)
     (λ c. search needs)
     (λ c.
-    let nibbles : tie.After-walk-nibbles = c .before .before in
-    let bytes : tie.After-walk-bytes = nibbles .before .before .before .before in
-    let end : tie.After-walk-end = bytes .before .before .before .before in
-    let start : tie.After-walk-time = end .before .before .before .before in
-    let network : tie.After-walk-number = start .before .before .before .before in
-    let first : tie.After-walk-identifier = network .before .before .before .before in
+    let nibbles : tie.After-walk-nibbles = search in
+    let bytes : tie.After-walk-bytes = search in
+    let end : tie.After-walk-end = search in
+    let start : tie.After-walk-time = search in
+    let network : tie.After-walk-number = search in
+    let first : tie.After-walk-identifier = search in
     pair identifier-lawful (from-network .formal) (first .walk-identifier .ensures)
     (pair (number-lawful 2) (from-start .formal) (network .walk-number .ensures)
     (pair time-lawful (from-end .formal) (start .walk-time .ensures)

@@ -24,9 +24,9 @@ walk-index-spec =
     (λ c κs. search needs)
     (λ c. search needs)
     (λ c.
-    let signature : tie.After-walk-part = c .before .before .before in
-    let messages : tie.After-walk-all-messages = signature .before .before .before .before in
-    let many : tie.After-walk-count = messages .before .before .before .before in
+    let signature : tie.After-walk-part = search in
+    let messages : tie.After-walk-all-messages = search in
+    let many : tie.After-walk-count = search in
     exact-walk LeftOver
     (view-walk _ _ (λ a. refl)
     (pair (list-lawful message message-lawful (count 1) (count-lawful 1)) (opaque-lawful 2 .formal)

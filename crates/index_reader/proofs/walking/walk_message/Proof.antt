@@ -23,10 +23,10 @@ walk-message-spec =
     (λ c κs. search needs)
     (λ c. search needs)
     (λ c.
-    let flagged : tie.After-walk-flagged = c .before .before .before in
-    let resources : tie.After-walk-resources = flagged .before .before .before .before in
-    let head : tie.After-walk-head = resources .before .before .before .before in
-    let part : tie.After-enter = head .before .before in
+    let flagged : tie.After-walk-flagged = search in
+    let resources : tie.After-walk-resources = search in
+    let head : tie.After-walk-head = search in
+    let part : tie.After-enter = search in
     counted-walk (length-counts 2 _) inner-filling (part .enter .ensures)
     (exact-walk PastPart
     (view-walk named unnamed (λ a. refl)
