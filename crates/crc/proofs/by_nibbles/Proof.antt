@@ -31,7 +31,9 @@ loop-less : tie.Need-loop-less Inv-loop μ-loop
 loop-less c = search needs
 
 loop-again : tie.Need-loop-again Inv-loop μ-loop
-loop-again c = walk-nibbles _ (c .before .before .before .before .loop .inv) (search needs) (c .before .nibble16 .ensures) (c .nibble162 .ensures)
+loop-again c =
+    let head : tie.At-loop Inv-loop μ-loop = search in
+    walk-nibbles _ (head .loop .inv) (search needs) (c .before .nibble16 .ensures) (c .nibble162 .ensures)
 
 returns : tie.Need-returns Inv-loop μ-loop
 returns c = walk-end (c .before .loop .inv) (search needs)

@@ -29,7 +29,8 @@ loop-holds c = whole _ _ _ _ (c .two-lanes .ensures)
 
 loop-again : tie.Need-loop-again Inv-loop μ-loop
 loop-again c =
-    let here = c .before .before .before .before .loop .inv .1 in
+    let head : tie.At-loop Inv-loop μ-loop = search in
+    let here = head .loop .inv .1 in
     (search needs, near-turn here _ _ (c .before .word .ensures) (c .near .ensures))
 
 returns : tie.Need-returns Inv-loop μ-loop

@@ -7,7 +7,7 @@ use Rattle.crc.proofs.first_far.Tie as tie
 returns : tie.Need-returns
 unfolding lookups
 returns c =
-    let a = c .before .before .before .before in
+    let a : tie.Start = search in
     cc (crc-lookups 8 32 0x04C11DB7 12 3 (a .args .x))
 
 pub first-far-spec : {M : Type 1} → statement M

@@ -7,7 +7,7 @@ use Rattle.crc.proofs.near.Tie as tie
 returns : tie.Need-returns
 unfolding lookups
 returns c =
-    let a = c .before .before .before .before in
+    let a : tie.Start = search in
     cc (crc-chunks 8 32 0x04C11DB7 3 (a .args .x))
 
 pub near-spec : {M : Type 1} → statement M

@@ -7,7 +7,7 @@ use Rattle.crc.proofs.near16.Tie as tie
 returns : tie.Need-returns
 unfolding lookups
 returns c =
-    let a = c .before .before .before .before in
+    let a : tie.Start = search in
     cc (crc-chunks 4 16 0x1021 3 (a .args .x))
 
 pub near16-spec : {M : Type 1} → statement M

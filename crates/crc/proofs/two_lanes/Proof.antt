@@ -20,8 +20,9 @@ loop-holds c = (search needs, apart-start, read-start (search needs))
 
 loop-again : tie.Need-loop-again Inv-loop μ-loop
 loop-again c =
-    let words = c .before .before .before in
-    let here = words .before .before .before .before .loop .inv .1 in
+    let head : tie.At-loop Inv-loop μ-loop = search in
+    let words : tie.After-second-far Inv-loop μ-loop = search in
+    let here = head .loop .inv .1 in
     let turned = far-turn here _ _ _ _ (c .before .word2 .ensures) (words .before .word .ensures) (c .first-far .ensures) (words .second-far .ensures) in
     (search needs, turned, apart (turned .lanes) (omega arith))
 

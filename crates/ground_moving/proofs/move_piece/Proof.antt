@@ -10,9 +10,10 @@ use Rattle.ground_moving.proofs.move_piece.Tie as tie
 
 returns : tie.Need-returns
 returns c =
-    let written = c .before .before in
-    let read = written .before .before .before .before in
-    let given = read .before .before .before .before .before .args in
+    let start : tie.Start = search in
+    let written : tie.After-copy-at2 = search in
+    let read : tie.After-copy-at = search in
+    let given = start .args in
     written .copy-at2 .ensures
     ∙ ap (placed (given .buffer .now) (given .to))
     (ap (take (given .n)) (read .copy-at .ensures) ∙ piece-held _ (given .buffer .now) (given .from) (given .n) (omega arith))

@@ -12,10 +12,14 @@ use Rattle.packet_frames.proofs.frame_of.Tie as tie
 
 -- the bytes lent
 abbrev u : tie.After-joint2 → List ℕ
-u c = now (c .before .before .before .before .before .args .u)
+u c =
+    let start : tie.Start = search in
+    now (start .args .u)
 
 abbrev more : tie.After-joint2 → List ℕ
-more c = now (c .before .before .before .before .before .args .more)
+more c =
+    let start : tie.Start = search in
+    now (start .args .more)
 
 -- what the two bytes read say
 read : (c : tie.After-joint2) → (c .before .joint .result * 256 + c .joint2 .result) % 4096 ≡ sectionLength (u c ++ more c)

@@ -17,7 +17,9 @@ use Rattle.packet_memory.proofs.may_leave.Tie as tie
 
 -- the packet, and that its fields are in place
 abbrev packet : tie.After-has-start → List ℕ
-packet c = now (c .before .before .before .before .args .p)
+packet c =
+    let start : tie.Start = search in
+    now (start .args .p)
 
 in-place : (c : tie.After-has-start) → Carried (packet c)
 in-place c = let start : tie.Start = search in carried (packet c) (start .pre)

@@ -17,11 +17,13 @@ use Rattle.packet_plan.proofs.plan_on.Tie as tie
 
 -- the bytes lent, and those that the unfinished ones go on with
 abbrev unfinished : tie.After-grow → List ℕ
-unfinished c = now (c .before .before .before .before .args .u)
+unfinished c =
+    let start : tie.Start = search in
+    now (start .args .u)
 
 abbrev rest : tie.After-grow → List ℕ
 rest c =
-    let start = c .before .before .before .before in
+    let start : tie.Start = search in
     take (length (now (start .args .p)) - start .args .at) (drop (start .args .at) (now (start .args .p)))
 
 rest-short : (c : tie.After-grow) → length (rest c) ≤ packetBytes

@@ -18,11 +18,13 @@ use Rattle.packet_plan.proofs.plan_pointed.Tie as tie
 
 -- the unfinished bytes, and the bytes ahead of the pointer
 abbrev unfinished : tie.After-grow → List ℕ
-unfinished c = now (c .before .before .before .before .before .before .before .before .args .u)
+unfinished c =
+    let start : tie.Start = search in
+    now (start .args .u)
 
 abbrev ahead : tie.After-grow → List ℕ
 ahead c =
-    let start = c .before .before .before .before .before .before .before .before in
+    let start : tie.Start = search in
     take (start .args .first - start .args .at) (drop (start .args .at) (now (start .args .p)))
 
 ahead-short : (c : tie.After-grow) → length (ahead c) ≤ packetBytes

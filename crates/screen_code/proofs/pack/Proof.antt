@@ -37,13 +37,17 @@ sub-pair : tie.Need-sub-pair Inv-loop μ-loop
 sub-pair c = omega arith
 
 shared-slice-read-pair-2 : tie.Need-shared-slice-read-pair-2 Inv-loop μ-loop
-shared-slice-read-pair-2 c = omega (arith, code-long _ (c .before .before .before .before .before .before .pre))
+shared-slice-read-pair-2 c =
+    let start : tie.Start Inv-loop μ-loop = search in
+    omega (arith, code-long _ (start .pre))
 
 mul-pair-2 : tie.Need-mul-pair-2 Inv-loop μ-loop
 mul-pair-2 c = omega arith
 
 shared-slice-read-pair-3 : tie.Need-shared-slice-read-pair-3 Inv-loop μ-loop
-shared-slice-read-pair-3 c = omega (arith, code-long _ (c .before .before .before .before .before .before .before .pre))
+shared-slice-read-pair-3 c =
+    let start : tie.Start Inv-loop μ-loop = search in
+    omega (arith, code-long _ (start .pre))
 
 pair-requires-2 : tie.Need-pair-requires-2 Inv-loop μ-loop
 pair-requires-2 c κs = search needs
@@ -59,8 +63,9 @@ loop-less c = omega arith
 
 loop-again : tie.Need-loop-again Inv-loop μ-loop
 loop-again c =
-    let here = c .before .before .before .before in
-    let pre = here .before .before .before .before .pre in
+    let start : tie.Start Inv-loop μ-loop = search in
+    let here : tie.At-loop Inv-loop μ-loop = search in
+    let pre = start .pre in
     let l = here .loop in (
       omega arith,
       omega arith,
@@ -69,7 +74,10 @@ loop-again c =
     )
 
 returns : tie.Need-returns Inv-loop μ-loop
-returns c = let l = c .before .loop in put-all _ (c .before .before .before .before .before .pre) _ (l .i) (l .inv .2) (l .inv .3) (omega arith)
+returns c =
+    let start : tie.Start Inv-loop μ-loop = search in
+    let l = c .before .loop in
+    put-all _ (start .pre) _ (l .i) (l .inv .2) (l .inv .3) (omega arith)
 
 pub pack-spec : {M : Type 1} → statement M
 pack-spec =

@@ -29,7 +29,10 @@ element-copy-out-if1 : tie.Need-element-copy-out-if1 Inv-loop μ-loop
 element-copy-out-if1 c = omega arith
 
 returns : tie.Need-returns Inv-loop μ-loop
-returns c = let l = c .before .before .before .before .loop in at-stop _ _ _ (l .k) (l .inv .1) (l .inv .2) (l .inv .3) (omega arith) (c .if1 .taken)
+returns c =
+    let head : tie.At-loop Inv-loop μ-loop = search in
+    let l = head .loop in
+    at-stop _ _ _ (l .k) (l .inv .1) (l .inv .2) (l .inv .3) (omega arith) (c .if1 .taken)
 
 add-k : tie.Need-add-k Inv-loop μ-loop
 add-k c = omega arith
@@ -39,7 +42,8 @@ loop-less c = omega arith
 
 loop-again : tie.Need-loop-again Inv-loop μ-loop
 loop-again c =
-    let l = c .before .before .before .before .loop in
+    let head : tie.At-loop Inv-loop μ-loop = search in
+    let l = head .loop in
     (omega arith, l .inv .1, l .inv .2, at-on _ _ _ (l .k) (l .inv .1) (l .inv .2) (l .inv .3) (omega arith) (c .if1 .left))
 
 returns-2 : tie.Need-returns-2 Inv-loop μ-loop

@@ -82,7 +82,7 @@ here c = let e = met _ (c .before .is-instant .ensures) (c .if1 .left) in (e, in
 -- where `floor` has returned
 module _ (c : tie.After-floor) where
   abbrev start : tie.Start
-  start = c .before .before .before .before
+  start = search
 
   there : Carried (start .args .m) (start .args .minutes) (c .floor .result)
   there =
