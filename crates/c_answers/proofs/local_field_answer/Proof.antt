@@ -30,8 +30,8 @@ returns c =
 
 returns-2 : tie.Need-returns-2
 returns-2 c =
-    let arm = c .before .before .before in
-    let start = arm .before .before .before .before in
+    let arm : tie.After-field = search in
+    let start : tie.Start = search in
     c .local-answer .ensures
     ∙ ap localAnswer (c .before .unpack .ensures ∙ ap (unpackOf _) (toZ-ofZ (start .fits .offset)))
     ∙ ap (localOrRefused (start .args .offset)) (sym (arm .field .given .1))
@@ -39,8 +39,8 @@ returns-2 c =
 
 returns-3 : tie.Need-returns-3
 returns-3 c =
-    let arm = c .before .before in
-    let start = arm .before .before .before .before in
+    let arm : tie.After-field2 = search in
+    let start : tie.Start = search in
     c .refused2 .ensures ∙ ap (localOrRefused (start .args .offset)) (sym (arm .field2 .given .1)) ∙ sym (local-by _ _ (tested (arm .before .before)))
 
 pub local-field-answer-spec : {M : Type 1} → statement M

@@ -13,9 +13,13 @@ Inv-loop buffer₀ from to n left₀ buffer left = Moved buffer₀ from to n lef
 abbrev μ-loop : tie.MeasureT-loop
 μ-loop buffer₀ from to n left₀ buffer left = left
 
+-- where the function began
+abbrev begun : tie.After-slice-known3 Inv-loop μ-loop → tie.Start Inv-loop μ-loop
+begun c = search
+
 -- the last piece moves all that is left
 ends : (c : tie.After-slice-known3 Inv-loop μ-loop)
-    → let given = c .before .before .before .before .before .before .before .before .args in
+    → let given = begun c .args in
     let out = c .before .before .move-piece2 .last .0 in
     (out ≡ placed (given .buffer .now) (given .to) (moved (given .buffer .now) (given .from) (given .n))) × (length out ≡ length (given .buffer .now))
 ends c =

@@ -9,10 +9,14 @@ use Rattle.salvage.proofs.Calls.{answered}
 use Rattle.program_salvage.proofs.main.Statement.{statement}
 use Rattle.program_salvage.proofs.main.Tie as tie
 
+-- the call
+abbrev called : tie.After-bytes → tie.After-salvage
+called c = search
+
 -- the sections are no longer than their buffer
-within : (c : tie.After-bytes) → c .bytes .given .0 .0 ≤ length (c .before .before .before .before .salvage .last .1 .0)
+within : (c : tie.After-bytes) → c .bytes .given .0 .0 ≤ length (called c .salvage .last .1 .0)
 within c =
-    let call = c .before .before .before .before in
+    let call = called c in
     let long : length (call .salvage .last .1 .0) ≡ 65536 = search needs in
     let fits = answered _ _ _ _ _ (sym (call .salvage .ensures .0) ∙ c .bytes .given .1) .fits in
     omega arith
