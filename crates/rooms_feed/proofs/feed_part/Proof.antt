@@ -13,10 +13,10 @@ use Rattle.rooms_feed.proofs.feed_part.Tie as tie
 
 -- the start, and where the numbers were read, before the verdict
 abbrev start : tie.After-decide → tie.Start
-start c = c .before .before .before .before .before .before .before .before .before .before
+start c = search
 
 abbrev numbered : tie.After-decide → tie.After-numbers-of
-numbered c = c .before .before .before .before .before .before
+numbered c = search
 
 -- where the section begins, and where it is taken as a further one
 begun-at : (c : tie.After-h)

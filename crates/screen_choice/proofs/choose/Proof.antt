@@ -20,23 +20,25 @@ no-instant c =
 
 pack-requires : tie.Need-pack-requires
 pack-requires c κs =
-    let coded = c .before .before .before .before .before .before in
+    let coded : tie.Else1 = search in
     sym (coded .before .is-code .ensures) ∙ not-false _ (coded .if1 .left)
 
 walked-requires : tie.Need-walked-requires
 walked-requires c κs =
-    let end = c .before .before .before .before .before in
-    let read = end .before .before in
-    let coded = read .before .before .before in
-    let known = coded .before .before .before in
+    let counted : tie.After-message-count = search in
+    let packed : tie.After-pack = search in
+    let end : tie.After-end = search in
+    let read : tie.After-read = search in
+    let coded : tie.Else1 = search in
+    let known : tie.After-shared-slice-known = search in
     let args = known .before .args in
     let bytes : AreBytes (args .s .now) = record { byte = λ i. known .shared-slice-known .given i .fits } in
     let h = holds _ _ bytes _ (sym (end .end .given .1) ∙ read .read .ensures) in
     let code = sym (coded .before .is-code .ensures) ∙ not-false _ (coded .if1 .left) in (
       args .code .now,
       h .0 .messages,
-      tabled _ _ bytes _ _ _ (h .0) (h .2) (c .before .worth-of .ensures ∙ ap worthOf (c .before .before .message-count .ensures)) code
-          (c .before .before .before .pack .ensures),
+      tabled _ _ bytes _ _ _ (h .0) (h .2) (c .before .worth-of .ensures ∙ ap worthOf (counted .message-count .ensures)) code
+          (packed .pack .ensures),
     )
 
 refused : tie.Need-returns-3
@@ -49,16 +51,18 @@ refused c =
 
 chosen : tie.Need-returns-4
 chosen c =
-    let own = c .before .before in
-    let end = own .before .before .before .before .before in
-    let read = end .before .before in
-    let timed = read .before in
-    let coded = timed .before .before in
-    let known = coded .before .before .before in
+    let packed : tie.After-pack = search in
+    let counted : tie.After-message-count = search in
+    let worth : tie.After-worth-of = search in
+    let end : tie.After-end = search in
+    let read : tie.After-read = search in
+    let timed : tie.Else2 = search in
+    let coded : tie.Else1 = search in
+    let known : tie.After-shared-slice-known = search in
     let bytes : AreBytes (known .before .args .s .now) = record { byte = λ i. known .shared-slice-known .given i .fits } in
     choice-walked _ _ _ _ (sym (coded .before .is-code .ensures) ∙ not-false _ (coded .if1 .left))
     (sym (timed .before .is-instant .ensures) ∙ not-false _ (timed .if2 .left)) bytes _ (sym (end .end .given .1) ∙ read .read .ensures) _ _
-    (own .before .before .before .pack .ensures) (own .before .worth-of .ensures ∙ ap worthOf (own .before .before .message-count .ensures))
+    (packed .pack .ensures) (worth .worth-of .ensures ∙ ap worthOf (counted .message-count .ensures))
     (c .before .walked .result)
     (c .before .walked .ensures) _ (c .choice-told .ensures)
 

@@ -8,23 +8,26 @@ use Rattle.screen_choice.proofs.considered.Tie as tie
 
 returns : tie.Need-returns
 returns c code m so-far st part told =
-    let args = c .before .before .before .args in
+    let start : tie.Start = search in
+    let args = start .args in
     let present : Moment = record { day = args .day; second = args .second } in
     not-on _ _ _ _ _ present (args .best) code m so-far st part told _
     (c .before .is-timely .ensures) (not-true _ (c .if1 .taken))
 
 returns-2 : tie.Need-returns-2
 returns-2 c code m so-far st part told =
-    let args = c .before .before .before .before .before .args in
+    let start : tie.Start = search in
+    let args = start .args in
     let present : Moment = record { day = args .day; second = args .second } in
     not-concerned _ _ _ _ _ present (args .best) code m so-far st part told _
     (c .before .is-concerned .ensures) (not-true _ (c .if2 .taken))
 
 returns-3 : tie.Need-returns-3
 returns-3 c code m so-far st part told =
-    let second = c .before .before in
-    let first = second .before .before in
-    let args = first .before .before .before .args in
+    let start : tie.Start = search in
+    let first : tie.Else1 = search in
+    let second : tie.Else2 = search in
+    let args = start .args in
     let present : Moment = record { day = args .day; second = args .second } in
     may-show _ _ _ _ _ present (args .best) code m so-far st part told _ _ (first .before .is-timely .ensures) (not-false _ (first .if1 .left))
     (second .before .is-concerned .ensures) (not-false _ (second .if2 .left)) _ (c .before .candidate .ensures) _ (c .better .ensures)
