@@ -68,6 +68,10 @@ module _ (s : List ℕ) (p : ℕ) where
         ∙ digits-join (n - m) m
         ∙ ap (λ t. t && digitsAt s (p + (n - m)) m) (digits-start (n - m) j (omega arith) start))
 
+-- eleven bytes by two windows of eight, of which the second, three bytes on, asks for five once more
+pub eleven : (s : List ℕ) (p q : ℕ) → q ≡ p + 3 → digitsAt s p 8 ≡ true → digitsAt s q 8 ≡ true → digitsAt s p 11 ≡ true
+eleven s p q e first last = sym (digits-last s p 11 8 first 8 (omega arith) (omega arith)) ∙ ap (λ x. digitsAt s x 8) (sym e) ∙ last
+
 -- ---- one byte
 
 below : (b : ℕ) → ltb b 160 ≡ ltb (b / 16) 10

@@ -88,8 +88,8 @@ fn four(s: &[u8], p: usize) -> bool
     two(s, p) & two(s, p + 2)
 }
 
-// Each of eight.
-fn eight(s: &[u8], p: usize) -> bool
+// Each of eight. A glance at a resource asks for its eleven bytes by two of these, with a branch between them: joined by & the compiler mixes up the two windows.
+pub fn eight(s: &[u8], p: usize) -> bool
     requires { ⌜ p + 8 ≤ length (now s) ⌝ }
     ensures { λ r. ⌜ r ≡ decimal (halves (take 8 (drop p (now (s .entry))))) ⌝ }
 {
