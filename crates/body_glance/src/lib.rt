@@ -1,7 +1,6 @@
 // Fields of a body at a glance: whether they are as they must be, yes or no, and not what is wrong. A walk through the body tells that.
 use body_formats::IDENTIFIER_PAIRS;
 use body_formats::RESOURCE_BYTES;
-use body_formats::RESOURCE_PAIRS;
 use ground_numbers::wide;
 ghost use mathlib.Core.Path.{_≡_};
 ghost use Prim.Native.Nat.{_+_, _*_, _≤_, _<_};
@@ -46,6 +45,24 @@ pub fn good_identifier(s: &[u8], p: usize) -> bool
     body_identifier::has_decimal_day(s, p)
 }
 
+// "4 reserved + 23 digits", by the first byte and twice eight of the eleven others: a loop that calls this has no call and no loop in it.
+fn good_resource(s: &[u8], p: usize) -> bool
+    requires { ⌜ p + 12 ≤ length (now s) ⌝ }
+    ensures { λ r. ⌜ Good resource (now (s .entry)) p (p + 12) r ⌝ }
+{
+    let head = s[p];
+    if head < 240 {
+        return false;
+    }
+    if 249 < head {
+        return false;
+    }
+    if !body_digits::eight(s, p + 1) {
+        return false;
+    }
+    body_digits::eight(s, p + 4)
+}
+
 // n resources.
 pub fn good_resources(s: &[u8], p: usize, n: usize) -> bool
     requires { ⌜ p + n * 12 ≤ length (now s) ⌝ }
@@ -54,7 +71,7 @@ pub fn good_resources(s: &[u8], p: usize, n: usize) -> bool
     let mut at = p;
     let mut left = n;
     while 0 < left {
-        if !good_digits(s, at, RESOURCE_PAIRS) {
+        if !good_resource(s, at) {
             return false;
         }
         at = at + RESOURCE_BYTES;

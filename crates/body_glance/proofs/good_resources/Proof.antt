@@ -30,9 +30,9 @@ good-resources-spec =
     (λ c. search needs)
     (λ c. search needs)
     (λ c.
-    let asked : tie.After-good-digits Inv-loop μ-loop = c .before in
+    let asked : tie.After-good-resource Inv-loop μ-loop = c .before in
     let turn : tie.In-loop Inv-loop μ-loop = asked .before in
-    (coming-turn resource _ _ _ (turn .before .loop .inv .0) (turn .loop-test .taken) (asked .good-digits .ensures (not-false _ (c .if1 .left))), omega arith))
+    (coming-turn resource _ _ _ (turn .before .loop .inv .0) (turn .loop-test .taken) (asked .good-resource .ensures (not-false _ (c .if1 .left))), omega arith))
     (λ c e.
     let loop : tie.At-loop Inv-loop μ-loop = c .before in
     let done = coming-done resource _ _ _ (loop .loop .inv .0) (omega arith) in
