@@ -34,10 +34,10 @@ pub fn copy(pool: &[u8], a: usize, n: usize, out: &mut [u8], at: usize)
     ensures { λ _. ⌜ now (out .exit) ≡ placed (now (out .entry)) at (take n (drop a (now (pool .entry)))) ⌝ }
 {
     let end = a + n;
-    ground_copying::copy_few(&pool[a..end], out, at);
+    ground_copying::copy_at(&pool[a..end], out, at);
 }
 
-// The same for any length, by pieces.
+// The same for any length.
 pub fn copy_span(pool: &[u8], a: usize, n: usize, out: &mut [u8], at: usize)
     requires { ⌜ (a + n ≤ length (now pool)) × (at + n ≤ length (now out)) ⌝ }
     ensures { λ _. ⌜ now (out .exit) ≡ placed (now (out .entry)) at (take n (drop a (now (pool .entry)))) ⌝ }

@@ -1,15 +1,15 @@
--- Laws of a copy by pieces: a piece held, a piece laid over what stands there, and so one that goes on from there or overlaps it.
-use Prim.Native.Nat.{ℕ, _+_, _-_, _≤_, _<_}
-use mathlib.Core.List.{List, [], _++_, append-nil}
-use mathlib.Core.Path.{_≡_, refl, sym, ap, ap₂, _∙_}
+-- Laws of a copy by pieces: bytes held in an array, a piece laid over what stands there, and so one that goes on from there or two that overlap.
+use Prim.Native.Nat.{ℕ, _+_, _-_, _≤_}
+use mathlib.Core.List.{List, _++_, append-nil}
+use mathlib.Core.Path.{_≡_, sym, ap, ap₂, _∙_}
 use native.Mathlib.Omega.{arith}
-use lib.ListN.{length, take, drop, length-append, length-drop, length-take}
+use lib.ListN.{length, take, drop, length-append, length-drop}
 use lib.Seq.{length-take-le, take-append-le, take-take, take-add, drop-drop, take-all, drop-length}
 use Rattle.ground_placing.specs.Placed.{placed}
-use Rattle.ground_placing.proofs.Placing.{placed-next, placed-back, placed-length, placed-whole}
+use Rattle.ground_placing.proofs.Placing.{placed-next, placed-back, placed-length, placed-start, placed-whole}
 
 -- a piece that fills its array is the array
-pub held-is : (d s : List ℕ) → length d ≡ length s → placed d 0 s ≡ s
+held-is : (d s : List ℕ) → length d ≡ length s → placed d 0 s ≡ s
 held-is d s e = placed-whole d s ∙ ap (λ n. s ++ drop n d) (sym e) ∙ ap (λ l. s ++ l) (drop-length d) ∙ append-nil s
 
 -- bytes laid over others at the same place, at least as many
@@ -33,7 +33,7 @@ over d at s t room h =
         ∙ ap (λ n. drop n d) z
 
 -- the first i bytes of s stand; m bytes from j on are laid, where j is at most i and they reach as far: then the first j + m stand
-pub piece : (d : List ℕ) (at : ℕ) (s : List ℕ) (i j m : ℕ) → at + length s ≤ length d → j ≤ i → i ≤ j + m → j + m ≤ length s
+piece : (d : List ℕ) (at : ℕ) (s : List ℕ) (i j m : ℕ) → at + length s ≤ length d → j ≤ i → i ≤ j + m → j + m ≤ length s
     → placed (placed d at (take i s)) (at + j) (take m (drop j s)) ≡ placed d at (take (j + m) s)
 piece d at s i j m room h k l =
     let lj : length (take j s) ≡ j = length-take-le j s (omega arith) in
@@ -58,29 +58,23 @@ held-piece z src held i k e lz h =
     e ∙ ap (λ m. placed z 0 (take m (drop i src))) n
     ∙ held-is z (take k (drop i src)) (lz ∙ sym (length-take-le k (drop i src) (simp length-drop (omega arith))))
 
-module _ (d : List ℕ) (at : ℕ) (src mid : List ℕ) (i : ℕ) (room : at + length src ≤ length d)
-    (stands : mid ≡ placed d at (take i src)) (out : List ℕ) (k : ℕ) where
-  -- a turn: the next k bytes
-  pub turn : i + k ≤ length src → out ≡ placed mid (at + i) (take k (drop i src)) → (out ≡ placed d at (take (i + k) src)) × (length out ≡ length d)
-  turn h e =
-      let now : out ≡ placed d at (take (i + k) src) =
-      e ∙ ap (λ x. placed x (at + i) (take k (drop i src))) stands ∙ piece d at src i i k room (omega arith) (omega arith) h in
-      let l : length (take (i + k) src) ≡ i + k = length-take-le (i + k) src h in
-      (now, ap length now ∙ placed-length d at (take (i + k) src) (omega arith))
+-- bytes that went through an array which they need not fill
+pub held-start : (z src held : List ℕ) → held ≡ placed z 0 src → take (length src - 0) held ≡ src
+held-start z src held e = ap (take (length src - 0)) e ∙ placed-start z src (length src - 0) (omega arith)
 
-  -- the end: the last k bytes
-  pub end : k ≤ length src → i ≤ length src → length src ≤ i + k → out ≡ placed mid (at + (length src - k)) (take k (drop (length src - k) src))
-      → (out ≡ placed d at src) × (length out ≡ length d)
-  end h h′ m e =
-      let z : length src - k + k ≡ length src = omega arith in
-      let now : out ≡ placed d at src =
+module _ (d : List ℕ) (at : ℕ) (src mid : List ℕ) (room : at + length src ≤ length d) (out : List ℕ) where
+  -- the bytes before i stand, and those from there to end are laid: then all before end stand
+  pub turn : (i end : ℕ) → mid ≡ placed d at (take i src) → i ≤ end → end ≤ length src → out ≡ placed mid (at + i) (take (end - i) (drop i src))
+      → out ≡ placed d at (take end src)
+  turn i end stands h k e =
+      let z : i + (end - i) ≡ end = omega arith in
+      e ∙ ap (λ x. placed x (at + i) (take (end - i) (drop i src))) stands
+      ∙ piece d at src i i (end - i) room (omega arith) (omega arith) (omega arith) ∙ ap (λ n. placed d at (take n src)) z
+
+  -- the first k bytes stand, and the last k are laid, which reach back to them or into them: then all stand
+  pub two : (k : ℕ) → k ≤ length src → length src ≤ k + k → mid ≡ placed d at (take k src)
+      → out ≡ placed mid (at + (length src - k)) (take k (drop (length src - k) src)) → out ≡ placed d at src
+  two k h m stands e =
       e ∙ ap (λ x. placed x (at + (length src - k)) (take k (drop (length src - k) src))) stands
-      ∙ piece d at src i (length src - k) k room (omega arith) (omega arith) (omega arith)
-      ∙ ap (placed d at) (take-all (length src - k + k) src (omega arith)) in
-      (now, ap length now ∙ placed-length d at src room)
-
-  -- the end: all that is left
-  pub rest : i ≤ length src → k ≡ length src - i → out ≡ placed mid (at + i) (take k (drop i src)) → (out ≡ placed d at src) × (length out ≡ length d)
-  rest h left e =
-      let t = turn (omega arith) e in
-      (t .0 ∙ ap (placed d at) (take-all (i + k) src (omega arith)), t .1)
+      ∙ piece d at src k (length src - k) k room (omega arith) (omega arith) (omega arith)
+      ∙ ap (placed d at) (take-all (length src - k + k) src (omega arith))

@@ -1,8 +1,11 @@
-// Bytes copied into a lent buffer by pieces that the compiler moves as one, the last one over what stands there already, or by blocks and then the rest.
+// Bytes copied into a lent buffer: few by two pieces that overlap, each of which the compiler moves as one, and many by blocks that the system moves.
 ghost use mathlib.Core.Path.{_≡_};
 ghost use Prim.Native.Nat.{_+_, _≤_};
 ghost use lib.ListN.{length, take, drop};
 ghost use Rattle.ground_placing.specs.Placed.{placed};
+
+// The bytes that are moved at once, at most.
+const BLOCK: usize = 4096;
 
 // 4 bytes of src from i on into dst from at on, by way of an array of their own: so the compiler reads them all before it writes one.
 fn four(src: &[u8], i: usize, dst: &mut [u8], at: usize)
@@ -15,18 +18,14 @@ fn four(src: &[u8], i: usize, dst: &mut [u8], at: usize)
     ground_placing::copy_at(&held, dst, at);
 }
 
-// src into dst, 4 bytes a turn, and the last 4, some of them once more.
-fn by_fours(src: &[u8], dst: &mut [u8], at: usize)
-    requires { ⌜ (4 ≤ length (now src)) × (at + length (now src) ≤ length (now dst)) ⌝ }
+// 4 to 8 bytes of src into dst from at on: the first 4, and the last 4, some of them once more, so that there is no loop.
+fn two_fours(src: &[u8], dst: &mut [u8], at: usize)
+    requires { ⌜ (4 ≤ length (now src)) × (length (now src) ≤ 8) × (at + length (now src) ≤ length (now dst)) ⌝ }
     ensures { λ _. ⌜ now (dst .exit) ≡ placed (now (dst .entry)) at (now (src .entry)) ⌝ }
 {
-    let n = src.len();
-    let mut i: usize = 0;
-    while 4 < n - i {
-        four(src, i, dst, at + i);
-        i += 4;
-    }
-    four(src, n - 4, dst, at + (n - 4));
+    let last = src.len() - 4;
+    four(src, 0, dst, at);
+    four(src, last, dst, at + last);
 }
 
 // 8 bytes of src from i on into dst from at on, by way of an array of their own: so the compiler reads them all before it writes one.
@@ -40,18 +39,14 @@ fn eight(src: &[u8], i: usize, dst: &mut [u8], at: usize)
     ground_placing::copy_at(&held, dst, at);
 }
 
-// src into dst, 8 bytes a turn, and the last 8, some of them once more.
-fn by_eights(src: &[u8], dst: &mut [u8], at: usize)
-    requires { ⌜ (8 ≤ length (now src)) × (at + length (now src) ≤ length (now dst)) ⌝ }
+// 8 to 16 bytes of src into dst from at on: the first 8, and the last 8, some of them once more, so that there is no loop.
+fn two_eights(src: &[u8], dst: &mut [u8], at: usize)
+    requires { ⌜ (8 ≤ length (now src)) × (length (now src) ≤ 16) × (at + length (now src) ≤ length (now dst)) ⌝ }
     ensures { λ _. ⌜ now (dst .exit) ≡ placed (now (dst .entry)) at (now (src .entry)) ⌝ }
 {
-    let n = src.len();
-    let mut i: usize = 0;
-    while 8 < n - i {
-        eight(src, i, dst, at + i);
-        i += 8;
-    }
-    eight(src, n - 8, dst, at + (n - 8));
+    let last = src.len() - 8;
+    eight(src, 0, dst, at);
+    eight(src, last, dst, at + last);
 }
 
 // 16 bytes of src from i on into dst from at on, by way of an array of their own: so the compiler reads them all before it writes one.
@@ -65,115 +60,62 @@ fn sixteen(src: &[u8], i: usize, dst: &mut [u8], at: usize)
     ground_placing::copy_at(&held, dst, at);
 }
 
-// src into dst, 16 bytes a turn, and the last 16, some of them once more.
-fn by_sixteens(src: &[u8], dst: &mut [u8], at: usize)
-    requires { ⌜ (16 ≤ length (now src)) × (at + length (now src) ≤ length (now dst)) ⌝ }
+// 16 to 32 bytes of src into dst from at on: the first 16, and the last 16, some of them once more, so that there is no loop.
+fn two_sixteens(src: &[u8], dst: &mut [u8], at: usize)
+    requires { ⌜ (16 ≤ length (now src)) × (length (now src) ≤ 32) × (at + length (now src) ≤ length (now dst)) ⌝ }
     ensures { λ _. ⌜ now (dst .exit) ≡ placed (now (dst .entry)) at (now (src .entry)) ⌝ }
 {
+    let last = src.len() - 16;
+    sixteen(src, 0, dst, at);
+    sixteen(src, last, dst, at + last);
+}
+
+// Up to 4,096 bytes into dst from at on, by way of an array: the compiler makes one call of the system's memmove of it, and no array.
+fn block(src: &[u8], dst: &mut [u8], at: usize)
+    requires { ⌜ (length (now src) ≤ 4096) × (at + length (now src) ≤ length (now dst)) ⌝ }
+    ensures { λ _. ⌜ now (dst .exit) ≡ placed (now (dst .entry)) at (now (src .entry)) ⌝ }
+{
+    let mut held: [u8; BLOCK] = [0; BLOCK];
     let n = src.len();
-    let mut i: usize = 0;
-    while 16 < n - i {
-        sixteen(src, i, dst, at + i);
-        i += 16;
-    }
-    sixteen(src, n - 16, dst, at + (n - 16));
+    ground_placing::copy_at(src, &mut held, 0);
+    ground_placing::copy_at(&held[0..n], dst, at);
 }
 
-// Up to 31 bytes or so of src into dst, from index at on. It is for lengths that are a number in the code: then the compiler leaves two moves of it.
-pub fn copy_few(src: &[u8], dst: &mut [u8], at: usize)
-    requires { ⌜ at + length (now src) ≤ length (now dst) ⌝ }
-    ensures { λ _. ⌜ now (dst .exit) ≡ placed (now (dst .entry)) at (now (src .entry)) ⌝ }
-{
-    if src.len() < 4 {
-        ground_placing::copy_at(src, dst, at);
-        return;
-    }
-    if src.len() < 8 {
-        by_fours(src, dst, at);
-        return;
-    }
-    if src.len() < 16 {
-        by_eights(src, dst, at);
-        return;
-    }
-    by_sixteens(src, dst, at);
-}
-
-// 32 bytes of src from i on into dst from at on, by way of an array of their own: so the compiler reads them all before it writes one.
-fn thirty_two(src: &[u8], i: usize, dst: &mut [u8], at: usize)
-    requires { ⌜ (i + 32 ≤ length (now src)) × (at + 32 ≤ length (now dst)) ⌝ }
-    ensures { λ _. ⌜ now (dst .exit) ≡ placed (now (dst .entry)) at (take 32 (drop i (now (src .entry)))) ⌝ }
-{
-    let mut held: [u8; 32] = [0; 32];
-    let end = i + 32;
-    ground_placing::copy_at(&src[i..end], &mut held, 0);
-    ground_placing::copy_at(&held, dst, at);
-}
-
-// src into dst, 32 bytes a turn, and the last 32, some of them once more.
-fn by_thirty_twos(src: &[u8], dst: &mut [u8], at: usize)
-    requires { ⌜ (32 ≤ length (now src)) × (at + length (now src) ≤ length (now dst)) ⌝ }
-    ensures { λ _. ⌜ now (dst .exit) ≡ placed (now (dst .entry)) at (now (src .entry)) ⌝ }
-{
-    let n = src.len();
-    let mut i: usize = 0;
-    while 32 < n - i {
-        thirty_two(src, i, dst, at + i);
-        i += 32;
-    }
-    thirty_two(src, n - 32, dst, at + (n - 32));
-}
-
-// 1,024 bytes of src from i on into dst from at on, by way of an array of their own: the compiler makes one call of the system's memmove of it.
-fn block(src: &[u8], i: usize, dst: &mut [u8], at: usize)
-    requires { ⌜ (i + 1024 ≤ length (now src)) × (at + 1024 ≤ length (now dst)) ⌝ }
-    ensures { λ _. ⌜ now (dst .exit) ≡ placed (now (dst .entry)) at (take 1024 (drop i (now (src .entry)))) ⌝ }
-{
-    let mut held: [u8; 1024] = [0; 1024];
-    let end = i + 1024;
-    ground_placing::copy_at(&src[i..end], &mut held, 0);
-    ground_placing::copy_at(&held, dst, at);
-}
-
-// The bytes of src into dst, from index at on, for what is mostly long, as payloads are: 1,024 bytes a turn, and then the rest.
+// The bytes of src into dst, from index at on, for what is mostly long, as payloads are: a block a turn, and then the rest, which is a block too.
 pub fn copy_long(src: &[u8], dst: &mut [u8], at: usize)
     requires { ⌜ at + length (now src) ≤ length (now dst) ⌝ }
     ensures { λ _. ⌜ now (dst .exit) ≡ placed (now (dst .entry)) at (now (src .entry)) ⌝ }
 {
     let n = src.len();
     let mut i: usize = 0;
-    while 1024 <= n - i {
-        block(src, i, dst, at + i);
-        i += 1024;
+    while BLOCK < n - i {
+        let end = i + BLOCK;
+        block(&src[i..end], dst, at + i);
+        i += BLOCK;
     }
-    ground_placing::copy_at(&src[i..], dst, at + i);
+    block(&src[i..], dst, at + i);
 }
 
-// The bytes of src into dst, from index at on. Long ones go the plain way: the compiler's own loop is faster for them than pieces, and blocks would make this
-// too long to be laid into those that call it.
+// The bytes of src into dst, from index at on. Where the length is a number in the code, the compiler leaves two moves of it; the order of the tests was measured.
 pub fn copy_at(src: &[u8], dst: &mut [u8], at: usize)
     requires { ⌜ at + length (now src) ≤ length (now dst) ⌝ }
     ensures { λ _. ⌜ now (dst .exit) ≡ placed (now (dst .entry)) at (now (src .entry)) ⌝ }
 {
-    if src.len() < 4 {
-        ground_placing::copy_at(src, dst, at);
+    if 32 < src.len() {
+        copy_long(src, dst, at);
         return;
     }
-    if 256 <= src.len() {
-        ground_placing::copy_at(src, dst, at);
+    if 16 < src.len() {
+        two_sixteens(src, dst, at);
         return;
     }
-    if src.len() < 8 {
-        by_fours(src, dst, at);
+    if 8 < src.len() {
+        two_eights(src, dst, at);
         return;
     }
-    if src.len() < 16 {
-        by_eights(src, dst, at);
+    if 4 <= src.len() {
+        two_fours(src, dst, at);
         return;
     }
-    if src.len() < 32 {
-        by_sixteens(src, dst, at);
-        return;
-    }
-    by_thirty_twos(src, dst, at);
+    ground_placing::copy_at(src, dst, at);
 }

@@ -20,4 +20,4 @@ copy-spec =
     (λ c.
     let start : tie.Start = search in
     let a = start .args in
-    c .before .before .copy-few .ensures ∙ ap (placed _ _) (span-end (now (a .pool)) (a .a) (a .n))))
+    c .before .before .copy-at .ensures ∙ ap (placed _ _) (span-end (now (a .pool)) (a .a) (a .n))))
