@@ -64,14 +64,10 @@ reads-off F s p = record { forward = le-refl p; here = λ l h k. refl }
 
 -- ---- numbers
 
--- of one byte and of two
+-- of one byte
 pub one-byte : (s : List ℕ) (p : ℕ) → numberAt s p 1 ≡ getD s p 0
 unfolding numberAt
 one-byte s p = rw add-zero (omega arith)
-
-pub two-bytes : (s : List ℕ) (p : ℕ) {high low : ℕ} → high ≡ getD s p 0 → low ≡ getD s (p + 1) 0 → high * 256 + low ≡ numberAt s p 2
-unfolding numberAt
-two-bytes s p d e = rw add-zero (omega arith)
 
 module _ (s : List ℕ) (p w : ℕ) where
   pub reads-count : Reads (count w) s p (numberAt s p w) (p + w)

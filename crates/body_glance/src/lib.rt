@@ -5,19 +5,11 @@ use ground_numbers::wide;
 ghost use mathlib.Core.Path.{_≡_};
 ghost use Prim.Native.Nat.{_+_, _*_, _≤_, _<_};
 ghost use lib.ListN.{length};
-ghost use Rattle.body_formats.specs.Format.{numberAt, digits, times};
+ghost use Rattle.body_formats.specs.Format.{digits, times};
 ghost use Rattle.body_formats.specs.Time.{time, endTime};
 ghost use Rattle.body_formats.specs.Resource.{resource};
 ghost use Rattle.body_formats.specs.Identifier.{identifier};
 ghost use Rattle.body_glance.specs.Glance.{Good};
-
-// The number in two bytes at p, the high one first.
-pub fn two_bytes(s: &[u8], p: usize) -> usize
-    requires { ⌜ p + 2 ≤ length (now s) ⌝ }
-    ensures { λ r. ⌜ (r ≡ numberAt (now (s .entry)) p 2) × (r < 65536) ⌝ }
-{
-    (wide(s[p]) * 256 + wide(s[p + 1])) as usize
-}
 
 // Four reserved bits and 2 h + 1 decimal digits.
 pub fn good_digits(s: &[u8], p: usize, h: usize) -> bool

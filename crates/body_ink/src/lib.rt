@@ -28,17 +28,8 @@ pub fn number(out: &mut [u8], at: usize, w: usize, x: u64)
     }
 }
 
-// n bytes of the pool from index a on, from index at on. It is for fields of a fixed length, which the compiler moves without a loop.
+// n bytes of the pool from index a on, from index at on: where n is a number in the code, the compiler makes two moves of it.
 pub fn copy(pool: &[u8], a: usize, n: usize, out: &mut [u8], at: usize)
-    requires { ⌜ (a + n ≤ length (now pool)) × (at + n ≤ length (now out)) ⌝ }
-    ensures { λ _. ⌜ now (out .exit) ≡ placed (now (out .entry)) at (take n (drop a (now (pool .entry)))) ⌝ }
-{
-    let end = a + n;
-    ground_copying::copy_at(&pool[a..end], out, at);
-}
-
-// The same for any length.
-pub fn copy_span(pool: &[u8], a: usize, n: usize, out: &mut [u8], at: usize)
     requires { ⌜ (a + n ≤ length (now pool)) × (at + n ≤ length (now out)) ⌝ }
     ensures { λ _. ⌜ now (out .exit) ≡ placed (now (out .entry)) at (take n (drop a (now (pool .entry)))) ⌝ }
 {
@@ -53,7 +44,7 @@ pub fn part(pool: &[u8], tape: &[u64], k: usize, w: usize, out: &mut [u8], at: u
 {
     let n = tape[k + 1];
     number(out, at, w, n);
-    copy_span(pool, tape[k] as usize, n as usize, out, at + w);
+    copy(pool, tape[k] as usize, n as usize, out, at + w);
     at + w + (n as usize)
 }
 

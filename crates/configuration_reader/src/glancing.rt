@@ -26,7 +26,7 @@ fn good_date(s: &[u8], p: usize) -> bool
     requires { ⌜ p + 4 ≤ length (now s) ⌝ }
     ensures { λ r. ⌜ Good date (now (s .entry)) p (p + 4) r ⌝ }
 {
-    let year = body_glance::two_bytes(s, p) as u64;
+    let year = body_numbers::two_bytes(s, p) as u64;
     clocks::is_day(year, wide(s[p + 2]), wide(s[p + 3]))
 }
 
@@ -181,7 +181,7 @@ pub fn good_configuration(s: &[u8]) -> bool
         if l - at < 3 {
             return false;
         }
-        let n = body_glance::two_bytes(s, at + 1);
+        let n = body_numbers::two_bytes(s, at + 1);
         if l - at - 3 < n {
             return false;
         }
@@ -195,5 +195,5 @@ pub fn good_configuration(s: &[u8]) -> bool
     if l - at < 2 {
         return false;
     }
-    l - at - 2 == body_glance::two_bytes(s, at)
+    l - at - 2 == body_numbers::two_bytes(s, at)
 }

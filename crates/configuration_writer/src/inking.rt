@@ -110,7 +110,7 @@ fn ink_other(pool: &[u8], tape: &[u64], k: usize, out: &mut [u8], at: usize) -> 
     ensures { λ r. ⌜ Inked (said other) (now (pool .entry)) (now (tape .entry)) at k (now (out .entry)) (r .at) (r .entry) (now (out .exit)) ⌝ }
 {
     let n = tape[k + 1] as usize;
-    body_ink::copy_span(pool, tape[k] as usize, n, out, at);
+    body_ink::copy(pool, tape[k] as usize, n, out, at);
     Mark {
         at: at + n,
         entry: k + 2,

@@ -1,6 +1,6 @@
 // A glance at the body of a content table, from its auxiliary files up to the whole: yes or no, w the width of an auxiliary file's length, 3 or 4
 // bytes. What is taken for good is found by the format of its name; what is not is left to a walk.
-use body_glance::two_bytes;
+use body_numbers::two_bytes;
 use ground_numbers::wide;
 ghost use Prim.Native.Nat.{_+_, _≤_, _<_};
 ghost use lib.ListN.{length};

@@ -8,7 +8,8 @@ use lib.ListN.{getD}
 use Rattle.body_formats.specs.Format.{numberAt, many, below, under}
 use Rattle.body_formats.proofs.Classes.{Bytes}
 use Rattle.body_glance.specs.Glance.{Reads, Fills}
-use Rattle.body_glance.proofs.Finds.{two-bytes, reads-to, reads-pair, reads-followed, reads-view, reads-on, reads-off, reads-number, reads-reserved, reads-opaque, reads-part, reads-part12}
+use Rattle.body_numbers.proofs.Numbers.{number-two}
+use Rattle.body_glance.proofs.Finds.{reads-to, reads-pair, reads-followed, reads-view, reads-on, reads-off, reads-number, reads-reserved, reads-opaque, reads-part, reads-part12}
 use Rattle.index.specs.Index.{Descriptor, descriptor, descriptors, Stream, streamFields, stream, streams, Channel, channelFields, channel, Flagged, flagged}
 
 module _ (s : List ℕ) (p : ℕ) (b : Bytes s) where
@@ -26,7 +27,7 @@ module _ (s : List ℕ) (p : ℕ) (b : Bytes s) where
   unfolding descriptors
   descriptors-good m e h from until g =
       let there : Fills (many descriptor) s (p + 2 + m) (p + 2) (g .0) = rw (from, until) (g .1) in
-      (g .0, reads-to (omega arith) (reads-part12 s p m b (omega (arith, two-bytes s p refl refl)) h there))
+      (g .0, reads-to (omega arith) (reads-part12 s p m b (omega (arith, number-two s p refl refl)) h there))
 
   -- "16-bit stream length; streams"
   pub streams-good : {q : ℕ} → p + 2 + numberAt s p 2 ≡ q → (ts : List Stream) × Fills (many stream) s q (p + 2) ts

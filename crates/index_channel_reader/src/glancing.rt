@@ -1,5 +1,5 @@
 // A message's channel at a glance, from its descriptors up: whether each is good, yes or no. A walk tells what is wrong.
-use body_glance::two_bytes;
+use body_numbers::two_bytes;
 use ground_numbers::wide;
 use index::CHANNEL_DESCRIPTORS_PLACE;
 use index::PCR_PID_PLACE;

@@ -1,6 +1,6 @@
 // The body of an index table at a glance, from a message's fields up to the whole: whether each is good, yes or no. A walk tells what is wrong.
 use body_formats::RESOURCE_BYTES;
-use body_glance::two_bytes;
+use body_numbers::two_bytes;
 use ground_numbers::wide;
 use index::CLASS_PLACE;
 use index::END_PLACE;

@@ -22,6 +22,6 @@ part-spec =
     (λ c. let start : tie.Start = search in omega (arith, part-ready _ (start .pre)))
     (λ c. search needs)
     (λ c.
-    let copied : tie.After-copy-span = search in
+    let copied : tie.After-copy = search in
     let number : tie.After-number = search in
-    part-inked _ (number .number .ensures) (copied .copy-span .ensures) refl refl))
+    part-inked _ (number .number .ensures) (copied .copy .ensures) refl refl))

@@ -20,8 +20,11 @@ walk-identifier-spec =
     let start : tie.Start = search in
     let here : tie.After-x2 = search in
     let t = start .args in
-    omega (arith, field-end identifier _ identifier-entries (now (t .s)) (t .l) (here .x2 .given .0 .0) (identifier-fits _ _ _) _
-    (c .before .read-identifier .ensures)))
+    omega (
+      arith,
+      field-end identifier _ identifier-entries (now (t .s)) (t .l) (here .x2 .given .0 .0) (identifier-fits _ _ _) _
+          (c .before .read-identifier .ensures),
+    ))
     (λ c. stays (c .before .x .given .1))
     (λ c. search needs)
     (λ c.

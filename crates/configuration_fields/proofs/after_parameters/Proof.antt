@@ -17,7 +17,10 @@ after-parameters-spec =
     (λ c.
     let known : tie.After-shared-slice-known = search in
     let at-read-number : tie.After-read-number = search in
-    omega (arith, number-facts _ _ _ _ _ _ (λ i. known .shared-slice-known .given i .fits)
-    (sym (c .before .n .given .1) ∙ at-read-number .read-number .ensures)))
+    omega (
+      arith,
+      number-facts _ _ _ _ _ _ (λ i. known .shared-slice-known .given i .fits)
+          (sym (c .before .n .given .1) ∙ at-read-number .read-number .ensures),
+    ))
     (λ c. after-parameters-no _ _ _ _ (sym (c .before .r .given .1) ∙ c .before .before .before .read-number .ensures))
     (λ c. after-parameters _ _ _ _ _ (sym (c .before .n .given .1) ∙ c .before .before .before .read-number .ensures)))

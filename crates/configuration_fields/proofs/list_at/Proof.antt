@@ -19,16 +19,22 @@ list-at-spec =
     let at-read-number : tie.After-read-number = search in
     let known : tie.After-shared-slice-known = search in
     let a = start .args in
-    omega (arith, list-small (a .s .now) (a .l) (a .q) (a .w) (a .i) _ _ (sym (at-n .n .given .1) ∙ at-read-number .read-number .ensures)
-    (λ i. known .shared-slice-known .given i .fits) (omega arith) (c .if1 .taken)))
+    omega (
+      arith,
+      list-small (a .s .now) (a .l) (a .q) (a .w) (a .i) _ _ (sym (at-n .n .given .1) ∙ at-read-number .read-number .ensures)
+          (λ i. known .shared-slice-known .given i .fits) (omega arith) (c .if1 .taken),
+    ))
     (λ c.
     let start : tie.Start = search in
     let at-n : tie.After-n = search in
     let at-read-number : tie.After-read-number = search in
     let known : tie.After-shared-slice-known = search in
     let a = start .args in
-    omega (arith, list-small (a .s .now) (a .l) (a .q) (a .w) (a .i) _ _ (sym (at-n .n .given .1) ∙ at-read-number .read-number .ensures)
-    (λ i. known .shared-slice-known .given i .fits) (omega arith) (c .if1 .taken)))
+    omega (
+      arith,
+      list-small (a .s .now) (a .l) (a .q) (a .w) (a .i) _ _ (sym (at-n .n .given .1) ∙ at-read-number .read-number .ensures)
+          (λ i. known .shared-slice-known .given i .fits) (omega arith) (c .if1 .taken),
+    ))
     (λ c.
     let at-n : tie.After-n = search in
     let at-read-number : tie.After-read-number = search in

@@ -8,9 +8,11 @@ use Rattle.content_fields.proofs.past_file.Tie as tie
 returns-3 : tie.Need-returns-3
 returns-3 c h =
     let length : tie.After-three-or-four-bytes = search in
-    let known : tie.After-shared-slice-known = search in
-    (omega arith, file-ends _ (λ i. known .shared-slice-known .given i .fits) _ (omega arith) _ _ _ _ (length .three-or-four-bytes .ensures)
-    (omega arith) (omega arith))
+    let known : tie.After-shared-slice-known = search in (
+      omega arith,
+      file-ends _ (λ i. known .shared-slice-known .given i .fits) _ (omega arith) _ _ _ _ (length .three-or-four-bytes .ensures)
+          (omega arith) (omega arith),
+    )
 
 pub past-file-spec : {M : Type 1} → statement M
 past-file-spec =

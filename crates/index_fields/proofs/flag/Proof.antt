@@ -16,18 +16,27 @@ flag-spec =
     (λ c.
     let at-resource-count : tie.After-resource-count = search in
     let known : tie.After-shared-slice-known = search in
-    omega (arith, resources-in _ _ _ _ _ (sym (c .before .m .given .1) ∙ at-resource-count .resource-count .ensures)
-    (λ i. known .shared-slice-known .given i .fits)))
+    omega (
+      arith,
+      resources-in _ _ _ _ _ (sym (c .before .m .given .1) ∙ at-resource-count .resource-count .ensures)
+          (λ i. known .shared-slice-known .given i .fits),
+    ))
     (λ c.
     let at-resource-count : tie.After-resource-count = search in
     let known : tie.After-shared-slice-known = search in
-    omega (arith, resources-in _ _ _ _ _ (sym (c .before .m .given .1) ∙ at-resource-count .resource-count .ensures)
-    (λ i. known .shared-slice-known .given i .fits)))
+    omega (
+      arith,
+      resources-in _ _ _ _ _ (sym (c .before .m .given .1) ∙ at-resource-count .resource-count .ensures)
+          (λ i. known .shared-slice-known .given i .fits),
+    ))
     (λ c.
     let at-resource-count : tie.After-resource-count = search in
     let known : tie.After-shared-slice-known = search in
-    omega (arith, resources-in _ _ _ _ _ (sym (c .before .m .given .1) ∙ at-resource-count .resource-count .ensures)
-    (λ i. known .shared-slice-known .given i .fits)))
+    omega (
+      arith,
+      resources-in _ _ _ _ _ (sym (c .before .m .given .1) ∙ at-resource-count .resource-count .ensures)
+          (λ i. known .shared-slice-known .given i .fits),
+    ))
     (λ c κs. search needs)
     (λ c. flag-no _ _ _ _ (sym (c .before .r .given .1) ∙ c .before .before .before .resource-count .ensures))
     (λ c.

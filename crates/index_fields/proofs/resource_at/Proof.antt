@@ -17,14 +17,20 @@ resource-at-spec =
     let at-m : tie.After-m = search in
     let at-resource-count : tie.After-resource-count = search in
     let known : tie.After-shared-slice-known = search in
-    omega (arith, resources-in _ _ _ _ _ (sym (at-m .m .given .1) ∙ at-resource-count .resource-count .ensures)
-    (λ i. known .shared-slice-known .given i .fits)))
+    omega (
+      arith,
+      resources-in _ _ _ _ _ (sym (at-m .m .given .1) ∙ at-resource-count .resource-count .ensures)
+          (λ i. known .shared-slice-known .given i .fits),
+    ))
     (λ c.
     let at-m : tie.After-m = search in
     let at-resource-count : tie.After-resource-count = search in
     let known : tie.After-shared-slice-known = search in
-    omega (arith, resources-in _ _ _ _ _ (sym (at-m .m .given .1) ∙ at-resource-count .resource-count .ensures)
-    (λ i. known .shared-slice-known .given i .fits)))
+    omega (
+      arith,
+      resources-in _ _ _ _ _ (sym (at-m .m .given .1) ∙ at-resource-count .resource-count .ensures)
+          (λ i. known .shared-slice-known .given i .fits),
+    ))
     (λ c.
     let at-m : tie.After-m = search in
     let at-resource-count : tie.After-resource-count = search in

@@ -21,4 +21,4 @@ ink-other-spec =
     (λ c. let start : tie.Start = search in omega (arith, rest-ready (start .pre)))
     (λ c. let start : tie.Start = search in omega (arith, rest-ready (start .pre)))
     (λ c. search needs)
-    (λ c. let copied : tie.After-copy-span = search in rest-inked (copied .copy-span .ensures) refl refl))
+    (λ c. let copied : tie.After-copy = search in rest-inked (copied .copy .ensures) refl refl))
