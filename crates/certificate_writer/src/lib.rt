@@ -1,4 +1,5 @@
 // The certificate table: written from a form.
+mod glancing;
 mod inking;
 
 use body_formats::Step;
@@ -41,10 +42,15 @@ fn pen_certificate(pool: &[u8], tape: &[u64], x: Pen) -> Pen
     body_pen::pen_part(pool, tape, b, 2)
 }
 
-// Judges and measures the body of a form: how long it is, or the first field that is refused and the entry where it begins.
+// Judges and measures the body of a form: how long it is, or the first field that is refused and the entry where it begins. A form that is good at a glance
+// has no field that the pen would refuse.
 pub fn measure(pool: &[u8], tape: &[u64]) -> Step
     ensures { λ r. ⌜ r ≡ measured certificate (now (pool .entry)) (now (tape .entry)) ⌝ }
 {
+    let seen = glancing::certificate_bytes(pool, tape);
+    if 0 < seen {
+        return Step::At(seen);
+    }
     let past = pen_certificate(pool, tape, Pen::At(0, 0));
     body_pen::measured(past, tape.len())
 }

@@ -1,4 +1,5 @@
 // The configuration table written from a form.
+mod glancing;
 mod inking;
 mod measuring;
 
@@ -9,10 +10,15 @@ ghost use lib.ListN.{length};
 ghost use Rattle.body_formats.specs.Body.{measured, bodyWritten, outputWritten};
 ghost use Rattle.configuration.specs.Configuration.{configuration};
 
-// Judges and measures the body of a form: how long it is, or the first field that is refused and the entry where it begins.
+// Judges and measures the body of a form: how long it is, or the first field that is refused and the entry where it begins. A form that is good at a glance
+// has no field that the pen would refuse.
 pub fn measure(pool: &[u8], tape: &[u64]) -> Step
     ensures { λ r. ⌜ r ≡ measured configuration (now (pool .entry)) (now (tape .entry)) ⌝ }
 {
+    let seen = glancing::configuration_bytes(pool, tape);
+    if 0 < seen {
+        return Step::At(seen);
+    }
     let past = measuring::pen_configuration(pool, tape, Pen::At(0, 0));
     body_pen::measured(past, tape.len())
 }

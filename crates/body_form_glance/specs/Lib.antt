@@ -1,0 +1,2 @@
+-- The definitions that other crates cite.
+pub mod Lays
