@@ -21,7 +21,7 @@
 static const struct operation operations[] = {
     {"CRC_32",
      fill_bytes,
-     {BOTH(crc32, "C, slicing by 8"), {"C, byte table", crc32_byte_table, 1.2}, {"libdvbpsi", crc32_dvbpsi, 0}, {"libavutil", crc32_avutil, 0}},
+     {BOTH(crc32, "C, slicing by 8"), {"C, byte table", crc32_byte_table, 1.2} PEERS({"libdvbpsi", crc32_dvbpsi, 0}, {"libavutil", crc32_avutil, 0})},
      {12, 64, 256, 1024, 4096}},
     {"empty section read", fill_section, {BOTH_WITHIN(1.0, section_read, "C, slicing by 8")}, {12}},
     {"section read", fill_section, {BOTH(section_read, "C, slicing by 8")}, {188, 4096}},
@@ -37,7 +37,7 @@ static const struct operation operations[] = {
      {NW_MOST_PACKED, 16 * NW_MOST_PACKED, 256 * NW_MOST_PACKED}},
     {"table from packets",
      fill_packets,
-     {BOTH(table_of, "C, slicing by 8"), {"libdvbpsi", table_of_dvbpsi, 0}},
+     {BOTH(table_of, "C, slicing by 8") PEERS({"libdvbpsi", table_of_dvbpsi, 0})},
      {NW_MOST_PACKED, 16 * NW_MOST_PACKED, 256 * NW_MOST_PACKED}},
     {"feeding", fill_feeding, {BOTH(feed, "C, slicing by 8")}, {12, 4096}},
     {"gathering, in order", fill_in_order, GATHERED, SECTION_SIZES},
@@ -82,8 +82,7 @@ struct wishes {
 };
 
 static void usage(const char *typed, const char *wrong) {
-    fprintf(stderr, "benchmark: %s: %s\n", typed, wrong);
-    fprintf(stderr, "usage: benchmark [--runs N] [--before TABLE.md] [--table FILE.md] [--plot FILE.svg] [WORD], or benchmark [--runs N] --page\n");
+    fprintf(stderr, "%s: %s: %s\nusage: %s %s\n", meter.tool, typed, wrong, meter.tool, meter.words);
     exit(2);
 }
 
@@ -124,7 +123,7 @@ static FILE *opened(const char *path, const char *mode) {
 static void closed(FILE *file, const char *path) {
     int bad = ferror(file);
     if (fclose(file) == 0 && !bad) return;
-    fprintf(stderr, "benchmark: %s is not whole\n", path);
+    fprintf(stderr, "%s: %s is not whole\n", meter.tool, path);
     exit(2);
 }
 
@@ -149,7 +148,7 @@ static void measure_all(struct row *rows, size_t count) {
 
 int main(int count, char **words) {
     static struct row rows[MOST_ROWS];
-    if (count < 2) usage("no words", "tools/benchmark runs this");
+    if (count < 2) usage("no words", "the tool of this name runs this");
     struct wishes w = wishes_of(count, words);
     size_t measured = rows_of(w.word, rows);
     FILE *before = w.before ? opened(w.before, "r") : NULL, *kept = w.kept ? opened(w.kept, "a+") : NULL;
@@ -157,7 +156,7 @@ int main(int count, char **words) {
     if (kept) read_table(kept, rows, measured, 0);
     FILE *table = w.table ? opened(w.table, "w") : NULL, *plot = w.plot ? opened(w.plot, "w") : NULL;
     plain_fill_tables();
-    measure_on_one_processor();
+    begin_measuring();
     printf("%s\n", w.about);
     measure_all(rows, measured);
     if (kept) write_table(kept, w.about, rows, measured, 0);

@@ -57,6 +57,13 @@ work crc32_avutil;
 #define crc32_avutil NULL
 #endif
 
+// Peers stand after an operation's other contenders. Where none could be there, no row tells of them.
+#ifdef WITHOUT_PEERS
+#define PEERS(...)
+#else
+#define PEERS(...) , __VA_ARGS__
+#endif
+
 // The slow gathering to teach with, and the quick one.
 work teaching_feed_slow, teaching_feed_quick, teaching_hand_out_slow, teaching_hand_out_quick;
 

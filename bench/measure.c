@@ -4,16 +4,17 @@
 #include "measure.h"
 
 #include <sched.h>
-#include <stdlib.h>
-#include <string.h>
 #include <time.h>
 
 // Turns of a row; of one whose turns take long, fewer.
 enum { TURNS = 75, LEAST_TURNS = 5, LONG = 1000000000 };
 
+const struct meter meter = {"benchmark", "[--runs N] [--before TABLE.md] [--table FILE.md] [--plot FILE.svg] [WORD], or benchmark [--runs N] --page", "ns", 0};
+
 static volatile uint64_t sink;
 
-void measure_on_one_processor(void) {
+// Stays on one processor, where the system lets it.
+void begin_measuring(void) {
     cpu_set_t one;
     int here = sched_getcpu();
     if (here < 0) return;
@@ -41,21 +42,6 @@ static uint64_t calls_of(work *run, size_t n) {
     uint64_t calls = 1;
     while (batch(run, n, calls) < 1e6 || batch(run, n, calls) < 1e6) calls *= 2;
     return calls;
-}
-
-static void agree(const struct operation *o, size_t n) {
-    static uint8_t first_output[sizeof output];
-    memset(output, 0, sizeof output);
-    uint64_t first = o->contenders[0].run(input, n);
-    memcpy(first_output, output, sizeof output);
-    for (const struct contender *c = o->contenders + 1; c < o->contenders + MOST_CONTENDERS && c->name; c++) {
-        if (!c->run) continue;
-        memset(output, 0, sizeof output);
-        if (c->run(input, n) != first || memcmp(output, first_output, sizeof output) != 0) {
-            fprintf(stderr, "benchmark: %s of %zu bytes: %s and %s differ\n", o->name, n, c->name, o->contenders[0].name);
-            exit(1);
-        }
-    }
 }
 
 // Contenders take turns, and the best turn of each counts, so that a busy machine hurts none of them more.

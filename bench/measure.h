@@ -7,22 +7,32 @@
 
 #include "bench.h"
 
-// The least nanoseconds of a call that each contender took, and took in an earlier table; 0: not measured.
+// What measures, measure.c or counted.c: its tool, the words that this takes, the unit of its numbers, and whether they are counts.
+struct meter {
+    const char *tool, *words, *unit;
+    int counts;
+};
+extern const struct meter meter;
+
+// The least that each contender took for a call, and took in an earlier table; 0: not measured.
 struct row {
     const struct operation *operation;
     size_t bytes;
     double best[MOST_CONTENDERS], before[MOST_CONTENDERS];
 };
 
-// Stays on one processor, where the system lets it.
-void measure_on_one_processor(void);
+// Before the first row.
+void begin_measuring(void);
+
+// Sees that all contenders of an operation give the same number and the same output, or ends the program.
+void agree(const struct operation *o, size_t n);
 
 // Fills the input, sees that all contenders agree, and measures each: what is less than the row's best becomes its best.
 void measure(struct row *r);
 
 static inline int is_contender(const struct row *r, size_t i) { return i < MOST_CONTENDERS && r->operation->contenders[i].name; }
 
-// The library's time in a contender's; 0: not measured.
+// What the library took in what a contender took; 0: not measured.
 static inline double ratio_of(const double *times, size_t i) { return times[0] > 0 && times[i] > 0 ? times[0] / times[i] : 0; }
 
 // As the ratio is told, by two places.
