@@ -44,4 +44,4 @@ drill:
 
 # What was built, and not what was proved: `rm -rf target` removes that too.
 clean:
-	rm -rf target/bin target/staticlib target/library target/c target/native target/dist target/drill
+	rm -rf target/bin target/staticlib target/library target/c target/native target/counted target/dist target/drill
