@@ -14,5 +14,6 @@ nw-salvage-spec =
     (λ c. search needs)
     (λ c. search needs)
     (λ c.
-    let e = c .before .before .before .before .before .salvage .ensures in
+    let at-salvage : tie.After-salvage = search in
+    let e = at-salvage .salvage .ensures in
     (c .salvaged-answer .ensures ∙ ap salvagedAnswer (e .0), (e .1 .0, e .1 .1))))
