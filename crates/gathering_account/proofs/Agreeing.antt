@@ -7,8 +7,8 @@ use mathlib.Core.Logic.{_⊎_, inl, inr}
 use borrow.Author.Tests.{eq-eqb, eqb-true}
 use lib.Dec.{eqb}
 use Rattle.ground_choices.proofs.Tests.{both, met, unmet}
-use Rattle.gathering_state.specs.Lists.{sameBytes}
-use Rattle.gathering_state.proofs.Lists.{same-refl, same-is}
+use Rattle.ground_equal.specs.Same.{sameBytes}
+use Rattle.ground_equal.proofs.Same.{same-refl, same-is}
 use Rattle.gathering_account.specs.Account.{Section, Agree, Present}
 use Rattle.gathering_account.specs.Answering.{present, contradicts, differs, agreeing}
 

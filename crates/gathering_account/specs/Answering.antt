@@ -5,11 +5,11 @@ use mathlib.Core.List.{List, [], _∷_, _++_}
 use lib.Dec.{eqb}
 use Rattle.ground_refusal.specs.declared.Refusal.the-variants.{NotCurrent, OtherHeading, StoreTooShort, Contradiction}
 use Rattle.ground_choices.specs.Choice.{if_then_else_}
+use Rattle.ground_equal.specs.Same.{sameBytes}
 use Rattle.section_reader.specs.Section.{payloadOf, readSection}
 use Rattle.section_reader.specs.declared.Heading.{Heading}
 use Rattle.section_reader.specs.declared.Sectioned.{Sectioned}
 use Rattle.section_reader.specs.declared.Sectioned.the-variants.{Good, Refused as NotGood}
-use Rattle.gathering_state.specs.Lists.{sameBytes}
 use Rattle.gathering_tables.specs.Tables.{sameTable, isNewer}
 use Rattle.gathering_feed.specs.declared.Answer.{Answer}
 use Rattle.gathering_feed.specs.declared.Answer.the-variants.{Taken, HeldAlready, Refused}

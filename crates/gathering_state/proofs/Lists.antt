@@ -1,17 +1,14 @@
 -- Laws of the lists behind a gathering: each loop's step and end, and what each definition says of single elements.
 use Prim.Native.Nat.{ℕ, zero, suc, _+_, _-_, _*_, _≤_, _<_, min, max}
-use mathlib.Core.Path.{_≡_, refl, sym, _∙_, ap, ap₂}
-use mathlib.Core.Bool.{Bool, true, false, _&&_, false≢true}
+use mathlib.Core.Path.{_≡_, refl, _∙_, ap, ap₂}
 use mathlib.Core.List.{List, [], _∷_}
 use native.Mathlib.Numerals.{add-one}
 use native.Mathlib.Nat.{add-zero}
 use native.Mathlib.Omega.{arith}
-use borrow.Author.Tests.{eq-eqb, ne-eqb, eqb-true}
-use lib.Dec.{eqb}
+use borrow.Author.Tests.{eq-eqb, ne-eqb}
 use lib.ListN.{length, getD, set, take, drop, replicate, length-drop, length-set, drop-of-length-le}
 use lib.Seq.{drop-cons, length-take-le}
-use Rattle.ground_choices.specs.Choice.{if_then_else_}
-use Rattle.gathering_state.specs.Lists.{greatest, smallestMissing, total, heldCount, part, sameBytes}
+use Rattle.gathering_state.specs.Lists.{greatest, smallestMissing, total, heldCount, part}
 
 -- ---- the greatest
 
@@ -183,54 +180,3 @@ length-part d at n h = length-take-le n (drop at d) (simp length-drop (omega ari
 pub part-between : (d : List ℕ) (at n : ℕ) → take (at + n - at) (drop at d) ≡ part d at n
 unfolding part
 part-between d at n = let e : at + n - at ≡ n = omega arith in rw e
-
--- ---- the same bytes
-
-pub same-other-length : (a b : List ℕ) → (length a ≡ length b → ⊥) → false ≡ sameBytes a b
-unfolding sameBytes
-same-other-length [] [] h = absurd (h refl)
-same-other-length [] (y ∷ ys) h = refl
-same-other-length (x ∷ xs) [] h = refl
-same-other-length (x ∷ xs) (y ∷ ys) h = go (eqb x y) (same-other-length xs ys (λ e. h (ap suc e)))
-  where
-    go : (t : Bool) → false ≡ sameBytes xs ys → false ≡ (if t then sameBytes xs ys else false)
-    go true e = e
-    go false e = refl
-
-and-true : (b : Bool) → b && true ≡ b
-and-true true = refl
-and-true false = refl
-
-and-false : (b : Bool) → b && false ≡ false
-and-false true = refl
-and-false false = refl
-
-module _ (a b : List ℕ) (i : ℕ) (l : length a ≡ length b) (same : Bool) (e : sameBytes a b ≡ same && sameBytes (drop i a) (drop i b)) where
-  pub same-end : length a ≤ i → same ≡ sameBytes a b
-  unfolding sameBytes
-  same-end h = sym (e ∙ rw (drop-of-length-le a h, drop-of-length-le b (rw l at h)) (and-true same))
-
-  module _ (h : i < length a) where
-    pub same-step : getD a i 0 ≡ getD b i 0 → (now : Bool) → now ≡ same → sameBytes a b ≡ now && sameBytes (drop (i + 1) a) (drop (i + 1) b)
-    unfolding sameBytes
-    same-step t now f = e ∙ rw (f, add-one, drop-cons a i 0 h, drop-cons b i 0 (rw l at h), eq-eqb _ _ t)
-
-    pub same-stop : (getD a i 0 ≡ getD b i 0 → ⊥) → (now : Bool) → now ≡ false → sameBytes a b ≡ now && sameBytes (drop (i + 1) a) (drop (i + 1) b)
-    unfolding sameBytes
-    same-stop t now f = e ∙ rw (f, drop-cons a i 0 h, drop-cons b i 0 (rw l at h), ne-eqb _ _ t) (and-false same)
-
-pub same-refl : (a : List ℕ) → sameBytes a a ≡ true
-unfolding sameBytes
-same-refl [] = refl
-same-refl (x ∷ xs) = rw (eq-eqb x x refl) (same-refl xs)
-
-pub same-is : (a b : List ℕ) → sameBytes a b ≡ true → a ≡ b
-unfolding sameBytes
-same-is [] [] e = refl
-same-is [] (y ∷ ys) e = absurd (false≢true e)
-same-is (x ∷ xs) [] e = absurd (false≢true e)
-same-is (x ∷ xs) (y ∷ ys) e = go (eqb x y) refl e (λ q. same-is xs ys q)
-  where
-    go : (t : Bool) → eqb x y ≡ t → (if t then sameBytes xs ys else false) ≡ true → (sameBytes xs ys ≡ true → xs ≡ ys) → x ∷ xs ≡ y ∷ ys
-    go true p e next = ap₂ _∷_ (eqb-true x y p) (next e)
-    go false p e next = absurd (false≢true e)

@@ -2,7 +2,6 @@
 -- A held length is kept as one more than the payload's; 0 stands where the number is not held.
 use Prim.Native.Nat.{ℕ, suc, _+_, _-_, max}
 use mathlib.Core.Path.{_≡_}
-use mathlib.Core.Bool.{Bool, true, false}
 use mathlib.Core.List.{List, [], _∷_}
 use lib.Dec.{eqb}
 use lib.ListN.{take, drop}
@@ -31,13 +30,6 @@ heldCount (n ∷ ns) = if eqb n 0 then heldCount ns else suc (heldCount ns)
 -- the n bytes of d from index at on
 unfoldable pub part : List ℕ → ℕ → ℕ → List ℕ
 part d at n = take n (drop at d)
-
--- are they the same bytes, as many and in the same order?
-unfoldable pub sameBytes : List ℕ → List ℕ → Bool
-sameBytes [] [] = true
-sameBytes [] (y ∷ ys) = false
-sameBytes (x ∷ xs) [] = false
-sameBytes (x ∷ xs) (y ∷ ys) = if eqb x y then sameBytes xs ys else false
 
 -- ---- what one pass over the held lengths finds, where the table has `count` numbers
 

@@ -6,7 +6,7 @@ ghost use mathlib.Core.Path.{_≡_};
 ghost use Prim.Native.Nat.{_-_, _<_, _≤_, min, max};
 ghost use lib.ListN.{length, drop};
 ghost use Rattle.ground_numbers.specs.Sizes.{versionMost};
-ghost use Rattle.gathering_state.specs.Lists.{greatest, smallestMissing, total, heldCount, sameBytes, Surveyed};
+ghost use Rattle.gathering_state.specs.Lists.{greatest, smallestMissing, total, heldCount, Surveyed};
 ghost use Rattle.gathering_state.specs.State.{freshState, numbersOf, stateOf, isFresh, isBegun, possibleOf, place, hasRoom, opened};
 
 // What a gathering knows of its table. All zeros is the fresh state. Laid out so that C sees no padding.
@@ -135,24 +135,6 @@ pub fn total_of(s: &[u16]) -> usize
         i += 1;
     }
     sum
-}
-
-// Are they the same bytes? A repeat is far commoner than a contradiction, so the loop has no early end and runs on many bytes at once.
-pub fn same_bytes(a: &[u8], b: &[u8]) -> bool
-    ensures { λ r. ⌜ r ≡ sameBytes (now (a .entry)) (now (b .entry)) ⌝ }
-{
-    if a.len() != b.len() {
-        return false;
-    }
-    let mut same = true;
-    let mut i = 0;
-    while i < a.len() {
-        if a[i] != b[i] {
-            same = false;
-        }
-        i += 1;
-    }
-    same
 }
 
 // ---- possible states

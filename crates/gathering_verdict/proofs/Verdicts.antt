@@ -9,15 +9,16 @@ use lib.Dec.{eqb}
 use lib.ListN.{length, getD, take, drop}
 use Rattle.ground_refusal.specs.declared.Refusal.{Refusal}
 use Rattle.ground_refusal.specs.declared.Refusal.the-variants.{NotCurrent, OtherHeading, StoreTooShort, Contradiction, ImpossibleState}
+use Rattle.ground_equal.specs.Same.{sameBytes}
+use Rattle.ground_equal.proofs.Same.{same-refl, same-is}
 use Rattle.section_reader.specs.Section.{headingOf, payloadOf, readSection}
 use Rattle.section_reader.specs.declared.Heading.{Heading}
 use Rattle.section_reader.specs.declared.Sectioned.{Sectioned}
 use Rattle.section_reader.specs.declared.Sectioned.the-variants.{Good, Refused as NotGood}
 use Rattle.section_reader.proofs.Accepting.{accepted, accepted-length, accepted-short}
-use Rattle.gathering_state.specs.Lists.{sameBytes}
 use Rattle.gathering_state.specs.State.{possibleOf, nothingBegun, place, hasRoom, heldPayload}
 use Rattle.gathering_state.specs.declared.Gathering.{Gathering}
-use Rattle.gathering_state.proofs.Lists.{part-between, same-refl, same-is}
+use Rattle.gathering_state.proofs.Lists.{part-between}
 use Rattle.gathering_state.proofs.State.{Begun, possible-begun}
 use Rattle.gathering_tables.specs.Tables.{isNewer}
 use Rattle.gathering_tables.proofs.Tables.{SameTable, same-fields}

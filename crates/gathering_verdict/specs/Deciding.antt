@@ -6,11 +6,11 @@ use lib.Dec.{eqb}
 use lib.ListN.{length, getD}
 use Rattle.ground_refusal.specs.declared.Refusal.the-variants.{NotCurrent, OtherHeading, StoreTooShort, Contradiction, ImpossibleState}
 use Rattle.ground_choices.specs.Choice.{if_then_else_}
+use Rattle.ground_equal.specs.Same.{sameBytes}
 use Rattle.section_reader.specs.Section.{payloadOf, readSection}
 use Rattle.section_reader.specs.declared.Heading.{Heading}
 use Rattle.section_reader.specs.declared.Sectioned.{Sectioned}
 use Rattle.section_reader.specs.declared.Sectioned.the-variants.{Good, Refused as NotGood}
-use Rattle.gathering_state.specs.Lists.{sameBytes}
 use Rattle.gathering_state.specs.State.{possibleOf, nothingBegun, hasRoom, heldPayload}
 use Rattle.gathering_state.specs.declared.Gathering.{Gathering}
 use Rattle.gathering_tables.specs.Tables.{sameTable, isNewer}

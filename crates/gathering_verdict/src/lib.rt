@@ -71,7 +71,7 @@ fn decide_number(held: &[u16; 256], store: &[u8], h: Heading, payload: &[u8]) ->
     }
     let at = gathering_state::place_of(h.number);
     let end = at + gathering_state::less_one(n);
-    if gathering_state::same_bytes(&store[at..end], payload) {
+    if ground_equal::same_bytes(&store[at..end], payload) {
         Verdict::Repeat
     } else {
         Verdict::Contradict

@@ -11,9 +11,10 @@ use Rattle.ground_choices.specs.Choice.{if_then_else_}
 use Rattle.ground_refusal.specs.declared.Refusal.{Refusal}
 use Rattle.ground_refusal.specs.declared.Refusal.the-variants.{NotCurrent, OtherHeading, Contradiction, ImpossibleState, Missing, OutsideSet}
 use Rattle.ground_refusal.specs.declared.Refusal.the-variants.{OutputTooSmall, NoFreeRoom}
+use Rattle.ground_equal.specs.Same.{sameBytes}
 use Rattle.section_reader.specs.Section.{headingOf, payloadOf, readSection}
 use Rattle.section_reader.specs.declared.Sectioned.the-variants.{Good, Refused as NotGood}
-use Rattle.gathering_state.specs.Lists.{smallestMissing, sameBytes}
+use Rattle.gathering_state.specs.Lists.{smallestMissing}
 use Rattle.gathering_state.specs.State.{nothingBegun, lengths, possibleOf as gatheringPossible}
 use Rattle.gathering_tables.specs.Tables.{isOther}
 use Rattle.gathering_verdict.specs.Deciding.{fixedHeading, agrees, begins}

@@ -8,8 +8,9 @@ use lib.Dec.{eqb, ltb}
 use lib.ListN.{length, getD}
 use Rattle.ground_refusal.specs.declared.Refusal.{Refusal}
 use Rattle.ground_refusal.specs.declared.Refusal.the-variants.{NotCurrent, OtherHeading, StoreTooShort, Contradiction, ImpossibleState, Missing, OutputTooSmall}
+use Rattle.ground_equal.specs.Same.{sameBytes}
 use Rattle.section_reader.specs.Section.{headingOf, payloadOf}
-use Rattle.gathering_state.specs.Lists.{smallestMissing, sameBytes}
+use Rattle.gathering_state.specs.Lists.{smallestMissing}
 use Rattle.gathering_state.specs.State.{possibleOf, nothingBegun, hasRoom, lengths, heldPayload}
 use Rattle.gathering_state.specs.declared.Gathering.{Gathering}
 use Rattle.gathering_tables.specs.Tables.{isOther}

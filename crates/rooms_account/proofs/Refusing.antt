@@ -15,6 +15,7 @@ use Rattle.ground_refusal.specs.Numbers.{refusalNumber}
 use Rattle.ground_refusal.specs.declared.Refusal.the-variants.{SectionTooShort, OtherKind, FixedBitZero, SectionLengthOutside, OtherLength}
 use Rattle.ground_refusal.specs.declared.Refusal.the-variants.{NumberAboveLast, CheckNotZero, NotCurrent, OtherHeading, StoreTooShort, Contradiction}
 use Rattle.ground_refusal.specs.declared.Refusal.the-variants.{NoFreeRoom}
+use Rattle.ground_equal.specs.Same.{sameBytes}
 use Rattle.rooms_end.specs.Ending.{endedFor, endedOf}
 use Rattle.rooms_end.specs.declared.Ended.the-variants.{Refused as NotEnded}
 use Rattle.section_reader.specs.Section.{payloadOf, readSection, isKind, fixedBits, lengthInRange, sectionLength}
@@ -22,7 +23,7 @@ use Rattle.section_reader.specs.declared.Heading.{Heading}
 use Rattle.section_reader.specs.declared.Sectioned.{Sectioned}
 use Rattle.section_reader.specs.declared.Sectioned.the-variants.{Good, Refused as NotGood}
 use Rattle.crc.specs.Crc.{crc32Of}
-use Rattle.gathering_state.specs.Lists.{greatest, sameBytes}
+use Rattle.gathering_state.specs.Lists.{greatest}
 use Rattle.gathering_state.specs.State.{nothingBegun}
 use Rattle.gathering_state.proofs.State.{possible-begun}
 use Rattle.gathering_verdict.specs.Deciding.{begins, agrees}

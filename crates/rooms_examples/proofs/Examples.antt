@@ -9,8 +9,9 @@ use Rattle.crc_register.specs.Register.{odd, bitsOf, digit, value, bytesBits, p
 use Rattle.crc.specs.Crc.{crc32Of}
 use Rattle.ground_placing.specs.Placed.{placed}
 use Rattle.ground_refusal.specs.Numbers.{refusalNumber}
+use Rattle.ground_equal.specs.Same.{sameBytes}
 use Rattle.section_reader.specs.Section.{isKind, word, sectionLength, fixedBits, headingOf, payloadOf, readSection}
-use Rattle.gathering_state.specs.Lists.{greatest, smallestMissing, total, heldCount, part, sameBytes}
+use Rattle.gathering_state.specs.Lists.{greatest, smallestMissing, total, heldCount, part}
 use Rattle.gathering_state.specs.State.{freshState, isFresh, lengths, isBegun, possibleOf, nothingBegun, hasRoom, opened, withSection, spoiledState}
 use Rattle.gathering_tables.specs.Tables.{stepsAhead, sameTable, isNewer}
 use Rattle.gathering_verdict.specs.Deciding.{agrees, begins}

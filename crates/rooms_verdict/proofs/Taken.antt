@@ -9,11 +9,11 @@ use lib.Dec.{eqb}
 use lib.ListN.{getD}
 use Rattle.ground_refusal.specs.declared.Refusal.{Refusal}
 use Rattle.ground_refusal.specs.declared.Refusal.the-variants.{NotCurrent, OtherHeading, Contradiction}
+use Rattle.ground_equal.specs.Same.{sameBytes}
 use Rattle.section_reader.specs.Section.{payloadOf, readSection}
 use Rattle.section_reader.specs.declared.Heading.{Heading}
 use Rattle.section_reader.specs.declared.Sectioned.{Sectioned}
 use Rattle.section_reader.specs.declared.Sectioned.the-variants.{Good, Refused as NotGood}
-use Rattle.gathering_state.specs.Lists.{sameBytes}
 use Rattle.gathering_state.specs.State.{possibleOf}
 use Rattle.gathering_state.proofs.State.{Begun, possible-begun}
 use Rattle.gathering_verdict.specs.Deciding.{agrees, begins}

@@ -7,11 +7,11 @@ use lib.Dec.{eqb}
 use lib.ListN.{getD}
 use Rattle.ground_choices.specs.Choice.{if_then_else_}
 use Rattle.ground_refusal.specs.declared.Refusal.the-variants.{NotCurrent, OtherHeading, Contradiction}
+use Rattle.ground_equal.specs.Same.{sameBytes}
 use Rattle.section_reader.specs.Section.{payloadOf, readSection}
 use Rattle.section_reader.specs.declared.Heading.{Heading}
 use Rattle.section_reader.specs.declared.Sectioned.{Sectioned}
 use Rattle.section_reader.specs.declared.Sectioned.the-variants.{Good, Refused as NotGood}
-use Rattle.gathering_state.specs.Lists.{sameBytes}
 use Rattle.gathering_verdict.specs.Deciding.{agrees, begins}
 use Rattle.gathering_verdict.specs.declared.Verdict.{Verdict}
 use Rattle.gathering_verdict.specs.declared.Verdict.the-variants.{Refuse, Repeat, Contradict, Begin, Take}

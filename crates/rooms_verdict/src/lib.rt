@@ -63,7 +63,7 @@ fn decide_number(
     }
     let at = rooms_state::room_place(rooms[h.number as usize]);
     let end = at + gathering_state::less_one(n);
-    if gathering_state::same_bytes(&store[at..end], payload) {
+    if ground_equal::same_bytes(&store[at..end], payload) {
         Verdict::Repeat
     } else {
         Verdict::Contradict

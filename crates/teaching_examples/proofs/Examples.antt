@@ -11,8 +11,8 @@ use Rattle.crc.specs.Crc.{crc32Of}
 use Rattle.ground_placing.specs.Placed.{placed}
 use Rattle.ground_refusal.specs.Numbers.{refusalNumber, refusalPlace}
 use Rattle.ground_refusal.specs.declared.Refusal.{Refusal}
+use Rattle.ground_equal.specs.Same.{sameBytes}
 use Rattle.section_reader.specs.Section.{isKind, word, sectionLength, fixedBits, headingOf, payloadOf, readSection}
-use Rattle.gathering_state.specs.Lists.{sameBytes}
 use Rattle.gathering_state.specs.State.{hasRoom}
 use Rattle.gathering_tables.specs.Tables.{stepsAhead, sameTable, isNewer}
 use Rattle.gathering_feed.specs.declared.Answer.{Answer}

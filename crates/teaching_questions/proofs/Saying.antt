@@ -9,11 +9,11 @@ use lib.Dec.{eqb}
 use lib.ListN.{length, take, drop}
 use Rattle.ground_choices.proofs.Tests.{met, unmet}
 use Rattle.ground_refusal.specs.declared.Refusal.{Refusal}
+use Rattle.ground_equal.specs.Same.{sameBytes}
 use Rattle.section_reader.specs.Section.{payloadOf, readSection, headingOf}
 use Rattle.section_reader.specs.declared.Heading.{Heading}
 use Rattle.section_reader.specs.declared.Sectioned.the-variants.{Good, Refused}
 use Rattle.section_reader.proofs.Accepting.{accepted, framed-long}
-use Rattle.gathering_state.specs.Lists.{sameBytes}
 use Rattle.gathering_tables.specs.Tables.{sameTable}
 use Rattle.gathering_account.specs.Account.{Heard, nothing, goodCurrent, heard, Section as Carried}
 use Rattle.gathering_account.specs.Latest.{sectionOfTable}

@@ -63,7 +63,7 @@ fn contradicts(t: Heading, s: &[u8], k: u8, payload: &[u8]) -> bool
         return false;
     }
     let end = s.len() - 4;
-    !gathering_state::same_bytes(payload, &s[8..end])
+    !ground_equal::same_bytes(payload, &s[8..end])
 }
 
 // ---- the sections of a table: `rows` are the kept strings from the one on that began it

@@ -5,7 +5,7 @@ use native.Mathlib.Omega.{arith}
 use denote.Ref.{now}
 use borrow.Author.Needs.{needs}
 use Rattle.ground_choices.proofs.Tests.{met, unmet}
-use Rattle.gathering_state.specs.Lists.{sameBytes}
+use Rattle.ground_equal.specs.Same.{sameBytes}
 use Rattle.teaching_questions.proofs.Saying.{Numbered, numbered, differs-absent, differs-one, payload-part}
 use Rattle.teaching_questions.proofs.contradicts.Statement.{statement}
 use Rattle.teaching_questions.proofs.contradicts.Tie as tie
