@@ -318,7 +318,7 @@ nw_answer nw_section_count(size_t length);
  * bytes of out after them stay. Refusals, in this order, with nothing written: 2, no such kind; 19,
  * a version above 31 or an extension above 65,535; 14, an empty body; 22, more than NW_MOST_BODY
  * bytes; 6, a number past the last; 21, out is too small for the section: NW_MOST_SECTION bytes are
- * enough for any. The body must not overlap out. Stack: 160 bytes. */
+ * enough for any. The body must not overlap out. Stack: 112 bytes. */
 nw_answer nw_section_cut(const uint8_t *body, size_t n, uint32_t kind, uint32_t extension,
                          uint32_t version, uint32_t number, uint8_t *out, size_t room);
 
@@ -361,7 +361,7 @@ static inline nw_run nw_run_at(const uint32_t *list, size_t i)
  * A capture of good sections is gone over once. The worst, in which each byte begins a section that
  * only fails its check, costs a check of up to 4,096 bytes at each byte: no more than 2^28 steps, and
  * twice that where out or list have less room than the macros above tell.
- * Stack: 240 bytes. */
+ * Stack: 176 bytes. */
 nw_salvaged nw_salvage(const uint8_t *capture, size_t n, uint8_t *out, size_t room, uint32_t *list,
                        size_t numbers);
 
@@ -466,7 +466,7 @@ enum nw_fed { NW_FED_TAKEN = 0, NW_FED_HELD_ALREADY = 1 };
  * held and no contradiction was fed. Refusals, in this order, with nothing written: 12, not a
  * possible state; 13, nothing is begun (place 0); 10, the store is too short; 11, spoiled; 13, with
  * the smallest missing number as its place; 21, out is too small: g->bytes are enough, and no body is
- * longer than NW_MOST_BODY bytes. Stack: 736 bytes. */
+ * longer than NW_MOST_BODY bytes. Stack: 704 bytes. */
 nw_answer nw_gathering_hand_out(const nw_gathering *g, const uint8_t *store, size_t store_bytes,
                                 uint8_t *out, size_t out_bytes);
 
@@ -554,7 +554,7 @@ nw_answer nw_networks_feed(nw_networks *x, uint32_t network, uint8_t *store, siz
  * with nothing written: 19, a network other than 1 or 2; 12, as for nw_networks_feed; 13, nothing is
  * begun (place 0); 11, spoiled; 13, with the smallest missing number as its place; 21, out is too small:
  * gathering.bytes of that network are enough, and no body is longer than NW_MOST_BODY bytes. There is no
- * 10. Stack: 11,760 bytes. */
+ * 10. Stack: 11,712 bytes. */
 nw_answer nw_networks_hand_out(const nw_networks *x, uint32_t network, const uint8_t *store,
                                size_t store_bytes, uint8_t *out, size_t out_bytes);
 
@@ -809,7 +809,7 @@ nw_part nw_certificate_signature(const uint8_t *body, size_t n);
  * with nothing written and place 0: 19, the tape is too short, has entries left over, or a span that is
  * not in the pool; 22, a count or length too large for its field, or more than NW_MOST_BODY bytes; 21,
  * out is too small: nw_certificate_measure tells the room. Out must overlap neither pool nor tape.
- * Stack: 448 bytes. */
+ * Stack: 496 bytes. */
 nw_answer nw_certificate_write(const uint8_t *pool, size_t pool_bytes, const uint64_t *tape,
                                size_t entries, uint8_t *out, size_t room);
 
@@ -817,7 +817,7 @@ nw_answer nw_certificate_write(const uint8_t *pool, size_t pool_bytes, const uin
  * the length of its body, the room that nw_certificate_write needs. Refusals: those of
  * nw_certificate_write but 21, each but 22 with a place: the entry of the tape, from 0, where the field
  * that is wrong begins, bytes at the entry of their start; the first of entries left over.
- * Stack: 320 bytes. */
+ * Stack: 336 bytes. */
 nw_answer nw_certificate_measure(const uint8_t *pool, size_t pool_bytes, const uint64_t *tape,
                                  size_t entries);
 
@@ -896,14 +896,14 @@ typedef struct nw_record {
  * descriptors counts by its low ten bits, and is then 17 if one of the two bits above them is 1. Bytes
  * left in a message are 15, at the first of them. Reserved bits are a field before the one whose byte
  * they share. NW_LIVE is a good end, and 18 as a start. An end before its start is accepted.
- * Stack: 784 bytes. */
+ * Stack: 768 bytes. */
 nw_answer nw_index_read(uint32_t kind, const uint8_t *body, size_t n);
 
 /* Judges a body and writes a record for each message at the start of list, which has room for so many;
  * records after them stay. Value: the count of messages. Refusals, with no record written: those of
  * nw_index_read, then 21, the list has less room than there are messages: nw_index_message_count tells
  * how many, and NW_MOST_MESSAGES are always enough. The list must not overlap the body.
- * Stack: 832 bytes. */
+ * Stack: 816 bytes. */
 nw_answer nw_index_records(uint32_t kind, const uint8_t *body, size_t n, nw_record *list, size_t room);
 
 /* The messages and the signature, asked for without reading inside a message, whatever else is wrong
@@ -999,7 +999,7 @@ nw_answer nw_stream_count(const uint8_t *body, size_t n, size_t at, size_t lengt
  * over; 22, a count or length too large for its field (descriptors: more than 1,023 bytes together), or
  * more than NW_MOST_BODY bytes; 21, out is too small: nw_index_measure tells the room. Out must overlap
  * neither pool nor tape.
- * Stack: 608 bytes. */
+ * Stack: 672 bytes. */
 nw_answer nw_index_write(const uint8_t *pool, size_t pool_bytes, const uint64_t *tape, size_t entries,
                          uint8_t *out, size_t room);
 
@@ -1012,7 +1012,7 @@ nw_answer nw_index_measure(const uint8_t *pool, size_t pool_bytes, const uint64_
 /* Lays an accepted body onto a tape: the form from which, with the body itself as the pool,
  * nw_index_write writes it again. Value: the entries laid; entries after them stay. Refusals, with
  * nothing laid: those of nw_index_read, then 21, the tape is too short: NW_INDEX_ENTRIES(n) are enough.
- * The tape must not overlap the body. Stack: 704 bytes. */
+ * The tape must not overlap the body. Stack: 688 bytes. */
 nw_answer nw_index_lay(uint32_t kind, const uint8_t *body, size_t n, uint64_t *tape, size_t entries);
 
 /* ---- The content table ------------------------------------------------------------------------
@@ -1072,7 +1072,7 @@ static inline const char *nw_character_set_text(uint64_t number)
  * 4, a language count that is not 1 to 5, an auxiliary count above 2; 20, the identifier has no real
  * day. A length is 14 or 15 too if what it counts passes an end. Bytes left in a language are 15, at the
  * first of them. Reserved bits are a field before the one whose byte they share.
- * Stack: 432 bytes. */
+ * Stack: 560 bytes. */
 nw_answer nw_content_read(uint32_t kind, uint32_t variant, uint32_t extension, const uint8_t *body,
                           size_t n);
 
@@ -1129,7 +1129,7 @@ nw_part nw_language_auxiliary(uint32_t variant, const uint8_t *body, size_t n, s
  * outside its set, the two counts too; 18, a digit above 9; 20, the identifier has no real day);
  * 19, the tape has entries left over; 22, a length too large for its field, or more than NW_MOST_BODY
  * bytes; 21, out is too small: nw_content_measure tells the room. Out must overlap neither pool nor
- * tape. Stack: 480 bytes. */
+ * tape. Stack: 576 bytes. */
 nw_written nw_content_write(uint32_t variant, const uint8_t *pool, size_t pool_bytes,
                             const uint64_t *tape, size_t entries, uint8_t *out, size_t room);
 
@@ -1145,7 +1145,7 @@ nw_answer nw_content_measure(uint32_t variant, const uint8_t *pool, size_t pool_
  * the body itself as the pool, nw_content_write writes it again, in this variant or as the same table in
  * the other. Value: the entries laid; entries after them stay. Refusals, with nothing laid: those of
  * nw_content_read but 23, then 21, the tape is too short: NW_CONTENT_ENTRIES are enough for any body.
- * The tape must not overlap the body. Stack: 448 bytes. */
+ * The tape must not overlap the body. Stack: 576 bytes. */
 nw_answer nw_content_lay(uint32_t kind, uint32_t variant, const uint8_t *body, size_t n, uint64_t *tape,
                          size_t entries);
 
@@ -1191,7 +1191,7 @@ enum nw_command {
  * A content shorter than its least, 7, 13, 10, 3, 5, 2, 2 bytes for tags 1 to 7, is 15 at its length;
  * bytes left in it are 15, at the first of them. An address of kind 1 or 2 of another length is 15 at
  * its length, any other wrong return address 19 where it begins. Reserved bits are a field before the
- * digits whose byte they share. Stack: 560 bytes. */
+ * digits whose byte they share. Stack: 544 bytes. */
 nw_answer nw_configuration_read(uint32_t kind, const uint8_t *body, size_t n);
 
 /* How many commands there are, the part that the i-th command fills, from its tag to the end of its
@@ -1272,7 +1272,7 @@ nw_answer nw_command_terminal_digit(const uint8_t *body, size_t n, size_t at, ui
  * 18, a digit above 9; 20, an impossible day, once its three numbers are taken, or time, once its
  * three are, however large they are); 19, the tape has entries left over; 22, a count or length too
  * large for its field, or more than NW_MOST_BODY bytes; 21, out is too small: nw_configuration_measure
- * tells the room. Out must overlap neither pool nor tape. Stack: 480 bytes. */
+ * tells the room. Out must overlap neither pool nor tape. Stack: 592 bytes. */
 nw_answer nw_configuration_write(const uint8_t *pool, size_t pool_bytes, const uint64_t *tape,
                                  size_t entries, uint8_t *out, size_t room);
 
@@ -1280,7 +1280,7 @@ nw_answer nw_configuration_write(const uint8_t *pool, size_t pool_bytes, const u
  * Value: the length of its body, the room that nw_configuration_write needs. Refusals: those of
  * nw_configuration_write but 21, each but 22 with a place: the entry of the tape, from 0, where the field
  * that is wrong begins, bytes at the entry of their start, a day at its year, a time at its hour; the
- * first of entries left over. Stack: 400 bytes. */
+ * first of entries left over. Stack: 416 bytes. */
 nw_answer nw_configuration_measure(const uint8_t *pool, size_t pool_bytes, const uint64_t *tape,
                                    size_t entries);
 
