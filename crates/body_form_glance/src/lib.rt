@@ -7,7 +7,7 @@ ghost use Rattle.body_form_glance.specs.Lays.{Good, Told, Listed};
 use body_formats::RESOURCE_BYTES;
 
 // What a glance at a part of a form tells: its bytes, and the entry of the tape after it. Entry 0: it has to be judged field by field.
-#[derive(Drop)]
+#[derive(Clone, Copy)]
 pub struct Sight {
     pub bytes: usize,
     pub entry: usize,

@@ -15,21 +15,21 @@ pub const RESOURCE_BYTES: usize = 1 + RESOURCE_PAIRS;
 // ---- the answers
 
 // The position after what was read, or a refusal.
-#[derive(Drop)]
+#[derive(Clone, Copy)]
 pub enum Step {
     At(usize),
     Refused(Refusal),
 }
 
 // A number and the position after it, or a refusal.
-#[derive(Drop)]
+#[derive(Clone, Copy)]
 pub enum Number {
     Is(u64, usize),
     Refused(Refusal),
 }
 
 // Opaque bytes, where they begin and how many they are, or a refusal.
-#[derive(Drop)]
+#[derive(Clone, Copy)]
 pub enum Part {
     Of(usize, usize),
     Refused(Refusal),

@@ -8,7 +8,7 @@ ghost use Rattle.body_ink.specs.Inked.{Ready, Inked};
 use body_formats::RESOURCE_PAIRS;
 
 // How far a list or a record of lists went: where its bytes end, and the entry of the tape after its own.
-#[derive(Drop)]
+#[derive(Clone, Copy)]
 pub struct Mark {
     pub at: usize,
     pub entry: usize,

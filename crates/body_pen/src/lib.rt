@@ -17,14 +17,14 @@ use ground_refusal::Refusal;
 use time_fields::{EndTimed, Timed};
 
 // Where a pen stands: the bytes so far, up to one more than a body may have, and the next entry of the tape; or why it stopped.
-#[derive(Drop)]
+#[derive(Clone, Copy)]
 pub enum Pen {
     At(usize, usize),
     Refused(Refusal),
 }
 
 // A pen past a number, and the number.
-#[derive(Drop)]
+#[derive(Clone, Copy)]
 pub struct Count {
     pub pen: Pen,
     pub n: u64,

@@ -13,21 +13,21 @@ use ground_numbers::{less, within};
 use ground_refusal::Refusal;
 
 // Where a walk stands: the position, and the room on the tape, one more than the entries that still fit; or why it stopped.
-#[derive(Drop)]
+#[derive(Clone, Copy)]
 pub enum Walk {
     At(usize, usize),
     Refused(Refusal),
 }
 
 // A walk past a number, and the number.
-#[derive(Drop)]
+#[derive(Clone, Copy)]
 pub struct Count {
     pub walk: Walk,
     pub n: u64,
 }
 
 // A walk into a counted part, and where the part ends.
-#[derive(Drop)]
+#[derive(Clone, Copy)]
 pub struct Opened {
     pub walk: Walk,
     pub end: usize,

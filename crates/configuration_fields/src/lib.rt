@@ -15,14 +15,14 @@ use ground_numbers::wide;
 use ground_refusal::Refusal;
 
 // A place in a command's content, and where the content ends; or a refusal.
-#[derive(Drop)]
+#[derive(Clone, Copy)]
 enum Place {
     In(usize, usize),
     Refused(Refusal),
 }
 
 // Three numbers and the position after them, or a refusal.
-#[derive(Drop)]
+#[derive(Clone, Copy)]
 enum Three {
     Are(u64, u64, u64, usize),
     Refused(Refusal),

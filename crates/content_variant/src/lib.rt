@@ -6,7 +6,7 @@ use ground_numbers::{BODY_MOST, CONTENT_KIND};
 use ground_refusal::Refusal;
 
 // How many bytes an auxiliary file's length has, or a refusal.
-#[derive(Drop)]
+#[derive(Clone, Copy)]
 pub enum Width {
     Bytes(usize),
     Refused(Refusal),

@@ -13,7 +13,7 @@ use content_variant::Width;
 use ground_refusal::Refusal;
 
 // The length of a written body and its extension, or a refusal.
-#[derive(Drop)]
+#[derive(Clone, Copy)]
 pub enum Written {
     Of(usize, u32),
     Refused(Refusal),

@@ -73,7 +73,7 @@ fn near(x: u32) -> u32
 }
 
 // What two lanes leave: the place that they have come to, what goes in with the next word, and what is added two words on.
-#[derive(Drop)]
+#[derive(Clone, Copy)]
 struct Lanes {
     at: usize,
     next: u32,

@@ -11,7 +11,7 @@ use gathering_verdict::Verdict;
 use ground_refusal::Refusal;
 
 // What the caller is told.
-#[derive(Drop)]
+#[derive(Clone, Copy)]
 pub enum Answer {
     Taken,
     HeldAlready,
@@ -19,7 +19,7 @@ pub enum Answer {
 }
 
 // The answer, and the state after it.
-#[derive(Drop)]
+#[derive(Clone, Copy)]
 pub struct Fed {
     pub answer: Answer,
     pub state: Gathering,

@@ -9,14 +9,14 @@ use gathering_state::{Gathering, Numbers};
 use ground_refusal::Refusal;
 
 // Is all of a table there?
-#[derive(Drop)]
+#[derive(Clone, Copy)]
 pub enum Completeness {
     Complete,
     Refused(Refusal),
 }
 
 // What handing out answers: the length of the body written, or why none is.
-#[derive(Drop)]
+#[derive(Clone, Copy)]
 pub enum Handed {
     Body(usize),
     Refused(Refusal),

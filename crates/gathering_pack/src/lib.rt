@@ -10,7 +10,7 @@ use gathering_hand_out::{Completeness, Handed};
 use gathering_state::Gathering;
 
 // The answer, and the state after it.
-#[derive(Drop)]
+#[derive(Clone, Copy)]
 pub struct Packed {
     pub answer: Handed,
     pub state: Gathering,

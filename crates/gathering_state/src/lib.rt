@@ -9,7 +9,7 @@ use section_reader::Heading;
 
 // What a gathering knows of its table. All zeros is the fresh state. Laid out so that C sees no padding.
 #[repr(C)]
-#[derive(Drop)]
+#[derive(Clone, Copy)]
 pub struct Gathering {
     // The sum of the lengths of the held payloads.
     pub bytes: u32,
@@ -29,7 +29,7 @@ pub struct Gathering {
 // ---- leaves on slices: feeding and handing out call those that are public
 
 // What a pass over some lengths tells.
-#[derive(Drop)]
+#[derive(Clone, Copy)]
 struct Tally {
     // The greatest of them.
     most: u16,
@@ -40,7 +40,7 @@ struct Tally {
 }
 
 // What one pass over all lengths tells: a tally of those of the table's numbers, and the greatest of those above the last number.
-#[derive(Drop)]
+#[derive(Clone, Copy)]
 struct Survey {
     table: Tally,
     above: u16,
@@ -158,7 +158,7 @@ pub fn fresh() -> Gathering
 
 // The numbers of a state, all but its held lengths. A state that is handed on whole is copied, 524 bytes of stack each time, so that the
 // functions below take its numbers and borrow its lengths.
-#[derive(Drop)]
+#[derive(Clone, Copy)]
 pub struct Numbers {
     pub bytes: u32,
     pub missing: u16,

@@ -11,7 +11,7 @@ use ground_refusal::Refusal;
 use section_reader::{Heading, Sectioned};
 
 // What a feed decides: answer, state and store follow from it.
-#[derive(Drop)]
+#[derive(Clone, Copy)]
 pub enum Verdict {
     // State and store stay as they are.
     Refuse(Refusal),

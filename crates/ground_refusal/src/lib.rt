@@ -3,7 +3,7 @@ ghost use Rattle.std.specs.Prelude.{◌≡◌};
 ghost use Rattle.ground_refusal.specs.Numbers.{refusal_number, refusal_place, placeless};
 
 // One case for each number of the list. A case holds a place where the list gives one.
-#[derive(Drop)]
+#[derive(Clone, Copy)]
 pub enum Refusal {
     // 1: a section shorter than 12 bytes.
     SectionTooShort,

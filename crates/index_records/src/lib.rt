@@ -11,7 +11,7 @@ use index::{CLASS_PLACE, END_PLACE, START_PLACE};
 
 // A message: "where each begins, its length, start, end, class, level".
 #[repr(C)]
-#[derive(Drop)]
+#[derive(Clone, Copy)]
 pub struct Record {
     pub at: usize,
     pub length: usize,
@@ -22,14 +22,14 @@ pub struct Record {
 }
 
 // A message's record, and the position after the message.
-#[derive(Drop)]
+#[derive(Clone, Copy)]
 struct Placed {
     pub message: Record,
     pub next: usize,
 }
 
 // How many records are laid, none where the answer is a refusal, and the answer.
-#[derive(Drop)]
+#[derive(Clone, Copy)]
 struct Plan {
     pub n: usize,
     pub answer: Step,

@@ -25,7 +25,7 @@ pub const STUFFING: u8 = 0xFF;
 pub const COUNTER_MOST: u32 = 15;
 
 // What a packet is by itself, before anything that is remembered.
-#[derive(Drop)]
+#[derive(Clone, Copy)]
 pub enum Judged {
     Refused(Refusal),
     // Its error bit is set.

@@ -12,7 +12,7 @@ use packet::{STUFFING, byte_at};
 pub const UNFINISHED_MOST: usize = 4095;
 
 // What some bytes are as a section.
-#[derive(Drop)]
+#[derive(Clone, Copy)]
 pub enum Frame {
     // None begins here, or one that is too long.
     Nothing,
@@ -23,7 +23,7 @@ pub enum Frame {
 }
 
 // Where the sections that begin at a pointer end, and where the unfinished one after them begins: at the end, where there is none.
-#[derive(Drop)]
+#[derive(Clone, Copy)]
 pub struct Scan {
     pub stop: usize,
     pub left: usize,

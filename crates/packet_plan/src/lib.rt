@@ -10,7 +10,7 @@ use packet_frames::Frame;
 
 // Of the unfinished bytes before the packet the first `ended`, then its own bytes from `from` up to `upto` and from `first` up to `stop`, are given;
 // the first `goes` of the unfinished bytes, then its own from `left` on, are left.
-#[derive(Drop)]
+#[derive(Clone, Copy)]
 pub struct Plan {
     pub ended: usize,
     pub from: usize,

@@ -15,7 +15,7 @@ use packet_memory::{STATE_BYTES, UNFINISHED_AT};
 use packet_plan::Plan;
 
 // What the caller is told: how many bytes of sections were written, or why the packet was refused.
-#[derive(Drop)]
+#[derive(Clone, Copy)]
 pub enum Completed {
     Sections(usize),
     Refused(Refusal),

@@ -11,7 +11,7 @@ use packet::{COUNTER_MOST, OUR_PID, PACKET_BYTES, STUFFING, SYNC_BYTE};
 use section_reader::Sectioned;
 
 // What the caller is told: how many bytes of packets were written, or why none were.
-#[derive(Drop)]
+#[derive(Clone, Copy)]
 pub enum Packed {
     Packets(usize),
     Refused(Refusal),

@@ -13,7 +13,7 @@ use time_fields::Fielded;
 pub const MOST_OUTPUT: usize = 377;
 
 // What the library answers of a value.
-#[derive(Drop)]
+#[derive(Clone, Copy)]
 pub enum Answer {
     Accepted,
     Field(u64),

@@ -6,7 +6,7 @@ use ground_refusal::Refusal;
 use rooms_state::Networks;
 
 // What the caller is told.
-#[derive(Drop)]
+#[derive(Clone, Copy)]
 pub enum Counted {
     Rooms(usize),
     Refused(Refusal),

@@ -7,14 +7,14 @@ use ground_refusal::Refusal;
 use rooms_state::Networks;
 
 // What the caller is told.
-#[derive(Drop)]
+#[derive(Clone, Copy)]
 pub enum Ended {
     Done,
     Refused(Refusal),
 }
 
 // The answer, and the state after it.
-#[derive(Drop)]
+#[derive(Clone, Copy)]
 pub struct EndedState {
     pub answer: Ended,
     pub state: Networks,

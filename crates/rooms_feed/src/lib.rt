@@ -14,14 +14,14 @@ use rooms_state::{Networks, Part};
 use section_reader::Heading;
 
 // The answer, and the network's part after it.
-#[derive(Drop)]
+#[derive(Clone, Copy)]
 pub struct FedPart {
     pub answer: Answer,
     pub part: Part,
 }
 
 // The answer, and the state after it.
-#[derive(Drop)]
+#[derive(Clone, Copy)]
 pub struct Fed {
     pub answer: Answer,
     pub state: Networks,

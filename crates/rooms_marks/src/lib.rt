@@ -4,7 +4,7 @@ ghost use Rattle.rooms_marks.specs.Rooms.{held_rooms, none_twice, free_room};
 ghost use Rattle.rooms_marks.specs.Marks.{marked, marks_of, free_mark, all_once};
 
 // A mark for each of the 512 rooms, and before them one that is not set.
-#[derive(Drop)]
+#[derive(Clone, Copy)]
 struct Marks {
     of: [u8; 513],
 }

@@ -7,7 +7,7 @@ use ground_numbers::PAYLOAD_MOST;
 
 // One network's gathering, and for each section number its room and one more, or 0 where the number is not held. All zeros is the fresh one.
 #[repr(C)]
-#[derive(Drop)]
+#[derive(Clone, Copy)]
 pub struct Part {
     pub gathering: Gathering,
     pub rooms: [u16; 256],
@@ -15,7 +15,7 @@ pub struct Part {
 
 // Both networks' parts, and the store's length at the start. Laid out so that C sees no padding.
 #[repr(C)]
-#[derive(Drop)]
+#[derive(Clone, Copy)]
 pub struct Networks {
     pub bytes: usize,
     pub one: Part,

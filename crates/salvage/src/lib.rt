@@ -18,21 +18,21 @@ pub const CAPTURE_MOST: usize = 65_536;
 const RUN: usize = 3;
 
 // A good section: where it begins, and its length, which is 0 where none begins any more.
-#[derive(Drop)]
+#[derive(Clone, Copy)]
 pub struct Found {
     pub at: usize,
     pub length: usize,
 }
 
 // How many bytes the good sections have, and how many runs there are.
-#[derive(Drop)]
+#[derive(Clone, Copy)]
 pub struct Tally {
     pub bytes: usize,
     pub runs: usize,
 }
 
 // What salvaging answers: the bytes and the runs that are written; or why nothing is.
-#[derive(Drop)]
+#[derive(Clone, Copy)]
 pub enum Salvaged {
     Of(usize, usize),
     Refused(Refusal),

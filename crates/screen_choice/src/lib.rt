@@ -10,7 +10,7 @@ use screen_order::{Best, Candidate};
 use time_fields::{Moment, Showing, Timed};
 
 // The message to show: its number in the table, and the part of the body that it fills; or that there is none.
-#[derive(Drop)]
+#[derive(Clone, Copy)]
 pub enum Choice {
     Shows(u64, usize, usize),
     Nothing,

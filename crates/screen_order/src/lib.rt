@@ -3,7 +3,7 @@ ghost use Rattle.std.specs.Prelude.{◌≡◌};
 ghost use Rattle.screen_order.specs.Order.{comes_first, rank_of, better_of};
 
 // A message that concerns the box and is on: its number in the table, where it begins and its length, its level, its start's day and second.
-#[derive(Drop)]
+#[derive(Clone, Copy)]
 pub struct Candidate {
     pub number: u64,
     pub at: usize,
@@ -14,7 +14,7 @@ pub struct Candidate {
 }
 
 // The one to show of those met so far.
-#[derive(Drop)]
+#[derive(Clone, Copy)]
 pub enum Best {
     Nobody,
     Message(Candidate),

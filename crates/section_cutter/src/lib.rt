@@ -11,14 +11,14 @@ use ground_refusal::Refusal;
 use section_reader::Heading;
 
 // How many sections a body makes.
-#[derive(Drop)]
+#[derive(Clone, Copy)]
 pub enum Counted {
     Sections(usize),
     Refused(Refusal),
 }
 
 // What the cutter answers: the length of the section written, or why none is.
-#[derive(Drop)]
+#[derive(Clone, Copy)]
 pub enum Cut {
     Written(usize),
     Refused(Refusal),

@@ -6,7 +6,7 @@ use ground_numbers::{CONFIGURATION_KIND, CONTENT_KIND, SECTION_LENGTH_MOST, wide
 use ground_refusal::Refusal;
 
 // What a section says before its payload.
-#[derive(Drop)]
+#[derive(Clone, Copy)]
 pub struct Heading {
     // table_id: FB configuration, FC certificate, FD index, FE content.
     pub kind: u8,
@@ -18,14 +18,14 @@ pub struct Heading {
 }
 
 // A byte string judged: a good section's heading and the length of its payload, which begins at byte 8; or the first rule that it breaks.
-#[derive(Drop)]
+#[derive(Clone, Copy)]
 pub enum Sectioned {
     Good(Heading, usize),
     Refused(Refusal),
 }
 
 // The length that a section states, all its bytes together; or why none is stated.
-#[derive(Drop)]
+#[derive(Clone, Copy)]
 pub enum Stated {
     Length(usize),
     Refused(Refusal),

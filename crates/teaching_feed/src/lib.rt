@@ -16,7 +16,7 @@ use teaching_rows::LENGTH_BYTES;
 use teaching_table::Fixed;
 
 // The answer, and how many bytes are in use after it.
-#[derive(Drop)]
+#[derive(Clone, Copy)]
 pub struct Taught {
     pub answer: Answer,
     pub used: usize,

@@ -14,14 +14,14 @@ use section_reader::Heading;
 use teaching_table::Fixed;
 
 // The heading of the section that began the fixed table, or why there is none.
-#[derive(Drop)]
+#[derive(Clone, Copy)]
 pub enum Headed {
     By(Heading),
     Refused(Refusal),
 }
 
 // How many sections are missing, and the smallest missing number, which is the one after the last if none is; or why that is not told.
-#[derive(Drop)]
+#[derive(Clone, Copy)]
 pub enum Lacking {
     Of(usize, usize),
     Refused(Refusal),

@@ -10,14 +10,14 @@ use section_reader::{Heading, Sectioned};
 use teaching_rows::LENGTH_BYTES;
 
 // What is heard of a byte string: a good, current section with its heading, or nothing.
-#[derive(Drop)]
+#[derive(Clone, Copy)]
 pub enum Said {
     Nothing,
     Section(Heading),
 }
 
 // Where the contents of a section stand among the rows.
-#[derive(Drop)]
+#[derive(Clone, Copy)]
 pub struct Place {
     pub start: usize,
     pub end: usize,

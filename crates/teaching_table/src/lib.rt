@@ -9,7 +9,7 @@ use teaching_questions::Said;
 use teaching_rows::LENGTH_BYTES;
 
 // Is a table fixed? By which heading, and where stands the row that began it?
-#[derive(Drop)]
+#[derive(Clone, Copy)]
 pub enum Fixed {
     Nothing,
     Table(Heading, usize),

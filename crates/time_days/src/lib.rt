@@ -7,27 +7,27 @@ use starts::MONTHS;
 
 mod starts; // starts.rt: the table of month starts
 
-#[derive(Drop)]
+#[derive(Clone, Copy)]
 pub struct Date {
     pub year: u32,
     pub month: u32,
     pub day: u32,
 }
 
-#[derive(Drop)]
+#[derive(Clone, Copy)]
 pub enum DayAnswer {
     Day(u32),
     Refused(Refusal),
 }
 
-#[derive(Drop)]
+#[derive(Clone, Copy)]
 pub enum DateAnswer {
     On(Date),
     Refused(Refusal),
 }
 
 // Monday is 1.
-#[derive(Drop)]
+#[derive(Clone, Copy)]
 pub enum WeekdayAnswer {
     Weekday(u32),
     Refused(Refusal),

@@ -7,21 +7,21 @@ use ground_numbers::wide;
 use ground_refusal::Refusal;
 
 // A day by its number (MJD) and a second of it, UTC.
-#[derive(Drop)]
+#[derive(Clone, Copy)]
 pub struct Moment {
     pub day: u32,
     pub second: u32,
 }
 
 // What a time field says.
-#[derive(Drop)]
+#[derive(Clone, Copy)]
 pub enum Timed {
     At(Moment),
     Refused(Refusal),
 }
 
 // What an end field says: it may be live.
-#[derive(Drop)]
+#[derive(Clone, Copy)]
 pub enum EndTimed {
     At(Moment),
     Live,
@@ -29,14 +29,14 @@ pub enum EndTimed {
 }
 
 // A moment as a field of 40 bits.
-#[derive(Drop)]
+#[derive(Clone, Copy)]
 pub enum Fielded {
     Field(u64),
     Refused(Refusal),
 }
 
 // How a message stands at an instant.
-#[derive(Drop)]
+#[derive(Clone, Copy)]
 pub enum Showing {
     Before,
     On,

@@ -9,7 +9,7 @@ use time_days::{DateAnswer, DayAnswer};
 use time_fields::{Fielded, Moment, Timed};
 
 // A date and a time of day, as clocks at the offset show them.
-#[derive(Drop)]
+#[derive(Clone, Copy)]
 pub struct LocalTime {
     pub year: u32,
     pub month: u32,
@@ -21,14 +21,14 @@ pub struct LocalTime {
 
 // The UTC field of a local time at an offset of the range, or that there is none: 20 is the only refusal there. No refusal
 // stands in it, for a field that shares its bytes with one is written in pieces, and whoever reads it whole has to wait.
-#[derive(Drop)]
+#[derive(Clone, Copy)]
 enum UtcField {
     Field(u64),
     Impossible,
 }
 
 // The UTC field of a text at an offset, or which refusal it has; for the same reason none stands in it.
-#[derive(Drop)]
+#[derive(Clone, Copy)]
 enum TextField {
     Field(u64),
     OtherOffset,
@@ -37,7 +37,7 @@ enum TextField {
 }
 
 // What a field says at an offset.
-#[derive(Drop)]
+#[derive(Clone, Copy)]
 pub enum Unpacked {
     At(LocalTime),
     Refused(Refusal),

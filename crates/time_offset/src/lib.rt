@@ -7,7 +7,7 @@ use ground_refusal::Refusal;
 use time_fields::{Moment, Timed};
 
 // Minutes as days and a minute of the day.
-#[derive(Drop)]
+#[derive(Clone, Copy)]
 struct Floored {
     days: i32,
     minute: u32,

@@ -9,14 +9,14 @@ use time_fields::Fielded;
 use time_local::{LocalTime, Unpacked};
 
 // How many characters were printed.
-#[derive(Drop)]
+#[derive(Clone, Copy)]
 pub enum Printed {
     Characters(usize),
     Refused(Refusal),
 }
 
 // The fields of the start and of the end.
-#[derive(Drop)]
+#[derive(Clone, Copy)]
 pub enum TypedTimes {
     Fields(u64, u64),
     Refused(Refusal),
