@@ -1,4 +1,6 @@
 // What is common to fields asked for one by one: whether the part told lies in the body, a number in it, and the way past entries of a list.
+#![tactic(auto)]
+
 ghost use Rattle.std.specs.Prelude.{◌≡◌, ◌&&◌, ◌+◌, ◌≤◌, length, ltb, leb};
 ghost use Rattle.body_formats.specs.Format.{count};
 ghost use Rattle.body_formats.specs.Answers.{step_of, number_of, ended, ended_all};

@@ -1,4 +1,6 @@
 // Bytes of a stated set, and decimal digits, two to a byte, in a body: s is a whole body, l the end of the innermost counted part, p the position.
+#![tactic(auto)]
+
 ghost use Rattle.std.specs.Prelude.{◌≡◌, ◌+◌, ◌≤◌, length, take, drop, leb, ◌&&◌};
 ghost use Rattle.body_formats.specs.Format.{bytes_among, halves, tail, decimal, digits, every};
 ghost use Rattle.body_formats.specs.Answers.{number_of, field_part, reached, nth_digit, digit_read};

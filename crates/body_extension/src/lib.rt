@@ -1,4 +1,6 @@
 // The extension that goes with a message's identifier: the CRC-16 of its 140 bits.
+#![tactic(auto)]
+
 ghost use Rattle.std.specs.Prelude.{◌≡◌, ◌≤◌, length};
 ghost use Rattle.body_extension.specs.Extension.{extension_at};
 

@@ -1,4 +1,6 @@
 // Fields of a form at a glance: whether a writer takes them and how many bytes they make, and not what is wrong. A pen through the form tells that.
+#![tactic(auto)]
+
 ghost use Rattle.std.specs.Prelude.{◌≡◌, ◌+◌, ◌*◌, ◌≤◌, length, get_or, leb};
 ghost use Rattle.body_formats.specs.Format.{digits, times, opaque};
 ghost use Rattle.body_formats.specs.Resource.{resource};

@@ -1,4 +1,6 @@
 // What a field's format is, how a format is read, written and laid, and the answers' types: definitions and laws, and no functions.
+#![tactic(auto)]
+
 use ground_refusal::Refusal;
 
 // ---- how long an identifier and a resource are, as specs/Identifier.antt and specs/Resource.antt have it

@@ -1,4 +1,6 @@
 // Fields of a body at a glance: whether they are as they must be, yes or no, and not what is wrong. A walk through the body tells that.
+#![tactic(auto)]
+
 ghost use Rattle.std.specs.Prelude.{◌≡◌, ◌+◌, ◌*◌, ◌≤◌, ◌<◌, length};
 ghost use Rattle.body_formats.specs.Format.{digits, times};
 ghost use Rattle.body_formats.specs.Time.{time, end_time};

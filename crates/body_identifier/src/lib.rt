@@ -1,4 +1,6 @@
 // A message's identifier in a body: its 35 digits and the day that eight of them are, judged in its 18 bytes themselves.
+#![tactic(auto)]
+
 ghost use Rattle.std.specs.Prelude.{◌≡◌, true, ◌+◌, ◌*◌, ◌≤◌, length, take, drop};
 ghost use Rattle.time_fields.specs.Field.{worth};
 ghost use Rattle.body_formats.specs.Format.{halves, tail, decimal};

@@ -1,4 +1,6 @@
 // The bytes of a form that was judged, field by field: nothing is asked of it again.
+#![tactic(auto)]
+
 ghost use Rattle.std.specs.Prelude.{◌≡◌, ◌+◌, ◌≤◌, length, take, drop};
 ghost use Rattle.ground_placing.specs.Placed.{placed};
 ghost use Rattle.body_formats.specs.Format.{bytes_of, digits, opaque};

@@ -1,5 +1,7 @@
 // Numbers of a body, read, with reserved bits before them or of a stated set, and times: s is a whole body, l the end of the innermost counted
 // part, p the position.
+#![tactic(auto)]
+
 ghost use Rattle.std.specs.Prelude.{◌≡◌, ◌+◌, ◌^◌, ◌≤◌, ◌<◌, length};
 ghost use Rattle.body_formats.specs.Format.{number_at, reserved};
 ghost use Rattle.body_formats.specs.Time.{time, end_time};

@@ -1,5 +1,7 @@
 // Parts of a body, read: the whole body, opened; opaque bytes after their length; lists of these. s is a whole body, l the end of the
 // innermost counted part, p the position.
+#![tactic(auto)]
+
 ghost use Rattle.std.specs.Prelude.{◌≡◌, ◌+◌, ◌≤◌, length};
 ghost use Rattle.body_formats.specs.Format.{count, rest, least_of, length12, counted, opaque, list_of};
 ghost use Rattle.body_formats.specs.Reading.{unless, judged, within};

@@ -1,5 +1,7 @@
 // A pen through a form, field by field: it judges each and measures the bytes of the body, and writes none. A field is refused at the
 // entry of the tape where it begins.
+#![tactic(auto)]
+
 ghost use Rattle.std.specs.Prelude.{◌≡◌, List, [], ◌&&◌, ℕ, ◌+◌, ◌≤◌, ◌<◌, length, take, drop, leb, ltb};
 ghost use Rattle.ground_refusal.specs.declared.Refusal.TheVariants.{OutsideSet};
 ghost use Rattle.body_formats.specs.Reading.{found, refused, and_then, need};

@@ -1,4 +1,6 @@
 // A walk through a body, field by field: dry it checks them, wet it also lays their entries on a tape.
+#![tactic(auto)]
+
 ghost use Rattle.std.specs.Prelude.{◌≡◌, [], ◌∷◌, ◌-◌, ◌≤◌};
 ghost use Rattle.body_formats.specs.Format.{count, among, number, nibbles_among, reserved, bytes_among, digits, times, rest, length_of, least_of, length12, opaque};
 ghost use Rattle.body_formats.specs.Time.{time, end_time};

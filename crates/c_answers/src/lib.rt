@@ -1,5 +1,7 @@
 // How each answer of the library becomes one number for C: the refusal's number in the low byte, and above it its place or the value.
 // The library's version too, as one number.
+#![tactic(auto)]
+
 ghost use Rattle.std.specs.Prelude.{◌≡◌, ◌≤◌};
 ghost use Rattle.crc.specs.Crc.{digit};
 ghost use Rattle.c_answers.specs.Packing.{packed};

@@ -1,4 +1,6 @@
 // What the commands nw-dates, nw-section and nw-salvage call from C: the report, the line and the list of runs that the programs write.
+#![tactic(auto)]
+
 ghost use Rattle.std.specs.Prelude.{◌≡◌, ◌++◌, length, drop};
 ghost use Rattle.program_date_lines.specs.Report.{report_of};
 ghost use Rattle.program_section_line.specs.Line.{line_of};

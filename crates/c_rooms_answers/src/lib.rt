@@ -1,4 +1,6 @@
 // How the answers that only two networks over one store give become one number for C, as c_answers has the others.
+#![tactic(auto)]
+
 ghost use Rattle.std.specs.Prelude.{◌≡◌};
 ghost use Rattle.c_rooms_answers.specs.Answers.{ended_answer, rooms_answer};
 

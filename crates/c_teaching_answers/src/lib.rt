@@ -1,4 +1,6 @@
 // How the answers that only the slow gathering gives become one number for C, as c_answers has the others.
+#![tactic(auto)]
+
 ghost use Rattle.std.specs.Prelude.{◌≡◌};
 ghost use Rattle.c_teaching_answers.specs.Answers.{headed_answer, lacking_answer};
 

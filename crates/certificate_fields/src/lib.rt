@@ -1,4 +1,6 @@
 // The fields of a certificate table, asked for one by one. `certificate_reader` reads the table, `certificate_writer` writes it.
+#![tactic(auto)]
+
 ghost use Rattle.std.specs.Prelude.{◌≡◌};
 ghost use Rattle.certificate_fields.specs.Asked.{authorization_count, authorization_part, certificate_count, certificate_part, signature_part};
 

@@ -1,4 +1,6 @@
 // The certificate table: its body read, and laid onto a form.
+#![tactic(auto)]
+
 mod glancing;
 
 ghost use Rattle.std.specs.Prelude.{◌≡◌, ◌≤◌, length};

@@ -1,4 +1,6 @@
 // The certificate table: written from a form.
+#![tactic(auto)]
+
 mod glancing;
 mod inking;
 

@@ -1,4 +1,6 @@
 // Return addresses: whether the bytes of one are as its kind asks, and whether their number is.
+#![tactic(auto)]
+
 ghost use Rattle.std.specs.Prelude.{◌≡◌, ◌+◌, ◌≤◌, length, take, drop};
 ghost use Rattle.configuration_addresses.specs.Address.{in_name, is_port, name_goes_on, host_and_port, length_fits, is_address};
 

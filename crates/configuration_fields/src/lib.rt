@@ -1,4 +1,6 @@
 // The fields of a configuration table, asked for one by one: of the body, and of a command told by p, where its tag stands.
+#![tactic(auto)]
+
 ghost use Rattle.std.specs.Prelude.{◌≡◌, ◌+◌, ◌≤◌, ◌<◌, length};
 ghost use Rattle.body_formats.specs.Format.{count, number, among};
 ghost use Rattle.body_formats.specs.Resource.{resource_bytes};

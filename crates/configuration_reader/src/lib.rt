@@ -1,4 +1,6 @@
 // The configuration table: its body read, and laid onto a form.
+#![tactic(auto)]
+
 mod glancing; // glancing.rt: the glance at a body that comes before the walk
 mod walking; // walking.rt: the walk through a body
 

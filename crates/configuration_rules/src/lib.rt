@@ -1,4 +1,6 @@
 // What commands may say, judged: clocks, and the least content of each command.
+#![tactic(auto)]
+
 pub mod clocks; // clocks.rt: days and times of day
 
 ghost use Rattle.std.specs.Prelude.{◌≡◌};

@@ -1,4 +1,6 @@
 // The configuration table written from a form.
+#![tactic(auto)]
+
 mod glancing;
 mod inking;
 mod measuring;

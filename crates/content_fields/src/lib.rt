@@ -1,4 +1,6 @@
 // The fields of a content table, asked for one by one: of the body, of a language told by where it begins and its length, of its i-th auxiliary file.
+#![tactic(auto)]
+
 ghost use Rattle.std.specs.Prelude.{◌≡◌, ◌+◌, ◌≤◌, ◌<◌, length};
 ghost use Rattle.body_formats.specs.Format.{among, reserved};
 ghost use Rattle.body_formats.specs.Answers.{step_of, number_of, ended};

@@ -1,4 +1,6 @@
 // The content table of either variant: its body read, and laid onto a form.
+#![tactic(auto)]
+
 mod glancing;
 mod walking;
 

@@ -1,4 +1,6 @@
 // The content table's variants, by the bits of an auxiliary file's length: how wide it is, and what is asked of a body before its fields.
+#![tactic(auto)]
+
 ghost use Rattle.std.specs.Prelude.{◌≡◌, length};
 ghost use Rattle.content_variant.specs.Variant.{width_of, opened};
 

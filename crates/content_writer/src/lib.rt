@@ -1,4 +1,6 @@
 // The content table of either variant, written from a form.
+#![tactic(auto)]
+
 mod inking;
 mod measuring;
 

@@ -3,6 +3,8 @@
 //
 // A table is the arms of a `match`, which the compiler keeps as one constant array; a `const` array is laid out anew by every call
 // that names it. A large table is looked up at one place only, or the compiler makes each of its lookups a call.
+#![tactic(auto)]
+
 mod nibbles16;
 
 ghost use Rattle.std.specs.Prelude.{false, [], ◌∷◌, ◌++◌, ◌≡◌, length, replicate, ◌≤◌};

@@ -1,6 +1,8 @@
 // CRC_32's tables at a byte for the first four of eight bytes that eight more bytes follow: table j is for eight bits, the low ones of x, with 8 * j to follow.
 //
 // A key has a ninth bit, always 1: the compiler reads a key of eight bits as signed, one operation more to a lookup.
+#![tactic(auto)]
+
 ghost use Rattle.std.specs.Prelude.{◌≡◌};
 ghost use Rattle.crc_register.specs.Register.{table_entry};
 

@@ -1,6 +1,8 @@
 // The table of CRC_32 at a byte once more, for the last bytes of a string: it is table 0 of `crc_table_second_word`.
 //
 // A large table is looked up at one place only, or the compiler makes each lookup a call. Keys as in `crc_table_first_far`.
+#![tactic(auto)]
+
 ghost use Rattle.std.specs.Prelude.{◌≡◌};
 ghost use Rattle.crc_register.specs.Register.{table_entry};
 

@@ -1,4 +1,6 @@
 // CRC_32's tables at a byte for the second four of eight bytes that eight more bytes follow: table j is for eight bits, the low ones of x, with 8 * j to follow.
+#![tactic(auto)]
+
 ghost use Rattle.std.specs.Prelude.{◌≡◌};
 ghost use Rattle.crc_register.specs.Register.{table_entry};
 

@@ -1,6 +1,8 @@
 // CRC_32's tables at a byte for the last four of eight bytes: table j is for eight bits, the low ones of x, with 8 * j to follow.
 //
 // Keys as in `crc_table_first_far`. `crc_table_last_bytes` has table 0 once more.
+#![tactic(auto)]
+
 ghost use Rattle.std.specs.Prelude.{◌≡◌};
 ghost use Rattle.crc_register.specs.Register.{table_entry};
 

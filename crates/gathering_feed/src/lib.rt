@@ -1,4 +1,6 @@
 // Feeding a gathering: what a byte string's arrival makes of the answer, the state and the store.
+#![tactic(auto)]
+
 ghost use Rattle.std.specs.Prelude.{◌≡◌, ◌≤◌, length};
 ghost use Rattle.ground_numbers.specs.Sizes.{payload_most};
 ghost use Rattle.gathering_state.specs.State.{place};

@@ -1,4 +1,6 @@
 // Handing out a gathered table: is all of it there, and its payloads joined in the order of their numbers.
+#![tactic(auto)]
+
 ghost use Rattle.std.specs.Prelude.{◌≡◌, ◌≤◌, length, take};
 ghost use Rattle.ground_placing.specs.Placed.{placed};
 ghost use Rattle.gathering_state.specs.Lists.{total};

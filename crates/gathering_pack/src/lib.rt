@@ -1,4 +1,6 @@
 // Packing a gathered table: its payloads are moved together where they stand, to the front of the store, and the gathering is over.
+#![tactic(auto)]
+
 ghost use Rattle.std.specs.Prelude.{◌≡◌, ◌≤◌, length, take};
 ghost use Rattle.ground_placing.specs.Placed.{placed};
 ghost use Rattle.gathering_state.specs.Lists.{total};

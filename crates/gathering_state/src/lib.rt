@@ -1,4 +1,6 @@
 // The state of a gathering, and the small functions on it and on its store that feeding and handing out rest on.
+#![tactic(auto)]
+
 ghost use Rattle.std.specs.Prelude.{◌≡◌, ◌-◌, ◌<◌, ◌≤◌, min, max, length, drop};
 ghost use Rattle.ground_numbers.specs.Sizes.{version_most};
 ghost use Rattle.gathering_state.specs.Lists.{greatest, smallest_missing, total, held_count, Surveyed};

@@ -1,4 +1,6 @@
 // Which table a section belongs to: when two headings are of one table, and when one is a newer version of the other's.
+#![tactic(auto)]
+
 ghost use Rattle.std.specs.Prelude.{◌≡◌, ◌<◌};
 ghost use Rattle.gathering_tables.specs.Tables.{steps_ahead, same_table, is_newer};
 

@@ -1,4 +1,6 @@
 // The verdict on a byte string that is fed: what the gathering, its store and the string make of it, before anything changes.
+#![tactic(auto)]
+
 ghost use Rattle.std.specs.Prelude.{◌≡◌, ℕ, ◌+◌, ◌≤◌, ◌<◌, List, length, true};
 ghost use Rattle.ground_numbers.specs.Sizes.{payload_most, version_most};
 ghost use Rattle.gathering_state.specs.Lists.{greatest};

@@ -1,4 +1,6 @@
 // Bytes copied into a lent buffer: few by two pieces that overlap, each of which the compiler moves as one, and many by blocks that the system moves.
+#![tactic(auto)]
+
 ghost use Rattle.std.specs.Prelude.{◌≡◌, ◌+◌, ◌≤◌, length, take, drop};
 ghost use Rattle.ground_placing.specs.Placed.{placed};
 

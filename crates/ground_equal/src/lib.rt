@@ -1,4 +1,6 @@
 // Byte strings compared, for every crate that asks whether two are the same.
+#![tactic(auto)]
+
 ghost use Rattle.std.specs.Prelude.{◌≡◌};
 ghost use Rattle.ground_equal.specs.Same.{same_bytes};
 

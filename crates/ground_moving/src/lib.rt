@@ -1,4 +1,6 @@
 // Bytes moved towards the front of one lent buffer, where what is read and what is written may overlap.
+#![tactic(auto)]
+
 ghost use Rattle.std.specs.Prelude.{◌≡◌, ◌+◌, ◌≤◌, length, take, drop};
 ghost use Rattle.ground_placing.specs.Placed.{placed};
 

@@ -1,4 +1,6 @@
 // Document 01's numbers that code and definitions share, and the small functions on bytes and numbers that many crates need.
+#![tactic(auto)]
+
 ghost use Rattle.std.specs.Prelude.{◌≡◌, ◌&&◌, ◌-◌, ◌<◌, min, leb};
 ghost use Rattle.ground_numbers.specs.Characters.{is_digit};
 

@@ -1,4 +1,6 @@
 // Bytes copied into a lent buffer, for every crate that writes one.
+#![tactic(auto)]
+
 ghost use Rattle.std.specs.Prelude.{◌≡◌, ◌+◌, ◌≤◌, length};
 ghost use Rattle.ground_placing.specs.Placed.{placed};
 

@@ -1,4 +1,6 @@
 // The refusals of documents 01 and 02: a named case for each of their numbers, the number and place that each is told by, and each without its place.
+#![tactic(auto)]
+
 ghost use Rattle.std.specs.Prelude.{◌≡◌};
 ghost use Rattle.ground_refusal.specs.Numbers.{refusal_number, refusal_place, placeless};
 

@@ -1,4 +1,6 @@
 // What an index table is, with no functions. `index_reader` reads it, `index_writer` writes it, `index_fields` and `index_records` tell its fields.
+#![tactic(auto)]
+
 use body_formats::IDENTIFIER_BYTES;
 
 // ---- where fields begin in a message, in its channel and in a stream, counted from the first byte of each, as specs/Places.antt has it

@@ -1,4 +1,6 @@
 // Walks through a message's channel, from its descriptors up: each is one field of the format of its name.
+#![tactic(auto)]
+
 pub mod glancing; // glancing.rt: the channel at a glance
 
 ghost use Rattle.std.specs.Prelude.{◌≤◌, length};

@@ -1,4 +1,6 @@
 // The fields of an index table, asked for one by one: of the body, and of a message, which is told by where it begins and its length.
+#![tactic(auto)]
+
 ghost use Rattle.std.specs.Prelude.{◌≡◌, ◌&&◌, ◌+◌, ◌*◌, ◌/◌, ◌%◌, ◌≤◌, ◌<◌, leb, length};
 ghost use Rattle.body_formats.specs.Reading.{found, and_then};
 ghost use Rattle.body_formats.specs.Format.{number, nibbles_among, many};

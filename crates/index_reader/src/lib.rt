@@ -1,4 +1,6 @@
 // The index table: its body read, and laid onto a form.
+#![tactic(auto)]
+
 mod glancing; // glancing.rt: the body at a glance
 mod walking; // walking.rt: the walk through it
 

@@ -1,4 +1,6 @@
 // The index reader in the form that document 01 names: "messages are laid in a lent list of message records".
+#![tactic(auto)]
+
 ghost use Rattle.std.specs.Prelude.{◌≡◌, ◌<◌, ◌≤◌, ◌^◌, min, length, set};
 ghost use Rattle.ground_numbers.specs.Sizes.{body_most};
 ghost use Rattle.index_records.specs.Records.{body_recorded, recorded};

@@ -1,5 +1,7 @@
 // The fields of a descriptor or a stream, asked for one by one, and how many of them fill a part: each is told by where it begins and how many
 // bytes its part has from there on.
+#![tactic(auto)]
+
 ghost use Rattle.std.specs.Prelude.{◌≡◌, true, ◌+◌, ◌≤◌, ◌<◌, length};
 ghost use Rattle.body_formats.specs.Format.{many};
 ghost use Rattle.body_formats.specs.Answers.{number_of, ended};

@@ -1,4 +1,6 @@
 // The index table written from a form.
+#![tactic(auto)]
+
 mod inking;
 mod measuring;
 

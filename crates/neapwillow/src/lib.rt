@@ -1,4 +1,6 @@
 // What is offered to C: each function takes numbers and byte strings, and tells what its inner one answers by one convention. A module carries the name of its crate, or of its group, after `c_`.
+#![tactic(auto)]
+
 mod c_certificate;
 mod c_configuration;
 mod c_configuration_fields;

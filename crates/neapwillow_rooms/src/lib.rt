@@ -1,4 +1,6 @@
 // Two networks over one store as C has them: a pointer to the state, the network's number, byte strings as pointer and length, and one number for the answer.
+#![tactic(auto)]
+
 ghost use Rattle.std.specs.Prelude.{◌≡◌};
 ghost use Rattle.rooms_state.specs.State.{fresh_networks, rooms_in, network_of};
 ghost use Rattle.rooms_feed.specs.Feeding.{fed_of, store_after};

@@ -1,4 +1,6 @@
 // What the screen box's program in C is offered: numbers and byte strings in, and one number out, by the library's convention.
+#![tactic(auto)]
+
 ghost use Rattle.std.specs.Prelude.{◌≡◌, ◌<◌, ◌^◌};
 ghost use Rattle.c_answers.specs.Answers.{refused_of};
 ghost use Rattle.c_answers.specs.Packing.{packed};

@@ -1,4 +1,6 @@
 // What is offered to C for the training room: the slow gathering over the buffer that C lends, and its answers told as all others are.
+#![tactic(auto)]
+
 ghost use Rattle.std.specs.Prelude.{◌≡◌};
 ghost use Rattle.teaching_feed.specs.Feeding.{taught_of, buffer_after};
 ghost use Rattle.teaching_hand_out.specs.Asking.{heading_of, lacking_of, handed_of, out_after};

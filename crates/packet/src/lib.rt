@@ -1,4 +1,6 @@
 // A transport packet by itself: its fields, and whether it is refused, damaged, skipped or taken.
+#![tactic(auto)]
+
 ghost use Rattle.std.specs.Prelude.{◌≡◌, ◌≤◌, ◌<◌, length};
 ghost use Rattle.packet.specs.Sizes.{packet_bytes, counter_most};
 ghost use Rattle.packet.specs.Fields.{byte, starts, pid, scrambling, control, counter, payload_at, in_place};

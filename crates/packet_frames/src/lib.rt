@@ -1,4 +1,6 @@
 // Sections framed in payload bytes: what begins where a section may begin, and what an unfinished one becomes with more bytes.
+#![tactic(auto)]
+
 ghost use Rattle.std.specs.Prelude.{◌≡◌, ◌++◌, true, ◌+◌, ◌≤◌, ◌<◌, length};
 ghost use Rattle.packet.specs.Fields.{byte};
 ghost use Rattle.packet.specs.Sizes.{packet_bytes};

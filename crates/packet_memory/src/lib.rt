@@ -1,4 +1,6 @@
 // What the unpacker remembers, in bytes that the caller lends: what they mean, and how they are written.
+#![tactic(auto)]
+
 ghost use Rattle.std.specs.Prelude.{◌≡◌, [], ◌∷◌, ◌/◌, ◌%◌, ◌≤◌, length};
 ghost use Rattle.ground_placing.specs.Placed.{placed};
 ghost use Rattle.packet.specs.Sizes.{packet_bytes};

@@ -1,4 +1,6 @@
 // What a packet that is taken gives and leaves, decided as places in one struct before a byte is written.
+#![tactic(auto)]
+
 ghost use Rattle.std.specs.Prelude.{◌≡◌, true};
 ghost use Rattle.packet.specs.Judging.{judged};
 ghost use Rattle.packet.specs.declared.Judged.TheVariants.{Carrying};

@@ -1,4 +1,6 @@
 // The unpacker over a state of bytes that the caller lends: one packet at a time, decided first and written second.
+#![tactic(auto)]
+
 ghost use Rattle.std.specs.Prelude.{◌≡◌, ◌+◌, ◌-◌, ◌≤◌, length, take, drop};
 ghost use Rattle.ground_placing.specs.Placed.{placed};
 ghost use Rattle.packet.specs.Judging.{judged};

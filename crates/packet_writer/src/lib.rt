@@ -1,4 +1,6 @@
 // The packer: a good section's packets, written one after the other at the start of a lent output.
+#![tactic(auto)]
+
 ghost use Rattle.std.specs.Prelude.{◌≡◌, [], ◌∷◌, true, false, ◌+◌, ◌*◌, ◌/◌, ◌≤◌, length, drop, replicate};
 ghost use Rattle.ground_placing.specs.Placed.{placed};
 ghost use Rattle.packet.specs.Sizes.{packet_bytes, stuffing, counter_most};

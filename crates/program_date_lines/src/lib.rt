@@ -1,4 +1,6 @@
 // The date program's work: for an input of lines, the report of the field and the weekday of each, or of its refusal.
+#![tactic(auto)]
+
 ghost use Rattle.std.specs.Prelude.{◌≡◌, ◌++◌, ◌+◌, ◌^◌, ◌≤◌, ◌<◌, length, drop};
 ghost use Rattle.ground_placing.specs.Put.{Put};
 ghost use Rattle.program_date_lines.specs.Report.{lines_of, field_text, time_answered, line_of, numbered, report_of};

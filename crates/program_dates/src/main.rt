@@ -1,4 +1,6 @@
 // The date program: reads lines of day-first times from standard input, and writes the report of their fields and weekdays.
+#![tactic(auto)]
+
 use libc::{STDIN_FILENO, STDOUT_FILENO};
 
 // One byte more than the longest input whose lines are read, to tell a longer one.

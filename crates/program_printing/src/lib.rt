@@ -1,5 +1,7 @@
 // Text laid into a lent buffer: numbers in digits, fixed strings and refusals; how much a program reads. For the programs' libraries, not
 // offered by itself.
+#![tactic(auto)]
+
 ghost use Rattle.std.specs.Prelude.{◌≡◌, ◌+◌, ◌≤◌, ◌<◌, length};
 ghost use Rattle.program_printing.specs.Characters.{digit_character, digits_of, places_of, decimal_of, refused_text};
 ghost use Rattle.ground_placing.specs.Put.{Put};

@@ -1,4 +1,6 @@
 // The salvage program: reads a capture from standard input, writes its good sections to standard output and the list of runs to standard error.
+#![tactic(auto)]
+
 use libc::{STDERR_FILENO, STDIN_FILENO, STDOUT_FILENO};
 use program_salvage_lines::MOST_OUTPUT;
 use salvage::{CAPTURE_MOST, Salvaged};

@@ -1,4 +1,6 @@
 // The salvage program's list: for a capture, a line for each run of bytes that is kept or skipped.
+#![tactic(auto)]
+
 ghost use Rattle.std.specs.Prelude.{◌≡◌, ◌++◌, ◌+◌, ◌≤◌, length, drop};
 ghost use Rattle.ground_placing.specs.Put.{Put};
 ghost use Rattle.salvage.specs.Runs.{run_at, runs_of};

@@ -1,4 +1,6 @@
 // The section program: reads one section from standard input, and writes the line of its number and its payload's length.
+#![tactic(auto)]
+
 use libc::{STDIN_FILENO, STDOUT_FILENO};
 
 // One byte more than the longest input that is read, to tell a longer one.

@@ -1,4 +1,6 @@
 // The section program's work: for one section, the line of its number and its payload's length, or of its refusal.
+#![tactic(auto)]
+
 ghost use Rattle.std.specs.Prelude.{◌≡◌, ◌++◌, ◌≤◌, length, drop};
 ghost use Rattle.ground_placing.specs.Put.{Put};
 ghost use Rattle.program_section_line.specs.Line.{judged_of, section_answered, line_of};

@@ -1,4 +1,6 @@
 // The values program's work: each value that document 01 has "run and compared", what the library answers, and what 01 says.
+#![tactic(auto)]
+
 ghost use Rattle.std.specs.Prelude.{◌≡◌, ◌++◌, ◌+◌, ◌≤◌, length, drop};
 ghost use Rattle.ground_placing.specs.Put.{Put};
 ghost use Rattle.program_value_lines.specs.Report.{value_text, said_text, line_of, of_day, of_time, of_index, of_volume, time_lines, index_lines, volume_lines, report_of};

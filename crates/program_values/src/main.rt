@@ -1,4 +1,6 @@
 // The values program: writes the report of document 01's values, each with the library's answer. It reads nothing.
+#![tactic(auto)]
+
 use libc::STDOUT_FILENO;
 
 fn main() {

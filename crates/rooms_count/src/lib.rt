@@ -1,4 +1,6 @@
 // How many rooms two networks hold, and how many are free.
+#![tactic(auto)]
+
 ghost use Rattle.std.specs.Prelude.{◌≡◌};
 ghost use Rattle.rooms_count.specs.Counting.{held_of, free_of};
 

@@ -1,4 +1,6 @@
 // The end of one network's gathering: its rooms are given back, and the other network's part stays.
+#![tactic(auto)]
+
 ghost use Rattle.std.specs.Prelude.{◌≡◌};
 ghost use Rattle.rooms_state.specs.State.{network_of};
 ghost use Rattle.rooms_end.specs.Ending.{ended_of};

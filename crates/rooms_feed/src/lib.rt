@@ -1,4 +1,6 @@
 // Feeding one of two networks over one store: what a byte string's arrival makes of the answer, the state and the store.
+#![tactic(auto)]
+
 ghost use Rattle.std.specs.Prelude.{◌≡◌, true, ◌*◌, ◌≤◌, length};
 ghost use Rattle.ground_numbers.specs.Sizes.{payload_most, version_most, body_most};
 ghost use Rattle.ground_placing.specs.Placed.{placed};

@@ -1,4 +1,6 @@
 // Handing out the table that one of two networks has gathered: its payloads joined out of their rooms, in the order of their numbers.
+#![tactic(auto)]
+
 ghost use Rattle.std.specs.Prelude.{◌≡◌, true, ◌≤◌, length, take};
 ghost use Rattle.ground_placing.specs.Placed.{placed};
 ghost use Rattle.gathering_state.specs.Lists.{total};

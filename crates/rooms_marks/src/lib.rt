@@ -1,4 +1,6 @@
 // The rooms of two networks, marked in one pass over both: which room is free, whether one is held twice, and how many are held.
+#![tactic(auto)]
+
 ghost use Rattle.std.specs.Prelude.{◌≡◌, ◌<◌, ◌≤◌, ◌+◌, min, length};
 ghost use Rattle.rooms_marks.specs.Rooms.{held_rooms, none_twice, free_room};
 ghost use Rattle.rooms_marks.specs.Marks.{marked, marks_of, free_mark, all_once};

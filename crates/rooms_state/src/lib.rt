@@ -1,4 +1,6 @@
 // The state of two networks over one store of rooms, as C lends it, and the test whether it is possible.
+#![tactic(auto)]
+
 ghost use Rattle.std.specs.Prelude.{◌≡◌, ◌≤◌, length};
 ghost use Rattle.rooms_state.specs.State.{fresh_part, fresh_networks, rooms_in, room_place, pair_test, matched, part_possible, possible_of, network_of, is_some};
 

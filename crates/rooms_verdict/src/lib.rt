@@ -1,4 +1,6 @@
 // The verdict on a byte string that is fed for one of two networks, before a room is looked for.
+#![tactic(auto)]
+
 ghost use Rattle.std.specs.Prelude.{◌≡◌, ℕ, ◌≤◌, ◌<◌, List};
 ghost use Rattle.ground_numbers.specs.Sizes.{version_most};
 ghost use Rattle.gathering_state.specs.State.{state_of};

@@ -1,4 +1,6 @@
 // A damaged capture salvaged: the good sections written back to back, and the list of what was kept and what was skipped.
+#![tactic(auto)]
+
 ghost use Rattle.std.specs.Prelude.{true, ◌&&◌, ◌≡◌, ◌+◌, ◌*◌, ◌≤◌, leb, length};
 ghost use Rattle.ground_placing.specs.Placed.{placed};
 ghost use Rattle.ground_placing.specs.Put.{Put};

@@ -1,4 +1,6 @@
 // What a screen box shows: of an index table's messages that concern the box and are on, the one that comes first.
+#![tactic(auto)]
+
 ghost use Rattle.std.specs.Prelude.{◌≡◌, ◌+◌, ◌*◌, ◌≤◌, length, get_or};
 ghost use Rattle.screen_choice.specs.Choice.{is_on, choice_of};
 ghost use Rattle.screen_choice.specs.Walk.{worth_of, moment_said, candidate_of, choice_told};

@@ -1,4 +1,6 @@
 // A box's own resource code: whether it is one, its twelve bytes as a message holds them, and whether it is one of those that a message lists.
+#![tactic(auto)]
+
 ghost use Rattle.std.specs.Prelude.{◌≡◌, true, ◌+◌, ◌*◌, ◌%◌, ◌≤◌, length};
 ghost use Rattle.body_formats.specs.Resource.{resource_bytes, resource};
 ghost use Rattle.screen_code.specs.Code.{is_code, same_at, InBody, listed};

@@ -1,4 +1,6 @@
 // Which of two messages a box shows, by numbers alone: a message that may be shown, and the one to show of those met so far.
+#![tactic(auto)]
+
 ghost use Rattle.std.specs.Prelude.{◌≡◌};
 ghost use Rattle.screen_order.specs.Order.{comes_first, rank_of, better_of};
 

@@ -1,4 +1,6 @@
 // The cutter: how many sections a body makes, and each of them written.
+#![tactic(auto)]
+
 ghost use Rattle.std.specs.Prelude.{◌≡◌, ◌+◌, ◌≤◌, length};
 ghost use Rattle.crc.specs.Crc.{big_endian, digit};
 ghost use Rattle.ground_placing.specs.Placed.{placed};

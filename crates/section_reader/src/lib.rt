@@ -1,4 +1,6 @@
 // A section on the wire: read and judged.
+#![tactic(auto)]
+
 ghost use Rattle.std.specs.Prelude.{◌≡◌, ◌+◌, ◌*◌, ◌≤◌, length};
 ghost use Rattle.section_reader.specs.Section.{is_kind, fixed_bits, section_length, length_in_range, heading_of, read_section, stated_length};
 

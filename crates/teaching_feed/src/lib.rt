@@ -1,4 +1,6 @@
 // Feeding the slow gathering: the answer is worked out from the strings kept before it, and the string is kept whatever the answer.
+#![tactic(auto)]
+
 ghost use Rattle.std.specs.Prelude.{◌≡◌, ◌≤◌, ◌<◌, length};
 ghost use Rattle.section_reader.specs.Section.{payload_of};
 ghost use Rattle.gathering_state.specs.State.{has_room};

@@ -1,4 +1,6 @@
 // Asking the slow gathering: its table's heading, what is missing, and the body, each worked out from the kept strings.
+#![tactic(auto)]
+
 ghost use Rattle.std.specs.Prelude.{◌≡◌, ◌+◌, ◌≤◌, length};
 ghost use Rattle.ground_placing.specs.Placed.{placed};
 ghost use Rattle.gathering_hand_out.specs.Handing.{out_by};

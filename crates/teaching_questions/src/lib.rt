@@ -1,4 +1,6 @@
 // The questions of the slow gathering, a function for each: every one is answered by reading the kept strings from the beginning.
+#![tactic(auto)]
+
 ghost use Rattle.std.specs.Prelude.{◌≡◌, ◌+◌};
 ghost use Rattle.teaching_rows.specs.Rows.{strings_in};
 ghost use Rattle.gathering_account.specs.Account.{heard};

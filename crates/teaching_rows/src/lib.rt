@@ -1,4 +1,6 @@
 // The rows of a teaching buffer: fed byte strings back to back, an eight-byte length before each.
+#![tactic(auto)]
+
 ghost use Rattle.std.specs.Prelude.{true, ◌≡◌, ◌++◌, ◌+◌, ◌≤◌, length, drop};
 ghost use Rattle.ground_placing.specs.Placed.{placed};
 ghost use Rattle.body_formats.specs.Format.{bytes_of};

@@ -1,4 +1,6 @@
 // The table that the kept strings fix: which heading it has, and where the latest takeover of it begins.
+#![tactic(auto)]
+
 ghost use Rattle.std.specs.Prelude.{◌≡◌, ◌<◌};
 ghost use Rattle.gathering_state.specs.State.{has_room};
 ghost use Rattle.gathering_account.specs.Account.{heard};

@@ -1,4 +1,6 @@
 // Whether a date is one of 1 March 1900 to 22 April 2038, by the lengths of its month: the calendar's answer, without its table of month starts.
+#![tactic(auto)]
+
 ghost use Rattle.std.specs.Prelude.{◌≡◌};
 ghost use Rattle.time_days.specs.Calendar.{leap, month_length, has_day};
 

@@ -1,4 +1,6 @@
 // Days by their numbers (MJD), from 1 March 1900 to 22 April 2038: the day of a date, the date of a day, the weekday of a day.
+#![tactic(auto)]
+
 ghost use Rattle.std.specs.Prelude.{◌≡◌, suc, min, ◌≤◌, ◌<◌};
 ghost use Rattle.time_days.specs.Calendar.{IsMonths, month_start, in_range, day_of, date_of, weekday_of, year_of, month_of};
 

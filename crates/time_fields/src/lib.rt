@@ -1,4 +1,6 @@
 // Times as the tables hold them: five-byte fields in UTC, the live end, and whether a message is before, on or ended.
+#![tactic(auto)]
+
 ghost use Rattle.std.specs.Prelude.{◌≡◌, ◌*◌, ◌^◌, ◌≤◌, ◌<◌};
 ghost use Rattle.time_fields.specs.Field.{two_digits, worth, decimal_pair, is_decimal, possible, moment_of, read_time, read_end, is_instant, field_of, write_time, field_bytes, bytes_field};
 ghost use Rattle.time_fields.specs.Showing.{earlier, shown_by, showing};

@@ -1,4 +1,6 @@
 // Local times: packed into UTC fields and unpacked from them, and read from text, day first.
+#![tactic(auto)]
+
 ghost use Rattle.std.specs.Prelude.{◌≡◌, true, ◌<◌};
 ghost use Rattle.time_offset.specs.Offset.{is_offset, to_utc, to_local};
 ghost use Rattle.time_local.specs.Clock.{is_clock, local_moment, written, pack_of, packed_as, dated, unpack_of};

@@ -1,4 +1,6 @@
 // Local time and UTC: a moment moved by an offset in signed minutes, the day carried by floor division.
+#![tactic(auto)]
+
 ghost use Rattle.std.specs.Prelude.{◌≡◌, ◌<◌};
 ghost use Rattle.std.specs.Int.Signed.{mag};
 ghost use Rattle.time_offset.specs.Offset.{floor_div, floor_mod, is_offset, moved, to_utc, to_local};

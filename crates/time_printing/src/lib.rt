@@ -1,4 +1,6 @@
 // Times for people: a time field printed as day-first local text or as the word live, and the start and the end of a form typed together.
+#![tactic(auto)]
+
 ghost use Rattle.std.specs.Prelude.{◌≡◌, ◌≤◌};
 ghost use Rattle.time_local.specs.Text.{Typable, tens, units, text_of};
 ghost use Rattle.time_printing.specs.Printing.{prints, start_text, end_text, printed_of, output_of};
