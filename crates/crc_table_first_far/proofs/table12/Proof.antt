@@ -12,5 +12,5 @@ use Rattle.crc_table_first_far.proofs.table12.Lts as lts
 pub table12_spec : {M : Type 1} → statement M
 unfolding odd bits_of digit value plus fed step run crc table_entry xor
 table12_spec =
-    tie.close (λ 𝓛 𝓣. t_fn_plain 𝓛 𝓣 0 lts.ps lts.r lts.xs lts.m lts.hs lts.body (λ κs qs bs. lts.Φ reads.Pre reads.Post)
+    tie.close (λ 𝓤 𝓛 𝓣. t_fn_plain 𝓛 𝓣 0 lts.ps lts.r lts.xs lts.m lts.hs lts.body (λ κs qs bs. lts.Φ reads.Pre reads.Post)
     (λ κs qs bs bd. lts.typed reads.Pre reads.Post κs qs 𝓛 𝓣 bs bd) reads.Pre reads.Post (λ κs qs a good pre bs. table w32 8 0x04C11DB7 12 a.0 tt))
