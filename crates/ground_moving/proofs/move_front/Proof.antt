@@ -7,32 +7,32 @@ use Rattle.ground_moving.proofs.Moving.{moved, Moved, moved_there, move_start, m
 use Rattle.ground_moving.proofs.move_front.Statement.{statement}
 use Rattle.ground_moving.proofs.move_front.Tie as tie
 
-abbrev invariant-loop : tie.invariant-loop
-invariant-loop buffer₀ from to n left₀ buffer left = Moved buffer₀ from to n left buffer
+abbrev invariant-loop-left : tie.invariant-loop-left
+invariant-loop-left buffer₀ from to n left₀ buffer left = Moved buffer₀ from to n left buffer
 
-abbrev decreases-loop : tie.decreases-loop
-decreases-loop buffer₀ from to n left₀ buffer left = left
+abbrev decreases-loop-left : tie.decreases-loop-left
+decreases-loop-left buffer₀ from to n left₀ buffer left = left
 
 -- where the function began
-abbrev begun : tie.After-slice-known3 invariant-loop decreases-loop → tie.Start invariant-loop decreases-loop
+abbrev begun : tie.After-slice_known-2-1 invariant-loop-left decreases-loop-left → tie.Start invariant-loop-left decreases-loop-left
 begun c = search
 
 -- the last piece moves all that is left
-ends : (c : tie.After-slice-known3 invariant-loop decreases-loop)
+ends : (c : tie.After-slice_known-2-1 invariant-loop-left decreases-loop-left)
     → let given = (begun c).args in
-    let out = c.before.before.move-piece2.new.0 in
+    let out = c.before.before.move_piece-2.new.buffer in
     (out ≡ placed given.buffer.now given.to (moved given.buffer.now given.from given.n)) × (length out ≡ length given.buffer.now)
 ends c =
     let piece = c.before.before in
-    move-end _ _ _ _ (omega arith) (omega arith) _ _ piece.before.before.before.loop.invariant _ piece.move-piece2.ensures
+    move-end _ _ _ _ (omega arith) (omega arith) _ _ piece.before.before.before.loop-left.invariant _ piece.move_piece-2.ensures
 
 pub move_front_spec : {M : Type 1} → statement M
 move_front_spec =
     tie.close
     (tie.spec
-    invariant-loop
-    decreases-loop
-    (λ c. let given = c.before.before.args in rw c.if1.true (moved_there given.buffer.now given.from given.n (omega arith)))
+    invariant-loop-left
+    decreases-loop-left
+    (λ c. let given = c.before.before.args in rw c.if-to-from.true (moved_there given.buffer.now given.from given.n (omega arith)))
     (λ c. move_start _ _ _ _ (omega arith) (omega arith))
     (λ c. omega arith)
     (λ c. omega arith)
@@ -40,9 +40,8 @@ move_front_spec =
     (λ c κs. (omega arith, omega arith, omega arith))
     (λ c. omega arith)
     (λ c. omega arith)
-    (λ c.
-    let piece = c.before.before in
-    move_step _ _ _ _ (omega arith) (omega arith) _ _ piece.before.before.before.loop.invariant 512 (omega arith) _ piece.move-piece.ensures)
+    (λ c. let piece = c.before.before in
+    move_step _ _ _ _ (omega arith) (omega arith) _ _ piece.before.before.before.loop-left.invariant 512 (omega arith) _ piece.move_piece.ensures)
     (λ c. omega arith)
     (λ c. omega arith)
     (λ c. omega arith)

@@ -15,40 +15,40 @@ use Rattle.section_reader.proofs.read_section.Statement.{statement}
 use Rattle.section_reader.proofs.read_section.Tie as tie
 
 -- where the function began, from these places on
-begun_kind : tie.After-is-kind → tie.Start
+begun_kind : tie.After-is_kind → tie.Start
 begun_kind c = search
 
-begun_length : tie.After-length-in-range → tie.Start
+begun_length : tie.After-length_in_range → tie.Start
 begun_length c = search
 
 -- each test's answer is the definition's
-kind_tested : (c : tie.After-is-kind) → c.is-kind.result ≡ is_kind (get_or (begun_kind c).args.s.now 0 0)
+kind_tested : (c : tie.After-is_kind) → c.is_kind.result ≡ is_kind (get_or (begun_kind c).args.s.now 0 0)
 unfolding begun_kind
-kind_tested c = c.is-kind.ensures ∙ ap is_kind c.before.wide.ensures.0
+kind_tested c = c.is_kind.ensures ∙ ap is_kind c.before.wide.ensures.0
 
-kind_known : (c : tie.Else2) → is_kind (get_or (begun_kind c.before).args.s.now 0 0) ≡ true
+kind_known : (c : tie.Else-not-is_kind) → is_kind (get_or (begun_kind c.before).args.s.now 0 0) ≡ true
 unfolding begun_kind
-kind_known c = sym (kind_tested c.before) ∙ not-false _ c.if2.false
+kind_known c = sym (kind_tested c.before) ∙ not-false _ c.if-not-is_kind.false-raw
 
-fixed_known : (c : tie.Else3) → fixed_bits (begun_kind c.before.before.before).args.s.now ≡ true
+fixed_known : (c : tie.Else-not-fixed_bits) → fixed_bits (begun_kind c.before.before.before).args.s.now ≡ true
 unfolding begun_kind
-fixed_known c = sym c.before.fixed-bits.ensures ∙ not-false _ c.if3.false
+fixed_known c = sym c.before.fixed_bits.ensures ∙ not-false _ c.if-not-fixed_bits.false-raw
 
-length_tested : (c : tie.After-length-in-range) → c.length-in-range.result ≡ length_in_range (section_length (begun_length c).args.s.now)
+length_tested : (c : tie.After-length_in_range) → c.length_in_range.result ≡ length_in_range (section_length (begun_length c).args.s.now)
 unfolding begun_length
-length_tested c = c.length-in-range.ensures ∙ ap length_in_range c.before.section-length.ensures
+length_tested c = c.length_in_range.ensures ∙ ap length_in_range c.before.section_length-length.ensures
 
-length_known : (c : tie.Else4) → length_in_range (section_length (begun_length c.before).args.s.now) ≡ true
+length_known : (c : tie.Else-not-length_in_range) → length_in_range (section_length (begun_length c.before).args.s.now) ≡ true
 unfolding begun_length
-length_known c = sym (length_tested c.before) ∙ not-false _ c.if4.false
+length_known c = sym (length_tested c.before) ∙ not-false _ c.if-not-length_in_range.false-raw
 
-counted : (c : tie.Else4) → c.before.before.section-length.result ≤ section_length_most
-counted c = (within-known 9 _ section_length_most (sym c.before.length-in-range.ensures ∙ not-false _ c.if4.false)).1
+counted : (c : tie.Else-not-length_in_range) → c.before.before.section_length-length.result ≤ section_length_most
+counted c = (within-known 9 _ section_length_most (sym c.before.length_in_range.ensures ∙ not-false _ c.if-not-length_in_range.false-raw)).1
 
-framed : (c : tie.Else5) → Framed (begun_length c.before.before).args.s.now
+framed : (c : tie.Else-s-length) → Framed (begun_length c.before.before).args.s.now
 unfolding begun_kind begun_length
 framed c =
-    let d : tie.Else3 = search in
+    let d : tie.Else-not-fixed_bits = search in
     record { long = omega arith; kind = kind_known d.before.before; fixed = fixed_known d; counted = length_known c.before; whole = omega arith }
 
 pub read_section_spec : {M : Type 1} → statement M
@@ -61,23 +61,21 @@ read_section_spec =
     (λ c κs. search rules)
     (λ c. omega arith)
     (λ c κs. search rules)
-    (λ c. sym (other_kind _ (omega arith) (sym (kind_tested c.before) ∙ not-true _ c.if2.true)))
+    (λ c. sym (other_kind _ (omega arith) (sym (kind_tested c.before) ∙ not-true _ c.if-not-is_kind.true-raw)))
     (λ c κs. search rules)
-    (λ c. sym (fixed-bit-zero _ (omega arith) (kind_known c.before.before) (sym c.before.fixed-bits.ensures ∙ not-true _ c.if3.true)))
+    (λ c. sym (fixed-bit-zero _ (omega arith) (kind_known c.before.before) (sym c.before.fixed_bits.ensures ∙ not-true _ c.if-not-fixed_bits.true-raw)))
     (λ c κs. search rules)
     (λ c κs. search rules)
-    (λ c.
-    let d : tie.Else3 = search in
-    sym (length-outside _ (omega arith) (kind_known d.before.before) (fixed_known d) (sym (length_tested c.before) ∙ not-true _ c.if4.true)))
+    (λ c. let d : tie.Else-not-fixed_bits = search in
+    sym (length-outside _ (omega arith) (kind_known d.before.before) (fixed_known d) (sym (length_tested c.before) ∙ not-true _ c.if-not-length_in_range.true-raw)))
     (λ c. omega (arith, counted c))
-    (λ c.
-    let d : tie.Else3 = search in
+    (λ c. let d : tie.Else-not-fixed_bits = search in
     sym (other_length _ (omega arith) (kind_known d.before.before) (fixed_known d) (length_known c.before) (omega arith)))
     (λ c. search rules)
     (λ c. search rules)
-    (λ c. let whole : tie.Else5 = search in sym (number-above _ (framed whole) (omega arith)))
+    (λ c. let whole : tie.Else-s-length = search in sym (number-above _ (framed whole) (omega arith)))
     (λ c κs. search rules)
-    (λ c. let whole : tie.Else5 = search in sym (check-not-zero _ (framed whole) (omega arith) (omega arith)))
+    (λ c. let whole : tie.Else-s-length = search in sym (check-not-zero _ (framed whole) (omega arith) (omega arith)))
     (λ c κs. search rules)
     (λ c. search rules)
-    (λ c. let whole : tie.Else5 = search in sym (good _ (framed whole) (omega arith) _ c.heading-of.ensures (omega arith))))
+    (λ c. let whole : tie.Else-s-length = search in sym (good _ (framed whole) (omega arith) _ c.heading_of.ensures (omega arith))))

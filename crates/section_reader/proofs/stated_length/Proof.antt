@@ -13,16 +13,16 @@ use Rattle.section_reader.proofs.stated_length.Statement.{statement}
 use Rattle.section_reader.proofs.stated_length.Tie as tie
 
 -- where the function began
-begun : tie.After-length-in-range → tie.Start
+begun : tie.After-length_in_range → tie.Start
 begun c = search
 
 -- the test's answer is the definition's
-tested : (c : tie.After-length-in-range) → c.length-in-range.result ≡ length_in_range (section_length (begun c).args.s.now)
+tested : (c : tie.After-length_in_range) → c.length_in_range.result ≡ length_in_range (section_length (begun c).args.s.now)
 unfolding begun
-tested c = c.length-in-range.ensures ∙ ap length_in_range c.before.section-length.ensures
+tested c = c.length_in_range.ensures ∙ ap length_in_range c.before.section_length-length.ensures
 
-counted : (c : tie.Else2) → c.before.before.section-length.result ≤ section_length_most
-counted c = (within-known 9 _ section_length_most (sym c.before.length-in-range.ensures ∙ not-false _ c.if2.false)).1
+counted : (c : tie.Else-not-length_in_range) → c.before.before.section_length-length.result ≤ section_length_most
+counted c = (within-known 9 _ section_length_most (sym c.before.length_in_range.ensures ∙ not-false _ c.if-not-length_in_range.false-raw)).1
 
 pub stated_length_spec : {M : Type 1} → statement M
 unfolding begun
@@ -32,7 +32,7 @@ stated_length_spec =
     (λ c. sym (cut_off _ (omega arith)))
     (λ c κs. search rules)
     (λ c κs. search rules)
-    (λ c. sym (none-stated _ (omega arith) (sym (tested c.before) ∙ not-true _ c.if2.true)))
+    (λ c. sym (none-stated _ (omega arith) (sym (tested c.before) ∙ not-true _ c.if-not-length_in_range.true-raw)))
     (λ c. omega (arith, counted c))
-    (λ c. ap (λ (n : ℕ). Length (n + 3)) c.before.before.section-length.ensures
-    ∙ sym (states _ (omega arith) (sym (tested c.before) ∙ not-false _ c.if2.false))))
+    (λ c. ap (λ (n : ℕ). Length (n + 3)) c.before.before.section_length-length.ensures
+    ∙ sym (states _ (omega arith) (sym (tested c.before) ∙ not-false _ c.if-not-length_in_range.false-raw))))

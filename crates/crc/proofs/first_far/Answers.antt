@@ -1,0 +1,8 @@
+-- `first_far` meets its contract: its entries are the lookups of the four chunks of x, in the tables from 12 on.
+use borrow.Author.Rules.{rules}
+use Rattle.crc_register.proofs.Lookups.{lookups, crc_lookups}
+use Rattle.crc.proofs.first_far.Goals as goal
+
+pub returns : goal.returns
+unfolding lookups
+returns c = cc (crc_lookups 8 32 0x04C11DB7 12 3 c.args.x)
