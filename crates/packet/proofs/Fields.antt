@@ -1,6 +1,6 @@
 -- Laws of a packet's fields: each way out of the functions that read them.
 use Prim.Native.Nat.{ℕ, ◌+◌, ◌*◌, ◌/◌, ◌%◌, ◌≤◌, ◌<◌}
-use mathlib.Core.Bool.{true, false, and-false, or_true}
+use mathlib.Core.Bool.{true, false, and-false, or-true}
 use mathlib.Core.List.{List}
 use mathlib.Core.Path.{◌≡◌}
 use native.Mathlib.Omega.{arith}
@@ -58,7 +58,7 @@ module _ (p : List ℕ) where
 
     pub place-plain : starts p ≡ false → true ≡ in_place p
     unfolding in_place
-    place-plain e = simp (ne_eqb (control p) 0 some, le-leb (payload_at p) packet_bytes in-packet, e, or_true)
+    place-plain e = simp (ne_eqb (control p) 0 some, le-leb (payload_at p) packet_bytes in-packet, e, or-true)
 
     module _ (carries : control p ≡ 2 → ⊥) (s : starts p ≡ true) where
       pub place-pointerless : packet_bytes ≤ payload_at p → false ≡ in_place p

@@ -12,44 +12,41 @@ use borrow.Author.Rules.{rules}
 use Rattle.packet_frames.proofs.find_sections.Statement.{statement}
 use Rattle.packet_frames.proofs.find_sections.Tie as tie
 
-abbrev invariant-loop : tie.invariant-loop
-invariant-loop d at₀ at = Finding d at
+abbrev invariant-loop-n : tie.invariant-loop-n
+invariant-loop-n d at₀ at = Finding d at
 
-abbrev decreases-loop : tie.decreases-loop
-decreases-loop d at₀ at = length d - at
+abbrev decreases-loop-n : tie.decreases-loop-n
+decreases-loop-n d at₀ at = length d - at
 
 -- what stands at the place where the search is, by its answer
-front : (c : tie.After-front-of invariant-loop decreases-loop) (f : Frame) → c.front_of.result ≡ f → let head = c.before.before in
-    f ≡ front_of (drop head.loop.at head.before.before.args.d.now)
-front c f e = let head = c.before.before in sym e ∙ c.front_of.ensures ∙ ap front_of (tail head.before.before.args.d.now head.loop.at)
+front : (c : tie.After-front_of invariant-loop-n decreases-loop-n) (f : Frame) → c.front_of.result ≡ f → let head = c.before.before in
+    f ≡ front_of (drop head.loop-n.at head.before.before.args.d.now)
+front c f e = let head = c.before.before in sym e ∙ c.front_of.ensures ∙ ap front_of (tail head.before.before.args.d.now head.loop-n.at)
 
-found_at : (c : tie.After-n invariant-loop decreases-loop) → let here = c.before.before in let head = here.before.before in
-    Finding head.before.before.args.d.now (head.loop.at + c.n.given.0.0) × (3 ≤ c.n.given.0.0)
-found_at c = let here = c.before.before in finding-whole _ _ here.before.before.loop.invariant _ (front here _ c.n.given.1)
+found_at : (c : tie.In-Whole invariant-loop-n decreases-loop-n) → let here = c.before in let head = here.before.before in
+    Finding head.before.before.args.d.now (head.loop-n.at + c.in-Whole.n) × (3 ≤ c.in-Whole.n)
+found_at c = let here = c.before in finding-whole _ _ here.before.before.loop-n.invariant _ (front here _ c.in-Whole.is)
 
 pub find_sections_spec : {M : Type 1} → statement M
 find_sections_spec =
     tie.close
     (tie.spec
-    invariant-loop
-    decreases-loop
+    invariant-loop-n
+    decreases-loop-n
     (λ c. finding_start _)
-    (λ c. c.loop.invariant.within)
+    (λ c. c.loop-n.invariant.within)
     (λ c. search rules)
     (λ c. search rules)
-    (λ c κs.
-    let d = c.before.before.before.args.d.now in
-    let at = c.before.loop.at in
+    (λ c κs. let d = c.before.before.before.args.d.now in
+    let at = c.before.loop-n.at in
     rw (tail d at, length-drop at d) (omega arith))
     (λ c. search rules)
-    (λ c.
-    let here : tie.After-front-of invariant-loop decreases-loop = search in
-    finding-nothing _ _ here.before.before.loop.inv (front here Nothing c.enum_told.given.1))
+    (λ c. let here : tie.After-front_of invariant-loop-n decreases-loop-n = search in
+    finding-nothing _ _ here.before.before.loop-n.invariant (front here Nothing c.in-Nothing.is))
     (λ c. search rules)
-    (λ c.
-    let here : tie.After-front-of invariant-loop decreases-loop = search in
-    finding-open _ _ here.before.before.loop.inv (front here Open c.enum-told2.given.1))
+    (λ c. let here : tie.After-front_of invariant-loop-n decreases-loop-n = search in
+    finding-open _ _ here.before.before.loop-n.invariant (front here Open c.in-Open.is))
     (λ c. search rules)
-    (λ c. let w = (found_at c.before).0.within in omega arith)
-    (λ c. let w = (found_at c.before).0.within in let l = (found_at c.before).1 in omega arith)
-    (λ c. (found_at c.before).0))
+    (λ c. let w = (found_at c).0.within in omega arith)
+    (λ c. let w = (found_at c).0.within in let l = (found_at c).1 in omega arith)
+    (λ c. (found_at c).0))

@@ -10,19 +10,19 @@ use Rattle.packet_frames.proofs.frame_of.Statement.{statement}
 use Rattle.packet_frames.proofs.frame_of.Tie as tie
 
 -- the bytes lent
-abbrev u : tie.After-joint2 → List ℕ
+abbrev u : tie.After-joint-2 → List ℕ
 u c =
     let start : tie.Start = search in
     start.args.u.now
 
-abbrev more : tie.After-joint2 → List ℕ
+abbrev more : tie.After-joint-2 → List ℕ
 more c =
     let start : tie.Start = search in
     start.args.more.now
 
 -- what the two bytes read say
-read : (c : tie.After-joint2) → (c.before.joint.result * 256 + c.joint2.result) % 4096 ≡ section_length (u c ++ more c)
-read c = length_read (u c ++ more c) _ _ c.before.joint.ensures.0 c.joint2.ensures.0
+read : (c : tie.After-joint-2) → (c.before.joint.result * 256 + c.joint-2.result) % 4096 ≡ section_length (u c ++ more c)
+read c = length_read (u c ++ more c) _ _ c.before.joint.ensures.0 c.joint-2.ensures.0
 
 pub frame_of_spec : {M : Type 1} → statement M
 frame_of_spec =
@@ -37,5 +37,5 @@ frame_of_spec =
     (λ c. let here = c.before in frame-long (u here) (more here) (omega arith) _ (read here) (omega arith))
     (λ c. search rules)
     (λ c. search rules)
-    (λ c. let here : tie.After-joint2 = search in frame-whole (u here) (more here) (omega arith) _ (read here) (omega arith) (omega arith))
-    (λ c. let here : tie.After-joint2 = search in frame-open (u here) (more here) (omega arith) _ (read here) (omega arith) (omega arith)))
+    (λ c. let here : tie.After-joint-2 = search in frame-whole (u here) (more here) (omega arith) _ (read here) (omega arith) (omega arith))
+    (λ c. let here : tie.After-joint-2 = search in frame-open (u here) (more here) (omega arith) _ (read here) (omega arith) (omega arith)))

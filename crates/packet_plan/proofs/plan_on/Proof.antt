@@ -28,16 +28,16 @@ rest c =
 rest_short : (c : tie.After-grow) → length (rest c) ≤ packet_bytes
 rest_short c =
     let start : tie.Start = search in let p = start.args.p.now in
-    let q = start.pre.size in
+    let q = start.requires.size in
     omega (arith, length-take (length p - start.args.at) (drop start.args.at p))
 
 grown : (c : tie.After-grow) (f : Frame) → c.grow.result ≡ f → Grown (unfinished c) (rest c) f
 grown c f e = grown_as (unfinished c) (rest c) _ f e c.grow.ensures
 
-between : (c : tie.After-size)
-    → (length (unfinished c.before.before) < c.size.given.0.0)
-    × (c.size.given.0.0 ≤ length (unfinished c.before.before) + length (rest c.before.before))
-between c = whole_between (unfinished (search)) (rest (search)) _ _ c.size.given.1 c.before.before.grow.ensures
+between : (c : tie.In-Whole)
+    → (length (unfinished c.before) < c.in-Whole.size)
+    × (c.in-Whole.size ≤ length (unfinished c.before) + length (rest c.before))
+between c = whole_between (unfinished (search)) (rest (search)) _ _ c.in-Whole.is c.before.grow.ensures
 
 pub plan_on_spec : {M : Type 1} → statement M
 plan_on_spec =
@@ -49,19 +49,15 @@ plan_on_spec =
     (λ c κs. search rules)
     (λ c. search rules)
     (λ c. search rules)
-    (λ c. let b = between c.before in omega arith)
-    (λ c.
-    let start : tie.Start = search in let here : tie.After-grow = search in
-    let b = between c.before in
-    let s = start.pre.within in
+    (λ c. let b = between c in omega arith)
+    (λ c. let start : tie.Start = search in let here : tie.After-grow = search in
+    let b = between c in
+    let s = start.requires.within in
     omega (arith, rest_short here))
     (λ c. search rules)
-    (λ c.
-    let start : tie.Start = search in let here : tie.After-grow = search in
-    plan-on-nothing _ _ _ start.pre (grown here Nothing c.enum_told.given.1))
-    (λ c.
-    let start : tie.Start = search in let here : tie.After-grow = search in
-    plan-on-whole _ _ _ start.pre _ (grown here _ c.before.size.given.1))
-    (λ c.
-    let start : tie.Start = search in let here : tie.After-grow = search in
-    plan-on-open _ _ _ start.pre (grown here Open c.enum-told2.given.1)))
+    (λ c. let start : tie.Start = search in let here : tie.After-grow = search in
+    plan-on-nothing _ _ _ start.requires (grown here Nothing c.in-Nothing.is))
+    (λ c. let start : tie.Start = search in let here : tie.After-grow = search in
+    plan-on-whole _ _ _ start.requires _ (grown here _ c.in-Whole.is))
+    (λ c. let start : tie.Start = search in let here : tie.After-grow = search in
+    plan-on-open _ _ _ start.requires (grown here Open c.in-Open.is)))

@@ -1,5 +1,4 @@
 -- `packet_plan::plan_pointed` meets its contract: each case of the unfinished section with the bytes ahead says what is given first, and the sections
--- from the pointer on follow.
 use Prim.Native.Nat.{ℕ, ◌+◌, ◌-◌, ◌≤◌, ◌<◌}
 use mathlib.Core.List.{List}
 use mathlib.Core.Path.{◌≡◌}
@@ -29,16 +28,16 @@ ahead c =
 ahead_short : (c : tie.After-grow) → length (ahead c) ≤ packet_bytes
 ahead_short c =
     let start : tie.Start = search in
-    let q = start.pre.within in
+    let q = start.requires.within in
     omega (arith, length-take (start.args.first - start.args.at) (drop start.args.at start.args.p.now))
 
 grown : (c : tie.After-grow) (f : Frame) → c.grow.result ≡ f → Grown (unfinished c) (ahead c) f
 grown c f e = grown_as (unfinished c) (ahead c) _ f e c.grow.ensures
 
-between : (c : tie.After-size)
-    → (length (unfinished c.before.before) < c.size.given.0.0)
-    × (c.size.given.0.0 ≤ length (unfinished c.before.before) + length (ahead c.before.before))
-between c = whole_between (unfinished (search)) (ahead (search)) _ _ c.size.given.1 c.before.before.grow.ensures
+between : (c : tie.In-Whole)
+    → (length (unfinished c.before) < c.in-Whole.size)
+    × (c.in-Whole.size ≤ length (unfinished c.before) + length (ahead c.before))
+between c = whole_between (unfinished (search)) (ahead (search)) _ _ c.in-Whole.is c.before.grow.ensures
 
 pub plan_pointed_spec : {M : Type 1} → statement M
 plan_pointed_spec =
@@ -56,21 +55,17 @@ plan_pointed_spec =
     (λ c κs. search rules)
     (λ c. search rules)
     (λ c. search rules)
-    (λ c. let b = between c.before in omega arith)
-    (λ c.
-    let start : tie.Start = search in let here : tie.After-grow = search in
-    let b = between c.before in
-    let q = start.pre in
+    (λ c. let b = between c in omega arith)
+    (λ c. let start : tie.Start = search in let here : tie.After-grow = search in
+    let b = between c in
+    let q = start.requires in
     let f = q.follows in
     let w = q.within in
     omega (arith, ahead_short here))
     (λ c. search rules)
-    (λ c.
-    let start : tie.Start = search in let here : tie.After-grow = search in let found : tie.After-find-sections = search in
-    plan-pointed-nothing _ _ _ _ start.pre _ found.find-sections.ensures (grown here Nothing c.enum_told.given.1))
-    (λ c.
-    let start : tie.Start = search in let here : tie.After-grow = search in let found : tie.After-find-sections = search in
-    plan-pointed-whole _ _ _ _ start.pre _ found.find-sections.ensures _ (grown here _ c.before.size.given.1))
-    (λ c.
-    let start : tie.Start = search in let here : tie.After-grow = search in let found : tie.After-find-sections = search in
-    plan-pointed-open _ _ _ _ start.pre _ found.find-sections.ensures (grown here Open c.enum-told2.given.1)))
+    (λ c. let start : tie.Start = search in let here : tie.After-grow = search in let found : tie.After-find_sections-found = search in
+    plan-pointed-nothing _ _ _ _ start.requires _ found.find_sections-found.ensures (grown here Nothing c.in-Nothing.is))
+    (λ c. let start : tie.Start = search in let here : tie.After-grow = search in let found : tie.After-find_sections-found = search in
+    plan-pointed-whole _ _ _ _ start.requires _ found.find_sections-found.ensures _ (grown here _ c.in-Whole.is))
+    (λ c. let start : tie.Start = search in let here : tie.After-grow = search in let found : tie.After-find_sections-found = search in
+    plan-pointed-open _ _ _ _ start.requires _ found.find_sections-found.ensures (grown here Open c.in-Open.is)))

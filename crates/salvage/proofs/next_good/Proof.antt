@@ -10,57 +10,42 @@ use Rattle.salvage.proofs.Pieces.{tail_part, next_found, next_none, gap_at_other
 use Rattle.salvage.proofs.next_good.Statement.{statement}
 use Rattle.salvage.proofs.next_good.Tie as tie
 
-abbrev invariant-loop : tie.invariant-loop
-invariant-loop s from at₀ at = (at ≤ length s) × (at + gap (drop at s) ≡ from + gap (drop from s))
+abbrev invariant-loop-at : tie.invariant-loop-at
+invariant-loop-at s from at₀ at = (at ≤ length s) × (at + gap (drop at s) ≡ from + gap (drop from s))
 
-abbrev decreases-loop : tie.decreases-loop
-decreases-loop s from at₀ at = length s - at
-
-loop_holds : tie.Need-loop-init invariant-loop decreases-loop
-loop_holds c = (search rules, refl)
+abbrev decreases-loop-at : tie.decreases-loop-at
+decreases-loop-at s from at₀ at = length s - at
 
 -- where the function began
-begun : tie.After-good-length invariant-loop decreases-loop → tie.Start invariant-loop decreases-loop
+begun : tie.After-good_length-length invariant-loop-at decreases-loop-at → tie.Start invariant-loop-at decreases-loop-at
 begun c = search
 
 -- what a turn learns of the place it stands at
-judged : (c : tie.After-good-length invariant-loop decreases-loop)
-    → let start = begun c in c.good_length.result ≡ good_length (drop c.before.before.before.loop.at start.args.s.now)
+judged : (c : tie.After-good_length-length invariant-loop-at decreases-loop-at)
+    → let start = begun c in c.good_length-length.result ≡ good_length (drop c.before.before.before.loop-at.at start.args.s.now)
 unfolding begun
 judged c =
     let start = begun c in
-    c.good_length.ensures ∙ ap good_length (tail_part start.args.s.now c.before.before.before.loop.at)
-
-returns : tie.Need-returns invariant-loop decreases-loop
-unfolding begun
-returns c =
-    let head : tie.At-loop invariant-loop decreases-loop = search in
-    let inv = head.loop.inv in
-    next_found _ _ _ _ inv.0 inv.1 (judged c.before) c.if1.true
-
-loop_again : tie.Need-loop-preserved invariant-loop decreases-loop
-unfolding begun
-loop_again c =
-    let here : tie.At-loop invariant-loop decreases-loop = search in
-    let none = gap_at_other _ _ c.before.before.before.loop-test.true (length_not _ (sym (judged c.before) ∙ c.if1.false)) in
-    (omega arith, omega (arith, here.loop.inv.1))
-
-returns-2 : tie.Need-returns-2 invariant-loop decreases-loop
-returns-2 c = let inv = c.before.loop.invariant in next_none _ _ _ inv.0 c.loop-test.false inv.1
+    c.good_length-length.ensures ∙ ap good_length (tail_part start.args.s.now c.before.before.before.loop-at.at)
 
 pub next_good_spec : {M : Type 1} → statement M
+unfolding begun
 next_good_spec =
     tie.close
     (tie.spec
-    invariant-loop
-    decreases-loop
-    loop_holds
+    invariant-loop-at
+    decreases-loop-at
+    (λ c. (search rules, refl))
     (λ c. search rules)
     (λ c. search rules)
     (λ c. search rules)
     (λ c κs. search rules)
-    returns
+    (λ c. let head : tie.At-loop-at invariant-loop-at decreases-loop-at = search in
+    let inv = head.loop-at.invariant in
+    next_found _ _ _ _ inv.0 inv.1 (judged c.before) c.if-length-ne0.true)
     (λ c. search rules)
     (λ c. search rules)
-    loop_again
-    returns-2)
+    (λ c. let here : tie.At-loop-at invariant-loop-at decreases-loop-at = search in
+    let none = gap_at_other _ _ c.before.before.before.loop-at-test.true (length_not _ (sym (judged c.before) ∙ c.if-length-ne0.false)) in
+    (omega arith, omega (arith, here.loop-at.invariant.1)))
+    (λ c. let inv = c.before.loop-at.invariant in next_none _ _ _ inv.0 c.loop-at-test.false inv.1))

@@ -8,44 +8,29 @@ use Rattle.salvage.proofs.Turns.{three_numbers, put_no_run, put_a_run}
 use Rattle.salvage.proofs.put_run.Statement.{statement}
 use Rattle.salvage.proofs.put_run.Tie as tie
 
-returns : tie.Need-returns
-returns c = put_no_run _ _ _ _ _ c.if1.true (omega (arith, c.before.before.requires.1))
-
 -- there is room for the three numbers
 room : (c : tie.After-mark) → let start = c.before.before.before in start.args.at + 3 ≤ length start.args.list.now
 room c =
     let start = c.before.before.before in
-    let n = three_numbers start.args.kept start.args.first start.args.size c.before.if1.false in
+    let n = three_numbers start.args.kept start.args.first start.args.size c.before.if-size-eq0.false in
     omega (arith, start.requires.1)
-
-slice_write_list : tie.Need-slice-write-list
-slice_write_list c = let l = room c in omega arith
-
-slice_write_list_2 : tie.Need-slice-write-list-2
-slice_write_list_2 c = let l = room c in simp length-set (omega arith)
-
-slice_write_list_3 : tie.Need-slice-write-list-3
-slice_write_list_3 c = let l = room c in simp length-set (omega arith)
-
-returns-2 : tie.Need-returns-2
-returns-2 c = put_a_run _ _ _ _ _ _ c.before.if1.false c.mark.ensures c.before.before.before.requires.1
 
 pub put_run_spec : {M : Type 1} → statement M
 put_run_spec =
     tie.close
     (tie.spec
-    returns
+    (λ c. put_no_run _ _ _ _ _ c.if-size-eq0.true (omega (arith, c.before.before.requires.1)))
     (λ c κs. search rules)
     (λ c. search rules)
-    slice_write_list
+    (λ c. let l = room c in omega arith)
     (λ c. search rules)
     (λ c. search rules)
     (λ c. search rules)
-    slice_write_list_2
+    (λ c. let l = room c in simp length-set (omega arith))
     (λ c. search rules)
     (λ c. search rules)
     (λ c. search rules)
-    slice_write_list_3
+    (λ c. let l = room c in simp length-set (omega arith))
     (λ c. search rules)
     (λ c. search rules)
-    returns-2)
+    (λ c. put_a_run _ _ _ _ _ _ c.before.if-size-eq0.false c.mark.ensures c.before.before.before.requires.1))

@@ -6,6 +6,8 @@ use Rattle.section_cutter.proofs.Cuts.{too_small, fits}
 use Rattle.section_cutter.proofs.cut_part.Statement.{statement}
 use Rattle.section_cutter.proofs.cut_part.Tie as tie
 
+
+
 pub cut_part_spec : {M : Type 1} → statement M
 cut_part_spec =
     tie.close
@@ -15,18 +17,16 @@ cut_part_spec =
     (λ c. place_within _ _ c.before.before.before.requires.1)
     (λ c κs. search rules)
     (λ c. search rules)
-    (λ c.
-    let start : tie.Start = search in let a = start.args in
-    let l = part_count a.body.now a.h.number c.before.least.result c.before.least.ensures in
+    (λ c. let start : tie.Start = search in let a = start.args in
+    let l = part_count a.body.now a.h.number c.before.least-n.result c.before.least-n.ensures in
     too_small _ _ _ (omega arith))
     (λ c. search rules)
     (λ c. search rules)
     (λ c. search rules)
-    (λ c. let start : tie.Start = search in let p = place_within _ _ start.pre.1 in omega arith)
+    (λ c. let start : tie.Start = search in let p = place_within _ _ start.requires.1 in omega arith)
     (λ c κs. search rules)
     (λ c. search rules)
     (λ c. search rules)
-    (λ c.
-    let start : tie.Start = search in let d : tie.After-least = search in let a = start.args in
-    let l = part_count a.body.now a.h.number d.least.result d.least.ensures in
-    fits _ _ _ _ _ (omega arith) (search rules) (rw (part_is _ _ _ d.least.ensures) at c.before.before.put-section.ensures)))
+    (λ c. let start : tie.Start = search in let d : tie.After-least-n = search in let a = start.args in
+    let l = part_count a.body.now a.h.number d.least-n.result d.least-n.ensures in
+    fits _ _ _ _ _ (omega arith) (search rules) (rw (part_is _ _ _ d.least-n.ensures) at c.before.before.put_section.ensures)))

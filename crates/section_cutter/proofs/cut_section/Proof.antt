@@ -17,25 +17,25 @@ use Rattle.section_cutter.proofs.cut_section.Statement.{statement}
 use Rattle.section_cutter.proofs.cut_section.Tie as tie
 
 -- where the function began, from each of these places on
-begun_known_told2 : tie.After-known-told2 → tie.Start
+begun_known_told2 : tie.In-Sections → tie.Start
 begun_known_told2 c = search
 
-begun_left1 : tie.Else1 → tie.Start
+begun_left1 : tie.Else-not-is_kind → tie.Start
 begun_left1 c = search
 
-kind_known : (c : tie.Else1) → is_kind (begun_left1 c).args.kind ≡ true
+kind_known : (c : tie.Else-not-is_kind) → is_kind (begun_left1 c).args.kind ≡ true
 unfolding begun_left1
-kind_known c = sym c.before.is-kind.ensures ∙ not-false _ c.if1.false
+kind_known c = sym c.before.is_kind.ensures ∙ not-false _ c.if-not-is_kind.false-raw
 
-allowed : (c : tie.Else3) → let a = (begun_left1 c.before.before).args in Allowed a.kind a.extension a.version
+allowed : (c : tie.Else-extension-gt65535) → let a = (begun_left1 c.before.before).args in Allowed a.kind a.extension a.version
 unfolding begun_left1
-allowed c = record { kind_of = kind_known (search); version_high = c.before.if2.false; extension_high = ltb-false _ _ c.if3.false }
+allowed c = record { kind_of = kind_known (search); version_high = c.before.if-version-gt-VERSION_MOST.false; extension_high = ltb-false _ _ c.if-extension-gt65535.false-raw }
 
-counted_known : (c : tie.After-known-told2) → counted_of (length (begun_known_told2 c).args.body.now) ≡ Sections c.before.count.given.0.0
+counted_known : (c : tie.In-Sections) → counted_of (length (begun_known_told2 c).args.body.now) ≡ Sections c.in-Sections.count
 unfolding begun_known_told2
-counted_known c = sym c.before.before.before.section_count_lem.ensures ∙ c.before.count.given.1
+counted_known c = sym c.before.section_count.ensures ∙ c.in-Sections.is
 
-count_known : (c : tie.After-known-told2) → c.before.count.given.0.0 ≤ 256
+count_known : (c : tie.In-Sections) → c.in-Sections.count ≤ 256
 unfolding begun_known_told2
 count_known c = let s = counted_some _ _ (counted_known c) in let m = count_most _ s.2 in omega arith
 
@@ -45,32 +45,28 @@ cut_section_spec =
     tie.close
     (tie.spec
     (λ c κs. search rules)
-    (λ c. by_refusal _ _ _ (cut-other-kind _ _ _ _ _ _ (sym c.before.is-kind.ensures ∙ not-true _ c.if1.true)))
-    (λ c.
-    by_refusal _ _ _
-    (⊎_elim (λ w. cut-other-version _ _ _ _ _ _ (kind_known c.before) w.taken)
-    (λ w. cut-other-extension _ _ _ _ _ _ (kind_known c.before) (ltb-true _ _ w.1.taken))
-    c.if2.branch))
+    (λ c. by_refusal _ _ _ (cut-other-kind _ _ _ _ _ _ (sym c.before.is_kind.ensures ∙ not-true _ c.if-not-is_kind.true-raw)))
+    (λ c. by_refusal _ _ _
+    (⊎_elim (λ w. cut-other-version _ _ _ _ _ _ (kind_known c.before) w)
+    (λ w. cut-other-extension _ _ _ _ _ _ (kind_known c.before) w.1)
+    c.then-version-gt-VERSION_MOST.either))
     (λ c κs. search rules)
     (λ c. search rules)
     (λ c. search rules)
-    (λ c. let d = c.before in by_refusal _ _ _ (cut-past-last _ _ _ _ _ _ (allowed (search)) _ (counted_known d) c.if4.true))
+    (λ c. let d = c.before in by_refusal _ _ _ (cut-past-last _ _ _ _ _ _ (allowed (search)) _ (counted_known d) c.if-count-number.true))
     (λ c. let k = kind_within _ (allowed (search)).kind_of in search rules)
     (λ c. search rules)
     (λ c. search rules)
     (λ c. let n = count_known c.before in omega arith)
     (λ c. search rules)
     (λ c. let n = count_known c.before in omega arith)
-    (λ c κs.
-    let d : tie.After-known-told2 = search in
+    (λ c κs. let d : tie.In-Sections = search in
     let s = counted_some _ _ (counted_known d) in
-    let b = begins_within _ _ (rw s.0 at c.before.if4.false) in
+    let b = begins_within _ _ (rw s.0 at c.before.if-count-number.false) in
     ((allowed (search)).version_high, omega arith))
-    (λ c.
-    let d : tie.After-section-count = search in
-    by_refusal _ _ _ (cut-not-counted _ _ _ _ _ _ (allowed d.before) _ (sym d.section_count_lem.ensures ∙ c.before.r.given.1)))
+    (λ c. let d : tie.After-section_count = search in
+    by_refusal _ _ _ (cut-not-counted _ _ _ _ _ _ (allowed d.before) _ (sym d.section_count.ensures ∙ c.in-Refused.is)))
     (λ c. search rules)
-    (λ c.
-    let e : tie.Else4 = search in
+    (λ c. let e : tie.Else-count-number = search in
     let d = e.before in
-    cut-asked _ _ _ _ _ _ (allowed (search)) _ (counted_known d) e.if4.left _ _ _ c.before.before.cut-part.ensures))
+    cut-asked _ _ _ _ _ _ (allowed (search)) _ (counted_known d) e.if-count-number.false _ _ _ c.before.before.cut_part.ensures))

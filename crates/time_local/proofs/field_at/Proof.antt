@@ -8,18 +8,11 @@ use Rattle.time_local.proofs.field_at.Statement.{statement}
 use Rattle.time_local.proofs.field_at.Tie as tie
 
 -- what was matched on is the definition's answer
-matched : (c : tie.After-to-utc) → c.to-utc.result ≡ to_utc c.before.args.local c.before.args.offset
-matched c = c.to-utc.ensures ∙ ap (to_utc c.before.args.local) (to_z-of_z c.before.ranges.offset)
-
-returns : tie.Need-returns
-unfolding written
-returns c = c.write-time.ensures ∙ ap written (sym c.before.before.utc.given.1 ∙ matched (search))
-
-returns-2 : tie.Need-returns-2
-unfolding written
-returns-2 c = ap written (sym c.before.r.given.1 ∙ matched (search))
+matched : (c : tie.After-to_utc) → c.to_utc.result ≡ to_utc c.before.args.local c.before.args.offset
+matched c = c.to_utc.ensures ∙ ap (to_utc c.before.args.local) (to_z-of_z c.before.ranges.offset)
 
 pub field_at_spec : {M : Type 1} → statement M
+unfolding written
 field_at_spec =
     tie.close
     (tie.spec
@@ -27,5 +20,5 @@ field_at_spec =
     (λ c. search rules)
     (λ c κs. search rules)
     (λ c. search rules)
-    returns
-    returns-2)
+    (λ c. c.write_time.ensures ∙ ap written (sym c.before.in-At.is ∙ matched (search)))
+    (λ c. ap written (sym c.in-Refused.is ∙ matched (search))))

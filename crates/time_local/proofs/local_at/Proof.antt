@@ -8,17 +8,11 @@ use Rattle.time_local.proofs.local_at.Statement.{statement}
 use Rattle.time_local.proofs.local_at.Tie as tie
 
 -- what was matched on is the definition's answer
-matched : (c : tie.After-to-local) → c.to-local.result ≡ to_local c.before.args.utc c.before.args.offset
-matched c = c.to-local.ensures ∙ ap (to_local c.before.args.utc) (to_z-of_z c.before.ranges.offset)
-
-returns : tie.Need-returns
-returns c = c.date-at.ensures ∙ ap dated (sym c.before.before.local.given.1 ∙ matched (search))
-
-returns-2 : tie.Need-returns-2
-unfolding dated
-returns-2 c = ap dated (sym c.before.r.given.1 ∙ matched (search))
+matched : (c : tie.After-to_local) → c.to_local.result ≡ to_local c.before.args.utc c.before.args.offset
+matched c = c.to_local.ensures ∙ ap (to_local c.before.args.utc) (to_z-of_z c.before.ranges.offset)
 
 pub local_at_spec : {M : Type 1} → statement M
+unfolding dated
 local_at_spec =
     tie.close
     (tie.spec
@@ -26,5 +20,5 @@ local_at_spec =
     (λ c. search rules)
     (λ c κs. search rules)
     (λ c. search rules)
-    returns
-    returns-2)
+    (λ c. c.date_at.ensures ∙ ap dated (sym c.before.in-At.is ∙ matched (search)))
+    (λ c. ap dated (sym c.in-Refused.is ∙ matched (search))))

@@ -12,34 +12,30 @@ use Rattle.time_local.proofs.Clocks.{ClockWithin, clock_within, no_day, on-day}
 use Rattle.time_local.proofs.local_moment.Statement.{statement}
 use Rattle.time_local.proofs.local_moment.Tie as tie
 
--- where the time of day was tested
-module _ (c : tie.After-is-clock) where
+module _ (c : tie.After-is_clock) where
   abbrev begun : tie.Start
   begun = search
 
   abbrev t : LocalTime
   t = begun.args.t
 
-  abbrev at-day : tie.After-day
+  abbrev at-day : tie.In-Day
   at-day = search
 
-  found : day_of t.year t.month t.day ≡ Day at-day.day.given.0.0
+  found : day_of t.year t.month t.day ≡ Day at-day.in-Day.day
   found =
-      let asked : tie.After-day-of = search in
-      sym asked.day-of.ensures ∙ at-day.day.given.1
+      let asked : tie.After-day_of = search in
+      sym asked.day_of.ensures ∙ at-day.in-Day.is
 
 -- and passed
-passed : (c : tie.Else1) → is_clock (t c.before) ≡ true
-passed c = met _ c.before.is-clock.ensures c.if1.false
+passed : (c : tie.Else-not-is_clock) → is_clock (t c.before) ≡ true
+passed c = met _ c.before.is_clock.ensures c.if-not-is_clock.false-raw
 
-bounds : (c : tie.Else1) → ClockWithin (t c.before)
+bounds : (c : tie.Else-not-is_clock) → ClockWithin (t c.before)
 bounds c = clock_within _ (passed c)
 
-returns-3 : tie.Need-returns-3
-unfolding second_of
-returns-3 c = sym (on-day _ (found (search)) (passed (search)))
-
 pub local_moment_spec : {M : Type 1} → statement M
+unfolding second_of
 local_moment_spec =
     tie.close
     (tie.spec
@@ -47,10 +43,10 @@ local_moment_spec =
     (λ c. search rules)
     (λ c. search rules)
     (λ c κs. search rules)
-    (λ c. sym (on-day _ (found c.before) (unmet _ c.before.is-clock.ensures c.if1.true)))
+    (λ c. sym (on-day _ (found c.before) (unmet _ c.before.is_clock.ensures c.if-not-is_clock.true-raw)))
     (λ c. omega (arith, bounds c.before))
     (λ c. omega (arith, bounds (search)))
     (λ c. omega (arith, bounds (search)))
     (λ c. omega (arith, bounds (search)))
-    (λ c. sym (no_day _ (sym c.before.before.before.day-of.ensures ∙ c.before.r.given.1)))
-    returns-3)
+    (λ c. sym (no_day _ (sym c.before.day_of.ensures ∙ c.in-Refused.is)))
+    (λ c. sym (on-day _ (found (search)) (passed (search)))))

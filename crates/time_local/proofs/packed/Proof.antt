@@ -10,43 +10,23 @@ use Rattle.time_local.proofs.Clocks.{packs-moment, no_moment, no-utc}
 use Rattle.time_local.proofs.packed.Statement.{statement}
 use Rattle.time_local.proofs.packed.Tie as tie
 
--- where the field was asked for
-module _ (c : tie.After-field-at) where
+module _ (c : tie.After-field_at) where
   abbrev begun : tie.Start
   begun = search
 
-  abbrev at_local : tie.After-local
+  abbrev at_local : tie.In-At
   at_local = search
 
-  found : local_moment begun.args.t ≡ At at_local.local.given.0.0
+  found : local_moment begun.args.t ≡ At at_local.in-At.local
   found =
-      let moment : tie.After-local-moment = search in
-      sym moment.local-moment.ensures ∙ at_local.local.given.1
+      let moment : tie.After-local_moment = search in
+      sym moment.local_moment.ensures ∙ at_local.in-At.is
 
-  field : c.field_at.result ≡ written (to_utc at_local.local.given.0.0 begun.args.offset)
-  field = c.field_at.ensures ∙ ap (λ (z : ℤ). written (to_utc at_local.local.given.0.0 z)) (to_z-of_z begun.fits.offset)
-
-returns : tie.Need-returns
-unfolding packed_as
-returns c =
-    let asked = c.before.before.before in
-    let start : tie.Start = search in
-    sym (packs-moment _ _ start.pre (found asked) (sym (field asked) ∙ c.before.field.given.1))
-
-returns-2 : tie.Need-returns-2
-unfolding packed_as
-returns-2 c =
-    let asked = c.before.before.before in
-    let start : tie.Start = search in
-    sym (no-utc _ _ start.pre (found asked) (sym (field asked) ∙ c.before.-why.given.1))
-
-returns-3 : tie.Need-returns-3
-unfolding packed_as
-returns-3 c =
-    let start : tie.Start = search in
-    sym (no_moment _ _ start.pre (sym c.before.before.before.local-moment.ensures ∙ c.before.-why2.given.1))
+  field : c.field_at.result ≡ written (to_utc at_local.in-At.local begun.args.offset)
+  field = c.field_at.ensures ∙ ap (λ (z : ℤ). written (to_utc at_local.in-At.local z)) (to_z-of_z begun.ranges.offset)
 
 pub packed_spec : {M : Type 1} → statement M
+unfolding packed_as
 packed_spec =
     tie.close
     (tie.spec
@@ -56,6 +36,11 @@ packed_spec =
     (λ c. search rules)
     (λ c. search rules)
     (λ c. search rules)
-    returns
-    returns-2
-    returns-3)
+    (λ c. let asked = c.before in
+    let start : tie.Start = search in
+    sym (packs-moment _ _ start.requires (found asked) (sym (field asked) ∙ c.in-Field.is)))
+    (λ c. let asked = c.before in
+    let start : tie.Start = search in
+    sym (no-utc _ _ start.requires (found asked) (sym (field asked) ∙ c.in-Refused-field_at.is)))
+    (λ c. let start : tie.Start = search in
+    sym (no_moment _ _ start.requires (sym c.before.local_moment.ensures ∙ c.in-Refused.is))))

@@ -15,30 +15,16 @@ use Rattle.time_local.proofs.Forms.{no_offset, by_form}
 use Rattle.time_local.proofs.text_field.Statement.{statement}
 use Rattle.time_local.proofs.text_field.Tie as tie
 
-tested : (c : tie.Else1) → is_offset c.before.before.before.args.offset ≡ true
-tested c = offset_tested c.before.before.before.ranges.offset c.before.permitted.ensures (not-false _ c.if1.false)
+tested : (c : tie.Else-not-permitted) → is_offset c.before.before.before.args.offset ≡ true
+tested c = offset_tested c.before.before.before.ranges.offset c.before.permitted.ensures (not-false _ c.if-not-permitted.false-raw)
 
 -- where the function began
-begun : tie.Else2 → tie.Start
+begun : tie.Else-not-of_form → tie.Start
 begun c = search
 
-of_the_form : (c : tie.Else2) → formed form (begun c).args.text.now ≡ true
+of_the_form : (c : tie.Else-not-of_form) → formed form (begun c).args.text.now ≡ true
 unfolding form begun
-of_the_form c = met _ c.before.of-form.ensures c.if2.false
-
-returns : tie.Need-returns
-unfolding read_as
-returns c = sym (no_offset _ _ (offset_tested c.before.before.before.ranges.offset c.before.permitted.ensures (not-true _ c.if1.true)))
-
-returns-2 : tie.Need-returns-2
-unfolding form read_as
-returns-2 c = sym (by_form _ _ (tested (search)) (unmet _ c.before.of-form.ensures c.if2.true))
-
--- the offset is one of the range where a field is asked for, whose bits are handed on
-packed_requires : tie.Need-packed-requires
-packed_requires c κs =
-    let permitted : tie.Else1 = search in
-    sym permitted.before.permitted.ensures ∙ not-false _ permitted.if1.left
+of_the_form c = met _ c.before.of_form.ensures c.if-not-of_form.false-raw
 
 -- what is matched on is the definition's answer
 matched : (c : tie.After-packed)
@@ -46,33 +32,25 @@ matched : (c : tie.After-packed)
 unfolding begun
 matched c =
     let start = begun c.before.before in
-    let formal : tie.Else2 = search in
+    let formal : tie.Else-not-of_form = search in
     c.packed.ensures
-    ∙ ap (λ (z : ℤ). pack_of c.before.time-of.result z) (to_z-of_z start.fits.offset)
-    ∙ ap (λ (t : LocalTime). pack_of t start.args.offset) c.before.time-of.ensures
+    ∙ ap (λ (z : ℤ). pack_of c.before.time_of-t.result z) (to_z-of_z start.ranges.offset)
+    ∙ ap (λ (t : LocalTime). pack_of t start.args.offset) c.before.time_of-t.ensures
     ∙ sym (by_form _ _ (tested (search)) (of_the_form formal))
 
-returns-3 : tie.Need-returns-3
-unfolding packed_as read_as begun
-returns-3 c = ap packed_as (sym c.before.field.given.1) ∙ matched (search)
-
-returns-4 : tie.Need-returns-4
-unfolding packed_as read_as begun
-returns-4 c = ap packed_as (sym c.enum_told.given.1) ∙ matched (search)
-
 pub text_field_spec : {M : Type 1} → statement M
-unfolding begun
+unfolding begun read_as form packed_as
 text_field_spec =
     tie.close
     (tie.spec
     (λ c κs. search rules)
-    returns
-    (λ c. search rules)
+    (λ c. sym (no_offset _ _ (offset_tested c.before.before.before.ranges.offset c.before.permitted.ensures (not-true _ c.if-not-permitted.true-raw))))
     (λ c κs. search rules)
-    returns-2
+    (λ c. sym (by_form _ _ (tested (search)) (unmet _ c.before.of_form.ensures c.if-not-of_form.true-raw)))
     (λ c κs. of_the_form c)
-    packed_requires
+    (λ c κs. let permitted : tie.Else-not-permitted = search in
+    sym permitted.before.permitted.ensures ∙ not-false _ permitted.if-not-permitted.false-raw)
     (λ c. search rules)
     (λ c. search rules)
-    returns-3
-    returns-4)
+    (λ c. ap packed_as (sym c.in-Field.is) ∙ matched (search))
+    (λ c. ap packed_as (sym c.in-Impossible.is) ∙ matched (search)))

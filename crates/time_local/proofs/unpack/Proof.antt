@@ -12,40 +12,27 @@ use Rattle.time_local.proofs.Clocks.{unpack_by}
 use Rattle.time_local.proofs.unpack.Statement.{statement}
 use Rattle.time_local.proofs.unpack.Tie as tie
 
-tested : (c : tie.Else1) → is_offset c.before.before.args.offset ≡ true
-tested c = offset_tested c.before.before.ranges.offset c.before.permitted.ensures (not-false _ c.if1.false)
-
-returns : tie.Need-returns
-returns c =
-    sym (unpack_by _ _ (offset_tested c.before.before.ranges.offset c.before.permitted.ensures (not-true _ c.if1.true)))
-
-returns-2 : tie.Need-returns-2
-unfolding unpacked_at
-returns-2 c =
-    let read-time : tie.After-read-time = search in let a : tie.Start = search in
-    c.local_at.ensures
-    ∙ ap (λ (z : ℤ). dated (to_local c.before.before.utc.given.0.0 z)) (to_z-of_z a.fits.offset)
-    ∙ ap (unpacked_at a.args.offset)
-    (sym c.before.before.utc.given.1 ∙ read-time.read-time.ensures)
-    ∙ sym (unpack_by _ _ (tested (search)))
-
-returns-3 : tie.Need-returns-3
-unfolding unpacked_at
-returns-3 c =
-    let start : tie.Start = search in
-    ap (unpacked_at start.args.offset)
-    (sym c.before.r.given.1 ∙ c.before.before.before.read-time.ensures)
-    ∙ sym (unpack_by _ _ (tested (search)))
+tested : (c : tie.Else-not-permitted) → is_offset c.before.before.args.offset ≡ true
+tested c = offset_tested c.before.before.ranges.offset c.before.permitted.ensures (not-false _ c.if-not-permitted.false-raw)
 
 pub unpack_spec : {M : Type 1} → statement M
+unfolding unpacked_at
 unpack_spec =
     tie.close
     (tie.spec
     (λ c κs. search rules)
-    returns
+    (λ c. sym (unpack_by _ _ (offset_tested c.before.before.ranges.offset c.before.permitted.ensures (not-true _ c.if-not-permitted.true-raw))))
     (λ c κs. search rules)
     (λ c. search rules)
     (λ c κs. search rules)
     (λ c. search rules)
-    returns-2
-    returns-3)
+    (λ c. let read-time : tie.After-read_time = search in let a : tie.Start = search in
+    c.local_at.ensures
+    ∙ ap (λ (z : ℤ). dated (to_local c.before.in-At.utc z)) (to_z-of_z a.ranges.offset)
+    ∙ ap (unpacked_at a.args.offset)
+    (sym c.before.in-At.is ∙ read-time.read_time.ensures)
+    ∙ sym (unpack_by _ _ (tested (search))))
+    (λ c. let start : tie.Start = search in
+    ap (unpacked_at start.args.offset)
+    (sym c.in-Refused.is ∙ c.before.read_time.ensures)
+    ∙ sym (unpack_by _ _ (tested (search)))))

@@ -14,13 +14,12 @@ use Rattle.time_offset.proofs.floor.Tie as tie
 abbrev read : ℤ → ℤ
 read z = to_z w32 (of_z w32 z)
 
--- below 0: the minutes are -(k + 1)
-module _ (c : tie.Then1) where
+module _ (c : tie.Then-minutes-lt0) where
   abbrev z : ℤ
   z = c.before.args.minutes
 
   start : (k : ℕ) × Known w32 z (negsuc k)
-  start = known-below w32 z c.before.ranges.minutes c.if1.true
+  start = known-below w32 z c.before.ranges.minutes c.if-minutes-lt0.true
 
   abbrev k : ℕ
   k = start.0
@@ -49,13 +48,12 @@ module _ (c : tie.Then1) where
       (same _ _ (sum (pos 1439) (neg_ℤ (pos (k % 1440)))) (record { is = omega (arith, opposite (pos (k % 1440))) }))
       (omega arith)
 
--- from 0: the minutes are k
-module _ (c : tie.Else1) where
+module _ (c : tie.Else-minutes-lt0) where
   abbrev z' : ℤ
   z' = c.before.args.minutes
 
   start' : (k : ℕ) × Known w32 z' (pos k)
-  start' = known-from-0 w32 z' c.before.ranges.minutes c.if1.false
+  start' = known-from-0 w32 z' c.before.ranges.minutes c.if-minutes-lt0.false
 
   days' : Known w32 (quot_z (read z') (pos 1440)) (pos (start'.0 / 1440))
   days' = then start'.1 (λ (y : ℤ). quot_z y (pos 1440)) refl (omega (arith, start'.1.small))
@@ -63,32 +61,25 @@ module _ (c : tie.Else1) where
   minute' : Known w32 (rem_z (read z') (pos 1440)) (pos (start'.0 % 1440))
   minute' = then start'.1 (λ (y : ℤ). rem_z y (pos 1440)) refl (omega arith)
 
-returns : tie.Need-returns
-unfolding floor_div floor_mod
-returns c = (
-  (days c).back ∙ ap (λ (y : ℤ). floor_div y 1440) (sym (start c).1.is),
-  ap nat_abs (minute c).back ∙ ap (λ (y : ℤ). floor_mod y 1440) (sym (start c).1.is),
-)
-
-returns-2 : tie.Need-returns-2
-unfolding floor_div floor_mod
-returns-2 c = (
-  (days' c).back ∙ ap (λ (y : ℤ). floor_div y 1440) (sym (start' c).1.is),
-  ap nat_abs (minute' c).back ∙ ap (λ (y : ℤ). floor_mod y 1440) (sym (start' c).1.is),
-)
-
 pub floor_spec : {M : Type 1} → statement M
+unfolding floor_div floor_mod
 floor_spec =
     tie.close
     (tie.spec
-    (λ c. (before c).ranges)
-    (λ c. (omega arith, (times c).ranges))
-    (λ c. (days c).ranges)
-    (λ c. (omega arith, (times c).ranges))
-    (λ c. (minute c).ranges)
+    (λ c. (before c).fits)
+    (λ c. (omega arith, (times c).fits))
+    (λ c. (days c).fits)
+    (λ c. (omega arith, (times c).fits))
+    (λ c. (minute c).fits)
     (λ c. unsigned (minute c) (omega arith))
-    returns
-    (λ c. (omega arith, (days' c).ranges))
-    (λ c. (omega arith, (days' c).ranges))
+    (λ c. (
+  (days c).back ∙ ap (λ (y : ℤ). floor_div y 1440) (sym (start c).1.is),
+  ap nat_abs (minute c).back ∙ ap (λ (y : ℤ). floor_mod y 1440) (sym (start c).1.is),
+))
+    (λ c. (omega arith, (days' c).fits))
+    (λ c. (omega arith, (days' c).fits))
     (λ c. unsigned (minute' c) (omega arith))
-    returns-2)
+    (λ c. (
+  (days' c).back ∙ ap (λ (y : ℤ). floor_div y 1440) (sym (start' c).1.is),
+  ap nat_abs (minute' c).back ∙ ap (λ (y : ℤ). floor_mod y 1440) (sym (start' c).1.is),
+)))

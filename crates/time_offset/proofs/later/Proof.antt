@@ -34,7 +34,6 @@ day m q = to_z w32 m.day +ℤ to_z w32 (of_z w32 q.days)
 abbrev to : Moment → Floored → Moment
 to m q = arrived (nat_abs (to_z w32 (of_z w32 (day m q)))) (q.minute * 60 + m.second % 60)
 
--- what `floor`'s answer comes to
 record Carried (m : Moment) (minutes : ℤ) (q : Floored) : Type 0 where
   day_known : Known w32 (day m q) (pos (day_to m minutes))
   day_fits : day_to m minutes < 2 ^ 32
@@ -76,34 +75,33 @@ module _ (m : Moment) (minutes : ℤ) (f : SFits w32 minutes) (short : mag minut
       }
 
 -- where the first test has passed
-here : (c : tie.Else1) → (is_instant c.before.before.args.m ≡ true) × Instant c.before.before.args.m
-here c = let e = met _ c.before.is-instant.ensures c.if1.false in (e, instant _ e)
+here : (c : tie.Else-not-is_instant) → (is_instant c.before.before.args.m ≡ true) × Instant c.before.before.args.m
+here c = let e = met _ c.before.is_instant.ensures c.if-not-is_instant.false-raw in (e, instant _ e)
 
--- where `floor` has returned
-module _ (c : tie.After-floor) where
+module _ (c : tie.After-floor-carried) where
   abbrev start : tie.Start
   start = search
 
-  there : Carried start.args.m start.args.minutes c.floor.result
+  there : Carried start.args.m start.args.minutes c.floor-carried.result
   there =
-      carried start.args.m start.args.minutes start.fits.minutes start.pre (here (search)).1
-      c.floor.result
-      c.floor.ensures
+      carried start.args.m start.args.minutes start.ranges.minutes start.requires (here (search)).1
+      c.floor-carried.result
+      c.floor-carried.ensures
 
   -- what is answered, by the second test
-  answer : {r t : Bool} → r ≡ is_instant (to start.args.m c.floor.result) → r ≡ t
-      → cond t (At (to start.args.m c.floor.result)) (Refused (ImpossibleDay 0)) ≡ moved start.args.m start.args.minutes
+  answer : {r t : Bool} → r ≡ is_instant (to start.args.m c.floor-carried.result) → r ≡ t
+      → cond t (At (to start.args.m c.floor-carried.result)) (Refused (ImpossibleDay 0)) ≡ moved start.args.m start.args.minutes
   answer {t = t} p e =
       let i = here (search) in
       ap (λ (m : Moment). cond t (At m) (Refused (ImpossibleDay 0))) there.is
-      ∙ sym (moved_to _ _ _ i.0 (day-to _ _ i.1 start.pre) (ap is_instant (sym there.is) ∙ sym p ∙ e))
+      ∙ sym (moved_to _ _ _ i.0 (day-to _ _ i.1 start.requires) (ap is_instant (sym there.is) ∙ sym p ∙ e))
 
 pub later_spec : {M : Type 1} → statement M
 later_spec =
     tie.close
     (tie.spec
     (λ c κs. search rules)
-    (λ c. sym (moved_outside _ _ (unmet _ c.before.is-instant.ensures c.if1.true)))
+    (λ c. sym (moved_outside _ _ (unmet _ c.before.is_instant.ensures c.if-not-is_instant.true-raw)))
     (λ c. search rules)
     (λ c. (total-known _ _ c.before.before.before.ranges.minutes c.before.before.before.requires (here c.before).1).fits)
     (λ c κs. search rules)
@@ -113,5 +111,5 @@ later_spec =
     (λ c. omega (arith, there (search)))
     (λ c. omega (arith, there (search)))
     (λ c κs. search rules)
-    (λ c. answer (search) c.before.is-instant2.ensures (not-true _ c.if2.true))
-    (λ c. answer (search) c.before.is-instant2.ensures (not-false _ c.if2.false)))
+    (λ c. answer (search) c.before.is_instant-2.ensures (not-true _ c.if-not-is_instant-2.true-raw))
+    (λ c. answer (search) c.before.is_instant-2.ensures (not-false _ c.if-not-is_instant-2.false-raw)))

@@ -19,12 +19,9 @@ least a t e =
     ap (λ (u : Bool). u && le_z a.args.offset (pos 840))
     (not_below_le a.args.offset (negsuc 719) t (ap (λ (y : ℤ). lt_z y (negsuc 719)) (sym (to_z-of_z a.ranges.offset)) ∙ e))
 
-returns : tie.Need-returns
-returns c = sym (least c.before true c.if1.true)
-
-returns-2 : tie.Need-returns-2
-returns-2 c =
-    ap (λ (y : ℤ). le_z y (pos 840)) (to_z-of_z c.before.ranges.offset) ∙ sym (least c.before false c.if1.false)
-
 pub permitted_spec : {M : Type 1} → statement M
-permitted_spec = tie.close (tie.spec returns returns-2)
+permitted_spec =
+    tie.close
+    (tie.spec
+    (λ c. sym (least c.before true c.if-offset-ltminus720.true))
+    (λ c. ap (λ (y : ℤ). le_z y (pos 840)) (to_z-of_z c.before.ranges.offset) ∙ sym (least c.before false c.if-offset-ltminus720.false)))

@@ -11,36 +11,23 @@ use Rattle.time_printing.proofs.Calls.{by_refusal, by_same, end-no-offset, end_l
 use Rattle.time_printing.proofs.print_end.Statement.{statement}
 use Rattle.time_printing.proofs.print_end.Tie as tie
 
-tested : (c : tie.Else1) → is_offset c.before.before.before.args.offset ≡ true
-tested c = offset_tested c.before.before.before.ranges.offset c.before.permitted.ensures (not-false _ c.if1.false)
-
-returns : tie.Need-returns
-returns c =
-    by_refusal _ _ _ (end-no-offset _ _ (offset_tested c.before.before.before.ranges.offset c.before.permitted.ensures (not-true _ c.if1.true)))
-
-returns-2 : tie.Need-returns-2
-unfolding live_text
-returns-2 c =
-    let start : tie.Start = search in let put : tie.After-put = search in let live : tie.Then2 = search in
-    by_same _ _ start.args.out.now _ _ (end_live _ _ (tested live.before) live.if2.taken) put.put.ensures
-
-returns-3 : tie.Need-returns-3
-returns-3 c =
-    let printed : tie.After-print-start = search in let other : tie.Else2 = search in let start : tie.Start = search in
-    by_same _ _ start.args.out.now _ _
-    (end-other _ _ (tested other.before) other.if2.left ∙ ap (start_text _) (sym (to_z-of_z start.fits.offset)))
-    printed.print-start.ensures
+tested : (c : tie.Else-not-permitted) → is_offset c.before.before.before.args.offset ≡ true
+tested c = offset_tested c.before.before.before.ranges.offset c.before.permitted.ensures (not-false _ c.if-not-permitted.false-raw)
 
 pub print_end_spec : {M : Type 1} → statement M
+unfolding live_text
 print_end_spec =
     tie.close
     (tie.spec
     (λ c κs. search rules)
-    returns
-    (λ c. search rules)
+    (λ c. by_refusal _ _ _ (end-no-offset _ _ (offset_tested c.before.before.before.ranges.offset c.before.permitted.ensures (not-true _ c.if-not-permitted.true-raw))))
     (λ c κs. search rules)
     (λ c. search rules)
-    returns-2
+    (λ c. let start : tie.Start = search in let put : tie.After-put = search in let live : tie.Then-field-eq-LIVE = search in
+    by_same _ _ start.args.out.now _ _ (end_live _ _ (tested live.before) live.if-field-eq-LIVE.true) put.put.ensures)
     (λ c κs. search rules)
     (λ c. search rules)
-    returns-3)
+    (λ c. let printed : tie.After-print_start = search in let other : tie.Else-field-eq-LIVE = search in let start : tie.Start = search in
+    by_same _ _ start.args.out.now _ _
+    (end-other _ _ (tested other.before) other.if-field-eq-LIVE.false ∙ ap (start_text _) (sym (to_z-of_z start.ranges.offset)))
+    printed.print_start.ensures))

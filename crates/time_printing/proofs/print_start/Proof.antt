@@ -14,36 +14,25 @@ matched : (c : tie.After-unpack) → let a = c.before.before.args in c.unpack.re
 matched c = c.unpack.ensures ∙ ap (unpack_of _) (to_z-of_z c.before.before.ranges.offset)
 
 -- where the function began
-begun : tie.After-t → tie.Start
+begun : tie.In-At → tie.Start
 begun c = search
 
-told : (c : tie.After-t) → let a = (begun c).args in unpack_of a.field a.offset ≡ At c.t.given.0.0
+told : (c : tie.In-At) → let a = (begun c).args in unpack_of a.field a.offset ≡ At c.in-At.t
 unfolding begun
-told c = sym (matched (search)) ∙ c.t.given.1
-
-characters_requires : tie.Need-characters-requires
-unfolding begun
-characters_requires c κs = unpacked-typable _ _ _ (told c.before)
-
-returns : tie.Need-returns
-unfolding begun
-returns c =
-    let put : tie.After-put = search in let made : tie.After-characters = search in let start : tie.Start = search in
-    by_same _ _ start.args.out.now _ _ (start-at _ _ _ (told (search)) ∙ ap prints (sym made.characters.ensures)) put.put.ensures
-
-returns-2 : tie.Need-returns-2
-returns-2 c = by_refusal _ _ _ (start-refused _ _ _ (sym (matched (search)) ∙ c.before.r.given.1))
+told c = sym (matched (search)) ∙ c.in-At.is
 
 pub print_start_spec : {M : Type 1} → statement M
+unfolding begun
 print_start_spec =
     tie.close
     (tie.spec
     (λ c κs. search rules)
     (λ c. search rules)
-    characters_requires
+    (λ c κs. unpacked-typable _ _ _ (told c))
     (λ c. search rules)
     (λ c κs. search rules)
     (λ c. search rules)
     (λ c. search rules)
-    returns
-    returns-2)
+    (λ c. let put : tie.After-put = search in let made : tie.After-characters-text = search in let start : tie.Start = search in
+    by_same _ _ start.args.out.now _ _ (start-at _ _ _ (told (search)) ∙ ap prints (sym made.characters-text.ensures)) put.put.ensures)
+    (λ c. by_refusal _ _ _ (start-refused _ _ _ (sym (matched (search)) ∙ c.in-Refused.is))))

@@ -4,11 +4,13 @@ use Rattle.time_printing.proofs.Calls.{too_small, fits}
 use Rattle.time_printing.proofs.put.Statement.{statement}
 use Rattle.time_printing.proofs.put.Tie as tie
 
-returns : tie.Need-returns
-returns c = too_small _ _ c.if1.true
 
-returns-2 : tie.Need-returns-2
-returns-2 c = fits _ _ _ c.before.before.copy_at.ensures (search rules)
 
 pub put_spec : {M : Type 1} → statement M
-put_spec = tie.close (tie.spec returns (λ c κs. search rules) (λ c. search rules) returns-2)
+put_spec =
+    tie.close
+    (tie.spec
+    (λ c. too_small _ _ c.if-out-text.true)
+    (λ c κs. search rules)
+    (λ c. search rules)
+    (λ c. fits _ _ _ c.before.before.copy_at.ensures (search rules)))

@@ -9,34 +9,19 @@ use Rattle.time_printing.proofs.read_times.Statement.{statement}
 use Rattle.time_printing.proofs.read_times.Tie as tie
 
 -- what is matched on is the definition's answer
-matched : (c : tie.After-read-text) → let a = c.before.before.before.args in c.read-text.result ≡ read_text a.start.now a.offset
-matched c = c.read-text.ensures ∙ ap (read_text _) (to_z-of_z c.before.before.before.ranges.offset)
+matched : (c : tie.After-read_text) → let a = c.before.before.before.args in c.read_text.result ≡ read_text a.start.now a.offset
+matched c = c.read_text.ensures ∙ ap (read_text _) (to_z-of_z c.before.before.before.ranges.offset)
 
 -- where the function began
-begun : tie.After-typed-end → tie.Start
+begun : tie.After-typed_end → tie.Start
 begun c = search
 
-ended : (c : tie.After-typed-end) → let a = (begun c).args in c.typed-end.result ≡ end_typed a.live a.end.now a.offset
+ended : (c : tie.After-typed_end) → let a = (begun c).args in c.typed_end.result ≡ end_typed a.live a.end.now a.offset
 unfolding begun
-ended c = let start = begun c in c.typed-end.ensures ∙ ap (end_typed _ _) (to_z-of_z start.fits.offset)
-
-returns : tie.Need-returns
-unfolding together
-returns c = sym (typed_as _ _ _ _ _ _ (sym (matched (search)) ∙ c.before.r.given.1) refl)
-
-returns-2 : tie.Need-returns-2
-unfolding together with_end begun
-returns-2 c =
-    let end : tie.After-typed-end = search in let from : tie.After-from = search in
-    sym (typed_as _ _ _ _ _ _ (sym (matched (search)) ∙ from.from.given.1) (sym (ended end) ∙ c.before.r2.given.1))
-
-returns-3 : tie.Need-returns-3
-unfolding together with_end begun
-returns-3 c =
-    let end : tie.After-typed-end = search in let from : tie.After-from = search in
-    sym (typed_as _ _ _ _ _ _ (sym (matched (search)) ∙ from.from.given.1) (sym (ended end) ∙ c.before.until.given.1))
+ended c = let start = begun c in c.typed_end.ensures ∙ ap (end_typed _ _) (to_z-of_z start.ranges.offset)
 
 pub read_times_spec : {M : Type 1} → statement M
+unfolding together with_end begun
 read_times_spec =
     tie.close
     (tie.spec
@@ -46,6 +31,8 @@ read_times_spec =
     (λ c κs. search rules)
     (λ c. search rules)
     (λ c. search rules)
-    returns
-    returns-2
-    returns-3)
+    (λ c. sym (typed_as _ _ _ _ _ _ (sym (matched (search)) ∙ c.in-Refused.is) refl))
+    (λ c. let end : tie.After-typed_end = search in let from : tie.In-Field = search in
+    sym (typed_as _ _ _ _ _ _ (sym (matched (search)) ∙ from.in-Field.is) (sym (ended end) ∙ c.in-Refused-typed_end.is)))
+    (λ c. let end : tie.After-typed_end = search in let from : tie.In-Field = search in
+    sym (typed_as _ _ _ _ _ _ (sym (matched (search)) ∙ from.in-Field.is) (sym (ended end) ∙ c.in-Field-typed_end.is))))
