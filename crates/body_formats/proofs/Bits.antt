@@ -12,7 +12,7 @@ use lib.Pow.{pow-add, shl_exact}
 use lib.Dec.{ltb, leb}
 use borrow.Author.Tests.{ltb-true, le-leb, lt-leb, lt-ltb, eq-eqb, ne_eqb}
 use Rattle.ground_choices.proofs.Tests.{both, and_of}
-use Rattle.ground_choices.specs.Choice.{if◌then◌else◌}
+use Rattle.std.specs.Prelude.{if◌then◌else◌}
 use Rattle.ground_refusal.specs.declared.Refusal.{Refusal}
 use Rattle.ground_refusal.specs.declared.Refusal.TheVariants.{PastBody, PastPart, OutsideSet, ReservedBitZero}
 use Rattle.body_formats.specs.Reading.{Reading, found, refused, and_then, need, unless, is_fine, judged, within}

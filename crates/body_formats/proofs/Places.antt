@@ -9,7 +9,7 @@ use native.Mathlib.Nat.{le_refl, le_of_eq, le_trans}
 use lib.ListN.{length, get_or, take, drop}
 use lib.Dec.{ltb, leb, eqb}
 use borrow.Author.Tests.{leb-true}
-use Rattle.ground_choices.specs.Choice.{if◌then◌else◌}
+use Rattle.std.specs.Prelude.{if◌then◌else◌}
 use Rattle.ground_refusal.specs.Numbers.{refusal_place}
 use Rattle.ground_refusal.specs.declared.Refusal.{Refusal}
 use Rattle.ground_refusal.specs.declared.Refusal.TheVariants.{PastPart, ReservedBitZero, DigitAboveNine, OutsideSet, ImpossibleDay}

@@ -1,6 +1,5 @@
 -- What a reader has to believe of the code's answers about a body: where a part ends, a number, and the part that opaque bytes fill.
-use Rattle.std.specs.Prelude.{ℕ, zero, suc, ◌+◌, ◌-◌, ◌/◌, List, ◌&&◌, length, get_or, ltb, leb}
-use Rattle.ground_choices.specs.Choice.{if◌then◌else◌}
+use Rattle.std.specs.Prelude.{ℕ, zero, suc, ◌+◌, ◌-◌, ◌/◌, List, ◌&&◌, length, get_or, ltb, leb, if◌then◌else◌}
 use Rattle.ground_refusal.specs.declared.Refusal.TheVariants.{OutsideSet}
 use Rattle.body_formats.specs.Reading.{Reading, found, refused, and_then, need, within}
 use Rattle.body_formats.specs.Format.{Format, count, repeat, opaque}

@@ -8,7 +8,7 @@ use native.Mathlib.Nat.{le_refl}
 use lib.ListN.{length}
 use lib.Dec.{leb}
 use borrow.Author.Tests.{leb-true, le-leb, lt-leb}
-use Rattle.ground_choices.specs.Choice.{if◌then◌else◌}
+use Rattle.std.specs.Prelude.{if◌then◌else◌}
 use Rattle.body_formats.specs.Reading.{Reading, found, refused, and_then}
 use Rattle.body_formats.specs.Format.{Format, repeat, times, list_of, parse_many, many}
 use Rattle.body_formats.proofs.Outcomes.{found_inj, and_then_found, need_found}

@@ -1,7 +1,6 @@
 -- What a reader has to believe of a pen that goes through a form: it judges the fields, and measures their bytes.
-use Rattle.std.specs.Prelude.{ℕ, ◌+◌, ◌-◌, min, ◌≡◌, List, [], ◌∷◌, Bool, true, false, not, length, ltb, leb}
+use Rattle.std.specs.Prelude.{ℕ, ◌+◌, ◌-◌, min, ◌≡◌, List, [], ◌∷◌, Bool, true, false, not, length, ltb, leb, if◌then◌else◌}
 use Rattle.ground_numbers.specs.Sizes.{body_most}
-use Rattle.ground_choices.specs.Choice.{if◌then◌else◌}
 use Rattle.ground_refusal.specs.Numbers.{placeless}
 use Rattle.ground_refusal.specs.declared.Refusal.{Refusal}
 use Rattle.ground_refusal.specs.declared.Refusal.TheVariants.{OutsideSet, OutputTooSmall, TooLarge}

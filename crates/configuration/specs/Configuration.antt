@@ -1,6 +1,5 @@
 -- What a reader has to believe of the configuration table: its commands' fields in wire order.
-use Rattle.std.specs.Prelude.{ℕ, List, [], ◌∷◌, ◌&&◌, length, get_or, leb, eqb}
-use Rattle.ground_choices.specs.Choice.{if◌then◌else◌}
+use Rattle.std.specs.Prelude.{ℕ, List, [], ◌∷◌, ◌&&◌, length, get_or, leb, eqb, if◌then◌else◌}
 use Rattle.ground_refusal.specs.declared.Refusal.TheVariants.{LeftOver, PastPart, ImpossibleDay}
 use Rattle.time_days.specs.Calendar.{day_of}
 use Rattle.time_days.specs.declared.DayAnswer.{DayAnswer}

@@ -1,6 +1,5 @@
 -- What a reader has to believe of return addresses: which bytes each of the three kinds takes.
-use Rattle.std.specs.Prelude.{ℕ, ◌+◌, ◌-◌, ◌*◌, List, [], ◌∷◌, Bool, true, false, not, ◌&&◌, length, leb, eqb}
-use Rattle.ground_choices.specs.Choice.{if◌then◌else◌}
+use Rattle.std.specs.Prelude.{ℕ, ◌+◌, ◌-◌, ◌*◌, List, [], ◌∷◌, Bool, true, false, not, ◌&&◌, length, leb, eqb, if◌then◌else◌}
 use Rattle.ground_numbers.specs.Characters.{is_digit, colon}
 use Rattle.body_formats.specs.Format.{every}
 

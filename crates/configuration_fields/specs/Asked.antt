@@ -1,6 +1,5 @@
 -- What a reader has to believe of the fields of commands asked for: each stands at its place in its command, whether or not the whole body is good.
-use Rattle.std.specs.Prelude.{ℕ, ◌+◌, ◌*◌, List, ◌&&◌, length, ltb, leb, eqb}
-use Rattle.ground_choices.specs.Choice.{if◌then◌else◌}
+use Rattle.std.specs.Prelude.{ℕ, ◌+◌, ◌*◌, List, ◌&&◌, length, ltb, leb, eqb, if◌then◌else◌}
 use Rattle.ground_refusal.specs.declared.Refusal.TheVariants.{OutsideSet}
 use Rattle.body_formats.specs.Reading.{Reading, found, refused, and_then, need}
 use Rattle.body_formats.specs.Format.{Format, count, number, among, list_of, opaque, rest, counted, least_of}

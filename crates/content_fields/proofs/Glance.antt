@@ -7,7 +7,7 @@ use native.Mathlib.Omega.{arith}
 use lib.ListN.{length, get_or}
 use lib.Dec.{eqb}
 use borrow.Author.Tests.{le-leb}
-use Rattle.ground_choices.specs.Choice.{if◌then◌else◌}
+use Rattle.std.specs.Prelude.{if◌then◌else◌}
 use Rattle.ground_refusal.specs.declared.Refusal.TheVariants.{OutsideSet}
 use Rattle.body_formats.specs.Format.{Format, number_at, among, reserved}
 use Rattle.body_formats.specs.Answers.{step_of, number_of, part_of, number_among, ended, part_read}

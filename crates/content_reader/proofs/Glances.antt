@@ -8,7 +8,7 @@ use native.Mathlib.Nat.{one-mul}
 use lib.ListN.{length, get_or, take, drop}
 use lib.Dec.{leb, eqb}
 use borrow.Author.Tests.{le-leb}
-use Rattle.ground_choices.specs.Choice.{if◌then◌else◌}
+use Rattle.std.specs.Prelude.{if◌then◌else◌}
 use Rattle.ground_refusal.specs.declared.Refusal.TheVariants.{PastPart, OutsideSet}
 use Rattle.body_formats.specs.Format.{number_at, among, below, reserved, every}
 use Rattle.body_formats.proofs.Classes.{Bytes}

@@ -1,6 +1,5 @@
 -- What a reader has to believe of the content table's variants: how many bytes an auxiliary file's length has, and what comes before the fields.
-use Rattle.std.specs.Prelude.{ℕ, leb, eqb}
-use Rattle.ground_choices.specs.Choice.{if◌then◌else◌}
+use Rattle.std.specs.Prelude.{ℕ, leb, eqb, if◌then◌else◌}
 use Rattle.ground_numbers.specs.Sizes.{content_kind, body_most}
 use Rattle.ground_refusal.specs.declared.Refusal.{Refusal}
 use Rattle.ground_refusal.specs.declared.Refusal.TheVariants.{OtherKind, OutsideSet, TooLarge}

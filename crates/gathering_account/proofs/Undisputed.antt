@@ -3,7 +3,7 @@ use mathlib.Core.Path.{◌≡◌, refl, sym, ap, ◌∙◌}
 use mathlib.Core.Bool.{Bool, true, false, false≢true}
 use mathlib.Core.List.Memᴰ
 use mathlib.Core.List.{List, [], ◌∷◌, ◌++◌, append_assoc, append-nil, Memᴰ as In}
-use Rattle.ground_choices.specs.Choice.{if◌then◌else◌}
+use Rattle.std.specs.Prelude.{if◌then◌else◌}
 use Rattle.gathering_account.specs.Account.{Section, Agree}
 use Rattle.gathering_account.specs.Answering.{differs, agreeing, calm_from, undisputed}
 use Rattle.gathering_account.proofs.Agreeing.{Alike, differs_not, alike_differs, agreeing_is, agree_agreeing}

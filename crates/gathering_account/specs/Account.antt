@@ -1,7 +1,6 @@
 -- What a reader has to believe of a run of feeds: what it gathers, told by the byte strings alone, with no state and no store.
-use Rattle.std.specs.Prelude.{ℕ, zero, suc, ◌+◌, ◌≤◌, ◌≡◌, Bool, eqb}
+use Rattle.std.specs.Prelude.{ℕ, zero, suc, ◌+◌, ◌≤◌, ◌≡◌, Bool, eqb, if◌then◌else◌}
 use mathlib.Core.List.{List, [], ◌∷◌, ◌++◌, Memᴰ as In}
-use Rattle.ground_choices.specs.Choice.{if◌then◌else◌}
 use Rattle.section_reader.specs.Section.{payload_of, read_section}
 use Rattle.section_reader.specs.declared.Heading.{Heading}
 use Rattle.section_reader.specs.declared.Sectioned.{Sectioned}

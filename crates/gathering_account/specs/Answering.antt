@@ -1,7 +1,6 @@
 -- What a reader has to believe of the answers of a run of feeds: each is told by the account of what was fed before it, with no state and no store.
-use Rattle.std.specs.Prelude.{ℕ, Bool, true, false, not, ◌&&◌, ◌||◌, List, [], ◌∷◌, ◌++◌, eqb}
+use Rattle.std.specs.Prelude.{ℕ, Bool, true, false, not, ◌&&◌, ◌||◌, List, [], ◌∷◌, ◌++◌, eqb, if◌then◌else◌}
 use Rattle.ground_refusal.specs.declared.Refusal.TheVariants.{NotCurrent, OtherHeading, StoreTooShort, Contradiction}
-use Rattle.ground_choices.specs.Choice.{if◌then◌else◌}
 use Rattle.ground_equal.specs.Same.{same_bytes}
 use Rattle.section_reader.specs.Section.{payload_of, read_section}
 use Rattle.section_reader.specs.declared.Heading.{Heading}

@@ -1,10 +1,9 @@
 -- What a reader has to believe of a run of calls, feeds and both ways of handing out in any order: what each does to a box, and what the account makes of it.
-use Rattle.std.specs.Prelude.{ℕ, zero, suc, ◌+◌, ◌≡◌, Bool, true, false, ◌&&◌, ◌↔◌, length}
+use Rattle.std.specs.Prelude.{ℕ, zero, suc, ◌+◌, ◌≡◌, Bool, true, false, ◌&&◌, ◌↔◌, length, if◌then◌else◌}
 use mathlib.Core.List.{List, [], ◌∷◌, Memᴰ as In}
 use Rattle.crc.specs.Crc.{AreBytes}
 use Rattle.ground_refusal.specs.declared.Refusal.{Refusal}
 use Rattle.ground_refusal.specs.declared.Refusal.TheVariants.{Contradiction, Missing}
-use Rattle.ground_choices.specs.Choice.{if◌then◌else◌}
 use Rattle.ground_placing.specs.Placed.{placed}
 use Rattle.section_reader.specs.declared.Heading.{Heading}
 use Rattle.gathering_state.specs.State.{possible_of, CountsRight}

@@ -1,7 +1,6 @@
 -- What a reader has to believe of a takeover: where the table that a run leaves began, and which of what was fed after it counts.
-use Rattle.std.specs.Prelude.{ℕ, ◌≡◌, Bool, true, false}
+use Rattle.std.specs.Prelude.{ℕ, ◌≡◌, Bool, true, false, if◌then◌else◌}
 use mathlib.Core.List.{List, [], ◌∷◌, ◌++◌, Memᴰ as In}
-use Rattle.ground_choices.specs.Choice.{if◌then◌else◌}
 use Rattle.section_reader.specs.declared.Heading.{Heading}
 use Rattle.gathering_tables.specs.Tables.{same_table, is_newer}
 use Rattle.gathering_account.specs.Account.{Heard, nothing, good_current, heard, Section, Account, idle, table, account}

@@ -1,7 +1,6 @@
 -- What a reader has to believe of handing out: the order of its refusals, the joined body, and the output after it.
-use Rattle.std.specs.Prelude.{ℕ, suc, ◌+◌, ◌-◌, ◌≤◌, ◌<◌, not, List, [], ◌∷◌, ◌++◌, eqb, ltb, length}
+use Rattle.std.specs.Prelude.{ℕ, suc, ◌+◌, ◌-◌, ◌≤◌, ◌<◌, not, List, [], ◌∷◌, ◌++◌, eqb, ltb, length, if◌then◌else◌}
 use Rattle.ground_refusal.specs.declared.Refusal.TheVariants.{StoreTooShort, Contradiction, ImpossibleState, Missing, OutputTooSmall}
-use Rattle.ground_choices.specs.Choice.{if◌then◌else◌}
 use Rattle.ground_placing.specs.Placed.{placed}
 use Rattle.ground_numbers.specs.Sizes.{payload_most}
 use Rattle.gathering_state.specs.Lists.{greatest, smallest_missing, part}

@@ -1,7 +1,6 @@
 -- What a reader has to believe of the lists behind a gathering: the held lengths, one for each section number, and the store's bytes.
 -- A held length is kept as one more than the payload's; 0 stands where the number is not held.
-use Rattle.std.specs.Prelude.{ℕ, suc, ◌+◌, ◌-◌, max, ◌≡◌, List, [], ◌∷◌, eqb, take, drop}
-use Rattle.ground_choices.specs.Choice.{if◌then◌else◌}
+use Rattle.std.specs.Prelude.{ℕ, suc, ◌+◌, ◌-◌, max, ◌≡◌, List, [], ◌∷◌, eqb, take, drop, if◌then◌else◌}
 
 -- the greatest of some numbers, and 0 of none
 unfoldable pub greatest : List ℕ → ℕ

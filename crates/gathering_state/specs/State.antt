@@ -1,6 +1,5 @@
 -- What a reader has to believe of a gathering's state: the fresh one, which states are possible, where payloads stand, and how a state changes.
-use Rattle.std.specs.Prelude.{ℕ, ◌+◌, ◌-◌, ◌*◌, ◌≡◌, Bool, ◌&&◌, ◌||◌, List, eqb, leb, ltb, get_or, set, replicate, take, drop}
-use Rattle.ground_choices.specs.Choice.{if◌then◌else◌}
+use Rattle.std.specs.Prelude.{ℕ, ◌+◌, ◌-◌, ◌*◌, ◌≡◌, Bool, ◌&&◌, ◌||◌, List, eqb, leb, ltb, get_or, set, replicate, take, drop, if◌then◌else◌}
 use Rattle.ground_numbers.specs.Sizes.{payload_most, version_most}
 use Rattle.section_reader.specs.Section.{is_kind}
 use Rattle.section_reader.specs.declared.Heading.{Heading}

@@ -1,7 +1,6 @@
 -- What a reader has to believe of the verdict on a byte string that is fed: the order of its refusals, what begins, what is a repeat and what contradicts.
-use Rattle.std.specs.Prelude.{ℕ, Bool, true, not, ◌||◌, List, eqb, length, get_or}
+use Rattle.std.specs.Prelude.{ℕ, Bool, true, not, ◌||◌, List, eqb, length, get_or, if◌then◌else◌}
 use Rattle.ground_refusal.specs.declared.Refusal.TheVariants.{NotCurrent, OtherHeading, StoreTooShort, Contradiction, ImpossibleState}
-use Rattle.ground_choices.specs.Choice.{if◌then◌else◌}
 use Rattle.ground_equal.specs.Same.{same_bytes}
 use Rattle.section_reader.specs.Section.{payload_of, read_section}
 use Rattle.section_reader.specs.declared.Heading.{Heading}

@@ -10,7 +10,7 @@ use lib.Bits.{bit_or, bit_xor, or_add_and, xor_add_and, and_le_l, and_le_r, or_z
 use lib.Dec.{eqb}
 use lib.ListN.{length, get_or, drop, drop_of_length-le}
 use lib.Seq.{drop-cons}
-use Rattle.ground_choices.specs.Choice.{if◌then◌else◌}
+use Rattle.std.specs.Prelude.{if◌then◌else◌}
 use Rattle.ground_equal.specs.Same.{same_bytes}
 
 pub same_other_length : (a b : List ℕ) → (length a ≡ length b → ⊥) → false ≡ same_bytes a b

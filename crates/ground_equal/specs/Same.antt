@@ -1,6 +1,5 @@
 -- What a reader has to believe of two byte strings that are the same: as many bytes, each the other's.
-use Rattle.std.specs.Prelude.{ℕ, Bool, true, false, List, [], ◌∷◌, eqb}
-use Rattle.ground_choices.specs.Choice.{if◌then◌else◌}
+use Rattle.std.specs.Prelude.{ℕ, Bool, true, false, List, [], ◌∷◌, eqb, if◌then◌else◌}
 
 -- are they the same bytes, as many and in the same order?
 unfoldable pub same_bytes : List ℕ → List ℕ → Bool

@@ -1,6 +1,5 @@
 -- What a reader has to believe of a transport packet's bits (ISO/IEC 13818-1): where each field stands.
-use Rattle.std.specs.Prelude.{ℕ, ◌+◌, ◌*◌, ◌/◌, ◌%◌, Bool, not, ◌&&◌, ◌||◌, List, eqb, leb, ltb, get_or}
-use Rattle.ground_choices.specs.Choice.{if◌then◌else◌}
+use Rattle.std.specs.Prelude.{ℕ, ◌+◌, ◌*◌, ◌/◌, ◌%◌, Bool, not, ◌&&◌, ◌||◌, List, eqb, leb, ltb, get_or, if◌then◌else◌}
 use Rattle.packet.specs.Sizes.{packet_bytes}
 
 -- byte i

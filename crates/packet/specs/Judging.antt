@@ -1,6 +1,5 @@
 -- What a reader has to believe of a packet by itself: refusals 30 to 34 in their order, the error bit, packets without a payload.
-use Rattle.std.specs.Prelude.{ℕ, Bool, true, false, not, List, eqb, length}
-use Rattle.ground_choices.specs.Choice.{if◌then◌else◌}
+use Rattle.std.specs.Prelude.{ℕ, Bool, true, false, not, List, eqb, length, if◌then◌else◌}
 use Rattle.ground_refusal.specs.declared.Refusal.TheVariants.{NotAPacket, NoSyncByte, OtherPid, Scrambled, PastPacket}
 use Rattle.packet.specs.declared.Judged.{Judged}
 use Rattle.packet.specs.declared.Judged.TheVariants.{Refused, Damaged, Skipped, Carrying}

@@ -4,7 +4,7 @@ use mathlib.Core.Bool.{Bool, true, false}
 use mathlib.Core.List.{List, [], ◌∷◌, ◌++◌}
 use mathlib.Core.Path.{◌≡◌, refl, ap, ◌∙◌}
 use lib.ListN.{drop}
-use Rattle.ground_choices.specs.Choice.{if◌then◌else◌}
+use Rattle.std.specs.Prelude.{if◌then◌else◌}
 use Rattle.packet.specs.Fields.{starts, payload_at, pointed_at}
 use Rattle.packet.specs.Judging.{judged}
 use Rattle.packet.specs.declared.Judged.TheVariants.{Damaged, Carrying}

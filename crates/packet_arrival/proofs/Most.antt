@@ -9,7 +9,7 @@ use borrow.Author.Tests.{leb-true, ltb-false}
 use lib.Dec.{eqb, leb, ltb}
 use lib.ListN.{length, take, drop, length-append, length-drop, length-take}
 use lib.Seq.{length-take-le}
-use Rattle.ground_choices.specs.Choice.{if◌then◌else◌}
+use Rattle.std.specs.Prelude.{if◌then◌else◌}
 use Rattle.ground_choices.proofs.Tests.{both}
 use Rattle.ground_numbers.specs.Sizes.{section_length_most}
 use Rattle.packet.specs.Sizes.{packet_bytes, counter_most}

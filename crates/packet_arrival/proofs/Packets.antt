@@ -7,7 +7,7 @@ use native.Mathlib.Omega.{arith}
 use borrow.Author.Tests.{eq-eqb}
 use lib.Dec.{eqb}
 use lib.ListN.{length, get_or, drop, replicate}
-use Rattle.ground_choices.specs.Choice.{if◌then◌else◌}
+use Rattle.std.specs.Prelude.{if◌then◌else◌}
 use Rattle.ground_equal.specs.Same.{same_bytes}
 use Rattle.ground_equal.proofs.Same.{same_is}
 use Rattle.packet.specs.Sizes.{packet_bytes, sync_byte, our_pid, stuffing, counter_most}

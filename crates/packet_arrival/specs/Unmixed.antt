@@ -1,6 +1,5 @@
 -- What a reader has to believe of the promise that nothing is mixed: what was heard without a break, and what stands framed in it.
-use Rattle.std.specs.Prelude.{ℕ, ◌+◌, ◌≤◌, Bool, true, ◌||◌, List, [], ◌∷◌, ◌++◌, ◌⊎◌, ◌≡◌, eqb, length, take, drop}
-use Rattle.ground_choices.specs.Choice.{if◌then◌else◌}
+use Rattle.std.specs.Prelude.{ℕ, ◌+◌, ◌≤◌, Bool, true, ◌||◌, List, [], ◌∷◌, ◌++◌, ◌⊎◌, ◌≡◌, eqb, length, take, drop, if◌then◌else◌}
 use Rattle.packet.specs.Fields.{has_error, starts, control, payload_at}
 use Rattle.packet_frames.specs.Framing.{framed, is_whole}
 use Rattle.packet_plan.specs.Reading.{ahead}

@@ -8,7 +8,7 @@ use borrow.Author.Tests.{ne_eqb, le-leb, lt-leb, lt-ltb, le-ltb}
 use lib.Dec.{leb}
 use lib.ListN.{length, take, drop, length-append, length-drop, get_or-append}
 use lib.Seq.{get_or-append-add, take-length, drop-length}
-use Rattle.ground_choices.specs.Choice.{if◌then◌else◌}
+use Rattle.std.specs.Prelude.{if◌then◌else◌}
 use Rattle.ground_numbers.specs.Sizes.{section_length_most}
 use Rattle.section_reader.specs.Section.{word, section_length}
 use Rattle.section_reader.proofs.Reading.{section_length_is}

@@ -8,7 +8,7 @@ use borrow.Author.Tests.{leb-true, leb-false, ltb-false, not-true}
 use lib.Dec.{leb, ltb}
 use lib.ListN.{length, take, drop, length-append}
 use lib.Seq.{take-append-add}
-use Rattle.ground_choices.specs.Choice.{if◌then◌else◌}
+use Rattle.std.specs.Prelude.{if◌then◌else◌}
 use Rattle.ground_choices.proofs.Tests.{both}
 use Rattle.ground_numbers.specs.Sizes.{section_length_most}
 use Rattle.section_reader.specs.Section.{section_length}

@@ -1,6 +1,5 @@
 -- What the contracts of the functions that find sections in bytes cite: each follows from the definitions of framing.
-use Rattle.std.specs.Prelude.{ℕ, ◌+◌, ◌-◌, ◌≤◌, ◌<◌, List, [], ◌∷◌, ◌++◌, ◌≡◌, length, take, drop}
-use Rattle.ground_choices.specs.Choice.{if◌then◌else◌}
+use Rattle.std.specs.Prelude.{ℕ, ◌+◌, ◌-◌, ◌≤◌, ◌<◌, List, [], ◌∷◌, ◌++◌, ◌≡◌, length, take, drop, if◌then◌else◌}
 use Rattle.packet_frames.specs.declared.Frame.{Frame}
 use Rattle.packet_frames.specs.declared.Frame.TheVariants.{Nothing, Whole, Open}
 use Rattle.packet_frames.specs.declared.Scan.{Scan}

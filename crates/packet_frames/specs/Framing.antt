@@ -1,6 +1,5 @@
 -- What a reader has to believe of sections in payload bytes: where one begins, how long it is, and what is whole or unfinished of it.
-use Rattle.std.specs.Prelude.{ℕ, zero, suc, ◌+◌, Bool, true, not, ◌&&◌, List, [], ◌∷◌, ◌++◌, eqb, leb, ltb, length, take, drop}
-use Rattle.ground_choices.specs.Choice.{if◌then◌else◌}
+use Rattle.std.specs.Prelude.{ℕ, zero, suc, ◌+◌, Bool, true, not, ◌&&◌, List, [], ◌∷◌, ◌++◌, eqb, leb, ltb, length, take, drop, if◌then◌else◌}
 use Rattle.ground_numbers.specs.Sizes.{section_length_most}
 use Rattle.section_reader.specs.Section.{section_length}
 use Rattle.packet.specs.Sizes.{stuffing}

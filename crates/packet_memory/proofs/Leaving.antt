@@ -9,7 +9,7 @@ use borrow.Author.Tests.{lt-ltb, le-ltb, ltb-true}
 use lib.Dec.{ltb}
 use lib.ListN.{length, take, drop, length-append, take-append-drop}
 use lib.Seq.{drop_at, drop-drop, length-take-le}
-use Rattle.ground_choices.specs.Choice.{if◌then◌else◌}
+use Rattle.std.specs.Prelude.{if◌then◌else◌}
 use Rattle.ground_choices.proofs.Tests.{both}
 use Rattle.ground_equal.specs.Same.{same_bytes}
 use Rattle.ground_equal.proofs.Same.{same_refl, same_is}

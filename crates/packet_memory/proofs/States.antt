@@ -8,7 +8,7 @@ use borrow.Author.Tests.{eq-eqb, ne_eqb, le-leb, lt-leb, leb-true}
 use lib.Dec.{eqb, leb}
 use lib.ListN.{length, take, drop, length-drop}
 use lib.Seq.{length-take-le}
-use Rattle.ground_choices.specs.Choice.{if◌then◌else◌}
+use Rattle.std.specs.Prelude.{if◌then◌else◌}
 use Rattle.ground_choices.proofs.Tests.{both}
 use Rattle.ground_equal.specs.Same.{same_bytes}
 use Rattle.packet.specs.Sizes.{packet_bytes}

@@ -1,6 +1,5 @@
 -- What a reader has to believe of what the unpacker remembers: repeats, gaps, and what a packet goes on from.
-use Rattle.std.specs.Prelude.{ℕ, ◌+◌, ◌%◌, Bool, true, false, not, ◌&&◌, List, [], ◌∷◌, eqb}
-use Rattle.ground_choices.specs.Choice.{if◌then◌else◌}
+use Rattle.std.specs.Prelude.{ℕ, ◌+◌, ◌%◌, Bool, true, false, not, ◌&&◌, List, [], ◌∷◌, eqb, if◌then◌else◌}
 use Rattle.ground_equal.specs.Same.{same_bytes}
 use Rattle.packet.specs.Fields.{counter}
 

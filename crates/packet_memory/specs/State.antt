@@ -1,6 +1,5 @@
 -- What a reader has to believe of the bytes that the unpacker keeps its memory in: each string of 4,286 bytes means a memory.
-use Rattle.std.specs.Prelude.{ℕ, ◌+◌, ◌-◌, ◌*◌, Bool, true, ◌&&◌, ◌||◌, List, [], ◌∷◌, eqb, leb, ltb, length, take, drop}
-use Rattle.ground_choices.specs.Choice.{if◌then◌else◌}
+use Rattle.std.specs.Prelude.{ℕ, ◌+◌, ◌-◌, ◌*◌, Bool, true, ◌&&◌, ◌||◌, List, [], ◌∷◌, eqb, leb, ltb, length, take, drop, if◌then◌else◌}
 use Rattle.ground_equal.specs.Same.{same_bytes}
 use Rattle.packet.specs.Sizes.{packet_bytes}
 use Rattle.packet.specs.Fields.{byte, starts, payload_at, pointed_at}

@@ -7,7 +7,7 @@ use native.Mathlib.Nat.{sub_self}
 use native.Mathlib.Omega.{arith}
 use lib.ListN.{length, take, drop, length-append, length-take, length-drop, drop_of_length-le}
 use lib.Seq.{length-take-le, take-length, take-take, drop-drop}
-use Rattle.ground_choices.specs.Choice.{if◌then◌else◌}
+use Rattle.std.specs.Prelude.{if◌then◌else◌}
 use Rattle.packet.specs.Sizes.{packet_bytes}
 use Rattle.packet.specs.Fields.{starts, payload_at, pointed_at}
 use Rattle.packet_frames.specs.declared.Frame.TheVariants.{Nothing, Whole, Open}

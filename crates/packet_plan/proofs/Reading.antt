@@ -4,7 +4,7 @@ use mathlib.Core.Bool.{Bool, true, false}
 use mathlib.Core.List.{List}
 use mathlib.Core.Path.{◌≡◌}
 use lib.ListN.{drop}
-use Rattle.ground_choices.specs.Choice.{if◌then◌else◌}
+use Rattle.std.specs.Prelude.{if◌then◌else◌}
 use Rattle.packet.specs.Fields.{starts, payload_at, pointed_at}
 use Rattle.packet_frames.specs.Framing.{is_begun, gone_on}
 use Rattle.packet_frames.proofs.Growing.{gone_begun, begun_begun}

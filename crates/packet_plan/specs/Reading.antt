@@ -1,6 +1,5 @@
 -- What a reader has to believe of a packet's payload after the bytes of an unfinished section: which sections it completes, and what it leaves.
-use Rattle.std.specs.Prelude.{ℕ, ◌+◌, ◌-◌, List, ◌++◌, take, drop}
-use Rattle.ground_choices.specs.Choice.{if◌then◌else◌}
+use Rattle.std.specs.Prelude.{ℕ, ◌+◌, ◌-◌, List, ◌++◌, take, drop, if◌then◌else◌}
 use Rattle.packet.specs.Fields.{starts, payload_at, pointed_at}
 use Rattle.packet_frames.specs.Framing.{Read, gone_on, begun}
 

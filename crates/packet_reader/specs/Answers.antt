@@ -1,6 +1,5 @@
 -- What a reader has to believe of the unpacker's call: what each verdict makes of the answer, the output and the state's bytes.
-use Rattle.std.specs.Prelude.{ℕ, ◌≤◌, true, List, ◌≡◌, ltb, length, take, drop}
-use Rattle.ground_choices.specs.Choice.{if◌then◌else◌}
+use Rattle.std.specs.Prelude.{ℕ, ◌≤◌, true, List, ◌≡◌, ltb, length, take, drop, if◌then◌else◌}
 use Rattle.ground_placing.specs.Placed.{placed}
 use Rattle.packet.specs.Judging.{judged}
 use Rattle.packet.specs.declared.Judged.{Judged}

@@ -1,6 +1,5 @@
 -- What a reader has to believe of the salvage program's list of runs: the whole text for any capture, byte for byte.
-use Rattle.std.specs.Prelude.{ℕ, Bool, true, false, List, [], ◌∷◌, ◌++◌, ltb, length}
-use Rattle.ground_choices.specs.Choice.{if◌then◌else◌}
+use Rattle.std.specs.Prelude.{ℕ, Bool, true, false, List, [], ◌∷◌, ◌++◌, ltb, length, if◌then◌else◌}
 use Rattle.salvage.specs.Runs.{Run, runs_of}
 use Rattle.salvage.specs.Salvage.{capture_most}
 use Rattle.program_printing.specs.Characters.{ascii, decimal_of}

@@ -7,7 +7,7 @@ use native.Mathlib.Omega.{arith}
 use lib.ListN.{length, get_or, take, length-take}
 use lib.Dec.{eqb, leb, ltb}
 use borrow.Author.Tests.{leb-true, ltb-true}
-use Rattle.ground_choices.specs.Choice.{if◌then◌else◌}
+use Rattle.std.specs.Prelude.{if◌then◌else◌}
 use Rattle.ground_numbers.specs.Sizes.{section_length_most, body_most}
 use Rattle.ground_refusal.specs.Numbers.{refusal_place, placeless}
 use Rattle.ground_refusal.specs.declared.Refusal.{Refusal}

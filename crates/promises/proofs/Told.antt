@@ -10,7 +10,7 @@ use lib.ListN.{length, length-take}
 use lib.Dec.{leb, ltb, eqb}
 use lib.IntN.{ℤ}
 use borrow.Author.Tests.{leb-true}
-use Rattle.ground_choices.specs.Choice.{if◌then◌else◌}
+use Rattle.std.specs.Prelude.{if◌then◌else◌}
 use Rattle.ground_refusal.specs.declared.Refusal.{Refusal}
 use Rattle.ground_refusal.specs.declared.Refusal.TheVariants.{OutsideSet, OutputTooSmall, TooLarge}
 use Rattle.crc_register.proofs.Laws.{crc_lt}
@@ -58,7 +58,7 @@ use Rattle.gathering_hand_out.proofs.Joining.{joined_most}
 use Rattle.gathering_hand_out.proofs.Handing.{handed-whole, body_most_lem}
 use Rattle.gathering_pack.specs.Packing.{packing_of}
 use Rattle.gathering_pack.proofs.Packing.{packed-whole}
-use Rattle.ground_choices.specs.Choice.{if◌then◌else◌}
+use Rattle.std.specs.Prelude.{if◌then◌else◌}
 use Rattle.rooms_marks.proofs.Tests.{Seen, yes_is, no_is, seen}
 use Rattle.rooms_state.specs.State.{rooms_in, room_at, possible_of, Network, mine}
 use Rattle.rooms_state.specs.declared.Part.{Part}

@@ -1,6 +1,5 @@
 -- The places of refusals: "A refusal returns its number and a place".
-use Rattle.std.specs.Prelude.{ℕ, ◌≤◌, ◌≡◌, List, length, leb}
-use Rattle.ground_choices.specs.Choice.{if◌then◌else◌}
+use Rattle.std.specs.Prelude.{ℕ, ◌≤◌, ◌≡◌, List, length, leb, if◌then◌else◌}
 use Rattle.ground_refusal.specs.Numbers.{refusal_place, placeless}
 use Rattle.ground_refusal.specs.declared.Refusal.{Refusal}
 use Rattle.ground_refusal.specs.declared.Refusal.TheVariants.{OutputTooSmall}

@@ -6,7 +6,7 @@ use mathlib.Core.List.{List, [], ◌∷◌, ◌++◌}
 use native.Mathlib.Omega.{arith}
 use lib.Dec.{leb}
 use lib.ListN.{length, take}
-use Rattle.ground_choices.specs.Choice.{if◌then◌else◌}
+use Rattle.std.specs.Prelude.{if◌then◌else◌}
 use Rattle.ground_refusal.specs.declared.Refusal.TheVariants as refusal
 use Rattle.section_reader.specs.Section.{heading_of, payload_of, read_section}
 use Rattle.section_reader.specs.declared.Heading.{Heading}

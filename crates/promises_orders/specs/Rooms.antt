@@ -1,7 +1,6 @@
 -- What a reader has to believe of the refusals of two networks over one store: M-109's orders, each number with its condition.
-use Rattle.std.specs.Prelude.{ℕ, Bool, not, ◌&&◌, ◌||◌, List, [], ◌∷◌, ◌++◌, eqb, ltb, length, replicate}
+use Rattle.std.specs.Prelude.{ℕ, Bool, not, ◌&&◌, ◌||◌, List, [], ◌∷◌, ◌++◌, eqb, ltb, length, replicate, if◌then◌else◌}
 use Rattle.std.proofs.Math.Option.{Option, none, some}
-use Rattle.ground_choices.specs.Choice.{if◌then◌else◌}
 use Rattle.ground_refusal.specs.declared.Refusal.TheVariants.{NotCurrent, OtherHeading, Contradiction, ImpossibleState, Missing, OutsideSet}
 use Rattle.ground_refusal.specs.declared.Refusal.TheVariants.{OutputTooSmall, NoFreeRoom}
 use Rattle.ground_equal.specs.Same.{same_bytes}

@@ -7,7 +7,7 @@ use native.Mathlib.Omega.{arith}
 use lib.Dec.{ltb}
 use lib.ListN.{length, take, set, replicate, length-append, length-replicate, length-set}
 use lib.Seq.{take_at, drop_at}
-use Rattle.ground_choices.specs.Choice.{if◌then◌else◌}
+use Rattle.std.specs.Prelude.{if◌then◌else◌}
 use Rattle.ground_placing.proofs.Placing.{placed-length}
 use Rattle.section_reader.proofs.Accepting.{good_states}
 use Rattle.packet.specs.Sizes.{packet_bytes, counter_most}

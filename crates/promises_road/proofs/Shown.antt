@@ -7,7 +7,7 @@ use mathlib.Core.Logic.{◌⊎◌, inl, inr}
 use mathlib.Core.Path.{◌≡◌, refl, sym, ap, ◌∙◌, subst}
 use native.Mathlib.Omega.{arith}
 use lib.IntN.{ℤ}
-use Rattle.ground_choices.specs.Choice.{if◌then◌else◌}
+use Rattle.std.specs.Prelude.{if◌then◌else◌}
 use Rattle.time_fields.specs.declared.Fielded.TheVariants.{Field}
 use Rattle.time_offset.specs.Offset.{is_offset}
 use Rattle.time_local.specs.Text.{read_text}

@@ -1,7 +1,6 @@
 -- What a reader has to believe of the road from the paper form to the screen: the form, the writers, packets, the gathering, and what is then shown.
-use Rattle.std.specs.Prelude.{ℕ, suc, ◌+◌, ◌≤◌, Bool, ◌≡◌, ℤ, length, take}
+use Rattle.std.specs.Prelude.{ℕ, suc, ◌+◌, ◌≤◌, Bool, ◌≡◌, ℤ, length, take, if◌then◌else◌}
 use mathlib.Core.List.{List, [], ◌∷◌, Memᴰ as In}
-use Rattle.ground_choices.specs.Choice.{if◌then◌else◌}
 use Rattle.crc.specs.Crc.{AreBytes}
 use Rattle.time_printing.specs.Printing.{live_text, Verdict, refuses, prints, start_text, end_text}
 use Rattle.time_printing.specs.Typing.{typed_times}

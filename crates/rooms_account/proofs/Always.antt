@@ -5,7 +5,7 @@ use mathlib.Core.Bool.{Bool, true, false}
 use mathlib.Core.List.{List}
 use native.Mathlib.Omega.{arith}
 use borrow.Author.Tests.{le-leb}
-use Rattle.ground_choices.specs.Choice.{if◌then◌else◌}
+use Rattle.std.specs.Prelude.{if◌then◌else◌}
 use Rattle.crc.specs.Crc.{AreBytes}
 use Rattle.section_reader.specs.Section.{payload_of, read_section}
 use Rattle.section_reader.specs.declared.Heading.{Heading}

@@ -6,7 +6,7 @@ use mathlib.Core.List.{List, [], ◌∷◌}
 use mathlib.Core.Option.{Option, none, some}
 use native.Mathlib.Omega.{arith}
 use lib.ListN.{length}
-use Rattle.ground_choices.specs.Choice.{if◌then◌else◌}
+use Rattle.std.specs.Prelude.{if◌then◌else◌}
 use Rattle.crc.specs.Crc.{AreBytes}
 use Rattle.rooms_marks.specs.Rooms.{held_rooms}
 use Rattle.rooms_marks.proofs.Counting.{held_zeros}

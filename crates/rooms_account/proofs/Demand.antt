@@ -7,7 +7,7 @@ use mathlib.Core.List.{List, [], ◌∷◌}
 use mathlib.Core.Option.{some}
 use native.Mathlib.Omega.{arith}
 use lib.ListN.{length}
-use Rattle.ground_choices.specs.Choice.{if◌then◌else◌}
+use Rattle.std.specs.Prelude.{if◌then◌else◌}
 use Rattle.gathering_hand_out.specs.declared.Handed.TheVariants.{Body}
 use Rattle.ground_refusal.specs.declared.Refusal.{Refusal}
 use Rattle.gathering_account.specs.Account.{Account, idle, Complete, Covered, body_of}

@@ -1,7 +1,6 @@
 -- What a reader has to believe of one network alone: a machine that knows its account, so contents and no rooms and no store. Whether a room is free is handed
 -- in from outside. What is heard, counted and answered is the single gathering's, with room for every table.
-use Rattle.std.specs.Prelude.{ℕ, zero, suc, ◌+◌, Bool, true, false, not, ◌&&◌, List, [], ◌∷◌, length}
-use Rattle.ground_choices.specs.Choice.{if◌then◌else◌}
+use Rattle.std.specs.Prelude.{ℕ, zero, suc, ◌+◌, Bool, true, false, not, ◌&&◌, List, [], ◌∷◌, length, if◌then◌else◌}
 use Rattle.ground_refusal.specs.declared.Refusal.TheVariants.{Contradiction, Missing, NoFreeRoom}
 use Rattle.gathering_feed.specs.declared.Answer.{Answer}
 use Rattle.gathering_feed.specs.declared.Answer.TheVariants.{Taken, HeldAlready, Refused as NotFed}

@@ -1,6 +1,5 @@
 -- What a reader has to believe of takes and returns: how many rooms each network has taken and given back so far.
-use Rattle.std.specs.Prelude.{ℕ, ◌+◌, ◌/◌, min, ◌≡◌, List, [], ◌∷◌, length}
-use Rattle.ground_choices.specs.Choice.{if◌then◌else◌}
+use Rattle.std.specs.Prelude.{ℕ, ◌+◌, ◌/◌, min, ◌≡◌, List, [], ◌∷◌, length, if◌then◌else◌}
 use Rattle.ground_numbers.specs.Sizes.{payload_most}
 use Rattle.gathering_verdict.specs.declared.Verdict.{Verdict}
 use Rattle.gathering_verdict.specs.declared.Verdict.TheVariants.{Refuse, Repeat, Contradict, Begin, Take}

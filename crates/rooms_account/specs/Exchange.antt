@@ -1,6 +1,5 @@
 -- What a reader has to believe of two networks exchanged: each has the other's number, and the other's part.
-use Rattle.std.specs.Prelude.{ℕ, List, [], ◌∷◌, eqb}
-use Rattle.ground_choices.specs.Choice.{if◌then◌else◌}
+use Rattle.std.specs.Prelude.{ℕ, List, [], ◌∷◌, eqb, if◌then◌else◌}
 use Rattle.rooms_state.specs.State.{Network, network1, network2}
 use Rattle.rooms_state.specs.declared.Networks.{Networks}
 use Rattle.rooms_account.specs.Runs.{Box, Asked}

@@ -1,8 +1,7 @@
 -- What a reader has to believe of a run of calls for two networks: each is made for a network by its number, in any interleaving.
-use Rattle.std.specs.Prelude.{ℕ, ◌≤◌, ◌≡◌, Bool, true, false, ltb, length}
+use Rattle.std.specs.Prelude.{ℕ, ◌≤◌, ◌≡◌, Bool, true, false, ltb, length, if◌then◌else◌}
 use mathlib.Core.List.{List, [], ◌∷◌, Memᴰ as In}
 use Rattle.std.proofs.Math.Option.{Option, none, some}
-use Rattle.ground_choices.specs.Choice.{if◌then◌else◌}
 use Rattle.crc.specs.Crc.{AreBytes}
 use Rattle.rooms_marks.specs.Rooms.{uses}
 use Rattle.rooms_state.specs.State.{fresh_networks, rooms_in, Network, network1, network2, network_of, mine, theirs}

@@ -1,6 +1,5 @@
 -- What a reader has to believe of the counts of rooms: how many are held, and how many nobody holds; 12 for a state that is not possible.
-use Rattle.std.specs.Prelude.{ℕ, ◌+◌, not}
-use Rattle.ground_choices.specs.Choice.{if◌then◌else◌}
+use Rattle.std.specs.Prelude.{ℕ, ◌+◌, not, if◌then◌else◌}
 use Rattle.ground_refusal.specs.declared.Refusal.TheVariants.{ImpossibleState}
 use Rattle.rooms_marks.specs.Rooms.{held_rooms, free_rooms}
 use Rattle.rooms_state.specs.State.{rooms_in, possible_of}

@@ -1,7 +1,6 @@
 -- What a reader has to believe of the end of a network's gathering.
-use Rattle.std.specs.Prelude.{ℕ, not}
+use Rattle.std.specs.Prelude.{ℕ, not, if◌then◌else◌}
 use Rattle.std.proofs.Math.Option.{Option, none, some}
-use Rattle.ground_choices.specs.Choice.{if◌then◌else◌}
 use Rattle.ground_refusal.specs.declared.Refusal.TheVariants.{ImpossibleState, OutsideSet}
 use Rattle.rooms_state.specs.State.{fresh_part, possible_of, Network, with_mine}
 use Rattle.rooms_state.specs.declared.Networks.{Networks}

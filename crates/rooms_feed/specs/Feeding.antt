@@ -1,8 +1,7 @@
 -- What a reader has to believe of feeding one of two networks: which room a section takes, when it is refused for room, and what each verdict makes of answer,
 -- state and store.
-use Rattle.std.specs.Prelude.{ℕ, ◌+◌, ◌*◌, ◌≤◌, not, List, eqb, length, set, replicate}
+use Rattle.std.specs.Prelude.{ℕ, ◌+◌, ◌*◌, ◌≤◌, not, List, eqb, length, set, replicate, if◌then◌else◌}
 use Rattle.std.proofs.Math.Option.{Option, none, some}
-use Rattle.ground_choices.specs.Choice.{if◌then◌else◌}
 use Rattle.ground_numbers.specs.Sizes.{payload_most}
 use Rattle.ground_placing.specs.Placed.{placed}
 use Rattle.ground_refusal.specs.declared.Refusal.TheVariants.{ImpossibleState, OutsideSet, NoFreeRoom}

@@ -1,7 +1,6 @@
 -- What a reader has to believe of handing out one of two networks' tables: the order of refusals, the joined body, and the output after it.
-use Rattle.std.specs.Prelude.{not, List, ℕ, length}
+use Rattle.std.specs.Prelude.{not, List, ℕ, length, if◌then◌else◌}
 use Rattle.std.proofs.Math.Option.{Option, none, some}
-use Rattle.ground_choices.specs.Choice.{if◌then◌else◌}
 use Rattle.ground_numbers.specs.Sizes.{body_most}
 use Rattle.ground_refusal.specs.declared.Refusal.TheVariants.{ImpossibleState, OutsideSet}
 use Rattle.gathering_state.specs.State.{lengths}

@@ -1,6 +1,5 @@
 -- What a reader has to believe of the marks that one pass over the rooms sets: 0 for a free room, 1 for a held one, 2 for one held twice or more.
-use Rattle.std.specs.Prelude.{ℕ, zero, suc, ◌+◌, min, Bool, true, ◌&&◌, List, [], ◌∷◌, eqb, leb, get_or, set, replicate}
-use Rattle.ground_choices.specs.Choice.{if◌then◌else◌}
+use Rattle.std.specs.Prelude.{ℕ, zero, suc, ◌+◌, min, Bool, true, ◌&&◌, List, [], ◌∷◌, eqb, leb, get_or, set, replicate, if◌then◌else◌}
 
 -- one mark more at a room; 0, which stands for no room, and a number past the marks have none
 unfoldable pub raised_at : List ℕ → ℕ → List ℕ

@@ -1,7 +1,6 @@
 -- What a reader has to believe of the rooms that two networks hold. For each section number of a network its room stands in a list, as the room's number
 -- and one more; 0 stands where the number has no room. So the rooms of a store are 1 to n here.
-use Rattle.std.specs.Prelude.{ℕ, zero, suc, ◌+◌, Bool, true, ◌&&◌, List, [], ◌∷◌, eqb, leb}
-use Rattle.ground_choices.specs.Choice.{if◌then◌else◌}
+use Rattle.std.specs.Prelude.{ℕ, zero, suc, ◌+◌, Bool, true, ◌&&◌, List, [], ◌∷◌, eqb, leb, if◌then◌else◌}
 
 -- how often x stands in a list
 unfoldable pub count : ℕ → List ℕ → ℕ

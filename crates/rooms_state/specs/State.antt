@@ -1,7 +1,6 @@
 -- What a reader has to believe of two networks over one store: their parts, the rooms of the store, and which states are possible.
-use Rattle.std.specs.Prelude.{ℕ, ◌+◌, ◌-◌, ◌*◌, ◌/◌, ◌≤◌, min, Bool, true, false, ◌&&◌, List, [], ◌∷◌, eqb, leb, ltb, length, get_or, replicate}
+use Rattle.std.specs.Prelude.{ℕ, ◌+◌, ◌-◌, ◌*◌, ◌/◌, ◌≤◌, min, Bool, true, false, ◌&&◌, List, [], ◌∷◌, eqb, leb, ltb, length, get_or, replicate, if◌then◌else◌}
 use Rattle.std.proofs.Math.Option.{Option, none, some}
-use Rattle.ground_choices.specs.Choice.{if◌then◌else◌}
 use Rattle.ground_numbers.specs.Sizes.{payload_most}
 use Rattle.gathering_state.specs.Lists.{part}
 use Rattle.gathering_state.specs.State.{state_of, fresh_state, possible_of as gatheringPossible}

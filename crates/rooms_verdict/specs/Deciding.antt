@@ -1,7 +1,6 @@
 -- What a reader has to believe of the verdict on a byte string that is fed for one network, but for its room: the order of refusals, what begins, what is a
 -- repeat and what contradicts. Which table a section belongs to is the same rule as over a store of one's own.
-use Rattle.std.specs.Prelude.{ℕ, not, ◌||◌, List, eqb, get_or}
-use Rattle.ground_choices.specs.Choice.{if◌then◌else◌}
+use Rattle.std.specs.Prelude.{ℕ, not, ◌||◌, List, eqb, get_or, if◌then◌else◌}
 use Rattle.ground_refusal.specs.declared.Refusal.TheVariants.{NotCurrent, OtherHeading, Contradiction}
 use Rattle.ground_equal.specs.Same.{same_bytes}
 use Rattle.section_reader.specs.Section.{payload_of, read_section}

@@ -7,7 +7,7 @@ use native.Mathlib.Omega.{arith}
 use lib.Dec.{ltb}
 use lib.ListN.{length, get_or, take, drop, length-take, length-drop, take-append-drop, get_or-append}
 use lib.Seq.{take_at, take_all, length-take-le}
-use Rattle.ground_choices.specs.Choice.{if◌then◌else◌}
+use Rattle.std.specs.Prelude.{if◌then◌else◌}
 use Rattle.ground_choices.proofs.Tests.{past, refuted}
 use Rattle.ground_refusal.specs.declared.Refusal.{Refusal}
 use Rattle.section_reader.specs.Section.{section_length, length_in_range, read_section, stated_length}

@@ -7,7 +7,7 @@ use native.Mathlib.Omega.{arith}
 use native.Mathlib.Numerals.{add-one}
 use lib.ListN.{length, get_or, take, drop, length-drop, drop_of_length-le}
 use lib.Seq.{take_all, drop-cons}
-use Rattle.ground_choices.specs.Choice.{if◌then◌else◌}
+use Rattle.std.specs.Prelude.{if◌then◌else◌}
 use Rattle.salvage.specs.Reading.{stated, begins, good_length, gap, Piece, kept, skipped, skip, pieces_after, pieces, Next}
 use Rattle.salvage.proofs.Begins.{begins_long, begins_none, length_some, length_none, length_kept}
 

@@ -1,6 +1,5 @@
 -- What a reader has to believe of the list of runs: what each says, and the three numbers that it is told by.
-use Rattle.std.specs.Prelude.{ℕ, ◌+◌, Bool, true, false, List, [], ◌∷◌, ◌++◌, eqb, length}
-use Rattle.ground_choices.specs.Choice.{if◌then◌else◌}
+use Rattle.std.specs.Prelude.{ℕ, ◌+◌, Bool, true, false, List, [], ◌∷◌, ◌++◌, eqb, length, if◌then◌else◌}
 use Rattle.crc.specs.Crc.{digit}
 use Rattle.salvage.specs.Reading.{Piece, kept, skipped, pieces}
 

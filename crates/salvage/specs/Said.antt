@@ -1,6 +1,5 @@
 -- What is said of the runs of a capture: that they follow each other, that none is lost, that what they keep is good.
-use Rattle.std.specs.Prelude.{ℕ, ◌+◌, ◌≤◌, ◌<◌, Bool, true, false, ◌&&◌, ◌||◌, List, [], ◌∷◌, ◌++◌, ◌≡◌, leb, ltb, length, take, drop}
-use Rattle.ground_choices.specs.Choice.{if◌then◌else◌}
+use Rattle.std.specs.Prelude.{ℕ, ◌+◌, ◌≤◌, ◌<◌, Bool, true, false, ◌&&◌, ◌||◌, List, [], ◌∷◌, ◌++◌, ◌≡◌, leb, ltb, length, take, drop, if◌then◌else◌}
 use Rattle.crc.specs.Crc.{digit}
 use Rattle.section_reader.specs.Section.{read_section}
 use Rattle.salvage.specs.Reading.{is_good}

@@ -1,6 +1,5 @@
 -- What a reader has to believe of a call that salvages a capture: its refusals in their order, its answer, its output and its list.
-use Rattle.std.specs.Prelude.{ℕ, ◌||◌, List, ltb, length}
-use Rattle.ground_choices.specs.Choice.{if◌then◌else◌}
+use Rattle.std.specs.Prelude.{ℕ, ◌||◌, List, ltb, length, if◌then◌else◌}
 use Rattle.ground_placing.specs.Placed.{placed}
 use Rattle.ground_refusal.specs.declared.Refusal.{Refusal}
 use Rattle.ground_refusal.specs.declared.Refusal.TheVariants.{OutputTooSmall, CaptureTooLong}

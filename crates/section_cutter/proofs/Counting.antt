@@ -12,7 +12,7 @@ use lib.Seq.{take_all}
 use Rattle.ground_numbers.specs.Sizes.{payload_most, body_most}
 use Rattle.ground_refusal.specs.declared.Refusal.TheVariants.{PastBody, TooLarge}
 use Rattle.section_cutter.specs.Cutting.{part_start, section_count, part_carried, counted_of}
-use Rattle.ground_choices.specs.Choice.{if◌then◌else◌}
+use Rattle.std.specs.Prelude.{if◌then◌else◌}
 use Rattle.section_cutter.specs.declared.Counted.TheVariants.{Sections, Refused as NotCounted}
 
 -- ---- places, 4,084 bytes apart

@@ -11,7 +11,7 @@ use Rattle.ground_numbers.specs.Sizes.{body_most}
 use Rattle.ground_refusal.specs.declared.Refusal.{Refusal}
 use Rattle.ground_refusal.specs.declared.Refusal.TheVariants.{OtherKind, NumberAboveLast, PastBody, OutsideSet, OutputTooSmall, TooLarge}
 use Rattle.section_cutter.specs.Cutting.{section_count, counted_of, part_carried, cut_heading, section_of, Verdict, refuses, writes, cut_if_room, cutting, cut_by, output_by, Allowed}
-use Rattle.ground_choices.specs.Choice.{if◌then◌else◌}
+use Rattle.std.specs.Prelude.{if◌then◌else◌}
 use Rattle.section_reader.specs.Section.{is_kind, printed}
 use Rattle.section_cutter.specs.declared.Counted.TheVariants.{Sections, Refused as NotCounted}
 use Rattle.section_cutter.specs.declared.Cut.{Cut}

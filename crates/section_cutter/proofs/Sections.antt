@@ -11,7 +11,7 @@ use lib.Seq.{take-add, take_all}
 use Rattle.ground_numbers.specs.Sizes.{payload_most, body_most}
 use Rattle.ground_refusal.specs.declared.Refusal.{Refusal}
 use Rattle.section_cutter.specs.Cutting.{part_start, section_count, part_carried, parts_joined, cut_heading, section_of, Verdict, refuses, writes, cut_if_room, cutting, cut_answer, cut_output, Allowed, Askable}
-use Rattle.ground_choices.specs.Choice.{if◌then◌else◌}
+use Rattle.std.specs.Prelude.{if◌then◌else◌}
 use Rattle.section_reader.specs.Section.{is_kind, payload_of, printed, WellFormed, IsGood}
 use Rattle.section_cutter.specs.declared.Cut.TheVariants.{Written}
 use Rattle.section_cutter.proofs.Counting.{place_zero, place_suc, ends_within, count_most, counted_is, part_length}

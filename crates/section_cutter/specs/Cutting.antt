@@ -1,10 +1,9 @@
 -- What a reader has to believe of the cutter: how many sections a body makes, what each carries, and the cutter's refusals in their order.
-use Rattle.std.specs.Prelude.{ℕ, zero, suc, ◌+◌, ◌-◌, ◌*◌, ◌/◌, ◌≤◌, ◌<◌, true, not, ◌&&◌, List, [], ◌++◌, ◌≡◌, eqb, leb, ltb, length, take, drop}
+use Rattle.std.specs.Prelude.{ℕ, zero, suc, ◌+◌, ◌-◌, ◌*◌, ◌/◌, ◌≤◌, ◌<◌, true, not, ◌&&◌, List, [], ◌++◌, ◌≡◌, eqb, leb, ltb, length, take, drop, if◌then◌else◌}
 use Rattle.ground_numbers.specs.Sizes.{payload_most, body_most, version_most}
 use Rattle.ground_placing.specs.Placed.{placed}
 use Rattle.ground_refusal.specs.declared.Refusal.{Refusal}
 use Rattle.ground_refusal.specs.declared.Refusal.TheVariants.{OtherKind, NumberAboveLast, PastBody, OutsideSet, OutputTooSmall, TooLarge}
-use Rattle.ground_choices.specs.Choice.{if◌then◌else◌}
 use Rattle.section_reader.specs.Section.{is_kind, payload_of, printed}
 use Rattle.section_cutter.specs.declared.Counted.{Counted}
 use Rattle.section_cutter.specs.declared.Counted.TheVariants.{Sections, Refused as NotCounted}

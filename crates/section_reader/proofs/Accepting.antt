@@ -10,7 +10,7 @@ use lib.ListN.{length, get_or, drop, length-drop, length-append, get_or-append}
 use lib.Seq.{length-take-le}
 use Rattle.crc.specs.Crc.{crc32_of}
 use Rattle.ground_refusal.specs.declared.Refusal.{Refusal}
-use Rattle.ground_choices.specs.Choice.{if◌then◌else◌}
+use Rattle.std.specs.Prelude.{if◌then◌else◌}
 use Rattle.section_reader.specs.Section.{is_kind, word, fixed_bits, section_length, length_in_range, heading_of, payload_of, read_section, stated_length}
 use Rattle.section_reader.specs.declared.Heading.{Heading}
 use Rattle.section_reader.specs.declared.Sectioned.{Sectioned}

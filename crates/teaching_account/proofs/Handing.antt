@@ -8,7 +8,7 @@ use native.Mathlib.Nat.{eq-or-lt_of_le}
 use native.Mathlib.Omega.{arith}
 use borrow.Author.Tests.{le-leb, lt-leb, lt-ltb, le-ltb}
 use lib.ListN.{length}
-use Rattle.ground_choices.specs.Choice.{if◌then◌else◌}
+use Rattle.std.specs.Prelude.{if◌then◌else◌}
 use Rattle.ground_choices.proofs.Tests.{refuted}
 use Rattle.ground_refusal.specs.declared.Refusal.TheVariants.{OutputTooSmall}
 use Rattle.section_reader.specs.declared.Heading.{Heading}

@@ -1,6 +1,5 @@
 -- What a reader has to believe of feeding the slow gathering: the answer, told by the account of what is kept, and that the string is kept.
-use Rattle.std.specs.Prelude.{ℕ, ◌+◌, Bool, not, ◌&&◌, List, leb, length, take}
-use Rattle.ground_choices.specs.Choice.{if◌then◌else◌}
+use Rattle.std.specs.Prelude.{ℕ, ◌+◌, Bool, not, ◌&&◌, List, leb, length, take, if◌then◌else◌}
 use Rattle.ground_placing.specs.Placed.{placed}
 use Rattle.ground_refusal.specs.declared.Refusal.TheVariants.{ImpossibleState, TeachingBufferFull}
 use Rattle.gathering_state.specs.State.{has_room}

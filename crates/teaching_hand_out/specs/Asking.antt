@@ -1,6 +1,5 @@
 -- What a reader has to believe of asking the slow gathering: heading, missing numbers and body, told by the account of what is kept.
-use Rattle.std.specs.Prelude.{ℕ, ◌+◌, not, List, leb, length, take}
-use Rattle.ground_choices.specs.Choice.{if◌then◌else◌}
+use Rattle.std.specs.Prelude.{ℕ, ◌+◌, not, List, leb, length, take, if◌then◌else◌}
 use Rattle.ground_refusal.specs.declared.Refusal.TheVariants.{Contradiction, ImpossibleState, Missing}
 use Rattle.section_reader.specs.declared.Heading.{Heading}
 use Rattle.gathering_hand_out.specs.Handing.{handed_if_room, out_by}

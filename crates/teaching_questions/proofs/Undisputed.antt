@@ -4,7 +4,7 @@ use mathlib.Core.Bool.{Bool, true, false}
 use mathlib.Core.List.{List, [], ◌∷◌, ◌++◌, append-nil}
 use mathlib.Core.Path.{◌≡◌, refl, sym, ap, ◌∙◌}
 use lib.ListN.{length, take, drop}
-use Rattle.ground_choices.specs.Choice.{if◌then◌else◌}
+use Rattle.std.specs.Prelude.{if◌then◌else◌}
 use Rattle.section_reader.specs.declared.Heading.{Heading}
 use Rattle.gathering_tables.specs.Tables.{same_table}
 use Rattle.gathering_account.specs.Account.{Heard, nothing, good_current, heard, Section as Carried}

@@ -1,6 +1,5 @@
 -- What a reader has to believe of the questions that the slow gathering asks of its kept strings: each is one of the account of these strings.
-use Rattle.std.specs.Prelude.{ℕ, zero, suc, ◌+◌, ◌-◌, ◌≤◌, ◌≡◌, Bool, false, List, [], ◌∷◌, length, take, drop}
-use Rattle.ground_choices.specs.Choice.{if◌then◌else◌}
+use Rattle.std.specs.Prelude.{ℕ, zero, suc, ◌+◌, ◌-◌, ◌≤◌, ◌≡◌, Bool, false, List, [], ◌∷◌, length, take, drop, if◌then◌else◌}
 use Rattle.ground_numbers.specs.Sizes.{payload_most}
 use Rattle.section_reader.specs.declared.Heading.{Heading}
 use Rattle.gathering_account.specs.Account.{Heard, nothing, good_current, heard, Section as Carried, contents_of}

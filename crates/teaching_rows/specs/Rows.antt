@@ -1,7 +1,6 @@
 -- What a reader has to believe of a teaching buffer's rows: how fed byte strings are kept back to back, and which strings some bytes keep.
-use Rattle.std.specs.Prelude.{ℕ, zero, suc, ◌+◌, ◌^◌, ◌≤◌, ◌<◌, ◌≡◌, Bool, ◌&&◌, eqb, leb, length, take, drop}
+use Rattle.std.specs.Prelude.{ℕ, zero, suc, ◌+◌, ◌^◌, ◌≤◌, ◌<◌, ◌≡◌, Bool, ◌&&◌, eqb, leb, length, take, drop, if◌then◌else◌}
 use mathlib.Core.List.{List, [], ◌∷◌, ◌++◌, Memᴰ as In}
-use Rattle.ground_choices.specs.Choice.{if◌then◌else◌}
 use Rattle.body_formats.specs.Format.{number_at, bytes_of}
 
 -- ---- strings kept

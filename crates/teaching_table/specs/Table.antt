@@ -1,6 +1,5 @@
 -- What a reader has to believe of the table that kept strings fix: it is that of their account, and its sections are those from the latest takeover on.
-use Rattle.std.specs.Prelude.{ℕ, ◌≤◌, ◌<◌, ◌≡◌, Bool, true, ◌&&◌, List, length, drop}
-use Rattle.ground_choices.specs.Choice.{if◌then◌else◌}
+use Rattle.std.specs.Prelude.{ℕ, ◌≤◌, ◌<◌, ◌≡◌, Bool, true, ◌&&◌, List, length, drop, if◌then◌else◌}
 use Rattle.section_reader.specs.declared.Heading.{Heading}
 use Rattle.gathering_state.specs.State.{has_room}
 use Rattle.gathering_tables.specs.Tables.{is_newer}

@@ -1,6 +1,5 @@
 -- What a reader has to believe of printed times: the characters of a start and of an end, day first at an offset, and the refusals in their order.
-use Rattle.std.specs.Prelude.{List, [], ◌∷◌, ℕ, ltb, eqb, ℤ, length}
-use Rattle.ground_choices.specs.Choice.{if◌then◌else◌}
+use Rattle.std.specs.Prelude.{List, [], ◌∷◌, ℕ, ltb, eqb, ℤ, length, if◌then◌else◌}
 use Rattle.ground_placing.specs.Placed.{placed}
 use Rattle.ground_refusal.specs.declared.Refusal.{Refusal}
 use Rattle.ground_refusal.specs.declared.Refusal.TheVariants.{OutsideSet, OutputTooSmall}

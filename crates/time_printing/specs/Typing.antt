@@ -1,6 +1,5 @@
 -- What a reader has to believe of the times of a form: start and end typed together, and a live end asked for.
-use Rattle.std.specs.Prelude.{List, Bool, ℕ, ℤ}
-use Rattle.ground_choices.specs.Choice.{if◌then◌else◌}
+use Rattle.std.specs.Prelude.{List, Bool, ℕ, ℤ, if◌then◌else◌}
 use Rattle.time_fields.specs.Field.{live_mark}
 use Rattle.time_fields.specs.declared.Fielded.{Fielded}
 use Rattle.time_fields.specs.declared.Fielded.TheVariants.{Field, Refused as NotFielded}

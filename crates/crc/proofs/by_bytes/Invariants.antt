@@ -10,4 +10,3 @@ invariant-loop-i l = Walk 32 0x04C11DB7 l.reg l.s l.i l.r
 
 abbrev pub decreases-loop-i : goal.decreases-loop-i
 decreases-loop-i l = length l.s - l.i
-

@@ -11,4 +11,3 @@ invariant-loop-i l = (l.i ≤ length l.s) × Walk 16 0x1021 l.reg l.s l.i l.r
 
 abbrev pub decreases-loop-i : goal.decreases-loop-i
 decreases-loop-i l = length l.s - l.i
-

@@ -10,4 +10,3 @@ invariant-loop-i l = Walk 16 0x1021 l.reg l.s l.i l.r
 
 abbrev pub decreases-loop-i : goal.decreases-loop-i
 decreases-loop-i l = length l.s - l.i
-

@@ -17,4 +17,3 @@ invariant-loop-i l = (l.i ≤ length l.s) × (Read 0x04C11DB7 0xFFFFFFFF l.s l.i
 
 abbrev pub decreases-loop-i : goal.decreases-loop-i
 decreases-loop-i l = length l.s - l.i
-

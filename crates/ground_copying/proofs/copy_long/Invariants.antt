@@ -15,4 +15,3 @@ invariant-loop-i l = (l.dst ≡ placed l.initial.dst l.at (take l.i l.src)) × (
 
 abbrev pub decreases-loop-i : goal.decreases-loop-i
 decreases-loop-i l = l.n - l.i
-

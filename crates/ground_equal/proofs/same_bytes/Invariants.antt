@@ -14,4 +14,3 @@ invariant-loop-i l = (l.i ≤ length l.a) × (same_bytes l.a l.b ≡ eqb l.diffe
 
 abbrev pub decreases-loop-i : goal.decreases-loop-i
 decreases-loop-i l = length l.a - l.i
-

@@ -11,4 +11,3 @@ invariant-loop-i l = (l.dst ≡ copying l.initial.dst l.at l.src l.i) × (l.i �
 
 abbrev pub decreases-loop-i : goal.decreases-loop-i
 decreases-loop-i l = length l.src - l.i
-

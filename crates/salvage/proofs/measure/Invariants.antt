@@ -17,4 +17,3 @@ invariant-loop-from l =
 
 abbrev pub decreases-loop-from : goal.decreases-loop-from
 decreases-loop-from l = length l.s - l.from
-

@@ -6,8 +6,6 @@ use Rattle.section_cutter.proofs.Cuts.{too_small, fits}
 use Rattle.section_cutter.proofs.cut_part.Statement.{statement}
 use Rattle.section_cutter.proofs.cut_part.Tie as tie
 
-
-
 pub cut_part_spec : {M : Type 1} → statement M
 cut_part_spec =
     tie.close

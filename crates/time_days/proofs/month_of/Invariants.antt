@@ -12,4 +12,3 @@ invariant-loop-low l = (l.low < l.high) × (l.high ≤ 1658) × (month_start l.l
 
 abbrev pub decreases-loop-low : goal.decreases-loop-low
 decreases-loop-low l = l.high - l.low
-

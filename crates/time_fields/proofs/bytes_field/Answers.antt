@@ -6,9 +6,9 @@ use Rattle.time_fields.proofs.bytes_field.Goals as goal
 pub returns : goal.returns
 unfolding bytes_field
 returns c = simp (
-      c.wide.ensures.0,
-      c.wide-2.ensures.0,
-      c.wide-3.ensures.0,
-      c.wide-4.ensures.0,
-      c.wide-5.ensures.0,
-    )
+  c.wide.ensures.0,
+  c.wide-2.ensures.0,
+  c.wide-3.ensures.0,
+  c.wide-4.ensures.0,
+  c.wide-5.ensures.0,
+)

@@ -11,14 +11,14 @@ returns-then-not-decimal_pair c = simp (unmet _ c.decimal_pair.ensures c.if-not-
 pub returns-then-not-decimal_pair-2 : goal.returns-then-not-decimal_pair-2
 unfolding is_decimal
 returns-then-not-decimal_pair-2 c = simp (
-      met _ c.decimal_pair.ensures c.if-not-decimal_pair.false-raw,
-      unmet _ c.decimal_pair-2.ensures c.if-not-decimal_pair-2.true-raw,
-    )
+  met _ c.decimal_pair.ensures c.if-not-decimal_pair.false-raw,
+  unmet _ c.decimal_pair-2.ensures c.if-not-decimal_pair-2.true-raw,
+)
 
 pub returns : goal.returns
 unfolding is_decimal
 returns c = simp (
-      met _ c.decimal_pair.ensures c.if-not-decimal_pair.false-raw,
-      met _ c.decimal_pair-2.ensures c.if-not-decimal_pair-2.false-raw,
-      c.decimal_pair-3.ensures,
-    )
+  met _ c.decimal_pair.ensures c.if-not-decimal_pair.false-raw,
+  met _ c.decimal_pair-2.ensures c.if-not-decimal_pair-2.false-raw,
+  c.decimal_pair-3.ensures,
+)

@@ -6,7 +6,7 @@ use Rattle.time_fields.proofs.field_of.Goals as goal
 pub returns : goal.returns
 unfolding field_of
 returns c = simp (
-      c.two_digits-hours.ensures.0,
-      c.two_digits-minutes.ensures.0,
-      c.two_digits-seconds.ensures.0,
-    )
+  c.two_digits-hours.ensures.0,
+  c.two_digits-minutes.ensures.0,
+  c.two_digits-seconds.ensures.0,
+)

@@ -6,7 +6,7 @@ use Rattle.time_fields.proofs.moment_of.Goals as goal
 pub returns : goal.returns
 unfolding moment_of
 returns c = simp (
-      c.pair_worth-hours.ensures.0,
-      c.pair_worth-minutes.ensures.0,
-      c.pair_worth-seconds.ensures.0,
-    )
+  c.pair_worth-hours.ensures.0,
+  c.pair_worth-minutes.ensures.0,
+  c.pair_worth-seconds.ensures.0,
+)

@@ -12,28 +12,28 @@ returns-then-not-in_range c = simp (unmet _ c.in_range.ensures c.if-not-in_range
 pub returns-then-pair_worth-gt23 : goal.returns-then-pair_worth-gt23
 unfolding possible
 returns-then-pair_worth-gt23 c = simp (
-      met _ c.in_range.ensures c.if-not-in_range.false-raw,
-      ← c.pair_worth.ensures.0,
-      lt-leb _ _ c.if-pair_worth-gt23.true,
-    )
+  met _ c.in_range.ensures c.if-not-in_range.false-raw,
+  ← c.pair_worth.ensures.0,
+  lt-leb _ _ c.if-pair_worth-gt23.true,
+)
 
 pub returns-then-pair_worth-gt59 : goal.returns-then-pair_worth-gt59
 unfolding possible
 returns-then-pair_worth-gt59 c = simp (
-      met _ c.in_range.ensures c.if-not-in_range.false-raw,
-      ← c.pair_worth.ensures.0,
-      le-leb _ _ c.if-pair_worth-gt23.false,
-      ← c.pair_worth-2.ensures.0,
-      lt-leb _ _ c.if-pair_worth-gt59.true,
-    )
+  met _ c.in_range.ensures c.if-not-in_range.false-raw,
+  ← c.pair_worth.ensures.0,
+  le-leb _ _ c.if-pair_worth-gt23.false,
+  ← c.pair_worth-2.ensures.0,
+  lt-leb _ _ c.if-pair_worth-gt59.true,
+)
 
 pub returns : goal.returns
 unfolding possible
 returns c = simp (
-      met _ c.in_range.ensures c.if-not-in_range.false-raw,
-      ← c.pair_worth.ensures.0,
-      le-leb _ _ c.if-pair_worth-gt23.false,
-      ← c.pair_worth-2.ensures.0,
-      le-leb _ _ c.if-pair_worth-gt59.false,
-      ← c.pair_worth-3.ensures.0,
-    )
+  met _ c.in_range.ensures c.if-not-in_range.false-raw,
+  ← c.pair_worth.ensures.0,
+  le-leb _ _ c.if-pair_worth-gt23.false,
+  ← c.pair_worth-2.ensures.0,
+  le-leb _ _ c.if-pair_worth-gt59.false,
+  ← c.pair_worth-3.ensures.0,
+)

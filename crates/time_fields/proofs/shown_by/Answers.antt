@@ -15,10 +15,10 @@ returns-then-is_earlier-2 c = simp (c.in-At.is, sym c.is_earlier-in-At.ensures �
 pub returns-then-is_earlier-3 : goal.returns-then-is_earlier-3
 unfolding shown_by
 returns-then-is_earlier-3 c = simp (
-      c.in-At.is,
-      sym c.is_earlier-in-At.ensures ∙ c.if-is_earlier-2.false,
-      sym c.is_earlier-in-At-2.ensures ∙ c.if-is_earlier-3.true,
-    )
+  c.in-At.is,
+  sym c.is_earlier-in-At.ensures ∙ c.if-is_earlier-2.false,
+  sym c.is_earlier-in-At-2.ensures ∙ c.if-is_earlier-3.true,
+)
 
 pub returns-in-Refused : goal.returns-in-Refused
 unfolding shown_by
@@ -31,7 +31,7 @@ returns-else-is_earlier c = simp (c.in-Live.is, sym c.is_earlier.ensures ∙ c.i
 pub returns-else-is_earlier-3 : goal.returns-else-is_earlier-3
 unfolding shown_by
 returns-else-is_earlier-3 c = simp (
-      c.in-At.is,
-      sym c.is_earlier-in-At.ensures ∙ c.if-is_earlier-2.false,
-      sym c.is_earlier-in-At-2.ensures ∙ c.if-is_earlier-3.false,
-    )
+  c.in-At.is,
+  sym c.is_earlier-in-At.ensures ∙ c.if-is_earlier-2.false,
+  sym c.is_earlier-in-At-2.ensures ∙ c.if-is_earlier-3.false,
+)

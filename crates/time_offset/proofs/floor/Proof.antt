@@ -73,13 +73,13 @@ floor_spec =
     (λ c. (minute c).fits)
     (λ c. unsigned (minute c) (omega arith))
     (λ c. (
-  (days c).back ∙ ap (λ (y : ℤ). floor_div y 1440) (sym (start c).1.is),
-  ap nat_abs (minute c).back ∙ ap (λ (y : ℤ). floor_mod y 1440) (sym (start c).1.is),
-))
+      (days c).back ∙ ap (λ (y : ℤ). floor_div y 1440) (sym (start c).1.is),
+      ap nat_abs (minute c).back ∙ ap (λ (y : ℤ). floor_mod y 1440) (sym (start c).1.is),
+    ))
     (λ c. (omega arith, (days' c).fits))
     (λ c. (omega arith, (days' c).fits))
     (λ c. unsigned (minute' c) (omega arith))
     (λ c. (
-  (days' c).back ∙ ap (λ (y : ℤ). floor_div y 1440) (sym (start' c).1.is),
-  ap nat_abs (minute' c).back ∙ ap (λ (y : ℤ). floor_mod y 1440) (sym (start' c).1.is),
-)))
+      (days' c).back ∙ ap (λ (y : ℤ). floor_div y 1440) (sym (start' c).1.is),
+      ap nat_abs (minute' c).back ∙ ap (λ (y : ℤ). floor_mod y 1440) (sym (start' c).1.is),
+    )))

@@ -4,8 +4,6 @@ use Rattle.time_printing.proofs.Calls.{too_small, fits}
 use Rattle.time_printing.proofs.put.Statement.{statement}
 use Rattle.time_printing.proofs.put.Tie as tie
 
-
-
 pub put_spec : {M : Type 1} → statement M
 put_spec =
     tie.close
