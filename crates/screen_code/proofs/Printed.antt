@@ -56,6 +56,7 @@ module _ (code : List ℕ) (e : is_code code ≡ true) where
 
   pub next-byte : (i : ℕ) → 1 ≤ i → i < 12 → get_or (resource.print code) i 0 ≡ get_or code (2 * i - 1) 0 % 16 * 16 + get_or code (2 * i) 0 % 16
   unfolding digits
+  next-byte zero g h = elim g [ ]
   next-byte (suc j) g h =
       let l = code_long code e in
       let here : suc (2 * j + 1) ≡ 2 * suc j = omega arith in

@@ -7,11 +7,11 @@ use Rattle.body_digits.proofs.read_digits.Statement.{statement}
 use Rattle.body_digits.proofs.read_digits.Tie as tie
 
 -- from where the rest is asked for, and from where the whole field is there, back to where the first byte is
-abbrev first_before : tie.After-field-end2 → tie.After-q
-first_before c = c.before.before.before.before
+abbrev first_before : tie.After-field_end-in-At → tie.In-At
+first_before c = search
 
-abbrev first_of : tie.After-end → tie.After-q
-first_of c = first_before c.before.before
+abbrev first_of : tie.In-At-field_end → tie.In-At
+first_of c = search
 
 pub read_digits_spec : {M : Type 1} → statement M
 read_digits_spec =
@@ -20,50 +20,42 @@ read_digits_spec =
     (λ c κs. search rules)
     (λ c. search rules)
     (λ c. search rules)
-    (λ c.
-    let first : tie.After-q = c.before.before in
-    omega (arith, (end-in _ _ _ _ _ (sym first.q.given.1 ∙ first.before.before.field_end.ensures)).1))
-    (λ c.
-    let first : tie.After-q = c.before.before.before in
-    digits-17 _ _ _ _ _ (sym first.q.given.1 ∙ first.before.before.field_end.ensures) (omega arith))
+    (λ c. let first : tie.In-At = search in
+    omega (arith, (end-in _ _ _ _ _ (sym first.in-At.is ∙ first.before.field_end.ensures)).1))
+    (λ c. let first : tie.In-At = search in
+    digits-17 _ _ _ _ _ (sym first.in-At.is ∙ first.before.field_end.ensures) (omega arith))
     (λ c κs. search rules)
     (λ c. search rules)
     (λ c. search rules)
-    (λ c.
-    let whole : tie.After-end = c.before.before in
+    (λ c. let whole : tie.In-At-field_end = search in
     let first = first_of whole in
-    digits-18-first _ _ _ _ _ (sym first.q.given.1 ∙ first.before.before.field_end.ensures)
-    (λ i. (first.before.before.before.shared-slice-known.given i).fits) (omega arith) _
-    (sym whole.end.given.1 ∙ whole.before.before.field-end2.ensures) (omega arith))
-    (λ c κs.
-    let whole : tie.After-end = c.before.before in
-    (end-in _ _ _ _ _ (sym whole.end.given.1 ∙ whole.before.before.field-end2.ensures)).1)
-    (λ c.
-    let whole : tie.After-end = c.before.before.before.before in
+    digits-18-first _ _ _ _ _ (sym first.in-At.is ∙ first.before.field_end.ensures)
+    (λ i. (first.before.before.shared_slice_known-1.given i).fits) (omega arith) _
+    (sym whole.in-At-field_end.is ∙ whole.before.field_end-in-At.ensures) (omega arith))
+    (λ c κs. let whole : tie.In-At-field_end = search in
+    (end-in _ _ _ _ _ (sym whole.in-At-field_end.is ∙ whole.before.field_end-in-At.ensures)).1)
+    (λ c. let whole : tie.In-At-field_end = search in
     let first = first_of whole in
     omega (
       arith,
-      (end-in _ _ _ _ _ (sym first.q.given.1 ∙ first.before.before.field_end.ensures)).0,
-      (end-in _ _ _ _ _ (sym whole.end.given.1 ∙ whole.before.before.field-end2.ensures)).0,
+      (end-in _ _ _ _ _ (sym first.in-At.is ∙ first.before.field_end.ensures)).0,
+      (end-in _ _ _ _ _ (sym whole.in-At-field_end.is ∙ whole.before.field_end-in-At.ensures)).0,
     ))
-    (λ c.
-    let whole : tie.After-end = c.before.before.before.before in
+    (λ c. let whole : tie.In-At-field_end = search in
     let first = first_of whole in
-    digits_of _ _ _ _ _ (sym first.q.given.1 ∙ first.before.before.field_end.ensures)
-    (λ i. (first.before.before.before.shared-slice-known.given i).fits) (omega arith) _
-    (sym whole.end.given.1 ∙ whole.before.before.field-end2.ensures) (omega arith)
-    (sym c.before.all-decimal.ensures ∙ c.if3.true))
-    (λ c. digits-no _ _ _ _ _ (sym c.before.r.given.1 ∙ c.before.before.before.field_end.ensures))
-    (λ c.
-    let past : tie.After-field-end2 = c.before.before.before in
+    digits_of _ _ _ _ _ (sym first.in-At.is ∙ first.before.field_end.ensures)
+    (λ i. (first.before.before.shared_slice_known-1.given i).fits) (omega arith) _
+    (sym whole.in-At-field_end.is ∙ whole.before.field_end-in-At.ensures) (omega arith)
+    (sym c.before.all_decimal.ensures ∙ c.if-all_decimal.true))
+    (λ c. digits-no _ _ _ _ _ (sym c.in-Refused.is ∙ c.before.field_end.ensures))
+    (λ c. let past : tie.After-field_end-in-At = search in
     let first = first_before past in
-    digits-past _ _ _ _ _ (sym first.q.given.1 ∙ first.before.before.field_end.ensures)
-    (λ i. (first.before.before.before.shared-slice-known.given i).fits) (omega arith) _
-    (sym c.before.r2.given.1 ∙ past.field-end2.ensures))
-    (λ c.
-    let whole : tie.After-end = c.before.before.before.before in
+    digits-past _ _ _ _ _ (sym first.in-At.is ∙ first.before.field_end.ensures)
+    (λ i. (first.before.before.shared_slice_known-1.given i).fits) (omega arith) _
+    (sym c.in-Refused-field_end.is ∙ past.field_end-in-At.ensures))
+    (λ c. let whole : tie.In-At-field_end = search in
     let first = first_of whole in
-    digits-18-later _ _ _ _ _ (sym first.q.given.1 ∙ first.before.before.field_end.ensures)
-    (λ i. (first.before.before.before.shared-slice-known.given i).fits) (omega arith) _
-    (sym whole.end.given.1 ∙ whole.before.before.field-end2.ensures) (omega arith)
-    (sym c.before.all-decimal.ensures ∙ c.if3.false)))
+    digits-18-later _ _ _ _ _ (sym first.in-At.is ∙ first.before.field_end.ensures)
+    (λ i. (first.before.before.shared_slice_known-1.given i).fits) (omega arith) _
+    (sym whole.in-At-field_end.is ∙ whole.before.field_end-in-At.ensures) (omega arith)
+    (sym c.before.all_decimal.ensures ∙ c.if-all_decimal.false)))

@@ -11,34 +11,22 @@ use Rattle.program_salvage_lines.proofs.Lines.{report_lines, report_over}
 use Rattle.program_salvage_lines.proofs.report.Statement.{statement}
 use Rattle.program_salvage_lines.proofs.report.Tie as tie
 
-returns : tie.Need-returns
-returns c =
-    let start : tie.Start = search in let over : tie.Then1 = search in
-    let head = over.before in
-    rw (report_over start.args.capture.now over.if1.taken)
-    (put_whole (put_then head.put-bytes.ensures c.put-bytes2.ensures))
 
-put_lines_requires : tie.Need-put-lines-requires
-put_lines_requires c κs =
-    let head : tie.After-put-bytes = search in let start : tie.Start = search in let s = start.args.capture.now in
-    let room : length start.args.out.now ≡ 201677 = search rules in
-    (c.before.if1.false, put_room (lines_of (runs_of s)) head.put-bytes.ensures (omega (arith, lines_most s c.before.if1.false)))
-
-returns-2 : tie.Need-returns-2
-returns-2 c =
-    let start : tie.Start = search in let lines : tie.Else1 = search in
-    let head = lines.before in
-    rw (report_lines start.args.capture.now lines.if1.left)
-    (put_whole (put_then head.put-bytes.ensures c.put-lines.ensures))
 
 pub report_spec : {M : Type 1} → statement M
 report_spec =
     tie.close
     (tie.spec
-    (λ c. search rules)
     (λ c κs. search rules)
-    (λ c. search rules)
     (λ c κs. search rules)
-    returns
-    put_lines_requires
-    returns-2)
+    (λ c. let start : tie.Start = search in let over : tie.Then-capture-gt-CAPTURE_MOST = search in
+    let head = over.before in
+    rw (report_over start.args.capture.now over.if-capture-gt-CAPTURE_MOST.true)
+    (put_whole (put_then head.put_bytes-begun.ensures c.put_bytes.ensures)))
+    (λ c κs. let head : tie.After-put_bytes-begun = search in let start : tie.Start = search in let s = start.args.capture.now in
+    let room : length start.args.out.now ≡ 201677 = search rules in
+    (c.before.if-capture-gt-CAPTURE_MOST.false, put_room (lines_of (runs_of s)) head.put_bytes-begun.ensures (omega (arith, lines_most s c.before.if-capture-gt-CAPTURE_MOST.false))))
+    (λ c. let start : tie.Start = search in let lines : tie.Else-capture-gt-CAPTURE_MOST = search in
+    let head = lines.before in
+    rw (report_lines start.args.capture.now lines.if-capture-gt-CAPTURE_MOST.false)
+    (put_whole (put_then head.put_bytes-begun.ensures c.put_lines.ensures))))

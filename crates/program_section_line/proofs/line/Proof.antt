@@ -10,28 +10,24 @@ use Rattle.program_section_line.proofs.Bounds.{answer_most}
 use Rattle.program_section_line.proofs.line.Statement.{statement}
 use Rattle.program_section_line.proofs.line.Tie as tie
 
-put_answer_requires : tie.Need-put-answer-requires
-put_answer_requires c κs =
-    let start = c.before.before in
-    let room : length start.args.out.now ≡ 16 = search rules in
-    omega (arith, answer_most start.args.input.now (omega (arith, c.before.shared-slice-known.given 6)))
 
-put_bytes_requires : tie.Need-put-bytes-requires
-put_bytes_requires c κs =
-    let put = c.before.before in
+
+pub line_spec : {M : Type 1} → statement M
+unfolding line_of
+line_spec =
+    tie.close
+    (tie.spec
+    (λ c κs. let start = c.before.before in
+    let room : length start.args.out.now ≡ 16 = search rules in
+    omega (arith, answer_most start.args.input.now (omega (arith, c.before.shared_slice_known-1.given 6))))
+    (λ c κs. let put = c.before.before in
     let start = put.before.before.before in
     let room : length start.args.out.now ≡ 16 = search rules in
     let answer = section_answered start.args.input.now in
-    put_room (ascii "\n") put.put-answer.ensures
+    put_room (ascii "\n") put.before.put_answer-answered.ensures
     (omega (
       arith,
       length-append answer (ascii "\n"),
-      answer_most start.args.input.now (omega (arith, put.before.before.shared-slice-known.given 6)),
-    ))
-
-returns : tie.Need-returns
-unfolding line_of
-returns c = put_whole (put_then c.before.before.before.put-answer.ensures c.put-bytes.ensures)
-
-pub line_spec : {M : Type 1} → statement M
-line_spec = tie.close (tie.spec put_answer_requires (λ c. search rules) put_bytes_requires returns)
+      answer_most start.args.input.now (omega (arith, put.before.before.before.shared_slice_known-1.given 6)),
+    )))
+    (λ c. put_whole (put_then c.before.before.before.before.put_answer-answered.ensures c.put_bytes.ensures)))

@@ -13,24 +13,21 @@ use Rattle.rooms_state.proofs.part_possible.Tie as tie
 long : (c : tie.Start) → (length c.args.t1.gathering.held ≡ 256) × (length c.args.t1.rooms ≡ 256)
 long c = (search rules, search rules)
 
-returns : tie.Need-returns
-returns c =
-    let tested = c.before in
-    let copied : tie.After-numbers-of = search in
-    let made = ap possible_of (parts_make _ _ copied.numbers_of.ensures) in
-    let l = long (search) in
-    part_not _ _ l.0 l.1 (unmet _ (tested.possible.ensures ∙ made) c.if1.true)
-
-returns-2 : tie.Need-returns-2
-returns-2 c =
-    let passed : tie.Else1 = search in
-    let tested = passed.before in
-    let copied : tie.After-numbers-of = search in
-    let made = ap possible_of (parts_make _ _ copied.numbers_of.ensures) in
-    let l = long (search) in
-    c.all-paired.ensures ∙ part_by _ _ l.0 l.1 (met _ (tested.possible.ensures ∙ made) passed.if1.left)
-
 pub part_possible_spec : {M : Type 1} → statement M
 part_possible_spec =
     tie.close
-    (tie.spec (λ c κs. search rules) (λ c κs. search rules) returns (λ c κs. search rules) returns-2)
+    (tie.spec
+    (λ c κs. search rules)
+    (λ c κs. search rules)
+    (λ c. let tested = c.before in
+    let copied : tie.After-numbers_of-numbers = search in
+    let made = ap possible_of (parts_make _ _ copied.numbers_of-numbers.ensures) in
+    let l = long (search) in
+    part_not _ _ l.0 l.1 (unmet _ (tested.possible.ensures ∙ made) c.if-not-possible.true-raw))
+    (λ c κs. search rules)
+    (λ c. let passed : tie.Else-not-possible = search in
+    let tested = passed.before in
+    let copied : tie.After-numbers_of-numbers = search in
+    let made = ap possible_of (parts_make _ _ copied.numbers_of-numbers.ensures) in
+    let l = long (search) in
+    c.all_paired.ensures ∙ part_by _ _ l.0 l.1 (met _ (tested.possible.ensures ∙ made) passed.if-not-possible.false-raw)))

@@ -1,0 +1,16 @@
+-- `body_digits::all_decimal` meets its contract: the bytes so far pass, and the last eight decide; which of them were tested before does not matter.
+use Prim.Native.Nat.{◌-◌, ◌≤◌}
+use mathlib.Core.Path.{◌≡◌, refl, sym, ◌∙◌}
+use mathlib.Core.Bool.{true}
+use native.Mathlib.Omega.{arith}
+use borrow.Author.Tests.{not-true, not-false}
+use Rattle.body_formats.specs.Format.{halves, decimal}
+use Rattle.body_digits.proofs.Digits.{digits_at, digits-fail, digits-further, digits_last}
+use Rattle.body_digits.proofs.all_decimal.Given as goal
+
+abbrev pub invariant-loop-j : goal.invariant-loop-j
+invariant-loop-j l = (l.j ≤ l.n) × (digits_at l.s l.p l.j ≡ true)
+
+abbrev pub decreases-loop-j : goal.decreases-loop-j
+decreases-loop-j l = l.n - l.j
+

@@ -1,0 +1,20 @@
+-- `gathering_state::smallest_missing` meets its contract. The loop's invariant: the numbers before k are held, so the smallest missing one is k or stands after it.
+use Prim.Native.Nat.{◌≤◌, ◌+◌, ◌-◌}
+use mathlib.Core.Path.{◌≡◌}
+use native.Mathlib.Omega.{arith}
+use lib.ListN.{length, drop}
+use Rattle.gathering_state.specs.Lists.{smallest_missing}
+use Rattle.gathering_state.proofs.Lists.{missing-end, missing-stop, missing-step}
+use Rattle.gathering_state.proofs.smallest_missing.Goals as goal
+
+pub loop-k-init : goal.loop-k-init
+loop-k-init c = (omega arith, omega arith)
+
+pub loop-k-preserved : goal.loop-k-preserved
+loop-k-preserved c = (omega arith, missing-step _ _ c.loop-k.invariant.1 (omega arith) c.if-s-k-eq0.false)
+
+pub returns-after-loop-k : goal.returns-after-loop-k
+returns-after-loop-k c = missing-end _ _ c.loop-k.invariant.1 (omega arith)
+
+pub returns-then-s-k-eq0 : goal.returns-then-s-k-eq0
+returns-then-s-k-eq0 c = missing-stop _ _ c.loop-k.invariant.1 (omega arith) c.if-s-k-eq0.true

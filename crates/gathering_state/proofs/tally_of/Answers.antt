@@ -1,0 +1,26 @@
+-- `gathering_state::tally_of` meets its contract. The loop's invariant: what is found so far, with what is left to find, is what there is to find.
+use Prim.Native.Nat.{◌≤◌, ◌+◌, ◌-◌, ◌*◌, max}
+use mathlib.Core.Path.{◌≡◌}
+use native.Mathlib.Omega.{arith}
+use borrow.Author.Rules.{rules}
+use lib.ListN.{length, drop}
+use Rattle.gathering_state.specs.Lists.{greatest, total, held_count}
+use Rattle.gathering_state.proofs.Lists.{greatest-step, greatest-end, total-step, total-end, held-step, held-end}
+use Rattle.gathering_state.proofs.tally_of.Goals as goal
+
+pub loop-i-init : goal.loop-i-init
+loop-i-init c = (omega arith, omega arith, omega arith, omega arith, omega arith, omega arith)
+
+pub loop-i-preserved : goal.loop-i-preserved
+loop-i-preserved c = let s = c.args.s.now in
+    let most = greatest-step s c.loop-i.i (omega arith) in
+    let held = held-step s c.loop-i.i (omega arith) in
+    let bytes = total-step s c.loop-i.i (omega arith) in
+    (omega arith, omega arith, omega arith, omega arith, omega arith, omega arith)
+
+pub returns : goal.returns
+returns c = let s = c.args.s.now in
+    let most = greatest-end s c.loop-i.i (omega arith) in
+    let held = held-end s c.loop-i.i (omega arith) in
+    let bytes = total-end s c.loop-i.i (omega arith) in
+    (omega arith, omega arith, omega arith)
