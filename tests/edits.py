@@ -166,7 +166,10 @@ def tried(edit, crate):
         else:
             os.mkdir(own)
         command = [*rtlib.guarded(), rtlib.RATTLE, 'check', *crate.words(['--jobs', '1'], keeps=False), '--incremental', own]
-        ran = subprocess.run(command, cwd=folder, stdin=subprocess.DEVNULL, stdout=subprocess.PIPE, stderr=subprocess.STDOUT, errors='replace')
+        for _ in range(2):
+            ran = subprocess.run(command, cwd=folder, stdin=subprocess.DEVNULL, stdout=subprocess.PIPE, stderr=subprocess.STDOUT, errors='replace')
+            if ran.returncode >= 0:  # else it was killed, most likely for memory
+                break
     last = ran.stdout.rstrip('\n').rpartition('\n')[2]
     if ran.returncode != 1 or not last.startswith('logic=not-proved'):
         problems.append(f'{edit.path}: its check ended with status {ran.returncode} and said last: {last}')
