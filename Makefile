@@ -1,13 +1,13 @@
 # make proves and builds the library, the screen box above it and the commands; `make help` lists what else it can do.
 # SPDX-License-Identifier: MIT
-# What is built is for x86-64. Elsewhere it is cross-built, and what is run runs under the kit's emulator. CC, CPPFLAGS, CFLAGS and LDFLAGS
+# What is built is for x86-64. Elsewhere it is cross-built, and what is run runs under an emulator. CC, CPPFLAGS, CFLAGS and LDFLAGS
 # are for the commands; the library is compiled by the kit.
 
 # The archives of the crates that tools/kit lists, and the library that some of them make together, which is installed with the package above it.
 ARCHIVE = target/library/libneapwillow.a
 SCREEN_ARCHIVE = target/staticlib/libneapwillow_screen.a
 ARCHIVES := $(ARCHIVE) $(patsubst %,target/staticlib/lib%.a,$(shell sed -n 's/^\(exporting\|above\)=(\(.*\))/\2/p' tools/kit))
-SOURCES := crates.txt $(shell find crates -type f)
+SOURCES := crates.txt $(shell find crates -name out -prune -o -type f -print)
 include install.mk
 .DEFAULT_GOAL := all
 
@@ -42,6 +42,6 @@ dist:
 drill:
 	tools/drill
 
-# What was built, and not what was proved: `rm -rf target` removes that too.
+# What was built, and not what was proved, which stands in each crate's out/: `rm -rf crates/*/out` removes that too.
 clean:
 	rm -rf target/bin target/staticlib target/library target/c target/native target/counted target/dist target/drill

@@ -36,9 +36,9 @@ IN_C = {
 
 
 # The shape of an answer in C, by the definition that an export's contract cites; a number for every other one.
-SHAPES = {'partAnswer': 'nw_part', 'dateAnswer': 'nw_date', 'localAnswer': 'nw_time', 'localFieldAnswer': 'nw_time',
-          'sectionAnswer': 'nw_heading', 'headedAnswer': 'nw_heading', 'contentAnswer': 'nw_written', 'salvagedAnswer': 'nw_salvaged',
-          'choiceAnswer': 'nw_choice'}
+SHAPES = {'part_answer': 'nw_part', 'date_answer': 'nw_date', 'local_answer': 'nw_time', 'local_field_answer': 'nw_time',
+          'section_answer': 'nw_heading', 'headed_answer': 'nw_heading', 'content_answer': 'nw_written', 'salvaged_answer': 'nw_salvaged',
+          'choice_answer': 'nw_choice'}
 
 # The shape that each record of c_answers' Taking says the fields of, and of the screen box's Told; and how many bits a type has.
 RECORDS_OF = {'TellsDate': 'nw_date', 'TellsTime': 'nw_time', 'TellsHeading': 'nw_heading', 'TellsPart': 'nw_part',
@@ -64,14 +64,14 @@ def parameter_in_c(kind):
 
 def result_in_c(kind, contract):
     """What a result of the source is in C: one that the contract says to be an answer has that answer's shape."""
-    answer = re.search(r'\br ≡ (\w+Answer)\b', contract)
+    answer = re.search(r'\bresult ≡ (\w+_answer)\b', contract)
     return [SHAPES.get(answer[1], 'nw_answer')] if answer else IN_C[kind]
 
 
 def exports(crate):
-    """Each exported function of a crate: its result and its parameters, as C has them."""
+    """Each function that a crate's static library exports: its result and its parameters, as C has them."""
     found = {}
-    for path in sorted(glob.glob(os.path.join(ROOT, 'crates', crate, 'src', '*.rt'))):
+    for path in sorted(glob.glob(os.path.join(ROOT, 'crates', crate + '_c', 'src', '*.rt'))):
         for name, parameters, result, contract in re.findall(
                 r'pub extern "C" fn (\w+)\(([^)]*)\)\s*->\s*(\w+)(.*?)\n\{', without_comments(read(path)), re.S):
             types = [p.split(':', 1)[1].strip() for p in parameters.split(',') if p.strip()]
@@ -100,7 +100,7 @@ def declarations(header):
 def source_version():
     """The version by the file VERSION, the text and then each number, which the definition must have too."""
     text = read('VERSION').strip()
-    numbers = [int(n) for n in re.search(r'^version = versionNumber (\d+) (\d+) (\d+)$', read('crates', 'c_answers', 'specs', 'Version.antt'), re.M).groups()]
+    numbers = [int(n) for n in re.search(r'^version = version_number (\d+) (\d+) (\d+)$', read('crates', 'c_answers', 'specs', 'Version.antt'), re.M).groups()]
     return {'text': text, **dict(zip(['MAJOR', 'MINOR', 'PATCH'], map(int, text.split('.')))), 'defined': numbers, 'latest': text}
 
 
@@ -166,8 +166,8 @@ def source_fields_told(records, *path):
     found = {}
     for record, shape in records.items():
         body = re.search(r'pub record %s .*?(?=\npub |\Z)' % record, read('crates', *path), re.S).group(0)
-        for field, below, width in re.findall(r'pub (\S+) : fieldTold (\d+) (\d+) a', body):
-            found['%s_%s' % (shape, re.sub('-(is|are)$', '', field))] = shape, 8 + int(below), int(width)
+        for field, below, width in re.findall(r'pub (\S+) : field_told (\d+) (\d+) a', body):
+            found['%s_%s' % (shape, re.sub('_(is|are)$', '', field))] = shape, 8 + int(below), int(width)
     return found
 
 
@@ -181,7 +181,7 @@ def header_fields_told(header):
     return found
 
 
-# The low byte is the refusal, and the place stands above it: Taking's refusalTold and aboveTold.
+# The low byte is the refusal, and the place stands above it: Taking's refusal_told and above_told.
 MACROS = {'NW_REFUSAL': '((unsigned)((answer).packed & 0xFFu))', 'NW_PLACE': '((answer).packed >> 8)'}
 
 

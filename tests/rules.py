@@ -150,7 +150,7 @@ def rules():
 
 def each_refusal(refusals):
     """Each case of the enum has a number and one row, whose first name is the case. The list may have gaps."""
-    numbers = dict(re.findall(r'^refusalNumber \(?(\w+).* = (\d+)$', read('crates/ground_refusal/specs/Numbers.antt'), flags=re.M))
+    numbers = dict(re.findall(r'^refusal_number \(?(\w+).* = (\d+)$', read('crates/ground_refusal/specs/Numbers.antt'), flags=re.M))
     for case, number in numbers.items():
         if refusals.pop(int(number), None) != [['ground_refusal.Refusal.' + case]]:
             faults.append('refusal %s has not one row that begins with ground_refusal.Refusal.%s' % (number, case))

@@ -14,7 +14,7 @@ ROOT = os.path.join(os.path.dirname(os.path.abspath(__file__)), os.pardir)
 # The types in which offered functions answer, and those that they hold.
 TYPES = {'body_formats::Number', 'body_formats::Step', 'body_formats::Part', 'ground_refusal::Refusal',
          'time_fields::Moment', 'time_fields::Showing', 'time_fields::Timed', 'time_fields::EndTimed'}
-OWN = re.compile(r'screen_\w+|neapwillow_screen')
+OWN = re.compile(r'screen_\w+|neapwillow_screen(_c)?')
 
 
 def read(path):
@@ -23,7 +23,7 @@ def read(path):
 
 
 def crates():
-    return re.findall(r'^(\w+):', read(os.path.join(ROOT, 'crates.txt')), flags=re.M)
+    return re.findall(r'^(\w+)(?: staticlib)?:', read(os.path.join(ROOT, 'crates.txt')), flags=re.M)
 
 
 def offered():
@@ -49,9 +49,9 @@ def used(text, library):
     for crate, name in re.findall(r'\b([a-z]\w*)::(\w+)', text):
         if crate in library:
             yield '%s::%s' % (crate, name)
-    for crate, part in re.findall(r'Rattle·(\w+)(?:·\w+)?\.(\w+)', text):
+    for crate, part in re.findall(r'Rattle\.(\w+)\.(\w+)', text):
         if crate in library and part != 'specs' and crate != 'promises':
-            yield 'Rattle·%s.%s' % (crate, part)
+            yield 'Rattle.%s.%s' % (crate, part)
 
 
 def main():
@@ -63,7 +63,7 @@ def main():
     found = [(path, name) for path in files for name in used(read(path), library)]
     faults = sorted({'%s: %s is not offered' % (os.path.relpath(path, ROOT), name) for path, name in found if name not in allowed})
     # a library's crate that needs the package would turn the house upside down
-    needs = dict(re.findall(r'^(\w+):(.*)$', read(os.path.join(ROOT, 'crates.txt')), flags=re.M))
+    needs = dict(re.findall(r'^(\w+)(?: staticlib)?:(.*)$', read(os.path.join(ROOT, 'crates.txt')), flags=re.M))
     faults += ['%s needs %s' % (name, need) for name in library for need in needs[name].split() if OWN.fullmatch(need)]
     for fault in faults:
         print(fault)

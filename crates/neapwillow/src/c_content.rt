@@ -4,30 +4,26 @@ ghost use Rattle.content.specs.Content.{variant_read, variant_laid, variant_tape
 ghost use Rattle.content_writer.specs.Written.{variant_measured, variant_written, variant_output};
 ghost use Rattle.c_answers.specs.Answers.{read_answer, written_answer, content_answer};
 
-#[unsafe(no_mangle)]
-pub extern "C" fn nw_content_read(kind: u32, variant: u32, extension: u32, body: &[u8]) -> u64
+pub fn nw_content_read(kind: u32, variant: u32, extension: u32, body: &[u8]) -> u64
     ensures { result ≡ read_answer (variant_read kind variant extension body.now) }
 {
     c_answers::read_answer(content_reader::read(kind, variant, extension, body))
 }
 
-#[unsafe(no_mangle)]
-pub extern "C" fn nw_content_lay(kind: u32, variant: u32, body: &[u8], tape: &mut [u64]) -> u64
+pub fn nw_content_lay(kind: u32, variant: u32, body: &[u8], tape: &mut [u64]) -> u64
     ensures value { result ≡ written_answer (variant_laid kind variant body.now (length tape.old)) }
     ensures tape_after { tape.new ≡ variant_tape kind variant body.now tape.old }
 {
     c_answers::written_answer(content_reader::lay(kind, variant, body, tape))
 }
 
-#[unsafe(no_mangle)]
-pub extern "C" fn nw_content_measure(variant: u32, pool: &[u8], tape: &[u64]) -> u64
+pub fn nw_content_measure(variant: u32, pool: &[u8], tape: &[u64]) -> u64
     ensures { result ≡ written_answer (variant_measured variant pool.now tape.now) }
 {
     c_answers::written_answer(content_writer::measure(variant, pool, tape))
 }
 
-#[unsafe(no_mangle)]
-pub extern "C" fn nw_content_write(variant: u32, pool: &[u8], tape: &[u64], out: &mut [u8]) -> u64
+pub fn nw_content_write(variant: u32, pool: &[u8], tape: &[u64], out: &mut [u8]) -> u64
     ensures value { result ≡ content_answer (variant_written variant pool.now tape.now (length out.old)) }
     ensures out_after { out.new ≡ variant_output variant pool.now tape.now out.old }
 {

@@ -8,8 +8,7 @@ ghost use Rattle.c_answers.specs.Answers.{feed_answer, hand_answer};
 use gathering_state::Gathering;
 
 // One byte string is fed: the state that was lent becomes the state after it.
-#[unsafe(no_mangle)]
-pub extern "C" fn nw_gathering_feed(g: &mut Gathering, store: &mut [u8], s: &[u8]) -> u64
+pub fn nw_gathering_feed(g: &mut Gathering, store: &mut [u8], s: &[u8]) -> u64
     ensures { (result ≡ feed_answer (fed_of g.old store.old s.now).answer) × (g.new ≡ (fed_of g.old store.old s.now).state) × (store.new ≡ store_after g.old store.old s.now) }
 {
     let fed = gathering_feed::feed_step(*g, store, s);
@@ -18,16 +17,14 @@ pub extern "C" fn nw_gathering_feed(g: &mut Gathering, store: &mut [u8], s: &[u8
 }
 
 // The body is handed out, or the first rule that forbids it is told. The state is only looked at.
-#[unsafe(no_mangle)]
-pub extern "C" fn nw_gathering_hand_out(g: &Gathering, store: &[u8], out: &mut [u8]) -> u64
+pub fn nw_gathering_hand_out(g: &Gathering, store: &[u8], out: &mut [u8]) -> u64
     ensures { (result ≡ hand_answer (handed_of g.now store.now out.old)) × (out.new ≡ out_after g.now store.now out.old) }
 {
     c_answers::hand_answer(gathering_hand_out::hand_out(*g, store, out))
 }
 
 // The body is packed where it stands, and the state that was lent becomes fresh; or the first rule that forbids it is told, and all stays.
-#[unsafe(no_mangle)]
-pub extern "C" fn nw_gathering_pack(g: &mut Gathering, store: &mut [u8]) -> u64
+pub fn nw_gathering_pack(g: &mut Gathering, store: &mut [u8]) -> u64
     ensures { (result ≡ hand_answer (packing_of g.old store.old).answer) × (g.new ≡ (packing_of g.old store.old).state) × (store.new ≡ store_packed g.old store.old) }
 {
     let packed = gathering_pack::pack_step(*g, store);

@@ -4,30 +4,26 @@ ghost use Rattle.body_formats.specs.Body.{body_read, body_laid, laid_tape, measu
 ghost use Rattle.index.specs.Index.{index_kind, index};
 ghost use Rattle.c_answers.specs.Answers.{read_answer, written_answer};
 
-#[unsafe(no_mangle)]
-pub extern "C" fn nw_index_read(kind: u32, body: &[u8]) -> u64
+pub fn nw_index_read(kind: u32, body: &[u8]) -> u64
     ensures { result ≡ read_answer (body_read index index_kind kind body.now) }
 {
     c_answers::read_answer(index_reader::read(kind, body))
 }
 
-#[unsafe(no_mangle)]
-pub extern "C" fn nw_index_lay(kind: u32, body: &[u8], tape: &mut [u64]) -> u64
+pub fn nw_index_lay(kind: u32, body: &[u8], tape: &mut [u64]) -> u64
     ensures value { result ≡ written_answer (body_laid index index_kind kind body.now (length tape.old)) }
     ensures tape_after { tape.new ≡ laid_tape index index_kind kind body.now tape.old }
 {
     c_answers::written_answer(index_reader::lay(kind, body, tape))
 }
 
-#[unsafe(no_mangle)]
-pub extern "C" fn nw_index_measure(pool: &[u8], tape: &[u64]) -> u64
+pub fn nw_index_measure(pool: &[u8], tape: &[u64]) -> u64
     ensures { result ≡ written_answer (measured index pool.now tape.now) }
 {
     c_answers::written_answer(index_writer::measure(pool, tape))
 }
 
-#[unsafe(no_mangle)]
-pub extern "C" fn nw_index_write(pool: &[u8], tape: &[u64], out: &mut [u8]) -> u64
+pub fn nw_index_write(pool: &[u8], tape: &[u64], out: &mut [u8]) -> u64
     ensures value { result ≡ written_answer (body_written index pool.now tape.now (length out.old)) }
     ensures out_after { out.new ≡ output_written index pool.now tape.now out.old }
 {

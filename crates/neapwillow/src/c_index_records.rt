@@ -5,8 +5,7 @@ ghost use Rattle.c_answers.specs.Answers.{written_answer};
 
 use index_records::Record;
 
-#[unsafe(no_mangle)]
-pub extern "C" fn nw_index_records(kind: u32, body: &[u8], list: &mut [Record]) -> u64
+pub fn nw_index_records(kind: u32, body: &[u8], list: &mut [Record]) -> u64
     ensures { (result ≡ written_answer (body_recorded kind body.now (length list.old))) × (list.new ≡ recorded kind body.now list.old) }
 {
     c_answers::written_answer(index_records::read(kind, body, list))

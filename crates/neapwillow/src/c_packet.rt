@@ -4,8 +4,7 @@ ghost use Rattle.packet_writer.specs.Answers.{packed_of, packets_over};
 ghost use Rattle.packet_reader.specs.Answers.{completed_of, state_after, sections_over};
 ghost use Rattle.c_answers.specs.Answers.{pack_answer, unpack_answer};
 
-#[unsafe(no_mangle)]
-pub extern "C" fn nw_packet_pack(section: &[u8], counter: u32, out: &mut [u8]) -> u64
+pub fn nw_packet_pack(section: &[u8], counter: u32, out: &mut [u8]) -> u64
     ensures value { result ≡ pack_answer (packed_of counter section.now out.old) }
     ensures out_after { out.new ≡ packets_over counter section.now out.old }
 {
@@ -13,8 +12,7 @@ pub extern "C" fn nw_packet_pack(section: &[u8], counter: u32, out: &mut [u8]) -
 }
 
 // The state that was lent becomes the state after the packet.
-#[unsafe(no_mangle)]
-pub extern "C" fn nw_packet_unpack(
+pub fn nw_packet_unpack(
     state: &mut [u8; packet_memory::STATE_BYTES],
     packet: &[u8],
     out: &mut [u8],

@@ -3,8 +3,7 @@ ghost use Rattle.std.specs.Prelude.{◌≡◌, length};
 ghost use Rattle.salvage.specs.Salvage.{salvage_of, output_after, list_after};
 ghost use Rattle.c_answers.specs.Answers.{salvaged_answer};
 
-#[unsafe(no_mangle)]
-pub extern "C" fn nw_salvage(capture: &[u8], out: &mut [u8], runs: &mut [u32]) -> u64
+pub fn nw_salvage(capture: &[u8], out: &mut [u8], runs: &mut [u32]) -> u64
     ensures value { result ≡ salvaged_answer (salvage_of capture.now (length out.old) (length runs.old)) }
     ensures out_after { out.new ≡ output_after capture.now out.old runs.old }
     ensures runs_after { runs.new ≡ list_after capture.now out.old runs.old }

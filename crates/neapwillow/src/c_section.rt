@@ -4,29 +4,25 @@ ghost use Rattle.section_reader.specs.Section.{read_section, stated_length};
 ghost use Rattle.section_cutter.specs.Cutting.{counted_of, cut_answer, cut_output};
 ghost use Rattle.c_answers.specs.Answers.{section_answer, stated_answer, count_answer, length_answer};
 
-#[unsafe(no_mangle)]
-pub extern "C" fn nw_section_read(s: &[u8]) -> u64
+pub fn nw_section_read(s: &[u8]) -> u64
     ensures { result ≡ section_answer (read_section s.now) }
 {
     c_answers::section_answer(section_reader::read_section(s))
 }
 
-#[unsafe(no_mangle)]
-pub extern "C" fn nw_section_length(s: &[u8]) -> u64
+pub fn nw_section_length(s: &[u8]) -> u64
     ensures { result ≡ stated_answer (stated_length s.now) }
 {
     c_answers::stated_answer(section_reader::stated_length(s))
 }
 
-#[unsafe(no_mangle)]
-pub extern "C" fn nw_section_count(length: usize) -> u64
+pub fn nw_section_count(length: usize) -> u64
     ensures { result ≡ count_answer (counted_of length) }
 {
     c_answers::count_answer(section_cutter::section_count(length))
 }
 
-#[unsafe(no_mangle)]
-pub extern "C" fn nw_section_cut(
+pub fn nw_section_cut(
     body: &[u8],
     kind: u32,
     extension: u32,

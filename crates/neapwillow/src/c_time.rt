@@ -7,8 +7,7 @@ ghost use Rattle.c_answers.specs.Answers.{field_answer, local_answer, showing_an
 
 use time_local::LocalTime;
 
-#[unsafe(no_mangle)]
-pub extern "C" fn nw_time_pack(
+pub fn nw_time_pack(
     year: u32,
     month: u32,
     day: u32,
@@ -32,22 +31,19 @@ pub extern "C" fn nw_time_pack(
     ))
 }
 
-#[unsafe(no_mangle)]
-pub extern "C" fn nw_time_read_text(text: &[u8], offset: i32) -> u64
+pub fn nw_time_read_text(text: &[u8], offset: i32) -> u64
     ensures { result ≡ field_answer (read_text text.now offset) }
 {
     c_answers::field_answer(time_local::read_text(text, offset))
 }
 
-#[unsafe(no_mangle)]
-pub extern "C" fn nw_time_unpack(field: u64, offset: i32) -> u64
+pub fn nw_time_unpack(field: u64, offset: i32) -> u64
     ensures { result ≡ local_answer (unpack_of field offset) }
 {
     c_answers::local_answer(time_local::unpack(field, offset))
 }
 
-#[unsafe(no_mangle)]
-pub extern "C" fn nw_time_showing(start: u64, end: u64, day: u32, second: u32) -> u64
+pub fn nw_time_showing(start: u64, end: u64, day: u32, second: u32) -> u64
     ensures { result ≡ showing_answer (showing start end (record { day = day; second = second })) }
 {
     c_answers::showing_answer(time_fields::at_instant(start, end, day, second))

@@ -4,16 +4,14 @@ ghost use Rattle.time_printing.specs.Printing.{start_text, end_text, printed_of,
 ghost use Rattle.time_printing.specs.Typing.{typed_times};
 ghost use Rattle.c_answers.specs.Answers.{printed_answer, times_answer, fields_after};
 
-#[unsafe(no_mangle)]
-pub extern "C" fn nw_time_print_start(field: u64, offset: i32, out: &mut [u8]) -> u64
+pub fn nw_time_print_start(field: u64, offset: i32, out: &mut [u8]) -> u64
     ensures value { result ≡ printed_answer (printed_of (start_text field offset) out.old) }
     ensures out_after { out.new ≡ output_of (start_text field offset) out.old }
 {
     c_answers::printed_answer(time_printing::print_start(field, offset, out))
 }
 
-#[unsafe(no_mangle)]
-pub extern "C" fn nw_time_print_end(field: u64, offset: i32, out: &mut [u8]) -> u64
+pub fn nw_time_print_end(field: u64, offset: i32, out: &mut [u8]) -> u64
     ensures value { result ≡ printed_answer (printed_of (end_text field offset) out.old) }
     ensures out_after { out.new ≡ output_of (end_text field offset) out.old }
 {
@@ -21,8 +19,7 @@ pub extern "C" fn nw_time_print_end(field: u64, offset: i32, out: &mut [u8]) -> 
 }
 
 // Any number but 0 asks for a live end.
-#[unsafe(no_mangle)]
-pub extern "C" fn nw_times_read_text(
+pub fn nw_times_read_text(
     start: &[u8],
     end: &[u8],
     live: u32,

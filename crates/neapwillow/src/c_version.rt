@@ -2,8 +2,7 @@
 ghost use Rattle.std.specs.Prelude.{◌≡◌};
 ghost use Rattle.c_answers.specs.Version.{version};
 
-#[unsafe(no_mangle)]
-pub extern "C" fn nw_version() -> u32
+pub fn nw_version() -> u32
     ensures { result ≡ version }
 {
     c_answers::version()

@@ -13,8 +13,7 @@ ghost use Rattle.c_rooms_answers.specs.Answers.{ended_answer, rooms_answer};
 use rooms_state::Networks;
 
 // The state that was lent becomes the one at the start, over a store of so many bytes, whatever it was. How many rooms the store has.
-#[unsafe(no_mangle)]
-pub extern "C" fn nw_networks_start(x: &mut Networks, bytes: usize) -> usize
+pub fn nw_networks_start(x: &mut Networks, bytes: usize) -> usize
     ensures { (result ≡ rooms_in bytes) × (x.new ≡ fresh_networks bytes) }
 {
     let fresh = rooms_state::fresh_networks(bytes);
@@ -23,13 +22,7 @@ pub extern "C" fn nw_networks_start(x: &mut Networks, bytes: usize) -> usize
 }
 
 // One byte string is fed for a network: the state that was lent becomes the state after it.
-#[unsafe(no_mangle)]
-pub extern "C" fn nw_networks_feed(
-    x: &mut Networks,
-    network: u32,
-    store: &mut [u8],
-    s: &[u8],
-) -> u64
+pub fn nw_networks_feed(x: &mut Networks, network: u32, store: &mut [u8], s: &[u8]) -> u64
     ensures { (result ≡ feed_answer (fed_of (network_of network) x.old store.old s.now).answer) × (x.new ≡ (fed_of (network_of network) x.old store.old s.now).state) × (store.new ≡ store_after (network_of network) x.old store.old s.now) }
 {
     let fed = rooms_feed::feed_step(*x, network, store, s);
@@ -38,21 +31,14 @@ pub extern "C" fn nw_networks_feed(
 }
 
 // A network's body is handed out, or the first rule that forbids it is told. The state is only looked at.
-#[unsafe(no_mangle)]
-pub extern "C" fn nw_networks_hand_out(
-    x: &Networks,
-    network: u32,
-    store: &[u8],
-    out: &mut [u8],
-) -> u64
+pub fn nw_networks_hand_out(x: &Networks, network: u32, store: &[u8], out: &mut [u8]) -> u64
     ensures { (result ≡ hand_answer (handed_of (network_of network) x.now store.now out.old)) × (out.new ≡ out_after (network_of network) x.now store.now out.old) }
 {
     c_answers::hand_answer(rooms_hand_out::hand_out(*x, network, store, out))
 }
 
 // A network's gathering ends: its part of the state that was lent becomes fresh.
-#[unsafe(no_mangle)]
-pub extern "C" fn nw_networks_end(x: &mut Networks, network: u32, bytes: usize) -> u64
+pub fn nw_networks_end(x: &mut Networks, network: u32, bytes: usize) -> u64
     ensures { (result ≡ ended_answer (ended_of (network_of network) x.old bytes).answer) × (x.new ≡ (ended_of (network_of network) x.old bytes).state) }
 {
     let ended = rooms_end::end_step(*x, network, bytes);
@@ -61,16 +47,14 @@ pub extern "C" fn nw_networks_end(x: &mut Networks, network: u32, bytes: usize) 
 }
 
 // How many rooms both networks hold.
-#[unsafe(no_mangle)]
-pub extern "C" fn nw_networks_held_rooms(x: &Networks, bytes: usize) -> u64
+pub fn nw_networks_held_rooms(x: &Networks, bytes: usize) -> u64
     ensures { result ≡ rooms_answer (held_of x.now bytes) }
 {
     c_rooms_answers::rooms_answer(rooms_count::rooms_held(*x, bytes))
 }
 
 // How many rooms nobody holds.
-#[unsafe(no_mangle)]
-pub extern "C" fn nw_networks_free_rooms(x: &Networks, bytes: usize) -> u64
+pub fn nw_networks_free_rooms(x: &Networks, bytes: usize) -> u64
     ensures { result ≡ rooms_answer (free_of x.now bytes) }
 {
     c_rooms_answers::rooms_answer(rooms_count::rooms_free(*x, bytes))

@@ -41,14 +41,7 @@ fn choice_answer(c: Choice) -> u64
 }
 
 // The message of an index body that a box with this code shows at a second of a day, both UTC.
-#[unsafe(no_mangle)]
-pub extern "C" fn nw_screen_choose(
-    kind: u32,
-    body: &[u8],
-    code: &[u8],
-    day: u32,
-    second: u32,
-) -> u64
+pub fn nw_screen_choose(kind: u32, body: &[u8], code: &[u8], day: u32, second: u32) -> u64
     ensures { result ≡ choice_answer (choice_of kind body.now code.now (record { day = day; second = second })) }
 {
     choice_answer(screen_choice::choose(kind, body, code, day, second))

@@ -57,7 +57,7 @@ pub record GivenExactly : Type 0 where
   pub complete : (g : Gathering) (bytes : ℕ) → AsListed NotComplete (λ a. a ≡ Complete) (complete_lines g bytes) (complete_of g bytes)
   pub handing_out_lem : (g : Gathering) (store out : List ℕ)
       → AsListed NotHanded (λ a. a ≡ Body (length (body_held g store))) (handing_lines g store out) (handed_of g store out)
-  -- packing: "12, 13, 10, 11, 13 in handing_out_lem order, with no 21"
+  -- packing: "12, 13, 10, 11, 13 in handing-out order, with no 21"
   pub packing_store : (g : Gathering) (store : List ℕ)
       → AsListed NotHanded (λ a. a ≡ Body (length (body_held g store))) (complete_lines g (length store)) (packing_of g store).answer
   -- M-109: "first 19 for a network other than 1 or 2; 12 [..]; 35 no free room, after 11; 10 is not given"

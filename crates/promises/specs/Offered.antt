@@ -1,6 +1,6 @@
--- What each function offered to C promises: any two results that its contract allows are equal. A line is a contract in its own words, with x for
--- `now x.entry` and x' for `now x.exit`. Written by tools/offered from the contracts; tests/check-promises holds it to them.
-use Rattle.std.specs.Prelude.{ℕ, not, List, ◌++◌, ◌≡◌, eqb, ℤ, length, drop}
+-- What each function offered to C promises: any two results that its contract allows are equal. A line is a contract in its own words, with r for
+-- `result`, x for `x.now` and `x.old`, and x' for `x.new`. Written by tools/offered from the contracts; tests/check-promises holds it to them.
+use Rattle.std.specs.Prelude.{List, ℕ, ◌≡◌, ℤ, not, eqb, length, ◌++◌, drop}
 use Rattle.crc.specs.Crc.{crc32_of, crc16_of}
 use Rattle.time_days.specs.Calendar.{day_of, date_of, weekday_of}
 use Rattle.time_fields.specs.Showing.{showing}
@@ -14,13 +14,13 @@ use Rattle.section_cutter.specs.Cutting.{counted_of, cut_answer, cut_output}
 use Rattle.packet_reader.specs.Answers.{completed_of, state_after, sections_over}
 use Rattle.packet_writer.specs.Answers.{packed_of, packets_over}
 use Rattle.gathering_state.specs.declared.Gathering.{Gathering}
-use Rattle.gathering_feed.specs.Feeding as gathering-feed
-use Rattle.gathering_hand_out.specs.Handing as gathering-hand-out
+use Rattle.gathering_feed.specs.Feeding as gathering_feed
+use Rattle.gathering_hand_out.specs.Handing as gathering_hand_out
 use Rattle.gathering_pack.specs.Packing.{packing_of, store_packed}
 use Rattle.rooms_state.specs.State.{rooms_in, fresh_networks, network_of}
 use Rattle.rooms_state.specs.declared.Networks.{Networks}
-use Rattle.rooms_feed.specs.Feeding as rooms-feed
-use Rattle.rooms_hand_out.specs.Handing as rooms-hand-out
+use Rattle.rooms_feed.specs.Feeding as rooms_feed
+use Rattle.rooms_hand_out.specs.Handing as rooms_hand_out
 use Rattle.rooms_end.specs.Ending.{ended_of}
 use Rattle.rooms_count.specs.Counting.{held_of, free_of}
 use Rattle.program_date_lines.specs.Report.{report_of}
@@ -28,30 +28,31 @@ use Rattle.program_salvage_lines.specs.Report.{report_of as runsText}
 use Rattle.program_section_line.specs.Line.{line_of}
 use Rattle.body_formats.specs.Body.{body_read, measured, body_written, output_written, body_laid, laid_tape}
 use Rattle.certificate.specs.Certificate.{certificate, certificate_kind}
-use Rattle.certificate_fields.specs.Asked as certificate-fields
+use Rattle.certificate_fields.specs.Asked as certificate_fields
 use Rattle.certificate_fields.specs.Asked.{authorization_count, authorization_part, certificate_count, certificate_part}
 use Rattle.index.specs.Index.{index, index_kind}
 use Rattle.index_stream_fields.specs.Asked.{descriptor_tag, descriptor_part, stream_type, stream_pid, stream_descriptors, descriptor_count, stream_count}
-use Rattle.index_fields.specs.Asked as index-fields
-use Rattle.index_fields.specs.Asked.{message_count, message_part, network, start, end, type_part, class, level, resource_count, resource_part, resource_digit, flag}
-use Rattle.index_fields.specs.Asked.{channel_network, channel_stream, channel_program, pcr_pid, descriptors_part, streams_part}
+use Rattle.index_fields.specs.Asked as index_fields
+use Rattle.index_fields.specs.Asked.{message_count, message_part, network, start, end, type_part, class, level, resource_count, resource_part, resource_digit}
+use Rattle.index_fields.specs.Asked.{flag, channel_network, channel_stream, channel_program, pcr_pid, descriptors_part, streams_part}
 use Rattle.index_records.specs.Records.{body_recorded, recorded}
 use Rattle.index_records.specs.declared.Record.{Record}
 use Rattle.content.specs.Content.{variant_read, variant_laid, variant_tape}
 use Rattle.content_writer.specs.Written.{variant_measured, variant_written, variant_output}
-use Rattle.content_fields.specs.Asked as content-fields
-use Rattle.content_fields.specs.Asked.{language_count, language_part, letters_part, character_set, text_part, agency_part, auxiliary_count, variant_type, variant_part}
+use Rattle.content_fields.specs.Asked as content_fields
+use Rattle.content_fields.specs.Asked.{language_count, language_part, letters_part, character_set, text_part, agency_part, auxiliary_count, variant_type}
+use Rattle.content_fields.specs.Asked.{variant_part}
 use Rattle.configuration.specs.Configuration.{configuration, configuration_kind}
-use Rattle.configuration_fields.specs.Asked as configuration-fields
-use Rattle.configuration_fields.specs.Asked.{command_count, command_part, command_tag, command_content, clock_year, clock_month, clock_day, clock_hour, clock_minute}
-use Rattle.configuration_fields.specs.Asked.{clock_second, code_address, code_resource, code_digit, frequency, symbol_rate, mapping, return_kind, return_address}
-use Rattle.configuration_fields.specs.Asked.{period, volume, parameter_count, parameter, terminal_count, terminal, terminal_digit}
+use Rattle.configuration_fields.specs.Asked as configuration_fields
+use Rattle.configuration_fields.specs.Asked.{command_count, command_part, command_tag, command_content, clock_year, clock_month, clock_day, clock_hour}
+use Rattle.configuration_fields.specs.Asked.{clock_minute, clock_second, code_address, code_resource, code_digit, frequency, symbol_rate, mapping, return_kind}
+use Rattle.configuration_fields.specs.Asked.{return_address, period, volume, parameter_count, parameter, terminal_count, terminal, terminal_digit}
 use Rattle.teaching_feed.specs.Feeding.{taught_of, buffer_after}
 use Rattle.teaching_hand_out.specs.Asking as teaching_hand_out
 use Rattle.teaching_hand_out.specs.Asking.{heading_of, lacking_of}
-use Rattle.c_answers.specs.Answers.{day_answer, date_answer, weekday_answer, field_answer, local_answer, showing_answer, printed_answer, times_answer, fields_after}
-use Rattle.c_answers.specs.Answers.{salvaged_answer, section_answer, stated_answer, count_answer, length_answer, pack_answer, unpack_answer, feed_answer, hand_answer}
-use Rattle.c_answers.specs.Answers.{read_answer, number_answer, part_answer, written_answer, local_field_answer, content_answer}
+use Rattle.c_answers.specs.Answers.{day_answer, date_answer, weekday_answer, field_answer, local_answer, showing_answer, printed_answer, times_answer}
+use Rattle.c_answers.specs.Answers.{fields_after, salvaged_answer, section_answer, stated_answer, count_answer, length_answer, pack_answer, unpack_answer}
+use Rattle.c_answers.specs.Answers.{feed_answer, hand_answer, read_answer, number_answer, part_answer, written_answer, local_field_answer, content_answer}
 use Rattle.c_answers.specs.Version.{version}
 use Rattle.c_rooms_answers.specs.Answers.{ended_answer, rooms_answer}
 use Rattle.c_teaching_answers.specs.Answers.{headed_answer, lacking_answer}
@@ -89,7 +90,8 @@ pub record Offered : Type 0 where
   pub nw_section_length : (s : List ℕ) → Determined (λ r. r ≡ stated_answer (stated_length s))
   pub nw_section_count : (length : ℕ) → Determined (λ r. r ≡ count_answer (counted_of length))
   pub nw_section_cut : (body : List ℕ) (kind extension version number : ℕ) (out : List ℕ) →
-      Determined₂ (λ r out'. (r ≡ length_answer (cut_answer body kind extension version number out)) × (out' ≡ cut_output body kind extension version number out))
+      Determined₂ (λ r out'. (r ≡ length_answer (cut_answer body kind extension version number out)) ×
+      (out' ≡ cut_output body kind extension version number out))
   -- Packets for C: a section packed, and one packet unpacked over the state that C lends.
   pub nw_packet_pack : (section : List ℕ) (counter : ℕ) (out : List ℕ) →
       Determined₂ (λ r out'. (r ≡ pack_answer (packed_of counter section out)) × (out' ≡ packets_over counter section out))
@@ -99,11 +101,11 @@ pub record Offered : Type 0 where
       (out' ≡ sections_over state packet out))
   -- The gathering as C has it: a pointer to the state, byte strings as pointer and length, and one number for the answer.
   pub nw_gathering_feed : (g : Gathering) (store s : List ℕ) →
-      Determined₃ (λ r g' store'. (r ≡ feed_answer (gathering-feed.fed_of g store s).answer) ×
-      (g' ≡ (gathering-feed.fed_of g store s).state) ×
-      (store' ≡ gathering-feed.store_after g store s))
+      Determined₃ (λ r g' store'. (r ≡ feed_answer (gathering_feed.fed_of g store s).answer) ×
+      (g' ≡ (gathering_feed.fed_of g store s).state) ×
+      (store' ≡ gathering_feed.store_after g store s))
   pub nw_gathering_hand_out : (g : Gathering) (store out : List ℕ) →
-      Determined₂ (λ r out'. (r ≡ hand_answer (gathering-hand-out.handed_of g store out)) × (out' ≡ gathering-hand-out.out_after g store out))
+      Determined₂ (λ r out'. (r ≡ hand_answer (gathering_hand_out.handed_of g store out)) × (out' ≡ gathering_hand_out.out_after g store out))
   pub nw_gathering_pack : (g : Gathering) (store : List ℕ) →
       Determined₃ (λ r g' store'. (r ≡ hand_answer (packing_of g store).answer) × (g' ≡ (packing_of g store).state) × (store' ≡ store_packed g store))
   -- The certificate table for C.
@@ -112,7 +114,7 @@ pub record Offered : Type 0 where
   pub nw_certificate_authorization : (body : List ℕ) (i : ℕ) → Determined (λ r. r ≡ part_answer (authorization_part body i))
   pub nw_certificate_certificate_count : (body : List ℕ) → Determined (λ r. r ≡ number_answer (certificate_count body))
   pub nw_certificate_certificate : (body : List ℕ) (i : ℕ) → Determined (λ r. r ≡ part_answer (certificate_part body i))
-  pub nw_certificate_signature : (body : List ℕ) → Determined (λ r. r ≡ part_answer (certificate-fields.signature_part body))
+  pub nw_certificate_signature : (body : List ℕ) → Determined (λ r. r ≡ part_answer (certificate_fields.signature_part body))
   pub nw_certificate_measure : (pool tape : List ℕ) → Determined (λ r. r ≡ written_answer (measured certificate pool tape))
   pub nw_certificate_write : (pool tape out : List ℕ) →
       Determined₂ (λ r out'. (r ≡ written_answer (body_written certificate pool tape (length out))) × (out' ≡ output_written certificate pool tape out))
@@ -137,10 +139,10 @@ pub record Offered : Type 0 where
   -- The fields of an index table for C, asked for one by one.
   pub nw_index_message_count : (body : List ℕ) → Determined (λ r. r ≡ number_answer (message_count body))
   pub nw_index_message : (body : List ℕ) (i : ℕ) → Determined (λ r. r ≡ part_answer (message_part body i))
-  pub nw_index_signature : (body : List ℕ) → Determined (λ r. r ≡ part_answer (index-fields.signature_part body))
-  pub nw_message_identifier : (body : List ℕ) (at length : ℕ) → Determined (λ r. r ≡ part_answer (index-fields.identifier_part body at length))
-  pub nw_message_identifier_digit : (body : List ℕ) (at length i : ℕ) → Determined (λ r. r ≡ number_answer (index-fields.identifier_digit body at length i))
-  pub nw_message_extension : (body : List ℕ) (at length : ℕ) → Determined (λ r. r ≡ number_answer (index-fields.extension body at length))
+  pub nw_index_signature : (body : List ℕ) → Determined (λ r. r ≡ part_answer (index_fields.signature_part body))
+  pub nw_message_identifier : (body : List ℕ) (at length : ℕ) → Determined (λ r. r ≡ part_answer (index_fields.identifier_part body at length))
+  pub nw_message_identifier_digit : (body : List ℕ) (at length i : ℕ) → Determined (λ r. r ≡ number_answer (index_fields.identifier_digit body at length i))
+  pub nw_message_extension : (body : List ℕ) (at length : ℕ) → Determined (λ r. r ≡ number_answer (index_fields.extension body at length))
   pub nw_message_network : (body : List ℕ) (at length : ℕ) → Determined (λ r. r ≡ number_answer (network body at length))
   pub nw_message_start : (body : List ℕ) (at length : ℕ) → Determined (λ r. r ≡ number_answer (start body at length))
   pub nw_message_end : (body : List ℕ) (at length : ℕ) → Determined (λ r. r ≡ number_answer (end body at length))
@@ -170,12 +172,12 @@ pub record Offered : Type 0 where
   pub nw_content_write : (variant : ℕ) (pool tape out : List ℕ) →
       Determined₂ (λ r out'. (r ≡ content_answer (variant_written variant pool tape (length out))) × (out' ≡ variant_output variant pool tape out))
   -- The fields of a content table for C, asked for one by one.
-  pub nw_content_identifier : (body : List ℕ) → Determined (λ r. r ≡ part_answer (content-fields.identifier_part body))
-  pub nw_content_identifier_digit : (body : List ℕ) (i : ℕ) → Determined (λ r. r ≡ number_answer (content-fields.identifier_digit body i))
-  pub nw_content_extension : (body : List ℕ) → Determined (λ r. r ≡ number_answer (content-fields.extension body))
+  pub nw_content_identifier : (body : List ℕ) → Determined (λ r. r ≡ part_answer (content_fields.identifier_part body))
+  pub nw_content_identifier_digit : (body : List ℕ) (i : ℕ) → Determined (λ r. r ≡ number_answer (content_fields.identifier_digit body i))
+  pub nw_content_extension : (body : List ℕ) → Determined (λ r. r ≡ number_answer (content_fields.extension body))
   pub nw_content_language_count : (body : List ℕ) → Determined (λ r. r ≡ number_answer (language_count body))
   pub nw_content_language : (body : List ℕ) (i : ℕ) → Determined (λ r. r ≡ part_answer (language_part body i))
-  pub nw_content_signature : (body : List ℕ) → Determined (λ r. r ≡ part_answer (content-fields.signature_part body))
+  pub nw_content_signature : (body : List ℕ) → Determined (λ r. r ≡ part_answer (content_fields.signature_part body))
   pub nw_language_letters : (body : List ℕ) (at length : ℕ) → Determined (λ r. r ≡ part_answer (letters_part body at length))
   pub nw_language_character_set : (body : List ℕ) (at length : ℕ) → Determined (λ r. r ≡ number_answer (character_set body at length))
   pub nw_language_text : (body : List ℕ) (at length : ℕ) → Determined (λ r. r ≡ part_answer (text_part body at length))
@@ -194,7 +196,7 @@ pub record Offered : Type 0 where
   -- The fields of a configuration table and of its commands for C, asked for one by one.
   pub nw_configuration_command_count : (body : List ℕ) → Determined (λ r. r ≡ number_answer (command_count body))
   pub nw_configuration_command : (body : List ℕ) (i : ℕ) → Determined (λ r. r ≡ part_answer (command_part body i))
-  pub nw_configuration_signature : (body : List ℕ) → Determined (λ r. r ≡ part_answer (configuration-fields.signature_part body))
+  pub nw_configuration_signature : (body : List ℕ) → Determined (λ r. r ≡ part_answer (configuration_fields.signature_part body))
   pub nw_command_tag : (body : List ℕ) (at : ℕ) → Determined (λ r. r ≡ number_answer (command_tag body at))
   pub nw_command_content : (body : List ℕ) (at : ℕ) → Determined (λ r. r ≡ part_answer (command_content body at))
   pub nw_command_clock_year : (body : List ℕ) (at : ℕ) → Determined (λ r. r ≡ number_answer (clock_year body at))
@@ -223,12 +225,12 @@ pub record Offered : Type 0 where
   -- Two networks over one store as C has them: a pointer to the state, the network's number, byte strings as pointer and length, and one number for the answer.
   pub nw_networks_start : (x : Networks) (bytes : ℕ) → Determined₂ (λ r x'. (r ≡ rooms_in bytes) × (x' ≡ fresh_networks bytes))
   pub nw_networks_feed : (x : Networks) (network : ℕ) (store s : List ℕ) →
-      Determined₃ (λ r x' store'. (r ≡ feed_answer (rooms-feed.fed_of (network_of network) x store s).answer) ×
-      (x' ≡ (rooms-feed.fed_of (network_of network) x store s).state) ×
-      (store' ≡ rooms-feed.store_after (network_of network) x store s))
+      Determined₃ (λ r x' store'. (r ≡ feed_answer (rooms_feed.fed_of (network_of network) x store s).answer) ×
+      (x' ≡ (rooms_feed.fed_of (network_of network) x store s).state) ×
+      (store' ≡ rooms_feed.store_after (network_of network) x store s))
   pub nw_networks_hand_out : (x : Networks) (network : ℕ) (store out : List ℕ) →
-      Determined₂ (λ r out'. (r ≡ hand_answer (rooms-hand-out.handed_of (network_of network) x store out)) ×
-      (out' ≡ rooms-hand-out.out_after (network_of network) x store out))
+      Determined₂ (λ r out'. (r ≡ hand_answer (rooms_hand_out.handed_of (network_of network) x store out)) ×
+      (out' ≡ rooms_hand_out.out_after (network_of network) x store out))
   pub nw_networks_end : (x : Networks) (network bytes : ℕ) →
       Determined₂ (λ r x'. (r ≡ ended_answer (ended_of (network_of network) x bytes).answer) × (x' ≡ (ended_of (network_of network) x bytes).state))
   pub nw_networks_held_rooms : (x : Networks) (bytes : ℕ) → Determined (λ r. r ≡ rooms_answer (held_of x bytes))
@@ -242,7 +244,7 @@ pub record Offered : Type 0 where
       Determined₂ (λ r out'. (r ≡ hand_answer (teaching_hand_out.handed_of buffer used store out)) × (out' ≡ teaching_hand_out.out_after buffer used store out))
   pub nw_teaching_heading : (buffer : List ℕ) (used store : ℕ) → Determined (λ r. r ≡ headed_answer (heading_of buffer used store))
   pub nw_teaching_missing : (buffer : List ℕ) (used store : ℕ) → Determined (λ r. r ≡ lacking_answer (lacking_of buffer used store))
-  -- What the commands nw-dates, nw-section and nw_salvage call from C: the report, the line and the list of runs that the programs write.
+  -- What the commands nw-dates, nw-section and nw-salvage call from C: the report, the line and the list of runs that the programs write.
   pub nw_dates_report : (input out : List ℕ) → Determined₂ (λ r out'. (r ≡ length (report_of input)) × (out' ≡ report_of input ++ drop r out))
   pub nw_section_line : (input out : List ℕ) → Determined₂ (λ r out'. (r ≡ length (line_of input)) × (out' ≡ line_of input ++ drop r out))
   pub nw_salvage_list : (capture out : List ℕ) → Determined₂ (λ r out'. (r ≡ length (runsText capture)) × (out' ≡ runsText capture ++ drop r out))

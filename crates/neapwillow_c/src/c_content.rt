@@ -1,0 +1,35 @@
+// The content table of either variant for C: read with its extension, laid onto a form, written from one with its extension.
+ghost use Rattle.std.specs.Prelude.{◌≡◌, length};
+ghost use Rattle.content.specs.Content.{variant_read, variant_laid, variant_tape};
+ghost use Rattle.content_writer.specs.Written.{variant_measured, variant_written, variant_output};
+ghost use Rattle.c_answers.specs.Answers.{read_answer, written_answer, content_answer};
+
+#[unsafe(no_mangle)]
+pub extern "C" fn nw_content_read(kind: u32, variant: u32, extension: u32, body: &[u8]) -> u64
+    ensures { result ≡ read_answer (variant_read kind variant extension body.now) }
+{
+    neapwillow::c_content::nw_content_read(kind, variant, extension, body)
+}
+
+#[unsafe(no_mangle)]
+pub extern "C" fn nw_content_lay(kind: u32, variant: u32, body: &[u8], tape: &mut [u64]) -> u64
+    ensures value { result ≡ written_answer (variant_laid kind variant body.now (length tape.old)) }
+    ensures tape_after { tape.new ≡ variant_tape kind variant body.now tape.old }
+{
+    neapwillow::c_content::nw_content_lay(kind, variant, body, tape)
+}
+
+#[unsafe(no_mangle)]
+pub extern "C" fn nw_content_measure(variant: u32, pool: &[u8], tape: &[u64]) -> u64
+    ensures { result ≡ written_answer (variant_measured variant pool.now tape.now) }
+{
+    neapwillow::c_content::nw_content_measure(variant, pool, tape)
+}
+
+#[unsafe(no_mangle)]
+pub extern "C" fn nw_content_write(variant: u32, pool: &[u8], tape: &[u64], out: &mut [u8]) -> u64
+    ensures value { result ≡ content_answer (variant_written variant pool.now tape.now (length out.old)) }
+    ensures out_after { out.new ≡ variant_output variant pool.now tape.now out.old }
+{
+    neapwillow::c_content::nw_content_write(variant, pool, tape, out)
+}
