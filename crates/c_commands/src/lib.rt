@@ -4,7 +4,7 @@
 ghost use Rattle.std.specs.Prelude.{◌≡◌, ◌++◌, length, drop};
 ghost use Rattle.program_date_lines.specs.Report.{report_of};
 ghost use Rattle.program_section_line.specs.Line.{line_of};
-ghost use Rattle.program_salvage_lines.specs.Report.{report_of as runsText};
+ghost use Rattle.program_salvage_lines.specs.Report.{report_of as runs_text_of};
 
 // The output is as long as the longest report.
 pub fn nw_dates_report(input: &[u8], out: &mut [u8; program_date_lines::MOST_OUTPUT]) -> usize
@@ -24,8 +24,8 @@ pub fn nw_section_line(input: &[u8], out: &mut [u8; program_section_line::MOST_O
 
 // The output is as long as the longest list.
 pub fn nw_salvage_list(capture: &[u8], out: &mut [u8; program_salvage_lines::MOST_OUTPUT]) -> usize
-    ensures length { result ≡ length (runsText capture.now) }
-    ensures bytes { out.new ≡ runsText capture.now ++ drop result out.old }
+    ensures length { result ≡ length (runs_text_of capture.now) }
+    ensures bytes { out.new ≡ runs_text_of capture.now ++ drop result out.old }
 {
     program_salvage_lines::report(capture, out)
 }

@@ -24,7 +24,7 @@ use Rattle.rooms_hand_out.specs.Handing as rooms_hand_out
 use Rattle.rooms_end.specs.Ending.{ended_of}
 use Rattle.rooms_count.specs.Counting.{held_of, free_of}
 use Rattle.program_date_lines.specs.Report.{report_of}
-use Rattle.program_salvage_lines.specs.Report.{report_of as runsText}
+use Rattle.program_salvage_lines.specs.Report.{report_of as runs_text_of}
 use Rattle.program_section_line.specs.Line.{line_of}
 use Rattle.body_formats.specs.Body.{body_read, measured, body_written, output_written, body_laid, laid_tape}
 use Rattle.certificate.specs.Certificate.{certificate, certificate_kind}
@@ -247,4 +247,4 @@ pub record Offered : Type 0 where
   -- What the commands nw-dates, nw-section and nw-salvage call from C: the report, the line and the list of runs that the programs write.
   pub nw_dates_report : (input out : List ℕ) → Determined₂ (λ r out'. (r ≡ length (report_of input)) × (out' ≡ report_of input ++ drop r out))
   pub nw_section_line : (input out : List ℕ) → Determined₂ (λ r out'. (r ≡ length (line_of input)) × (out' ≡ line_of input ++ drop r out))
-  pub nw_salvage_list : (capture out : List ℕ) → Determined₂ (λ r out'. (r ≡ length (runsText capture)) × (out' ≡ runsText capture ++ drop r out))
+  pub nw_salvage_list : (capture out : List ℕ) → Determined₂ (λ r out'. (r ≡ length (runs_text_of capture)) × (out' ≡ runs_text_of capture ++ drop r out))
