@@ -15,4 +15,3 @@ invariant-loop-k l = every (λ x. leb l.lo x && leb x l.hi) (take l.n (drop l.p 
 
 abbrev pub decreases-loop-k : goal.decreases-loop-k
 decreases-loop-k l = l.end - l.k
-

@@ -13,4 +13,3 @@ invariant-loop-j l = (l.j ≤ l.n) × (digits_at l.s l.p l.j ≡ true)
 
 abbrev pub decreases-loop-j : goal.decreases-loop-j
 decreases-loop-j l = l.n - l.j
-

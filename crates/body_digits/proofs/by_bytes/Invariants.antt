@@ -13,4 +13,3 @@ invariant-loop-k l = (l.k ≤ l.n) × (digits_at l.s l.p l.k ≡ true)
 
 abbrev pub decreases-loop-k : goal.decreases-loop-k
 decreases-loop-k l = l.n - l.k
-

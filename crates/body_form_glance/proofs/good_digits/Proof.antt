@@ -1,5 +1,4 @@
 -- `body_form_glance::good_digits` meets its contract: the span has the field's length and lies in the pool, its first byte has a digit, and the others have
--- two each.
 use Prim.Native.Nat.{◌+◌, ◌≤◌}
 use mathlib.Core.Path.{refl, sym, ◌∙◌}
 use lib.ListN.{length, get_or}
@@ -11,14 +10,14 @@ use Rattle.body_form_glance.proofs.Forms.{not_good, lays-to, lays-digits}
 use Rattle.body_form_glance.proofs.good_digits.Statement.{statement}
 use Rattle.body_form_glance.proofs.good_digits.Tie as tie
 
-begun : tie.Else2 → tie.Start
+begun : tie.Else-not-good_span → tie.Start
 begun c = search
 
 -- the span lies in the pool
-inside : (c : tie.Else2) → let given = (begun c).args in
+inside : (c : tie.Else-not-good_span) → let given = (begun c).args in
     get_or given.tape.now given.k 0 + get_or given.tape.now (given.k + 1) 0 ≤ length given.pool.now
 unfolding begun
-inside c = leb-true _ _ (met _ c.before.good-span.ensures c.if2.false)
+inside c = leb-true _ _ (met _ c.before.good_span.ensures c.if-not-good_span.false-raw)
 
 pub good_digits_spec : {M : Type 1} → statement M
 unfolding begun
@@ -34,14 +33,13 @@ good_digits_spec =
     (λ c. not_good)
     (λ c. search rules)
     (λ c. search rules)
-    (λ c. let placed : tie.Else2 = search in omega (arith, inside placed))
+    (λ c. let placed : tie.Else-not-good_span = search in omega (arith, inside placed))
     (λ c. not_good)
-    (λ c. let placed : tie.Else2 = search in omega (arith, inside placed))
-    (λ c κs. let placed : tie.Else2 = search in omega (arith, inside placed))
-    (λ c e.
-    let placed : tie.Else2 = search in
+    (λ c. let placed : tie.Else-not-good_span = search in omega (arith, inside placed))
+    (λ c κs. let placed : tie.Else-not-good_span = search in omega (arith, inside placed))
+    (λ c e. let placed : tie.Else-not-good_span = search in
     let given = (begun placed).args in (
       _,
       lays-to refl (omega arith) (lays-digits given.pool.now given.tape.now given.k refl refl (omega arith) (inside placed) given.h (omega arith)
-          c.before.if3.false (sym c.all-decimal.ensures ∙ e)),
+          c.before.if-pool-a-gt9.false (sym c.all_decimal.ensures ∙ e)),
     )))

@@ -1,5 +1,4 @@
 -- `body_form_glance::good_resource` meets its contract: the span has twelve bytes and lies in the pool, its first byte has a digit, and two windows of eight
--- bytes cover the eleven others.
 use Prim.Native.Nat.{◌+◌, ◌≤◌}
 use mathlib.Core.Path.{refl, sym, ◌∙◌}
 use lib.ListN.{length, get_or}
@@ -12,14 +11,14 @@ use Rattle.body_form_glance.proofs.Forms.{not_good, lays-to, lays-digits}
 use Rattle.body_form_glance.proofs.good_resource.Statement.{statement}
 use Rattle.body_form_glance.proofs.good_resource.Tie as tie
 
-begun : tie.Else2 → tie.Start
+begun : tie.Else-not-good_span → tie.Start
 begun c = search
 
 -- the span lies in the pool
-inside : (c : tie.Else2) → let given = (begun c).args in
+inside : (c : tie.Else-not-good_span) → let given = (begun c).args in
     get_or given.tape.now given.k 0 + get_or given.tape.now (given.k + 1) 0 ≤ length given.pool.now
 unfolding begun
-inside c = leb-true _ _ (met _ c.before.good-span.ensures c.if2.false)
+inside c = leb-true _ _ (met _ c.before.good_span.ensures c.if-not-good_span.false-raw)
 
 pub good_resource_spec : {M : Type 1} → statement M
 unfolding begun
@@ -34,21 +33,20 @@ good_resource_spec =
     (λ c. not_good)
     (λ c. search rules)
     (λ c. search rules)
-    (λ c. let placed : tie.Else2 = search in omega (arith, inside placed))
+    (λ c. let placed : tie.Else-not-good_span = search in omega (arith, inside placed))
     (λ c. not_good)
-    (λ c. let placed : tie.Else2 = search in omega (arith, inside placed))
-    (λ c κs. let placed : tie.Else2 = search in omega (arith, inside placed))
+    (λ c. let placed : tie.Else-not-good_span = search in omega (arith, inside placed))
+    (λ c κs. let placed : tie.Else-not-good_span = search in omega (arith, inside placed))
     (λ c. not_good)
-    (λ c. let placed : tie.Else2 = search in omega (arith, inside placed))
-    (λ c κs. let placed : tie.Else2 = search in omega (arith, inside placed))
-    (λ c e.
-    let placed : tie.Else2 = search in
-    let first : tie.Else3 = search in
+    (λ c. let placed : tie.Else-not-good_span = search in omega (arith, inside placed))
+    (λ c κs. let placed : tie.Else-not-good_span = search in omega (arith, inside placed))
+    (λ c e. let placed : tie.Else-not-good_span = search in
+    let first : tie.Else-pool-a-gt9 = search in
     let near : tie.After-eight = search in
     let given = (begun placed).args in
     let a = get_or given.tape.now given.k 0 in
-    let others = eleven given.pool.now (a + 1) (a + 4) (omega arith) (met _ near.eight.ensures c.before.if4.false) (sym c.eight2.ensures ∙ e) in (
+    let others = eleven given.pool.now (a + 1) (a + 4) (omega arith) (met _ near.eight.ensures c.before.if-not-eight.false-raw) (sym c.eight-2.ensures ∙ e) in (
       _,
       lays-to refl (omega arith) (lays-digits given.pool.now given.tape.now given.k refl refl (omega arith) (inside placed) 11 (omega arith)
-          first.if3.left others),
+          first.if-pool-a-gt9.false others),
     )))

@@ -23,8 +23,7 @@ last_part_spec =
     (λ c. search rules)
     (λ c. search rules)
     (λ c. search rules)
-    (λ c.
-    let asked : tie.After-good-span = search in
-    let within : tie.Else3 = search in
-    let one = part_laid _ _ _ 2 refl (omega arith) (omega arith) (met _ asked.good-span.ensures within.if3.left) in
+    (λ c. let asked : tie.After-good_span = search in
+    let within : tie.Else-not-good_span = search in
+    let one = part_laid _ _ _ 2 refl (omega arith) (omega arith) (met _ asked.good_span.ensures within.if-not-good_span.false-raw) in
     (omega arith, λ some. (one.0, lays-to (omega arith) refl one.1))))

@@ -13,4 +13,3 @@ invariant-loop-k l = (l.k ≤ l.w) × (l.v ≡ number_at l.s l.p l.k) × (l.v < 
 
 abbrev pub decreases-loop-k : goal.decreases-loop-k
 decreases-loop-k l = l.w - l.k
-

@@ -11,4 +11,3 @@ invariant-loop-left l = part_after l.w l.i l.s l.l l.p ≡ part_after l.w l.left
 
 abbrev pub decreases-loop-left : goal.decreases-loop-left
 decreases-loop-left l = l.left
-

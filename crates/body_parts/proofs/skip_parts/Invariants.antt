@@ -12,4 +12,3 @@ invariant-loop-left l = ended_all (opaque l.w) l.n l.s l.l l.p ≡ ended_all (op
 
 abbrev pub decreases-loop-left : goal.decreases-loop-left
 decreases-loop-left l = l.left
-

@@ -14,4 +14,3 @@ invariant-loop-k l = name_goes_on (take l.n (drop l.p l.s)) ≡ name_goes_on (pa
 
 abbrev pub decreases-loop-k : goal.decreases-loop-k
 decreases-loop-k l = l.end - l.k
-

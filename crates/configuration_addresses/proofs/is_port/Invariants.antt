@@ -13,4 +13,3 @@ invariant-loop-k l = (is_port (take l.n (drop l.p l.s)) ≡ port_left l.worth (p
 
 abbrev pub decreases-loop-k : goal.decreases-loop-k
 decreases-loop-k l = l.end - l.k
-

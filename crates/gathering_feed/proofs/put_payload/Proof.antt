@@ -16,7 +16,6 @@ put_payload_spec =
     (λ c κs. search rules)
     (λ c. search rules)
     (λ c. search rules)
-    (λ c.
-    let copied = c.before.before in
+    (λ c. let copied = c.before.before in
     let placed = copied.before.before.before in
-    puts _ _ _ placed.before.before.before.requires _ placed.place_of.ensures _ copied.copy-long.ensures))
+    puts _ _ _ placed.before.before.before.requires _ placed.place_of-at.ensures _ copied.copy_long.ensures))

@@ -1,5 +1,4 @@
 -- `gathering_hand_out::complete` meets its contract: each refusal is the first of its order that applies, and where none does the missing numbers decide.
-use Prim.Native.Nat.{◌+◌, ◌≤◌}
 use mathlib.Core.Bool.{true, false}
 use mathlib.Core.Path.{◌≡◌, sym, ◌∙◌}
 use native.Mathlib.Omega.{arith}
@@ -18,22 +17,20 @@ use Rattle.gathering_hand_out.proofs.complete.Tie as tie
 abbrev given : tie.Start → Gathering
 given c = state_of c.args.m c.args.held.now
 
--- past each refusal
+possible : (c : tie.Else-not-possible) → possible_of (given c.before.before) ≡ true
+possible c = met _ c.before.possible.ensures c.if-not-possible.false-raw
 
-possible : (c : tie.Else1) → possible_of (given c.before.before) ≡ true
-possible c = met _ c.before.possible.ensures c.if1.false
-
-begun : (c : tie.Else2) → nothing_begun (given c.before.before.before.before) ≡ false
+begun : (c : tie.Else-m-eq0) → nothing_begun (given c.before.before.before.before) ≡ false
 unfolding nothing_begun
-begun c = ne_eqb _ _ c.if2.false
+begun c = ne_eqb _ _ c.if-m-eq0.false
 
 -- where the function began
-entry : tie.Else3 → tie.Start
+entry : tie.Else-not-has_room → tie.Start
 entry c = search
 
-roomy : (c : tie.Else3) → has_room (entry c).args.bytes (entry c).args.m.last ≡ true
+roomy : (c : tie.Else-not-has_room) → has_room (entry c).args.bytes (entry c).args.m.last ≡ true
 unfolding entry
-roomy c = met _ c.before.has_room.ensures c.if3.false
+roomy c = met _ c.before.has_room.ensures c.if-not-has_room.false-raw
 
 pub complete_spec : {M : Type 1} → statement M
 unfolding nothing_begun lengths entry
@@ -41,18 +38,16 @@ complete_spec =
     tie.close
     (tie.spec
     (λ c κs. search rules)
-    (λ c. sym (complete-impossible _ _ (unmet _ c.before.possible.ensures c.if1.true)))
-    (λ c. sym (complete-fresh _ _ (possible (search)) (eq-eqb _ _ c.if2.true)))
+    (λ c. sym (complete-impossible _ _ (unmet _ c.before.possible.ensures c.if-not-possible.true-raw)))
+    (λ c. sym (complete-fresh _ _ (possible (search)) (eq-eqb _ _ c.if-m-eq0.true)))
     (λ c κs. search rules)
-    (λ c. sym (complete-short _ _ (possible (search)) (begun (search)) (unmet _ c.before.has_room.ensures c.if3.true)))
-    (λ c. sym (complete-spoiled _ _ (possible (search)) (begun (search)) (roomy (search)) c.if4.true))
+    (λ c. sym (complete-short _ _ (possible (search)) (begun (search)) (unmet _ c.before.has_room.ensures c.if-not-has_room.true-raw)))
+    (λ c. sym (complete-spoiled _ _ (possible (search)) (begun (search)) (roomy (search)) c.if-m-ne0.true))
     (λ c. search rules)
     (λ c. search rules)
-    (λ c κs.
-    let start : tie.Start = search in
+    (λ c κs. let start : tie.Start = search in
     let n : length start.args.held.now ≡ 256 = search rules in
     let f : Fits w8 start.args.m.last = search rules in
     omega arith)
-    (λ c.
-    let calm : tie.Else4 = search in
-    c.missing.ensures ∙ sym (complete-calm _ _ (possible (search)) (begun (search)) (roomy (search)) calm.if4.left)))
+    (λ c. let calm : tie.Else-m-ne0 = search in
+    c.missing.ensures ∙ sym (complete-calm _ _ (possible (search)) (begun (search)) (roomy (search)) calm.if-m-ne0.false)))

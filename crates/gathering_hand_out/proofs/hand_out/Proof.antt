@@ -1,5 +1,4 @@
 -- `gathering_hand_out::hand_out` meets its contract: a table that is not complete is refused as its completeness says, and of a whole one the
--- payloads lie in the store.
 use Prim.Native.Nat.{◌+◌, ◌≤◌}
 use mathlib.Core.Path.{◌≡◌, ◌∙◌}
 use native.Mathlib.Omega.{arith}
@@ -15,22 +14,22 @@ use Rattle.gathering_hand_out.proofs.hand_out.Statement.{statement}
 use Rattle.gathering_hand_out.proofs.hand_out.Tie as tie
 
 -- the held lengths of a state are 256, so the numbers up to the last are among them
-among : (c : tie.Start) → (c.args.t1.last + 1 ≤ length c.args.t1.held) × (length c.args.t1.held ≤ 256)
+among : (c : tie.Start) → (c.args.g.last + 1 ≤ length c.args.g.held) × (length c.args.g.held ≤ 256)
 among c =
-    let n : length c.args.t1.held ≡ 256 = search rules in
-    let f : Fits w8 c.args.t1.last = search rules in
+    let n : length c.args.g.held ≡ 256 = search rules in
+    let f : Fits w8 c.args.g.last = search rules in
     (omega arith, omega arith)
 
 -- where the function began
-begun : tie.After-enum-told → tie.Start
+begun : tie.In-Complete → tie.Start
 begun c = search
 
-complete_at : (c : tie.After-enum-told) → let start = (begun c).args in
-    complete_of start.t1 (length start.store.now) ≡ Complete
+complete_at : (c : tie.In-Complete) → let start = (begun c).args in
+    complete_of start.g (length start.store.now) ≡ Complete
 unfolding begun
 complete_at c =
     let found : tie.After-complete = search in
-    completes _ _ _ found.before.before.before.numbers_of.ensures _ found.complete.ensures ∙ c.enum_told.given.1
+    completes _ _ _ found.before.before.numbers_of-numbers.ensures _ found.complete.ensures ∙ c.in-Complete.is
 
 pub hand_out_spec : {M : Type 1} → statement M
 unfolding lengths body_held begun
@@ -43,15 +42,12 @@ hand_out_spec =
     (λ c. search rules)
     (λ c. search rules)
     (λ c. search rules)
-    (λ c κs.
-    let told : tie.After-enum-told = search in
+    (λ c κs. let told : tie.In-Complete = search in
     let few = among (search) in
     (few.0, whole-in-store _ _ few.1 (complete-whole _ _ (complete_at told))))
-    (λ c.
-    let told = c.before in
+    (λ c. let told = c in
     let found : tie.After-complete = search in
-    hands-refused _ _ _ _ (completes _ _ _ found.before.before.before.numbers_of.ensures _ found.complete.ensures ∙ told.r.given.1))
+    hands-refused _ _ _ _ (completes _ _ _ found.before.before.numbers_of-numbers.ensures _ found.complete.ensures ∙ told.in-Refused.is))
     (λ c. search rules)
-    (λ c.
-    let handed : tie.After-hand-first = search in
+    (λ c. let handed : tie.After-hand_first = search in
     hands-complete _ _ _ (complete_at (search)) _ handed.hand_first.ensures.0 _ handed.hand_first.ensures.1))

@@ -18,5 +18,5 @@ missing_spec =
     (tie.spec
     (λ c. sym (length-take-le _ _ (search rules)))
     (λ c κs. search rules)
-    (λ c. let few = counted (search) in let test = c.if1.true in missing-some _ _ c.before.smallest-missing.ensures (omega arith))
-    (λ c. let few = counted (search) in let test = c.if1.false in missing_none _ _ c.before.smallest-missing.ensures (omega arith)))
+    (λ c. let few = counted (search) in let test = c.if-k-count.true in missing-some _ _ c.before.smallest_missing-k.ensures (omega arith))
+    (λ c. let few = counted (search) in let test = c.if-k-count.false in missing_none _ _ c.before.smallest_missing-k.ensures (omega arith)))

@@ -10,6 +10,6 @@ move_first_spec =
     tie.close
     (tie.spec
     (λ c. sym (length-take-le _ _ (search rules)))
-    (λ c κs. let start : tie.Start = search in start.pre.1)
+    (λ c κs. let start : tie.Start = search in start.requires.1)
     (λ c. search rules)
-    (λ c. c.before.before.move-together.ensures))
+    (λ c. c.before.before.move_together.ensures))

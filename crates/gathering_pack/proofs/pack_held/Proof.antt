@@ -1,5 +1,4 @@
 -- `gathering_pack::pack_held` meets its contract: a table that is not complete is refused as its completeness says,
--- and of a whole one the payloads lie in the store.
 use Prim.Native.Nat.{◌+◌, ◌≤◌}
 use mathlib.Core.Path.{◌≡◌, ◌∙◌}
 use native.Mathlib.Omega.{arith}
@@ -16,21 +15,21 @@ use Rattle.gathering_pack.proofs.pack_held.Statement.{statement}
 use Rattle.gathering_pack.proofs.pack_held.Tie as tie
 
 -- the held lengths of a state are 256, so the numbers up to the last are among them
-among : (c : tie.Start) → (c.args.t1.last + 1 ≤ length c.args.t1.held) × (length c.args.t1.held ≤ 256)
+among : (c : tie.Start) → (c.args.g.last + 1 ≤ length c.args.g.held) × (length c.args.g.held ≤ 256)
 among c =
-    let n : length c.args.t1.held ≡ 256 = search rules in
-    let f : Fits w8 c.args.t1.last = search rules in
+    let n : length c.args.g.held ≡ 256 = search rules in
+    let f : Fits w8 c.args.g.last = search rules in
     (omega arith, omega arith)
 
 -- where the function began
-begun : tie.After-enum-told → tie.Start
+begun : tie.In-Complete → tie.Start
 begun c = search
 
-all_there : (c : tie.After-enum-told) → let start = (begun c).args in complete_of start.t1 (length start.store.now) ≡ Complete
+all_there : (c : tie.In-Complete) → let start = (begun c).args in complete_of start.g (length start.store.now) ≡ Complete
 unfolding begun
 all_there c =
-    let numbers_of : tie.After-numbers-of = search in
-    completes _ _ _ numbers_of.numbers_of.ensures _ c.before.before.complete.ensures ∙ c.enum_told.given.1
+    let numbers_of : tie.After-numbers_of-numbers = search in
+    completes _ _ _ numbers_of.numbers_of-numbers.ensures _ c.before.complete.ensures ∙ c.in-Complete.is
 
 pub pack_held_spec : {M : Type 1} → statement M
 unfolding lengths body_held begun
@@ -43,12 +42,10 @@ pack_held_spec =
     (λ c. search rules)
     (λ c. search rules)
     (λ c. search rules)
-    (λ c κs. let told : tie.After-enum-told = search in let few = among (search) in (few.0, packs-in-store _ _ few.1 (all_there told)))
-    (λ c.
-    let numbers_of : tie.After-numbers-of = search in
-    let told = c.before in
-    answers-refused _ _ _ (completes _ _ _ numbers_of.numbers_of.ensures _ told.before.before.complete.ensures ∙ told.r.given.1))
+    (λ c κs. let told : tie.In-Complete = search in let few = among (search) in (few.0, packs-in-store _ _ few.1 (all_there told)))
+    (λ c. let numbers_of : tie.After-numbers_of-numbers = search in
+    let told = c in
+    answers-refused _ _ _ (completes _ _ _ numbers_of.numbers_of-numbers.ensures _ told.before.complete.ensures ∙ told.in-Refused.is))
     (λ c. search rules)
-    (λ c.
-    let moved : tie.After-move-first = search in let told : tie.After-enum-told = search in
-    answers-body _ _ (among (search)).1 (all_there told) _ moved.move-first.ensures.0 _ moved.move-first.ensures.1))
+    (λ c. let moved : tie.After-move_first-n = search in let told : tie.In-Complete = search in
+    answers-body _ _ (among (search)).1 (all_there told) _ moved.move_first-n.ensures.0 _ moved.move_first-n.ensures.1))

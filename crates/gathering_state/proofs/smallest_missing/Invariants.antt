@@ -12,4 +12,3 @@ invariant-loop-k l = (l.k ≤ length l.s) × (smallest_missing l.s ≡ l.k + sma
 
 abbrev pub decreases-loop-k : goal.decreases-loop-k
 decreases-loop-k l = length l.s - l.k
-

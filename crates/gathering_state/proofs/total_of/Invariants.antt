@@ -13,4 +13,3 @@ invariant-loop-i l = (l.i ≤ length l.s) × (total l.s ≡ l.sum + total (drop 
 
 abbrev pub decreases-loop-i : goal.decreases-loop-i
 decreases-loop-i l = length l.s - l.i
-

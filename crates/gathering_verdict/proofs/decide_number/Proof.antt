@@ -11,18 +11,18 @@ use Rattle.gathering_verdict.proofs.decide_number.Statement.{statement}
 use Rattle.gathering_verdict.proofs.decide_number.Tie as tie
 
 -- where the function began
-begun : tie.After-less-one → tie.Start
+begun : tie.After-less_one → tie.Start
 begun c = search
 
 -- the held payload lies in the store
-within : (c : tie.After-less-one) → c.before.place_of.result + c.less_one.result ≤ length (begun c).args.store.now
+within : (c : tie.After-less_one) → c.before.place_of-at.result + c.less_one.result ≤ length (begun c).args.store.now
 unfolding begun
 within c =
     let a = begun c in
-    let p = place_within _ _ a.args.h.number a.pre.0 a.pre.1 in
+    let p = place_within _ _ a.args.h.number a.requires.0 a.requires.1 in
     let n = greatest_at a.args.held.now a.args.h.number in
-    let m = a.pre.2 in
-    let e = c.before.place_of.ensures in
+    let m = a.requires.2 in
+    let e = c.before.place_of-at.ensures in
     omega arith
 
 pub decide_number_spec : {M : Type 1} → statement M
@@ -33,7 +33,7 @@ decide_number_spec =
     (λ c. search rules)
     (λ c. search rules)
     (λ c. search rules)
-    (λ c m. sym (number-new _ _ _ _ c.if1.true))
+    (λ c m. sym (number-new _ _ _ _ c.if-n-eq0.true))
     (λ c κs. search rules)
     (λ c κs. search rules)
     (λ c. let w = within c in omega arith)
@@ -41,11 +41,9 @@ decide_number_spec =
     (λ c. search rules)
     within
     (λ c κs. search rules)
-    (λ c m.
-    let place_of : tie.After-place-of = search in
+    (λ c m. let place_of : tie.After-place_of-at = search in
     sym (number_same _ _ _ _ (omega arith)
-    (compared _ _ _ _ _ _ place_of.place_of.ensures c.before.before.before.less_one.ensures.0 _ c.before.same_bytes.ensures ∙ c.if2.true)))
-    (λ c m.
-    let place_of : tie.After-place-of = search in
+    (compared _ _ _ _ _ _ place_of.place_of-at.ensures c.before.before.before.less_one.ensures.0 _ c.before.same_bytes.ensures ∙ c.if-same_bytes.true)))
+    (λ c m. let place_of : tie.After-place_of-at = search in
     sym (number-other _ _ _ _ (omega arith)
-    (compared _ _ _ _ _ _ place_of.place_of.ensures c.before.before.before.less_one.ensures.0 _ c.before.same_bytes.ensures ∙ c.if2.false))))
+    (compared _ _ _ _ _ _ place_of.place_of-at.ensures c.before.before.before.less_one.ensures.0 _ c.before.same_bytes.ensures ∙ c.if-same_bytes.false))))

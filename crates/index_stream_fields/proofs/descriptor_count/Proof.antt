@@ -15,8 +15,8 @@ use Rattle.index_stream_fields.proofs.descriptor_count.Statement.{statement}
 use Rattle.index_stream_fields.proofs.descriptor_count.Tie as tie
 
 -- the part lies in the body
-there : (c : tie.Then1) → let a = c.before.before.before.args in a.at + a.n ≤ length a.s.now
-there c = let a = c.before.before.before.args in leb-true (a.at + a.n) (length a.s.now) (sym c.before.in_body_lem.ensures ∙ c.if1.true)
+there : (c : tie.Then-in_body) → let a = c.before.before.before.args in a.at + a.n ≤ length a.s.now
+there c = let a = c.before.before.before.args in leb-true (a.at + a.n) (length a.s.now) (sym c.before.in_body.ensures ∙ c.if-in_body.true)
 
 pub descriptor_count_spec : {M : Type 1} → statement M
 descriptor_count_spec =
@@ -26,7 +26,7 @@ descriptor_count_spec =
     (λ c. omega (arith, there c))
     (λ c κs. there c)
     (λ c. unfold descriptor_count in
-    c.descriptors-in.ensures ∙ ap (λ (x : Reading (List Descriptor)). number_of (count_of x))
-    (needed _ _ _ (sym c.before.before.in_body_lem.ensures ∙ c.before.if1.true)))
+    c.descriptors_in.ensures ∙ ap (λ (x : Reading (List Descriptor)). number_of (count_of x))
+    (needed _ _ _ (sym c.before.before.in_body.ensures ∙ c.before.if-in_body.true)))
     (λ c. unfold descriptor_count in ap (λ (x : Reading (List Descriptor)). number_of (count_of x))
-    (not_needed _ _ _ (sym c.before.in_body_lem.ensures ∙ c.if1.false))))
+    (not_needed _ _ _ (sym c.before.in_body.ensures ∙ c.if-in_body.false))))

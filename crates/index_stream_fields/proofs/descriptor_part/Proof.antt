@@ -8,17 +8,11 @@ use Rattle.index_stream_fields.proofs.descriptor_part.Statement.{statement}
 use Rattle.index_stream_fields.proofs.descriptor_part.Tie as tie
 
 -- the part lies in the body, and has the bytes that are looked at
-there : (c : tie.Then1) → let a = c.before.before.before.args in (2 ≤ a.n) × (a.at + a.n ≤ length a.s.now)
-there c = c.before.holds.ensures c.if1.true
+there : (c : tie.Then-holds) → let a = c.before.before.before.args in (2 ≤ a.n) × (a.at + a.n ≤ length a.s.now)
+there c = c.before.holds.ensures c.if-holds.true
 
-abbrev looked : (c : tie.After-wide) → tie.Then1
+abbrev looked : (c : tie.After-wide-m) → tie.Then-holds
 looked c = c.before.before
-
-returns : tie.Need-returns
-returns c =
-    let first = looked c.before in
-    let start = first.before.before in
-    part-glanced _ (λ i. (start.shared-slice-known.given i).fits) _ _ (there first).1 _ (there first).0 c.before.wide.ensures.0 c.if2.true
 
 pub descriptor_part_spec : {M : Type 1} → statement M
 descriptor_part_spec =
@@ -30,6 +24,8 @@ descriptor_part_spec =
     (λ c κs. search rules)
     (λ c. omega (arith, there (looked c)))
     (λ c. omega (arith, there (looked c.before)))
-    returns
+    (λ c. let first = looked c.before in
+    let start = first.before.before in
+    part-glanced _ (λ i. (start.shared_slice_known-1.given i).fits) _ _ (there first).1 _ (there first).0 c.before.wide-m.ensures.0 c.if-m-n.true)
     (λ c κs. search rules)
     (λ c. search rules))

@@ -9,52 +9,50 @@ use Rattle.index_stream_fields.proofs.Counting.{Counted, Turn, count_start, coun
 use Rattle.index_stream_fields.proofs.descriptors_in.Statement.{statement}
 use Rattle.index_stream_fields.proofs.descriptors_in.Tie as tie
 
-abbrev invariant-loop : tie.invariant-loop
-invariant-loop s l p at₀ m₀ at m = Counted descriptor s l p m at
+abbrev invariant-loop-at : tie.invariant-loop-at
+invariant-loop-at s l p at₀ m₀ at m = Counted descriptor s l p m at
 
-abbrev decreases-loop : tie.decreases-loop
-decreases-loop s l p at₀ m₀ at m = l - at
+abbrev decreases-loop-at : tie.decreases-loop-at
+decreases-loop-at s l p at₀ m₀ at m = l - at
 
 -- where the function began, and its loop
-begun : tie.After-known-told2 invariant-loop decreases-loop → tie.Start invariant-loop decreases-loop
+begun : tie.In-At invariant-loop-at decreases-loop-at → tie.Start invariant-loop-at decreases-loop-at
 begun c = search
 
-looped : tie.After-known-told2 invariant-loop decreases-loop → tie.At-loop invariant-loop decreases-loop
+looped : tie.In-At invariant-loop-at decreases-loop-at → tie.At-loop-at invariant-loop-at decreases-loop-at
 looped c = search
 
 -- a turn that goes on
-turned : (c : tie.After-known-told2 invariant-loop decreases-loop)
+turned : (c : tie.In-At invariant-loop-at decreases-loop-at)
     → let loop = looped c in
     let a = (begun c).args in
-    Turn descriptor a.s.now a.l a.p loop.loop.m loop.loop.at c.before.q.given.0.0
+    Turn descriptor a.s.now a.l a.p loop.loop-at.m loop.loop-at.at c.in-At.q
 unfolding begun looped
 turned c =
-    let known : tie.After-shared-slice-known invariant-loop decreases-loop = search in
-    let at-skip-descriptor : tie.After-skip-descriptor invariant-loop decreases-loop = search in
-    let here : tie.In-loop invariant-loop decreases-loop = search in
-    count-go _ _ _ _ _ _ here.before.loop.inv descriptor_lawful descriptor_takes
-    (λ i. (known.shared-slice-known.given i).fits) (omega arith) _ here.loop-test.taken
-    (sym c.before.q.given.1 ∙ at-skip-descriptor.skip-descriptor.ensures)
+    let known : tie.After-shared_slice_known-1 invariant-loop-at decreases-loop-at = search in
+    let at-skip-descriptor : tie.After-skip_descriptor invariant-loop-at decreases-loop-at = search in
+    let here : tie.In-loop-at invariant-loop-at decreases-loop-at = search in
+    count-go _ _ _ _ _ _ here.before.loop-at.invariant descriptor_lawful descriptor_takes
+    (λ i. (known.shared_slice_known-1.given i).fits) (omega arith) _ here.loop-at-test.true
+    (sym c.in-At.is ∙ at-skip-descriptor.skip_descriptor.ensures)
 
 pub descriptors_in_spec : {M : Type 1} → statement M
 unfolding begun looped
 descriptors_in_spec =
     tie.close
     (tie.spec
-    invariant-loop
-    decreases-loop
+    invariant-loop-at
+    decreases-loop-at
     (λ c. count_start _ _ _ _)
     (λ c κs. search rules)
     (λ c. search rules)
-    (λ c.
-    let at-skip-descriptor : tie.After-skip-descriptor invariant-loop decreases-loop = search in
-    let here : tie.In-loop invariant-loop decreases-loop = search in
-    count-stop _ _ _ _ _ _ here.before.loop.inv _ here.loop-test.taken
-    (sym c.before.r.given.1 ∙ at-skip-descriptor.skip-descriptor.ensures))
+    (λ c. let at-skip-descriptor : tie.After-skip_descriptor invariant-loop-at decreases-loop-at = search in
+    let here : tie.In-loop-at invariant-loop-at decreases-loop-at = search in
+    count-stop _ _ _ _ _ _ here.before.loop-at.invariant _ here.loop-at-test.true
+    (sym c.in-Refused.is ∙ at-skip-descriptor.skip_descriptor.ensures))
     (λ c. search rules)
     (λ c. omega (arith, (turned c).small))
-    (λ c.
-    let turn : tie.In-loop invariant-loop decreases-loop = search in
-    omega (arith, (turned c).nearer, turn.loop-test.taken))
+    (λ c. let turn : tie.In-loop-at invariant-loop-at decreases-loop-at = search in
+    omega (arith, (turned c).nearer, turn.loop-at-test.true))
     (λ c. (turned c).again)
-    (λ c. count-done _ _ _ _ _ _ c.before.loop.invariant (omega arith)))
+    (λ c. count-done _ _ _ _ _ _ c.before.loop-at.invariant (omega arith)))

@@ -11,8 +11,8 @@ use Rattle.index_stream_fields.proofs.pid_walked.Statement.{statement}
 use Rattle.index_stream_fields.proofs.pid_walked.Tie as tie
 
 -- the part lies in the body
-there : (c : tie.Then1) → let a = c.before.before.before.args in (0 < a.n) × (a.at + a.n ≤ length a.s.now)
-there c = let a = c.before.before.before.args in in_part_lem a.s.now a.at a.n (sym c.before.in_part_lem.ensures ∙ c.if1.true)
+there : (c : tie.Then-in_part) → let a = c.before.before.before.args in (0 < a.n) × (a.at + a.n ≤ length a.s.now)
+there c = let a = c.before.before.before.args in in_part_lem a.s.now a.at a.n (sym c.before.in_part.ensures ∙ c.if-in_part.true)
 
 pub pid_walked_spec : {M : Type 1} → statement M
 pid_walked_spec =
@@ -22,5 +22,5 @@ pid_walked_spec =
     (λ c. omega (arith, there c))
     (λ c. omega (arith, there c))
     (λ c κs. search rules)
-    (λ c. unfold stream_pid in c.read-reserved.ensures ∙ ap number_of (needed _ _ _ (sym c.before.before.in_part_lem.ensures ∙ c.before.if1.true)))
-    (λ c. unfold stream_pid in ap number_of (not_needed _ _ _ (sym c.before.in_part_lem.ensures ∙ c.if1.false))))
+    (λ c. unfold stream_pid in c.read_reserved.ensures ∙ ap number_of (needed _ _ _ (sym c.before.before.in_part.ensures ∙ c.before.if-in_part.true)))
+    (λ c. unfold stream_pid in ap number_of (not_needed _ _ _ (sym c.before.in_part.ensures ∙ c.if-in_part.false))))

@@ -11,14 +11,14 @@ use Rattle.index_stream_fields.proofs.skip_descriptors.Statement.{statement}
 use Rattle.index_stream_fields.proofs.skip_descriptors.Tie as tie
 
 -- where the function began
-begun : tie.After-known-told2 → tie.Start
+begun : tie.In-Of → tie.Start
 begun c = search
 
-part_in : (c : tie.After-known-told2) → let n = c.before.a.given.0 in n.0 + n.1.0 ≤ length (begun c).args.s.now
+part_in : (c : tie.In-Of) → c.in-Of.a + c.in-Of.m ≤ length (begun c).args.s.now
 unfolding begun
 part_in c =
-    let at-read-part12 : tie.After-read-part12 = search in
-    (into-part length12 (many descriptor) _ _ _ _ _ (sym c.before.a.given.1 ∙ at-read-part12.read-part12.ensures)).0
+    let at-read-part12 : tie.After-read_part12 = search in
+    (into-part length12 (many descriptor) _ _ _ _ _ (sym c.in-Of.is ∙ at-read-part12.read_part12.ensures)).0
 
 pub skip_descriptors_spec : {M : Type 1} → statement M
 unfolding begun
@@ -32,16 +32,14 @@ skip_descriptors_spec =
     (λ c κs. part_in c)
     (λ c. search rules)
     (λ c. search rules)
-    (λ c. descriptors-no _ _ _ _ (sym c.before.r.given.1 ∙ c.before.before.before.read-part12.ensures))
-    (λ c.
-    let at-read-part12 : tie.After-read-part12 = search in
-    let at-descriptors-in : tie.After-descriptors-in = search in
-    let at_a : tie.After-a = search in
-    descriptors-bad _ _ _ _ _ (sym at_a.a.given.1 ∙ at-read-part12.read-part12.ensures) _
-    (sym c.before.r2.given.1 ∙ at-descriptors-in.descriptors-in.ensures))
-    (λ c.
-    let at-read-part12 : tie.After-read-part12 = search in
-    let at-descriptors-in : tie.After-descriptors-in = search in
-    let at_a : tie.After-a = search in
-    descriptors-at _ _ _ _ _ (sym at_a.a.given.1 ∙ at-read-part12.read-part12.ensures) _ _
-    (sym c.before.k.given.1 ∙ at-descriptors-in.descriptors-in.ensures)))
+    (λ c. descriptors-no _ _ _ _ (sym c.in-Refused.is ∙ c.before.read_part12.ensures))
+    (λ c. let at-read-part12 : tie.After-read_part12 = search in
+    let at-descriptors-in : tie.After-descriptors_in = search in
+    let at_a : tie.In-Of = search in
+    descriptors-bad _ _ _ _ _ (sym at_a.in-Of.is ∙ at-read-part12.read_part12.ensures) _
+    (sym c.in-Refused-descriptors_in.is ∙ at-descriptors-in.descriptors_in.ensures))
+    (λ c. let at-read-part12 : tie.After-read_part12 = search in
+    let at-descriptors-in : tie.After-descriptors_in = search in
+    let at_a : tie.In-Of = search in
+    descriptors-at _ _ _ _ _ (sym at_a.in-Of.is ∙ at-read-part12.read_part12.ensures) _ _
+    (sym c.in-Is.is ∙ at-descriptors-in.descriptors_in.ensures)))

@@ -8,26 +8,13 @@ use Rattle.index_stream_fields.proofs.stream_descriptors.Statement.{statement}
 use Rattle.index_stream_fields.proofs.stream_descriptors.Tie as tie
 
 -- where the function began
-begun : tie.Then1 → tie.Start
+begun : tie.Then-holds → tie.Start
 begun c = search
 
 -- the part lies in the body, and has the bytes that are looked at
-there : (c : tie.Then1) → let a = (begun c).args in (5 ≤ a.n) × (a.at + a.n ≤ length a.s.now)
+there : (c : tie.Then-holds) → let a = (begun c).args in (5 ≤ a.n) × (a.at + a.n ≤ length a.s.now)
 unfolding begun
-there c = c.before.holds.ensures c.if1.true
-
-returns : tie.Need-returns
-unfolding begun
-returns c =
-    let known : tie.After-shared-slice-known = search in
-    let looked : tie.Then1 = search in
-    let field : tie.After-two-bytes = search in
-    let part = there looked in
-    let read = field.two_bytes.ensures in
-    let all : tie.Then2 = search in
-    let few : tie.Then3 = search in
-    descriptors-glanced _ (λ i. (known.shared-slice-known.given i).fits) _ _ part.1 _ read.1 part.0 read.0 all.if2.taken
-    few.if3.taken c.if4.true
+there c = c.before.holds.ensures c.if-holds.true
 
 pub stream_descriptors_spec : {M : Type 1} → statement M
 unfolding begun
@@ -39,6 +26,14 @@ stream_descriptors_spec =
     (λ c κs. omega (arith, there (search)))
     (λ c. omega (arith, there (search)))
     (λ c. omega (arith, there (search)))
-    returns
+    (λ c. let known : tie.After-shared_slice_known-1 = search in
+    let looked : tie.Then-holds = search in
+    let field : tie.After-two_bytes-field = search in
+    let part = there looked in
+    let read = field.two_bytes-field.ensures in
+    let all : tie.Then-field-ge61440 = search in
+    let few : tie.Then-m-lt1024 = search in
+    descriptors-glanced _ (λ i. (known.shared_slice_known-1.given i).fits) _ _ part.1 _ read.1 part.0 read.0 all.if-field-ge61440.true
+    few.if-m-lt1024.true c.if-m-n.true)
     (λ c κs. search rules)
     (λ c. search rules))

@@ -8,23 +8,13 @@ use Rattle.index_stream_fields.proofs.stream_pid.Statement.{statement}
 use Rattle.index_stream_fields.proofs.stream_pid.Tie as tie
 
 -- where the function began
-begun : tie.Then1 → tie.Start
+begun : tie.Then-holds → tie.Start
 begun c = search
 
 -- the part lies in the body, and has the bytes that are looked at
-there : (c : tie.Then1) → let a = (begun c).args in (3 ≤ a.n) × (a.at + a.n ≤ length a.s.now)
+there : (c : tie.Then-holds) → let a = (begun c).args in (3 ≤ a.n) × (a.at + a.n ≤ length a.s.now)
 unfolding begun
-there c = c.before.holds.ensures c.if1.true
-
-returns : tie.Need-returns
-unfolding begun
-returns c =
-    let known : tie.After-shared-slice-known = search in
-    let looked : tie.Then1 = search in
-    let field : tie.After-two-bytes = search in
-    let part = there looked in
-    let read = field.two_bytes.ensures in
-    pid-glanced _ (λ i. (known.shared-slice-known.given i).fits) _ _ part.1 _ read.1 part.0 read.0 c.if2.true
+there c = c.before.holds.ensures c.if-holds.true
 
 pub stream_pid_spec : {M : Type 1} → statement M
 unfolding begun
@@ -35,6 +25,11 @@ stream_pid_spec =
     (λ c. omega (arith, there (search)))
     (λ c κs. omega (arith, there (search)))
     (λ c. omega (arith, there (search)))
-    returns
+    (λ c. let known : tie.After-shared_slice_known-1 = search in
+    let looked : tie.Then-holds = search in
+    let field : tie.After-two_bytes-field = search in
+    let part = there looked in
+    let read = field.two_bytes-field.ensures in
+    pid-glanced _ (λ i. (known.shared_slice_known-1.given i).fits) _ _ part.1 _ read.1 part.0 read.0 c.if-field-ge57344.true)
     (λ c κs. search rules)
     (λ c. search rules))

@@ -14,17 +14,14 @@ pack_spec =
     (λ c κs. search rules)
     (λ c. search rules)
     (λ c. search rules)
-    (λ c.
-    let good : tie.After--heading = search in
-    by_refusal _ _ _ (packing-counter _ _ _ _ _ (sym good.before.before.read-section.ensures ∙ good.-heading.given.1) c.if1.true))
+    (λ c. let good : tie.In-Good = search in
+    by_refusal _ _ _ (packing-counter _ _ _ _ _ (sym good.before.read_section.ensures ∙ good.in-Good.is) c.if-counter-gt-COUNTER_MOST.true))
     (λ c. search rules)
-    (λ c κs.
-    let good : tie.After--heading = search in
-    (omega arith, good_short _ _ _ (sym good.before.before.read-section.ensures ∙ good.-heading.given.1)))
-    (λ c. by_refusal _ _ _ (packing-not-good _ _ _ _ (sym c.before.before.before.read-section.ensures ∙ c.before.why.given.1)))
+    (λ c κs. let good : tie.In-Good = search in
+    (omega arith, good_short _ _ _ (sym good.before.read_section.ensures ∙ good.in-Good.is)))
+    (λ c. by_refusal _ _ _ (packing-not-good _ _ _ _ (sym c.before.read_section.ensures ∙ c.in-Refused.is)))
     (λ c. search rules)
-    (λ c.
-    let start : tie.Start = search in let packs : tie.After-pack-good = search in let test : tie.Else1 = search in
-    let good : tie.After--heading = search in let out = start.args.out.now in
-    let e = packing-good _ _ _ _ _ (sym good.before.before.read-section.ensures ∙ good.-heading.given.1) test.if1.left in
-    (packs.pack-good.ensures.0 ∙ ap packed_by (sym e), packs.pack-good.ensures.1 ∙ ap (λ v. output_by v out) (sym e))))
+    (λ c. let start : tie.Start = search in let packs : tie.After-pack_good = search in let test : tie.Else-counter-gt-COUNTER_MOST = search in
+    let good : tie.In-Good = search in let out = start.args.out.now in
+    let e = packing-good _ _ _ _ _ (sym good.before.read_section.ensures ∙ good.in-Good.is) test.if-counter-gt-COUNTER_MOST.false in
+    (packs.pack_good.ensures.0 ∙ ap packed_by (sym e), packs.pack_good.ensures.1 ∙ ap (λ v. output_by v out) (sym e))))

@@ -12,14 +12,12 @@ pack_good_spec =
     (tie.spec
     (λ c. search rules)
     (λ c. search rules)
-    (λ c.
-    let a = c.before.before.before.args in
-    by_refusal _ _ _ (packs-not a.out.now a.section.now a.counter _ refl c.if1.true))
+    (λ c. let a = c.before.before.before.args in
+    by_refusal _ _ _ (packs-not a.out.now a.section.now a.counter _ refl c.if-out-size.true))
     (λ c κs. search rules)
     (λ c. search rules)
-    (λ c.
-    let lays = c.before.before in
+    (λ c. let lays = c.before.before in
     let test = lays.before.before in
     let a = test.before.before.before.args in
-    by_writing _ _ _ _ _ (packs a.out.now a.section.now a.counter _ refl test.if1.false)
-    (sym (packed_long a.counter a.section.now)) lays.put-packets.ensures))
+    by_writing _ _ _ _ _ (packs a.out.now a.section.now a.counter _ refl test.if-out-size.false)
+    (sym (packed_long a.counter a.section.now)) lays.put_packets.ensures))

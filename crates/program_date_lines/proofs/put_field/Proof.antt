@@ -13,88 +13,59 @@ use Rattle.program_date_lines.proofs.put_field.Statement.{statement}
 use Rattle.program_date_lines.proofs.put_field.Tie as tie
 
 -- where the function began, from each of these places on
-begun_day : tie.After-day → tie.Start
+begun_day : tie.In-Weekday → tie.Start
 begun_day c = search
 
-begun_r : tie.After-r → tie.Start
+begun_r : tie.In-Refused → tie.Start
 begun_r c = search
 
-day_text_lem : (c : tie.After-day) → let start = begun_day c in field_text start.args.field
-    ≡ hex_of 10 start.args.field ++ (ascii " " ++ decimal_of c.day.given.0.0)
+day_text_lem : (c : tie.In-Weekday) → let start = begun_day c in field_text start.args.field
+    ≡ hex_of 10 start.args.field ++ (ascii " " ++ decimal_of c.in-Weekday.day)
 unfolding field_text begun_day
 day_text_lem c =
     let start = begun_day c in
-    ap (day_text start.args.field) (sym c.before.before.weekday.ensures ∙ c.day.given.1)
+    ap (day_text start.args.field) (sym c.before.weekday.ensures ∙ c.in-Weekday.is)
 
-day_room : (c : tie.After-day) → let start = begun_day c in start.args.at
-    + length (hex_of 10 start.args.field ++ (ascii " " ++ decimal_of c.day.given.0.0))
+day_room : (c : tie.In-Weekday) → let start = begun_day c in start.args.at
+    + length (hex_of 10 start.args.field ++ (ascii " " ++ decimal_of c.in-Weekday.day))
     ≤ length start.args.out.now
 unfolding begun_day
-day_room c = let start = begun_day c in rw (day_text_lem c) at start.pre.1
+day_room c = let start = begun_day c in rw (day_text_lem c) at start.requires.1
 
-refused_text_lem : (c : tie.After-r) → let start = begun_r c in field_text start.args.field ≡ refused_text c.r.given.0.0
+refused_text_lem : (c : tie.In-Refused) → let start = begun_r c in field_text start.args.field ≡ refused_text c.in-Refused.r
 unfolding field_text begun_r
 refused_text_lem c =
     let start = begun_r c in
-    ap (day_text start.args.field) (sym c.before.before.weekday.ensures ∙ c.r.given.1)
-
-put_digits_requires : tie.Need-put-digits-requires
-unfolding begun_day
-put_digits_requires c κs =
-    let start : tie.Start = search in let day : tie.After-day = search in let a = start.args in
-    omega (
-      arith,
-      digits_length 16 10 a.field,
-      room_first a.at (hex_of 10 a.field) (ascii " " ++ decimal_of day.day.given.0.0) (day_room day),
-    )
-
-put_bytes_requires : tie.Need-put-bytes-requires
-unfolding begun_day
-put_bytes_requires c κs =
-    let digits : tie.After-put-digits = search in let day : tie.After-day = search in
-    room_first digits.put-digits.result (ascii " ") (decimal_of day.day.given.0.0)
-    (put_room (ascii " " ++ decimal_of day.day.given.0.0) digits.put-digits.ensures (day_room day))
-
-put_decimal_requires : tie.Need-put-decimal-requires
-unfolding begun_day
-put_decimal_requires c κs =
-    let space : tie.After-put-bytes = search in let digits : tie.After-put-digits = search in let day : tie.After-day = search in
-    put_room (decimal_of day.day.given.0.0) space.put-bytes.ensures
-    (put_room (ascii " " ++ decimal_of day.day.given.0.0) digits.put-digits.ensures (day_room day))
-
-put_refused_requires : tie.Need-put-refused-requires
-unfolding begun_r
-put_refused_requires c κs =
-    let start : tie.Start = search in let refused : tie.After-r = search in
-    rw (refused_text_lem refused) at start.pre.1
-
-returns : tie.Need-returns
-unfolding begun_day
-returns c =
-    let weekday : tie.After-put-decimal = search in let space : tie.After-put-bytes = search in
-    let digits : tie.After-put-digits = search in
-    rw (day_text_lem (search))
-    (put_then digits.put-digits.ensures (put_then space.put-bytes.ensures weekday.put-decimal.ensures))
-
-returns-2 : tie.Need-returns-2
-unfolding begun_r
-returns-2 c = let put : tie.After-put-refused = search in rw (refused_text_lem (search)) put.Put-refused.ensures
+    ap (day_text start.args.field) (sym c.before.weekday.ensures ∙ c.in-Refused.is)
 
 pub put_field_spec : {M : Type 1} → statement M
+unfolding begun_day begun_r
 put_field_spec =
     tie.close
     (tie.spec
     (λ c. search rules)
     (λ c κs. search rules)
     (λ c. search rules)
-    put_digits_requires
+    (λ c κs. let start : tie.Start = search in let day : tie.In-Weekday = search in let a = start.args in
+    omega (
+      arith,
+      digits_length 16 10 a.field,
+      room_first a.at (hex_of 10 a.field) (ascii " " ++ decimal_of day.in-Weekday.day) (day_room day),
+    ))
+    (λ c κs. let digits : tie.After-put_digits-digits = search in let day : tie.In-Weekday = search in
+    room_first digits.put_digits-digits.result (ascii " ") (decimal_of day.in-Weekday.day)
+    (put_room (ascii " " ++ decimal_of day.in-Weekday.day) digits.put_digits-digits.ensures (day_room day)))
     (λ c. search rules)
-    put_bytes_requires
+    (λ c κs. let space : tie.After-put_bytes-space = search in let digits : tie.After-put_digits-digits = search in let day : tie.In-Weekday = search in
+    put_room (decimal_of day.in-Weekday.day) space.put_bytes-space.ensures
+    (put_room (ascii " " ++ decimal_of day.in-Weekday.day) digits.put_digits-digits.ensures (day_room day)))
     (λ c. search rules)
-    put_decimal_requires
+    (λ c κs. let start : tie.Start = search in let refused : tie.In-Refused = search in
+    rw (refused_text_lem refused) at start.requires.1)
     (λ c. search rules)
-    put_refused_requires
+    (λ c. let weekday : tie.After-put_decimal = search in let space : tie.After-put_bytes-space = search in
+    let digits : tie.After-put_digits-digits = search in
+    rw (day_text_lem (search))
+    (put_then digits.put_digits-digits.ensures (put_then space.put_bytes-space.ensures weekday.put_decimal.ensures)))
     (λ c. search rules)
-    returns
-    (λ c. search rules)
-    returns-2)
+    (λ c. let put : tie.After-put_refused = search in rw (refused_text_lem (search)) put.put_refused.ensures))

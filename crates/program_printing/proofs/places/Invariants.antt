@@ -13,4 +13,3 @@ invariant-loop-rest l =
 
 abbrev pub decreases-loop-rest : goal.decreases-loop-rest
 decreases-loop-rest l = l.rest
-

@@ -16,4 +16,3 @@ invariant-loop-left l =
 
 abbrev pub decreases-loop-left : goal.decreases-loop-left
 decreases-loop-left l = l.left
-

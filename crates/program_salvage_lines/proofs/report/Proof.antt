@@ -11,8 +11,6 @@ use Rattle.program_salvage_lines.proofs.Lines.{report_lines, report_over}
 use Rattle.program_salvage_lines.proofs.report.Statement.{statement}
 use Rattle.program_salvage_lines.proofs.report.Tie as tie
 
-
-
 pub report_spec : {M : Type 1} → statement M
 report_spec =
     tie.close

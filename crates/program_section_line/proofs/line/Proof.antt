@@ -10,8 +10,6 @@ use Rattle.program_section_line.proofs.Bounds.{answer_most}
 use Rattle.program_section_line.proofs.line.Statement.{statement}
 use Rattle.program_section_line.proofs.line.Tie as tie
 
-
-
 pub line_spec : {M : Type 1} → statement M
 unfolding line_of
 line_spec =

@@ -1,11 +1,8 @@
 -- `rooms_state::all_paired` meets its contract: those before i are paired, so all are if the rest is.
-use Prim.Native.Nat.{◌≤◌, ◌-◌}
-use mathlib.Core.Path.{◌≡◌, refl, sym, ◌∙◌}
+use Prim.Native.Nat.{◌-◌}
+use mathlib.Core.Path.{refl, sym, ◌∙◌}
 use native.Mathlib.Omega.{arith}
-use borrow.Author.Rules.{rules}
 use borrow.Author.Tests.{not-true, not-false}
-use lib.ListN.{length, drop}
-use Rattle.rooms_state.specs.State.{matched}
 use Rattle.rooms_state.proofs.Loops.{pair-stop, pair_step, pair_end}
 use Rattle.rooms_state.proofs.all_paired.Goals as goal
 
@@ -20,11 +17,11 @@ returns-then-not-is_paired c = let args = c.args in
 
 pub loop-i-preserved : goal.loop-i-preserved
 loop-i-preserved c = let args = c.args in (
-      omega arith,
-      c.loop-i.invariant.1
-          ∙ pair_step args.n args.held.now args.rooms.now c.loop-i.i c.requires (omega arith)
-          (sym c.is_paired.ensures ∙ not-false _ c.if-not-is_paired.false-raw),
-    )
+  omega arith,
+  c.loop-i.invariant.1
+      ∙ pair_step args.n args.held.now args.rooms.now c.loop-i.i c.requires (omega arith)
+      (sym c.is_paired.ensures ∙ not-false _ c.if-not-is_paired.false-raw),
+)
 
 pub returns : goal.returns
 returns c = let args = c.args in

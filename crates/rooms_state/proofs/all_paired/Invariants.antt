@@ -1,12 +1,8 @@
 -- `rooms_state::all_paired` meets its contract: those before i are paired, so all are if the rest is.
 use Prim.Native.Nat.{◌≤◌, ◌-◌}
-use mathlib.Core.Path.{◌≡◌, refl, sym, ◌∙◌}
-use native.Mathlib.Omega.{arith}
-use borrow.Author.Rules.{rules}
-use borrow.Author.Tests.{not-true, not-false}
+use mathlib.Core.Path.{◌≡◌}
 use lib.ListN.{length, drop}
 use Rattle.rooms_state.specs.State.{matched}
-use Rattle.rooms_state.proofs.Loops.{pair-stop, pair_step, pair_end}
 use Rattle.rooms_state.proofs.all_paired.Given as goal
 
 abbrev pub invariant-loop-i : goal.invariant-loop-i
@@ -14,4 +10,3 @@ invariant-loop-i l = (l.i ≤ length l.held) × (matched l.n l.held l.rooms ≡ 
 
 abbrev pub decreases-loop-i : goal.decreases-loop-i
 decreases-loop-i l = length l.held - l.i
-

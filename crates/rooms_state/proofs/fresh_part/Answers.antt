@@ -1,11 +1,6 @@
 -- `rooms_state::fresh_part` meets its contract: a fresh gathering and no rooms.
-use borrow.Author.Rules.{rules}
 use Rattle.rooms_state.specs.State.{fresh_part}
 use Rattle.rooms_state.proofs.fresh_part.Goals as goal
-
-pub fresh-gathering-requires : goal.fresh-gathering-requires
-unfolding fresh_part
-fresh-gathering-requires c = search rules
 
 pub returns : goal.returns
 unfolding fresh_part

@@ -10,7 +10,7 @@ use Rattle.rooms_state.proofs.part_possible.Statement.{statement}
 use Rattle.rooms_state.proofs.part_possible.Tie as tie
 
 -- a part has its 256 numbers
-long : (c : tie.Start) → (length c.args.t1.gathering.held ≡ 256) × (length c.args.t1.rooms ≡ 256)
+long : (c : tie.Start) → (length c.args.p.gathering.held ≡ 256) × (length c.args.p.rooms ≡ 256)
 long c = (search rules, search rules)
 
 pub part_possible_spec : {M : Type 1} → statement M

@@ -1,7 +1,6 @@
 -- `rooms_state::possible` meets its contract: the tests in their order; the marks say whether a room is held twice.
 use mathlib.Core.Path.{◌∙◌}
 use native.Mathlib.Omega.{arith}
-use borrow.Author.Rules.{rules}
 use Rattle.ground_choices.proofs.Tests.{unmet, met}
 use Rattle.rooms_state.proofs.Facts.{other_length, one-not, two-not, both-are}
 use Rattle.rooms_state.proofs.possible.Goals as goal

@@ -1,12 +1,7 @@
 -- `rooms_state::rooms_in` meets its contract: the smaller of the two.
 use native.Mathlib.Omega.{arith}
-use borrow.Author.Rules.{rules}
 use Rattle.rooms_state.specs.State.{rooms_in}
 use Rattle.rooms_state.proofs.rooms_in.Goals as goal
-
-pub least-requires : goal.least-requires
-unfolding rooms_in
-least-requires c = search rules
 
 pub returns : goal.returns
 unfolding rooms_in

@@ -13,20 +13,20 @@ use Rattle.rooms_verdict.proofs.decide.Statement.{statement}
 use Rattle.rooms_verdict.proofs.decide.Tie as tie
 
 -- where the function began
-begun : tie.After-h → tie.Start
+begun : tie.In-Good → tie.Start
 begun c = search
 
-read_at : (c : tie.After-h) → read_section (begun c).args.s.now ≡ Good c.h.given.0.0 c.h.given.0.1.0
+read_at : (c : tie.In-Good) → read_section (begun c).args.s.now ≡ Good c.in-Good.h c.in-Good.n
 unfolding begun
-read_at c = sym c.before.before.read-section.ensures ∙ c.h.given.1
+read_at c = sym c.before.read_section.ensures ∙ c.in-Good.is
 
-good_at : (c : tie.After-h) → Sized (begun c).args.s.now c.h.given.0.0 c.h.given.0.1.0
+good_at : (c : tie.In-Good) → Sized (begun c).args.s.now c.in-Good.h c.in-Good.n
 unfolding begun
 good_at c = sized _ _ _ (read_at c)
 
-within : (c : tie.After-known-told2) → 8 + c.before.h.given.0.1.0 ≤ length (begun c.before).args.s.now
+within : (c : tie.In-Good) → 8 + c.in-Good.n ≤ length (begun c).args.s.now
 unfolding begun
-within c = let q = good_at c.before in omega arith
+within c = let q = good_at c in omega arith
 
 pub decide_spec : {M : Type 1} → statement M
 unfolding begun
@@ -36,12 +36,11 @@ decide_spec =
     (λ c κs. search rules)
     (λ c. search rules)
     (λ c. search rules)
-    (λ c. let q = good_at c.before in omega arith)
+    (λ c. let q = good_at c in omega arith)
     (λ c. search rules)
     (λ c. search rules)
     within
-    (λ c κs. let start : tie.Start = search in let here : tie.After-h = search in ((good_at here).versioned, start.pre))
-    (λ c. sym (verdict-bad _ _ _ _ (sym c.before.before.before.read-section.ensures ∙ c.before.r.given.1)))
-    (λ c.
-    let here : tie.After-h = search in
-    c.decide-good.ensures ∙ ap (good_verdict _ _ _) (payload_part _ _ _ (good_at here)) ∙ sym (verdict-good _ _ _ _ _ (read_at here))))
+    (λ c κs. let start : tie.Start = search in let here : tie.In-Good = search in ((good_at here).versioned, start.requires))
+    (λ c. sym (verdict-bad _ _ _ _ (sym c.before.read_section.ensures ∙ c.in-Refused.is)))
+    (λ c. let here : tie.In-Good = search in
+    c.decide_good.ensures ∙ ap (good_verdict _ _ _) (payload_part _ _ _ (good_at here)) ∙ sym (verdict-good _ _ _ _ _ (read_at here))))

@@ -9,11 +9,11 @@ use Rattle.rooms_verdict.proofs.decide_good.Statement.{statement}
 use Rattle.rooms_verdict.proofs.decide_good.Tie as tie
 
 -- where the function began
-begun : tie.Else2 → tie.Start
+begun : tie.Else-not-begins-agrees → tie.Start
 begun c = search
 
 -- past 9
-known : (c : tie.Else2) → let start = (begun c).args in
+known : (c : tie.Else-not-begins-agrees) → let start = (begun c).args in
     let g = state_of start.m start.held.now in
     not (begins g start.h || agrees g start.h) ≡ false
 unfolding begun
@@ -22,49 +22,45 @@ known c =
     let agreeing = c.before in
     let beginning = agreeing.before in
     let held = start.args.held.now in
-    sym (ap not (ap₂ ◌||◌ (beginning.begins-gathering.ensures held) (agreeing.heading-agrees.ensures held))) ∙ c.if2.false
+    sym (ap not (ap₂ ◌||◌ (beginning.begins_gathering-begins.ensures held) (agreeing.heading_agrees-agrees.ensures held))) ∙ c.if-not-begins-agrees.false-raw
 
 -- and where nothing begins
-further : (c : tie.Else3) → let start = (begun c.before).args in
+further : (c : tie.Else-begins) → let start = (begun c.before).args in
     begins (state_of start.m start.held.now) start.h ≡ false
 unfolding begun
 further c =
     let start = begun c.before in
-    let beginning : tie.After-begins-gathering = search in
-    sym (beginning.begins-gathering.ensures start.args.held.now) ∙ c.if3.false
+    let beginning : tie.After-begins_gathering-begins = search in
+    sym (beginning.begins_gathering-begins.ensures start.args.held.now) ∙ c.if-begins.false
 
 pub decide_good_spec : {M : Type 1} → statement M
 unfolding begun
 decide_good_spec =
     tie.close
     (tie.spec
-    (λ c. sym (good_old _ _ _ _ c.if1.true))
+    (λ c. sym (good_old _ _ _ _ c.if-not-h.true))
     (λ c κs. search rules)
     (λ c κs. search rules)
-    (λ c.
-    let start : tie.Start = search in
+    (λ c. let start : tie.Start = search in
     let agreeing = c.before in
     let beginning = agreeing.before in
     let held = start.args.held.now in
-    let b = beginning.begins-gathering.ensures held in
-    let a = agreeing.heading-agrees.ensures held in
+    let b = beginning.begins_gathering-begins.ensures held in
+    let a = agreeing.heading_agrees-agrees.ensures held in
     sym (good-other _ _ _ _ (cc) (cc)))
-    (λ c.
-    let start : tie.Start = search in
+    (λ c. let start : tie.Start = search in
     let passed = c.before in
-    let beginning : tie.After-begins-gathering = search in
-    let b = beginning.begins-gathering.ensures start.args.held.now in
+    let beginning : tie.After-begins_gathering-begins = search in
+    let b = beginning.begins_gathering-begins.ensures start.args.held.now in
     sym (good_begins _ _ _ _ (cc) (known passed) (cc)))
-    (λ c.
-    let here : tie.Else3 = search in
+    (λ c. let here : tie.Else-begins = search in
     let passed = here.before in
-    sym (good-spoiled _ _ _ _ passed.before.before.before.if1.left (known passed) (further here) c.if4.true))
+    sym (good-spoiled _ _ _ _ passed.before.before.before.if-not-h.false (known passed) (further here) c.if-m-ne0.true))
     (λ c κs. search rules)
-    (λ c.
-    let at_start : tie.Start = search in
+    (λ c. let at_start : tie.Start = search in
     let calm = c.before in
-    let here : tie.Else3 = search in
+    let here : tie.Else-begins = search in
     let passed = here.before in
     let start = at_start.args in
-    c.decide-number.ensures start.m
-    ∙ sym (good-further _ _ _ _ passed.before.before.before.if1.left (known passed) (further here) calm.if4.false)))
+    c.decide_number.ensures start.m
+    ∙ sym (good-further _ _ _ _ passed.before.before.before.if-not-h.false (known passed) (further here) calm.if-m-ne0.false)))

@@ -10,17 +10,17 @@ use Rattle.rooms_verdict.proofs.decide_number.Statement.{statement}
 use Rattle.rooms_verdict.proofs.decide_number.Tie as tie
 
 -- where the function began
-begun : tie.After-less-one → tie.Start
+begun : tie.After-less_one → tie.Start
 begun c = search
 
 -- the held payload lies in the store
-within : (c : tie.After-less-one) → let placed = c.before in
-    placed.room-place.result + c.less_one.result ≤ length (begun c).args.store.now
+within : (c : tie.After-less_one) → let placed = c.before in
+    placed.room_place-at.result + c.less_one.result ≤ length (begun c).args.store.now
 unfolding room_at begun
 within c =
     let start = begun c in
-    let w = start.pre.within start.args.h.number in
-    let e = c.before.room-place.ensures in
+    let w = start.requires.within start.args.h.number in
+    let e = c.before.room_place-at.ensures in
     let f = c.less_one.ensures.0 in
     omega arith
 
@@ -32,7 +32,7 @@ decide_number_spec =
     (λ c. search rules)
     (λ c. search rules)
     (λ c. search rules)
-    (λ c m. sym (number-new _ _ _ _ c.if1.true))
+    (λ c m. sym (number-new _ _ _ _ c.if-n-eq0.true))
     (λ c. search rules)
     (λ c. search rules)
     (λ c. search rules)
@@ -43,11 +43,9 @@ decide_number_spec =
     (λ c. search rules)
     within
     (λ c κs. search rules)
-    (λ c m.
-    let placed : tie.After-room-place = search in let read : tie.After-less-one = search in
+    (λ c m. let placed : tie.After-room_place-at = search in let read : tie.After-less_one = search in
     sym (number_same _ _ _ _ (omega arith)
-    (compared _ _ _ _ _ _ placed.room-place.ensures read.less_one.ensures.0 _ c.before.same_bytes.ensures ∙ c.if2.true)))
-    (λ c m.
-    let placed : tie.After-room-place = search in let read : tie.After-less-one = search in
+    (compared _ _ _ _ _ _ placed.room_place-at.ensures read.less_one.ensures.0 _ c.before.same_bytes.ensures ∙ c.if-same_bytes.true)))
+    (λ c m. let placed : tie.After-room_place-at = search in let read : tie.After-less_one = search in
     sym (number-other _ _ _ _ (omega arith)
-    (compared _ _ _ _ _ _ placed.room-place.ensures read.less_one.ensures.0 _ c.before.same_bytes.ensures ∙ c.if2.false))))
+    (compared _ _ _ _ _ _ placed.room_place-at.ensures read.less_one.ensures.0 _ c.before.same_bytes.ensures ∙ c.if-same_bytes.false))))

@@ -13,4 +13,3 @@ invariant-loop-i l = (l.i ≤ 23) × (length l.code ≡ 23) × (decimal l.code �
 
 abbrev pub decreases-loop-i : goal.decreases-loop-i
 decreases-loop-i l = 23 - l.i
-

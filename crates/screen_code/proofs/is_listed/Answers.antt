@@ -22,10 +22,10 @@ overflow_add-at c = let l = c.loop-left in omega (arith, l.invariant.0 0 (omega 
 
 pub loop-left-preserved : goal.loop-left-preserved
 loop-left-preserved c = let l = c.loop-left in (
-      λ k h. (omega (arith, l.invariant.0 (suc k) (omega arith))),
-      l.invariant.1,
-      listed-on _ _ _ _ _ l.invariant.2 (omega arith) (sym c.same_at.ensures ∙ c.if-same_at.false),
-    )
+  λ k h. (omega (arith, l.invariant.0 (suc k) (omega arith))),
+  l.invariant.1,
+  listed-on _ _ _ _ _ l.invariant.2 (omega arith) (sym c.same_at.ensures ∙ c.if-same_at.false),
+)
 
 pub returns : goal.returns
 returns c = let l = c.loop-left in listed-none _ _ _ _ _ l.invariant.2 (omega arith)

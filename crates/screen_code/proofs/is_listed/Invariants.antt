@@ -13,4 +13,3 @@ invariant-loop-left l = InBody l.s l.at l.left × (length l.own ≡ resource_byt
 
 abbrev pub decreases-loop-left : goal.decreases-loop-left
 decreases-loop-left l = l.left
-

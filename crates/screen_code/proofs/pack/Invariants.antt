@@ -14,4 +14,3 @@ invariant-loop-i l = (1 ≤ l.i) × (l.i ≤ 12) × (length l.own ≡ 12) × (ta
 
 abbrev pub decreases-loop-i : goal.decreases-loop-i
 decreases-loop-i l = 12 - l.i
-

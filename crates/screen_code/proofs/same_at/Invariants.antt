@@ -13,4 +13,3 @@ invariant-loop-k l = (l.k ≤ 12) × (length l.own ≡ 12) × (l.p + 12 ≤ leng
 
 abbrev pub decreases-loop-k : goal.decreases-loop-k
 decreases-loop-k l = 12 - l.k
-

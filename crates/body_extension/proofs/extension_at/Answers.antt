@@ -1,0 +1,19 @@
+-- `extension_at` meets its contract: where the identifier can be read, the 18 bytes from p on are its own.
+use mathlib.Core.Path.{sym, ◌∙◌}
+use native.Mathlib.Omega.{arith}
+use borrow.Author.Rules.{rules}
+use Rattle.body_extension.proofs.Answers.{extension-no, identifier-there, extension_is}
+use Rattle.body_extension.proofs.extension_at.Goals as goal
+
+pub overflow_add-q : goal.overflow_add-q
+overflow_add-q c = omega (arith, identifier-there _ _ _ (λ i. (c.type_inv.s i).fits) _ _ (sym c.in-Of.is ∙ c.read_identifier.ensures))
+
+pub slice_bounds-crc16_after_four-end : goal.slice_bounds-crc16_after_four-end
+slice_bounds-crc16_after_four-end c = omega (arith, identifier-there _ _ _ (λ i. (c.type_inv.s i).fits) _ _ (sym c.in-Of.is ∙ c.read_identifier.ensures))
+
+pub returns-in-Refused : goal.returns-in-Refused
+returns-in-Refused c = extension-no _ _ _ _ (sym c.in-Refused.is ∙ c.read_identifier.ensures)
+
+pub returns-in-Of : goal.returns-in-Of
+returns-in-Of c = extension_is _ _ _ (λ i. (c.type_inv.s i).fits) _ _ (sym c.in-Of.is ∙ c.read_identifier.ensures)
+    _ (search rules) c.crc16_after_four.ensures

@@ -1,0 +1,6 @@
+-- `body_pen::pen_among` meets its contract: it is the pen past a number that is told.
+use borrow.Author.Rules.{rules}
+use Rattle.body_pen.proofs.pen_among.Goals as goal
+
+pub returns : goal.returns
+returns c pool = (c.pen_told_among-past.ensures pool).past

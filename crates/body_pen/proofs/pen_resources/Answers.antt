@@ -1,0 +1,20 @@
+-- `body_pen::pen_resources` meets its contract: each turn goes past one more, the first refusal ends them, and the turns are as many as the
+use mathlib.Core.Path.{sym, ◌∙◌}
+use native.Mathlib.Omega.{arith}
+use Rattle.body_formats.specs.Resource.{resource}
+use Rattle.body_pen.proofs.Lists.{Underway, list_start, list-pen, times-turn, times-stop, times-done}
+use borrow.Author.Rules.{rules}
+use Rattle.body_pen.proofs.pen_resources.Goals as goal
+
+pub loop-left-init : goal.loop-left-init
+loop-left-init c = list_start (c.pen_count-things.ensures _)
+
+pub returns-in-Refused : goal.returns-in-Refused
+returns-in-Refused c = times-stop c.loop-left.invariant c.loop-left-test.true c.pen_digits.ensures _ c.in-Refused.is
+    ∙ sym (list-pen _ (c.pen_count-things.ensures _))
+
+pub loop-left-preserved : goal.loop-left-preserved
+loop-left-preserved c = times-turn c.loop-left.invariant c.loop-left-test.true c.pen_digits.ensures _ c.in-At.is
+
+pub returns : goal.returns
+returns c = times-done c.loop-left.invariant (omega arith) ∙ sym (list-pen _ (c.pen_count-things.ensures _))

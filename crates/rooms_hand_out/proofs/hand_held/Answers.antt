@@ -1,0 +1,16 @@
+-- `rooms_hand_out::hand_held` meets its contract: the total is the length of the joined body, and the output has room for it or not.
+use native.Mathlib.Omega.{arith}
+use Rattle.rooms_hand_out.proofs.Handing.{held_small, held-body}
+use Rattle.rooms_hand_out.proofs.hand_held.Goals as goal
+
+pub total_of-n-requires : goal.total_of-n-requires
+total_of-n-requires c = c.requires.0
+
+pub returns-then-out-n : goal.returns-then-out-n
+returns-then-out-n c = held_small _ _ _ _ c.requires.2 _ c.total_of-n.ensures c.if-out-n.true
+
+pub join-requires : goal.join-requires
+join-requires c = (c.requires.1, c.requires.2, omega arith)
+
+pub returns : goal.returns
+returns c = held-body _ _ _ _ c.requires.2 _ c.total_of-n.ensures (omega arith) _ c.join.ensures

@@ -1,0 +1,22 @@
+-- `rooms_marks::held_rooms` meets its contract: those held so far, and those among the rest, are all that are held.
+use Prim.Native.Nat.{◌-◌}
+use native.Mathlib.Omega.{arith}
+use Rattle.rooms_marks.specs.Rooms.{held_rooms}
+use Rattle.rooms_marks.proofs.Counting.{held-step, held-skip, held-end}
+use Rattle.rooms_marks.proofs.held_rooms.Goals as goal
+use Rattle.rooms_marks.proofs.held_rooms.Goals.{then-rooms-k-ne0, else-rooms-k-ne0}
+
+pub loop-k-preserved : goal.loop-k-preserved
+loop-k-preserved c =
+    let rooms = c.args.rooms.now in
+    let k = c.loop-k.k in (
+      omega arith,
+      elim c.if-rooms-k-ne0.branch [ then-rooms-k-ne0 w ↦ omega arith | else-rooms-k-ne0 w ↦ omega arith ],
+      elim c.if-rooms-k-ne0.branch [
+        | then-rooms-k-ne0 w ↦ let s = held-step rooms k (omega arith) (omega arith) in omega arith
+        | else-rooms-k-ne0 w ↦ let s = held-skip rooms k (omega arith) (omega arith) in omega arith
+      ],
+    )
+
+pub returns : goal.returns
+returns c = let end = held-end c.args.rooms.now c.loop-k.k (omega arith) in omega arith
