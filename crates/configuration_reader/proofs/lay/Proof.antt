@@ -1,5 +1,4 @@
 -- `configuration_reader::lay` meets its contract: a body that is not opened is refused, a dry walk says how many entries there are or why there
--- are none, and a wet one lays them.
 use mathlib.Core.Path.{sym, ◌∙◌}
 use borrow.Author.Rules.{rules}
 use Rattle.body_formats.proofs.Readers.{body-no}
@@ -9,11 +8,11 @@ use Rattle.configuration_reader.proofs.lay.Statement.{statement}
 use Rattle.configuration_reader.proofs.lay.Tie as tie
 
 -- from where the entries are counted back to the dry walk, and from there to where the body is opened
-abbrev walk_of : tie.After-entries-needed → tie.After-walk-configuration
+abbrev walk_of : tie.After-entries_needed → tie.After-walk_configuration-dry
 walk_of counted = counted.before.before.before
 
-abbrev start_of : tie.After-walk-configuration → tie.After-start
-start_of walk = walk.before.before.before
+abbrev start_of : tie.After-walk_configuration-dry → tie.In-At
+start_of walk = walk.before.before
 
 pub lay_spec : {M : Type 1} → statement M
 lay_spec =
@@ -28,28 +27,25 @@ lay_spec =
     (λ c. search rules)
     (λ c. search rules)
     (λ c κs. search rules)
-    (λ c.
-    let opened : tie.After-open-body = c.before.before.before in
-    let w = laid-no _ _ _ _ _ _ (body-no _ _ _ _ _ (sym c.before.r.given.1 ∙ opened.open-body.ensures)) in
+    (λ c. let opened : tie.After-open_body = search in
+    let w = laid-no _ _ _ _ _ _ (body-no _ _ _ _ _ (sym c.in-Refused.is ∙ opened.open_body.ensures)) in
     (w.said, w.left))
     (λ c. search rules)
-    (λ c.
-    let counted : tie.After-entries-needed = c.before.before.before in
+    (λ c. let counted : tie.After-entries_needed = search in
     let walk = walk_of counted in
     let start = start_of walk in
-    let opened : tie.After-open-body = start.before.before in
-    let w = lay-no _ _ (sym start.start.given.1 ∙ opened.open-body.ensures) walk.walk-configuration.ensures
-    (sym c.before.r2.given.1 ∙ counted.entries-needed.ensures) in
+    let opened : tie.After-open_body = search in
+    let w = lay-no _ _ (sym start.in-At.is ∙ opened.open_body.ensures) walk.walk_configuration-dry.ensures
+    (sym c.in-Refused-entries_needed.is ∙ counted.entries_needed.ensures) in
     (w.said, w.left))
     (λ c. search rules)
-    (λ c.
-    let wet : tie.After-walk-configuration2 = c.before.before in
-    let n : tie.After-n = wet.before.before.before in
-    let counted : tie.After-entries-needed = n.before.before in
+    (λ c. let wet : tie.After-walk_configuration = search in
+    let n : tie.In-At-entries_needed = search in
+    let counted : tie.After-entries_needed = search in
     let walk = walk_of counted in
     let start = start_of walk in
-    let opened : tie.After-open-body = start.before.before in
-    let w = lay-all _ _ (sym start.start.given.1 ∙ opened.open-body.ensures) walk.walk-configuration.ensures
-    (sym n.n.given.1 ∙ counted.entries-needed.ensures) (λ i. (opened.before.before.shared-slice-known.given i).fits)
-    wet.walk-configuration2.ensures in
+    let opened : tie.After-open_body = search in
+    let w = lay-all _ _ (sym start.in-At.is ∙ opened.open_body.ensures) walk.walk_configuration-dry.ensures
+    (sym n.in-At-entries_needed.is ∙ counted.entries_needed.ensures) (λ i. (opened.before.before.shared_slice_known-1.given i).fits)
+    wet.walk_configuration.ensures in
     (w.said, w.left)))

@@ -26,7 +26,7 @@ from_stream : Lawful (number 2 ▷ (number 2 ▷ (reserved 3 1 ▷ (descriptors 
 from_stream = followed-lawful _ _ (number_lawful 2) (λ a. from_program)
 
 -- the walk of the network's number, from the last call
-first_call : tie.After-walk-streams → tie.After-walk-number
+first_call : tie.After-walk_streams → tie.After-walk_number-a
 first_call c = search
 
 pub walk_channel_spec : {M : Type 1} → statement M
@@ -40,18 +40,16 @@ walk_channel_spec =
     (λ c κs. search rules)
     (λ c κs. search rules)
     (λ c κs. search rules)
-    -- the first call lies too far back for the search to reach by itself
-    (λ c. search (rules, (first_call c.before.before).walk-number.auto.1.1.1.1.0))
-    (λ c.
-    let all-streams : tie.After-walk-streams = search in
-    let all-descriptors : tie.After-walk-descriptors = search in
-    let pid : tie.After-walk-reserved = search in
-    let program : tie.After-walk-number3 = search in
-    let transport : tie.After-walk-number2 = search in
-    let network : tie.After-walk-number = search in
+    (λ c. search (rules, (first_call c.before.before).walk_number-a.auto.tape))
+    (λ c. let all-streams : tie.After-walk_streams = search in
+    let all-descriptors : tie.After-walk_descriptors-e = search in
+    let pid : tie.After-walk_reserved-pid = search in
+    let program : tie.After-walk_number-c = search in
+    let transport : tie.After-walk_number-b = search in
+    let network : tie.After-walk_number-a = search in
     view_walk _ _ (λ a. refl)
-    (pair (number_lawful 2) from_stream.formal network.walk-number.ensures
-    (pair (number_lawful 2) from_program.formal transport.walk-number2.ensures
-    (pair (number_lawful 2) from_pid.formal program.walk-number3.ensures
-    (pair (reserved-lawful 3 1 (omega arith)) from_descriptors.formal pid.walk-reserved.ensures.past
-    (pair descriptors_lawful streams_lawful.formal all-descriptors.walk-descriptors.ensures all-streams.walk-streams.ensures)))))))
+    (pair (number_lawful 2) from_stream.formal network.walk_number-a.ensures
+    (pair (number_lawful 2) from_program.formal transport.walk_number-b.ensures
+    (pair (number_lawful 2) from_pid.formal program.walk_number-c.ensures
+    (pair (reserved-lawful 3 1 (omega arith)) from_descriptors.formal pid.walk_reserved-pid.ensures.past
+    (pair descriptors_lawful streams_lawful.formal all-descriptors.walk_descriptors-e.ensures all-streams.walk_streams.ensures)))))))

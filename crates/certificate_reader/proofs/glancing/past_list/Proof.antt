@@ -8,18 +8,18 @@ use Rattle.certificate_reader.proofs.Glances.{part-good, list-good}
 use Rattle.certificate_reader.proofs.glancing.past_list.Statement.{statement}
 use Rattle.certificate_reader.proofs.glancing.past_list.Tie as tie
 
-abbrev invariant-loop : tie.invariant-loop
-invariant-loop s p w l at₀ left₀ at left = Coming (opaque w) s left₀ (p + 1) left at × (at ≤ l)
+abbrev invariant-loop-left : tie.invariant-loop-left
+invariant-loop-left s p w l at₀ left₀ at left = Coming (opaque w) s left₀ (p + 1) left at × (at ≤ l)
 
-abbrev decreases-loop : tie.decreases-loop
-decreases-loop s p w l at₀ left₀ at left = left
+abbrev decreases-loop-left : tie.decreases-loop-left
+decreases-loop-left s p w l at₀ left₀ at left = left
 
 pub past_list_spec : {M : Type 1} → statement M
 past_list_spec =
     tie.close
     (tie.spec
-    invariant-loop
-    decreases-loop
+    invariant-loop-left
+    decreases-loop-left
     (λ c. (omega arith, λ some. absurd (omega arith)))
     (λ c. search rules)
     (λ c. search rules)
@@ -34,12 +34,10 @@ past_list_spec =
     (λ c. search rules)
     (λ c. search rules)
     (λ c. search rules)
-    (λ c.
-    let size : tie.After-short-length invariant-loop decreases-loop = search in
-    let turn : tie.In-loop invariant-loop decreases-loop = search in
-    let known : tie.After-shared-slice-known2 invariant-loop decreases-loop = search in
-    let one = part-good _ _ _ (λ i. (known.shared-slice-known2.given i).fits) size.short-length.ensures in
-    (coming-turn (opaque _) _ _ _ turn.before.loop.inv.0 turn.loop-test.taken one, omega arith))
-    (λ c.
-    let loop : tie.At-loop invariant-loop decreases-loop = search in
-    (omega arith, λ some. list-good _ _ _ (coming-done (opaque _) _ _ _ loop.loop.inv.0 (omega arith)))))
+    (λ c. let size : tie.After-short_length-n invariant-loop-left decreases-loop-left = search in
+    let turn : tie.In-loop-left invariant-loop-left decreases-loop-left = search in
+    let known : tie.After-shared_slice_known-2-1 invariant-loop-left decreases-loop-left = search in
+    let one = part-good _ _ _ (λ i. (known.shared_slice_known-2-1.given i).fits) size.short_length-n.ensures in
+    (coming-turn (opaque _) _ _ _ turn.before.loop-left.invariant.0 turn.loop-left-test.true one, omega arith))
+    (λ c. let loop : tie.At-loop-left invariant-loop-left decreases-loop-left = search in
+    (omega arith, λ some. list-good _ _ _ (coming-done (opaque _) _ _ _ loop.loop-left.invariant.0 (omega arith)))))

@@ -1,0 +1,15 @@
+-- `index_channel_reader::glancing::good_descriptors` meets its contract: each turn finds one descriptor, and what fills the rest makes the whole.
+use Prim.Native.Nat.{◌-◌, ◌≤◌}
+use native.Mathlib.Omega.{arith}
+use borrow.Author.Rules.{rules}
+use Rattle.body_glance.proofs.Runs.{Filling, filling-turn, filling-done}
+use Rattle.body_glance.proofs.Leaves.{not_good}
+use Rattle.index.specs.Index.{descriptor}
+use Rattle.index_channel_reader.proofs.Glances.{descriptor-good}
+use Rattle.index_channel_reader.proofs.glancing.good_descriptors.Given as goal
+
+abbrev pub invariant-loop-at : goal.invariant-loop-at
+invariant-loop-at l = Filling descriptor l.s l.l l.p l.at × (l.at ≤ l.l)
+
+abbrev pub decreases-loop-at : goal.decreases-loop-at
+decreases-loop-at l = l.l - l.at
