@@ -1,7 +1,7 @@
 -- The tests of an account's sections are what the account says: `present` is `Present`, and `agreeing` is `Agree`.
 use Prim.Native.Nat.{ℕ}
 use mathlib.Core.Path.{◌≡◌, refl, sym, ◌∙◌, ap}
-use mathlib.Core.Bool.{Bool, true, false, not, ◌&&◌, ◌||◌, or_true, false≢true}
+use mathlib.Core.Bool.{Bool, true, false, not, ◌&&◌, ◌||◌, or-true, false≢true}
 use mathlib.Core.List.Memᴰ
 use mathlib.Core.List.{List, [], ◌∷◌, Memᴰ as In}
 use mathlib.Core.Logic.{◌⊎◌, inl, inr}
@@ -31,7 +31,7 @@ is_present k (s ∷ S) x = go (Memᴰ.cases_cons x.1) (λ i. is_present k S (x.0
   where
     go : (x.0 ≡ s) ⊎ In x.0 S → (In x.0 S → present k S ≡ true) → present k (s ∷ S) ≡ true
     go (inl e) next = rw (eq-eqb s.number k (ap (λ (t : Section). t.number) (sym e) ∙ x.2))
-    go (inr i) next = rw (next i) (or_true (eqb s.number k))
+    go (inr i) next = rw (next i) (or-true (eqb s.number k))
 
 -- ---- contradicts
 

@@ -1,7 +1,7 @@
 -- An account tells what each feed answers: a box that stands for an account decides as the account says, whichever way its verdict goes.
 use Prim.Native.Nat.{ℕ}
 use mathlib.Core.Path.{◌≡◌, refl, sym, ◌∙◌, ap, ap₂}
-use mathlib.Core.Bool.{Bool, true, false, ◌||◌, or_true}
+use mathlib.Core.Bool.{Bool, true, false, ◌||◌, or-true}
 use mathlib.Core.List.{List, [], ◌∷◌, Memᴰ as In}
 use lib.ListN.{length, get_or}
 use Rattle.ground_refusal.specs.declared.Refusal.{Refusal}
@@ -36,7 +36,7 @@ use Rattle.gathering_account.proofs.Feeds.{feed-stands, fresh_run}
 module _ (S : List Section) (s : Section) where
   answer-spoiled : agreeing S ≡ false → answer_of_table S s ≡ Refused Contradiction
   unfolding answer_of_table
-  answer-spoiled a = simp (a, or_true)
+  answer-spoiled a = simp (a, or-true)
 
   answer-clash : differs s S ≡ true → answer_of_table S s ≡ Refused Contradiction
   unfolding answer_of_table

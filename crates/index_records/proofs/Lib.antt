@@ -1,5 +1,4 @@
 -- The laws that other crates cite.
 pub mod Places
 pub mod Plans
-pub mod Again
 pub mod Laid

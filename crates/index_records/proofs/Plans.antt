@@ -1,9 +1,10 @@
 -- What is planned before a record is laid is what the table says: its count, its records, and the refusals before them.
-use Prim.Native.Nat.{ℕ, zero, suc, ◌≤◌, ◌<◌}
+use Prim.Native.Nat.{ℕ, zero, suc, ◌+◌, ◌≤◌, ◌<◌}
+use Rattle.std.proofs.Common.{add-one}
 use mathlib.Core.Path.{◌≡◌, refl, sym, ap, ap₂, subst, ◌∙◌}
 use mathlib.Core.List.{List, ◌++◌}
 use native.Mathlib.Omega.{arith}
-use lib.ListN.{length, drop}
+use lib.ListN.{length, drop, set}
 use lib.Seq.{sets, sets-eq}
 use native.Mathlib.Nat.{zero-add}
 use borrow.Author.Tests.{le-leb, lt-leb}
@@ -84,6 +85,12 @@ module _ (kind : ℕ) (s : List ℕ) (room : ℕ) where
 length_records : (s : List ℕ) (p n : ℕ) → length (records_from s p n) ≡ n
 length_records s p zero = refl
 length_records s p (suc n) = ap suc (length_records s (placed_at s p).next n)
+
+-- a record laid is the first of those that were still to be laid
+pub laid_turn : (s : List ℕ) (list : List Record) (p i m k : ℕ) → m ≡ suc k
+    → sets list i (records_from s p m) ≡ sets (set list i (placed_at s p).message) (i + 1) (records_from s (placed_at s p).next k)
+laid_turn s list p i m k e =
+    rw e (ap (λ (j : ℕ). sets (set list i (placed_at s p).message) j (records_from s (placed_at s p).next k)) (sym (add-one i)))
 
 module _ (kind : ℕ) (s : List ℕ) (list : List Record) (plan : Plan) (h : Planned kind s (length list) plan) where
   pub answers : plan.answer ≡ body_recorded kind s (length list)

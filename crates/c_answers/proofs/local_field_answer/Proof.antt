@@ -19,29 +19,8 @@ local_by : (offset : ℤ) (field : Number) {b : Bool} → is_offset offset ≡ b
 unfolding local_field_answer
 local_by offset field e = ap (λ (u : Bool). cond u (local_or_refused offset field) (refused_of (OutsideSet 0))) e
 
-tested : (c : tie.Else1) → is_offset c.before.before.args.offset ≡ true
-tested c = offset_tested c.before.before.ranges.offset c.before.permitted.ensures (not-false _ c.if1.false)
-
-returns : tie.Need-returns
-returns c =
-    let here = c.before in
-    c.refused.ensures
-    ∙ sym (local_by _ _ (offset_tested here.before.before.ranges.offset here.before.permitted.ensures (not-true _ here.if1.true)))
-
-returns-2 : tie.Need-returns-2
-returns-2 c =
-    let arm : tie.After-field = search in
-    let start : tie.Start = search in
-    c.local-answer.ensures
-    ∙ ap local_answer (c.before.unpack.ensures ∙ ap (unpack_of _) (to_z-of_z start.fits.offset))
-    ∙ ap (local_or_refused start.args.offset) (sym arm.field.given.1)
-    ∙ sym (local_by _ _ (tested arm.before.before))
-
-returns-3 : tie.Need-returns-3
-returns-3 c =
-    let arm : tie.After-field2 = search in
-    let start : tie.Start = search in
-    c.refused2.ensures ∙ ap (local_or_refused start.args.offset) (sym arm.field2.given.1) ∙ sym (local_by _ _ (tested arm.before.before))
+tested : (c : tie.Else-not-permitted) → is_offset c.before.before.args.offset ≡ true
+tested c = offset_tested c.before.before.ranges.offset c.before.permitted.ensures (not-false _ c.if-not-permitted.false-raw)
 
 pub local_field_answer_spec : {M : Type 1} → statement M
 local_field_answer_spec =
@@ -49,11 +28,20 @@ local_field_answer_spec =
     (tie.spec
     (λ c κs. search rules)
     (λ c κs. search rules)
-    returns
+    (λ c. let here = c.before in
+    c.refused.ensures
+    ∙ sym (local_by _ _ (offset_tested here.before.before.ranges.offset here.before.permitted.ensures (not-true _ here.if-not-permitted.true-raw))))
     (λ c. search rules)
     (λ c κs. search rules)
     (λ c κs. search rules)
     (λ c. search rules)
     (λ c κs. search rules)
-    returns-2
-    returns-3)
+    (λ c. let arm : tie.In-Is = search in
+    let start : tie.Start = search in
+    c.local_answer.ensures
+    ∙ ap local_answer (c.before.unpack.ensures ∙ ap (unpack_of _) (to_z-of_z start.ranges.offset))
+    ∙ ap (local_or_refused start.args.offset) (sym arm.in-Is.is)
+    ∙ sym (local_by _ _ (tested arm.before)))
+    (λ c. let arm : tie.In-Refused = search in
+    let start : tie.Start = search in
+    c.refused-in-Refused.ensures ∙ ap (local_or_refused start.args.offset) (sym arm.in-Refused.is) ∙ sym (local_by _ _ (tested arm.before))))

@@ -19,5 +19,5 @@ times_answer_spec =
     (λ c κs. search rules)
     (λ c. search rules)
     (λ c κs. search rules)
-    (λ c. let is = sym c.before.before.before.a.given.1 in (c.answered.ensures ∙ ap times_answer is, left _ is))
-    (λ c. let is = sym c.before.before.a2.given.1 in (c.refused.ensures ∙ ap times_answer is, left _ is)))
+    (λ c. let is = sym c.before.before.in-Fields.is in (c.answered.ensures ∙ ap times_answer is, left _ is))
+    (λ c. let is = sym c.before.in-Refused.is in (c.refused.ensures ∙ ap times_answer is, left _ is)))

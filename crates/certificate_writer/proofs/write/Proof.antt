@@ -13,10 +13,9 @@ write_spec =
     (λ c κs. search rules)
     (λ c. search rules)
     (λ c. search rules)
-    (λ c κs.
-    let size : tie.After-size = search in
+    (λ c κs. let size : tie.In-At = search in
     let start : tie.Start = search in
-    write-ready _ _ _ start.args.out.now size.size.given.0.0 (cc))
+    write-ready _ _ _ start.args.out.now size.in-At.size (cc))
     (λ c. write-refused _ _ _ _ _ (cc))
     (λ c. search rules)
-    (λ c. let ink-certificate : tie.After-ink-certificate = search in write-inked _ _ _ _ _ (cc) ink-certificate.ink-certificate.ensures))
+    (λ c. let ink-certificate : tie.After-ink_certificate = search in write-inked _ _ _ _ _ (cc) ink-certificate.ink_certificate.ensures))

@@ -1,5 +1,4 @@
 -- `content_reader::read` meets its contract: a body that is not opened is refused, one that a glance takes for good is good, of any other a dry
--- walk says whether it is, and of one that is otherwise good the extension decides.
 use mathlib.Core.Path.{◌≡◌, sym, ap, ◌∙◌}
 use mathlib.Core.Logic.{⊎_elim}
 use native.Mathlib.Omega.{arith}
@@ -22,34 +21,34 @@ use Rattle.content_reader.proofs.read.Statement.{statement}
 use Rattle.content_reader.proofs.read.Tie as tie
 
 -- from where the body has been judged back to where its width is known, and from there to the start
-abbrev wide_of : tie.Joined1 → tie.After-w
+abbrev wide_of : tie.Joined-not-good_content → tie.In-Bytes
 wide_of judged = search
 
-abbrev start_of : tie.After-w → tie.Start
+abbrev start_of : tie.In-Bytes → tie.Start
 start_of wide = search
 
-width : (c : tie.After-w) → Wide c.w.given.0.0 ≡ opened (start_of c).args.kind (start_of c).args.variant (length (start_of c).args.s.now)
+width : (c : tie.In-Bytes) → Wide c.in-Bytes.w ≡ opened (start_of c).args.kind (start_of c).args.variant (length (start_of c).args.s.now)
 width c =
     let asked : tie.After-open = search in
-    sym c.w.given.1 ∙ asked.open.ensures
+    sym c.in-Bytes.is ∙ asked.open.ensures
 
-bytes : (c : tie.After-w) → Bytes (start_of c).args.s.now
+bytes : (c : tie.In-Bytes) → Bytes (start_of c).args.s.now
 bytes c =
-    let known : tie.After-shared-slice-known = search in
-    λ i. (known.shared-slice-known.given i).fits
+    let known : tie.After-shared_slice_known-1 = search in
+    λ i. (known.shared_slice_known-1.given i).fits
 
 -- a body that is not refused is good but for its extension
-abbrev Good : tie.Joined1 → Type 0
-Good c = At c.if1.end
-    ≡ body_read (content (wide_of c).w.given.0.0) content_kind (start_of (wide_of c)).args.kind (start_of (wide_of c)).args.s.now
+abbrev Good : tie.Joined-not-good_content → Type 0
+Good c = At c.if-not-good_content.end
+    ≡ body_read (content (wide_of c).in-Bytes.w) content_kind (start_of (wide_of c)).args.kind (start_of (wide_of c)).args.s.now
 
-good : (c : tie.Joined1) → Good c
+good : (c : tie.Joined-not-good_content) → Good c
 good c =
     let from = is-opened _ _ _ _ (width (wide_of c)) in
     ⊎_elim {C = Good c}
-    (λ walked. ap At walked.8 ∙ read-walked _ _ from walked.2.ensures (sym walked.6.given.1 ∙ walked.4.ensures))
-    (λ glanced. ap At glanced.1 ∙ read_filled _ _ from (c.before.good-content.ensures (not-false _ glanced.0.left)))
-    c.if1.branch
+    (λ walked. ap At walked.end-is ∙ read-walked _ _ from walked.walk_content-walk.ensures (sym walked.in-At.is ∙ walked.body_end.ensures))
+    (λ glanced. ap At glanced.end-is ∙ read_filled _ _ from (c.before.good_content.ensures (not-false _ glanced.if-not-good_content.false-raw)))
+    c.if-not-good_content.branch-raw
 
 pub read_spec : {M : Type 1} → statement M
 read_spec =
@@ -58,36 +57,29 @@ read_spec =
     (λ c κs. search rules)
     (λ c. search rules)
     (λ c. search rules)
-    (λ c κs.
-    let wide : tie.After-w = search in
+    (λ c κs. let wide : tie.In-Bytes = search in
     (opened_least _ _ _ _ (width wide), opened-most _ _ _ _ (width wide)))
     (λ c. search rules)
-    (λ c κs.
-    let wide : tie.After-w = search in
+    (λ c κs. let wide : tie.In-Bytes = search in
     omega (arith, opened-most _ _ _ _ (width wide)))
     (λ c κs. search rules)
     (λ c. search rules)
-    (λ c.
-    let wide : tie.After-w = search in
-    let walk : tie.After-walk-content = search in
-    let told : tie.After-body-end = search in
+    (λ c. let wide : tie.In-Bytes = search in
+    let walk : tie.After-walk_content-walk = search in
+    let told : tie.After-body_end = search in
     refused-before _ _ _ _ _
-    (read-walked _ _ (is-opened _ _ _ _ (width wide)) walk.walk-content.ensures (sym c.before.r2.given.1 ∙ told.body-end.ensures))
+    (read-walked _ _ (is-opened _ _ _ _ (width wide)) walk.walk_content-walk.ensures (sym c.in-Refused-body_end.is ∙ told.body_end.ensures))
     ∙ read_wide _ _ _ _ (width wide) _)
     (λ c. search rules)
-    (λ c.
-    let judged : tie.Joined1 = search in
+    (λ c. let judged : tie.Joined-not-good_content = search in
     identifier-there _ _ _ (bytes (wide_of judged)) _ (good judged))
     (λ c κs. search rules)
     (λ c. search rules)
-    (λ c.
-    let judged : tie.Joined1 = search in
-    other-extension _ _ _ (bytes (wide_of judged)) _ (good judged) _ _ c.before.crc16-after-four.ensures c.if2.true
+    (λ c. let judged : tie.Joined-not-good_content = search in
+    other-extension _ _ _ (bytes (wide_of judged)) _ (good judged) _ _ c.before.crc16_after_four.ensures c.if-crc16_after_four-extension.true
     ∙ read_wide _ _ _ _ (width (wide_of judged)) _)
-    (λ c.
-    let asked : tie.After-open = search in
-    read_no _ _ _ _ (sym c.before.r.given.1 ∙ asked.open.ensures) _)
-    (λ c.
-    let judged : tie.Joined1 = search in
-    same-extension _ _ _ (bytes (wide_of judged)) _ (good judged) _ _ c.before.crc16-after-four.ensures (omega arith)
+    (λ c. let asked : tie.After-open = search in
+    read_no _ _ _ _ (sym c.in-Refused.is ∙ asked.open.ensures) _)
+    (λ c. let judged : tie.Joined-not-good_content = search in
+    same-extension _ _ _ (bytes (wide_of judged)) _ (good judged) _ _ c.before.crc16_after_four.ensures (omega arith)
     ∙ read_wide _ _ _ _ (width (wide_of judged)) _))

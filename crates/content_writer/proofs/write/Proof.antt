@@ -14,15 +14,12 @@ write_spec =
     (λ c κs. search rules)
     (λ c. search rules)
     (λ c. search rules)
-    (λ c κs.
-    let wide : tie.After-w = c.before.before in
-    omega (arith, width-most _ _ (sym wide.w.given.1 ∙ wide.before.before.width_of_lem.ensures)))
-    (λ c.
-    let no = sym c.before.r.given.1 ∙ c.before.before.before.width_of_lem.ensures in
+    (λ c κs. let wide : tie.In-Bytes = search in
+    omega (arith, width-most _ _ (sym wide.in-Bytes.is ∙ wide.before.width_of.ensures)))
+    (λ c. let no = sym c.in-Refused.is ∙ c.before.width_of.ensures in
     (written-no _ _ no _ _ _, output-no _ _ no _ _ _))
     (λ c. search rules)
-    (λ c.
-    let written : tie.After-write-wide = c.before.before in
-    let wide : tie.After-w = written.before.before.before in
-    let width = sym wide.w.given.1 ∙ wide.before.before.width_of_lem.ensures in
-    (written.write-wide.ensures.0 ∙ written-wide _ _ width _ _ _, written.write-wide.ensures.1 ∙ output-wide _ _ width _ _ _)))
+    (λ c. let written : tie.After-write_wide = search in
+    let wide : tie.In-Bytes = search in
+    let width = sym wide.in-Bytes.is ∙ wide.before.width_of.ensures in
+    (written.write_wide.ensures.0 ∙ written-wide _ _ width _ _ _, written.write_wide.ensures.1 ∙ output-wide _ _ width _ _ _)))

@@ -1,5 +1,4 @@
 -- `content_writer::write_wide` meets its contract: what was measured decides all refusals, only then the bytes are written, and the extension is
--- worked out of the identifier among them.
 use native.Mathlib.Omega.{arith}
 use borrow.Author.Rules.{rules}
 use Rattle.body_ink.proofs.Writers.{write-ready, write-inked}
@@ -15,26 +14,22 @@ write_wide_spec =
     (λ c κs. search rules)
     (λ c. search rules)
     (λ c. search rules)
-    (λ c κs.
-    let size : tie.After-size = search in
+    (λ c κs. let size : tie.In-At = search in
     let start : tie.Start = search in
-    write-ready _ _ _ start.args.out.now size.size.given.0.0 (cc))
-    (λ c.
-    let ink-content : tie.After-ink-content = search in
-    let size : tie.After-size = search in
-    let w = write-inked _ _ _ _ size.size.given.0.0 (cc) ink-content.ink-content.ensures in
+    write-ready _ _ _ start.args.out.now size.in-At.size (cc))
+    (λ c. let ink-content : tie.After-ink_content = search in
+    let size : tie.In-At = search in
+    let w = write-inked _ _ _ _ size.in-At.size (cc) ink-content.ink_content.ensures in
     omega (arith, identifier-fits _ _ _ _ _ w.0 _ w.1))
-    (λ c.
-    let ink-content : tie.After-ink-content = search in
-    let size : tie.After-size = search in
-    let w = write-inked _ _ _ _ size.size.given.0.0 (cc) ink-content.ink-content.ensures in
+    (λ c. let ink-content : tie.After-ink_content = search in
+    let size : tie.In-At = search in
+    let w = write-inked _ _ _ _ size.in-At.size (cc) ink-content.ink_content.ensures in
     first-there _ _ _ _ _ w.0 _ w.1 _ (omega arith))
     (λ c κs. search rules)
     (λ c. search rules)
     (λ c. refused-kept _ _ _ _ _ (cc))
     (λ c. search rules)
-    (λ c.
-    let ink-content : tie.After-ink-content = search in
-    let size : tie.After-size = search in
-    let w = write-inked _ _ _ _ size.size.given.0.0 (cc) ink-content.ink-content.ensures in
-    (with-extension _ _ _ _ _ w.0 _ w.1 _ c.crc16-after-four.ensures, w.1)))
+    (λ c. let ink-content : tie.After-ink_content = search in
+    let size : tie.In-At = search in
+    let w = write-inked _ _ _ _ size.in-At.size (cc) ink-content.ink_content.ensures in
+    (with-extension _ _ _ _ _ w.0 _ w.1 _ c.crc16_after_four.ensures, w.1)))

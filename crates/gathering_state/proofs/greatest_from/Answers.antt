@@ -1,10 +1,6 @@
 -- `gathering_state::greatest_from` meets its contract. The loop's invariant: what was to be found is the greatest so far, or that of what is left.
-use Prim.Native.Nat.{◌≤◌, ◌-◌, max}
-use mathlib.Core.Path.{◌≡◌}
+use Prim.Native.Nat.{◌-◌}
 use native.Mathlib.Omega.{arith}
-use borrow.Author.Rules.{rules}
-use lib.ListN.{length, drop}
-use Rattle.gathering_state.specs.Lists.{greatest}
 use Rattle.gathering_state.proofs.Lists.{greatest-step, greatest-end}
 use Rattle.gathering_state.proofs.greatest_from.Goals as goal
 

@@ -1,6 +1,5 @@
 -- `gathering_state::is_fresh` meets its contract: a field that is not 0 is not the fresh state's, and where none is found the state is fresh.
 use native.Mathlib.Omega.{arith}
-use borrow.Author.Rules.{rules}
 use Rattle.gathering_state.proofs.State.{fresh-but, not-fresh}
 use Rattle.gathering_state.proofs.is_fresh.Goals as goal
 

@@ -1,6 +1,5 @@
 -- `gathering_state::possible` meets its contract: no table has the kind 0, and only the fresh state has it.
 use mathlib.Core.Path.{sym, ◌∙◌}
-use borrow.Author.Rules.{rules}
 use Rattle.gathering_state.proofs.State.{possible-none, possible-some}
 use Rattle.gathering_state.proofs.possible.Goals as goal
 

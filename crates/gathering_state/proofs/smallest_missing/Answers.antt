@@ -1,8 +1,6 @@
 -- `gathering_state::smallest_missing` meets its contract. The loop's invariant: the numbers before k are held, so the smallest missing one is k or stands after it.
-use Prim.Native.Nat.{◌≤◌, ◌+◌, ◌-◌}
-use mathlib.Core.Path.{◌≡◌}
+use Prim.Native.Nat.{◌-◌}
 use native.Mathlib.Omega.{arith}
-use lib.ListN.{length, drop}
 use Rattle.gathering_state.specs.Lists.{smallest_missing}
 use Rattle.gathering_state.proofs.Lists.{missing-end, missing-stop, missing-step}
 use Rattle.gathering_state.proofs.smallest_missing.Goals as goal

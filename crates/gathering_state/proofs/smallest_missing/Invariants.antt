@@ -1,10 +1,8 @@
 -- `gathering_state::smallest_missing` meets its contract. The loop's invariant: the numbers before k are held, so the smallest missing one is k or stands after it.
 use Prim.Native.Nat.{◌≤◌, ◌+◌, ◌-◌}
 use mathlib.Core.Path.{◌≡◌}
-use native.Mathlib.Omega.{arith}
 use lib.ListN.{length, drop}
 use Rattle.gathering_state.specs.Lists.{smallest_missing}
-use Rattle.gathering_state.proofs.Lists.{missing-end, missing-stop, missing-step}
 use Rattle.gathering_state.proofs.smallest_missing.Given as goal
 
 abbrev pub invariant-loop-k : goal.invariant-loop-k

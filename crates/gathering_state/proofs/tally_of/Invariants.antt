@@ -1,11 +1,8 @@
 -- `gathering_state::tally_of` meets its contract. The loop's invariant: what is found so far, with what is left to find, is what there is to find.
 use Prim.Native.Nat.{◌≤◌, ◌+◌, ◌-◌, ◌*◌, max}
 use mathlib.Core.Path.{◌≡◌}
-use native.Mathlib.Omega.{arith}
-use borrow.Author.Rules.{rules}
 use lib.ListN.{length, drop}
 use Rattle.gathering_state.specs.Lists.{greatest, total, held_count}
-use Rattle.gathering_state.proofs.Lists.{greatest-step, greatest-end, total-step, total-end, held-step, held-end}
 use Rattle.gathering_state.proofs.tally_of.Given as goal
 
 abbrev pub invariant-loop-i : goal.invariant-loop-i

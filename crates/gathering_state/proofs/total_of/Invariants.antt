@@ -1,11 +1,8 @@
 -- `gathering_state::total_of` meets its contract. The loop's invariant: the sum so far and the total of what is left make the whole.
 use Prim.Native.Nat.{◌≤◌, ◌+◌, ◌-◌, ◌*◌}
 use mathlib.Core.Path.{◌≡◌}
-use native.Mathlib.Omega.{arith}
-use borrow.Author.Rules.{rules}
 use lib.ListN.{length, drop}
 use Rattle.gathering_state.specs.Lists.{total}
-use Rattle.gathering_state.proofs.Lists.{total-step, total-end}
 use Rattle.gathering_state.proofs.total_of.Given as goal
 
 abbrev pub invariant-loop-i : goal.invariant-loop-i

@@ -1,5 +1,5 @@
 -- `gathering_tables::is_newer` meets its contract: kind and extension are the same, and the steps are counted.
-use Rattle.std.proofs.Common.{arith, rules}
+use Rattle.std.proofs.Common.{arith}
 use Rattle.gathering_tables.proofs.Tables.{newer-not, newer-few}
 use Rattle.gathering_tables.proofs.is_newer.Goals as goal
 

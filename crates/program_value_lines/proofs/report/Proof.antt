@@ -11,32 +11,23 @@ use Rattle.program_value_lines.proofs.Values.{report_long}
 use Rattle.program_value_lines.proofs.report.Statement.{statement}
 use Rattle.program_value_lines.proofs.report.Tie as tie
 
-room : (c : tie.After-put-times-arg) → 0 + length (time_lines ++ (index_lines ++ volume_lines)) ≤ length c.before.args.out.now
+room : (c : tie.After-put_times-arg-1) → 0 + length (time_lines ++ (index_lines ++ volume_lines)) ≤ length c.before.args.out.now
 room c =
     let long : length c.before.args.out.now ≡ 377 = search rules in
     omega (arith, report_long)
 
-put_times_requires : tie.Need-put-times-requires
-put_times_requires c κs = room_first 0 time_lines (index_lines ++ volume_lines) (room c)
-
-put_indexes_requires : tie.Need-put-indexes-requires
-put_indexes_requires c κs =
-    let times = c.before in
-    room_first times.put-times.result index_lines volume_lines
-    (put_room (index_lines ++ volume_lines) times.put-times.ensures (room times.before))
-
-put_volumes_requires : tie.Need-put-volumes-requires
-put_volumes_requires c κs =
-    let indexes = c.before in
-    let times = indexes.before.before in
-    put_room volume_lines indexes.put-indexes.ensures
-    (put_room (index_lines ++ volume_lines) times.put-times.ensures (room times.before))
-
-returns : tie.Need-returns
-unfolding report_of
-returns c =
-    let indexes = c.before.before in
-    put_whole (put_then indexes.before.before.put-times.ensures (put_then indexes.put-indexes.ensures c.put-volumes.ensures))
-
 pub report_spec : {M : Type 1} → statement M
-report_spec = tie.close (tie.spec put_times_requires put_indexes_requires put_volumes_requires returns)
+unfolding report_of
+report_spec =
+    tie.close
+    (tie.spec
+    (λ c κs. room_first 0 time_lines (index_lines ++ volume_lines) (room c))
+    (λ c κs. let times = c.before in
+    room_first times.put_times-times.result index_lines volume_lines
+    (put_room (index_lines ++ volume_lines) times.put_times-times.ensures (room times.before)))
+    (λ c κs. let indexes = c.before in
+    let times = indexes.before.before in
+    put_room volume_lines indexes.put_indexes-indexes.ensures
+    (put_room (index_lines ++ volume_lines) times.put_times-times.ensures (room times.before)))
+    (λ c. let indexes = c.before.before in
+    put_whole (put_then indexes.before.before.put_times-times.ensures (put_then indexes.put_indexes-indexes.ensures c.put_volumes.ensures))))

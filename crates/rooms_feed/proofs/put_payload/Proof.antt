@@ -16,11 +16,10 @@ put_payload_spec =
     (λ c. search rules)
     (λ c. search rules)
     (λ c. search rules)
-    (λ c κs.
-    let start : tie.Start = search in
-    let room = fits_at _ _ _ start.pre in
-    let short = start.pre.short in
+    (λ c κs. let start : tie.Start = search in
+    let room = fits_at _ _ _ start.requires in
+    let short = start.requires.short in
     simp (length-take, length-drop) (omega arith))
     (λ c. search rules)
     (λ c. search rules)
-    (λ c. let start : tie.Start = search in puts _ _ _ start.pre _ c.before.before.copy-long.ensures))
+    (λ c. let start : tie.Start = search in puts _ _ _ start.requires _ c.before.before.copy_long.ensures))

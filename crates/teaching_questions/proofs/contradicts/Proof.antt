@@ -1,6 +1,6 @@
 -- `teaching_questions::contradicts` meets its contract: a section of another number differs from none, and one of this number if its payload does.
 use mathlib.Core.Bool.{not}
-use mathlib.Core.Path.{sym, ap, ◌∙◌}
+use mathlib.Core.Path.{ap, ◌∙◌}
 use native.Mathlib.Omega.{arith}
 use borrow.Author.Rules.{rules}
 use Rattle.ground_choices.proofs.Tests.{met, unmet}
@@ -9,43 +9,25 @@ use Rattle.teaching_questions.proofs.Saying.{Numbered, numbered, differs_absent,
 use Rattle.teaching_questions.proofs.contradicts.Statement.{statement}
 use Rattle.teaching_questions.proofs.contradicts.Tie as tie
 
-returns : tie.Need-returns
-returns c = differs_absent _ _ _ (unmet c.before.is_number.result c.before.is_number.ensures c.if1.true)
-
 -- where the function began
-begun : tie.Else1 → tie.Start
+begun : tie.Else-not-is_number → tie.Start
 begun c = search
 
 -- what is known where it is the section of that number
-known : (c : tie.Else1) → let start = begun c in Numbered start.args.t start.args.s.now start.args.k
+known : (c : tie.Else-not-is_number) → let start = begun c in Numbered start.args.t start.args.s.now start.args.k
 unfolding begun
-known c = numbered _ _ _ (met c.before.is_number.result c.before.is_number.ensures c.if1.false)
-
-sub_end : tie.Need-overflow-sub-end
-unfolding begun
-sub_end c = omega (arith, (known c).long)
-
-sub_same_bytes : tie.Need-overflow-sub-same-bytes
-unfolding begun
-sub_same_bytes c = omega (arith, (known c).long)
-
-part_same_bytes_start : tie.Need-slice-bounds-same-bytes-start
-unfolding begun
-part_same_bytes_start c = omega (arith, (known c).long)
-
-returns-2 : tie.Need-returns-2
-unfolding begun
-returns-2 c = let is = (known (search)).is in ap not (c.same_bytes.ensures ∙ ap (same_bytes _) (payload_part _)) ∙ differs_one _ _ _ _ is
+known c = numbered _ _ _ (met c.before.is_number.result c.before.is_number.ensures c.if-not-is_number.false-raw)
 
 pub contradicts_spec : {M : Type 1} → statement M
+unfolding begun
 contradicts_spec =
     tie.close
     (tie.spec
     (λ c κs. search rules)
-    returns
-    sub_end
-    sub_same_bytes
-    part_same_bytes_start
+    (λ c. differs_absent _ _ _ (unmet c.before.is_number.result c.before.is_number.ensures c.if-not-is_number.true-raw))
+    (λ c. omega (arith, (known c).long))
+    (λ c. omega (arith, (known c).long))
+    (λ c. omega (arith, (known c).long))
     (λ c. search rules)
     (λ c κs. search rules)
-    returns-2)
+    (λ c. let is = (known (search)).is in ap not (c.same_bytes.ensures ∙ ap (same_bytes _) (payload_part _)) ∙ differs_one _ _ _ _ is))

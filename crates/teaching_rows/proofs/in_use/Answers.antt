@@ -1,7 +1,6 @@
 -- `teaching_rows::in_use` meets its contract: what is in use lies in the buffer, and is held to be rows.
 use mathlib.Core.Path.{sym, ◌∙◌}
 use lib.Seq.{length-take-le}
-use borrow.Author.Rules.{rules}
 use Rattle.teaching_rows.proofs.Rows.{in_use_none, in_use_rows}
 use Rattle.teaching_rows.proofs.in_use.Goals as goal
 

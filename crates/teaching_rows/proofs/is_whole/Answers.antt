@@ -1,10 +1,8 @@
 -- `teaching_rows::is_whole` meets its contract: what the rows passed take and what those still to come take is what all of them take.
-use Prim.Native.Nat.{◌+◌, ◌-◌, ◌≤◌}
-use mathlib.Core.Path.{◌≡◌, refl, sym, ◌∙◌}
+use Prim.Native.Nat.{◌-◌}
+use mathlib.Core.Path.{refl, sym, ◌∙◌}
 use native.Mathlib.Omega.{arith}
-use borrow.Author.Rules.{rules}
-use lib.ListN.{length}
-use Rattle.teaching_rows.proofs.Rows.{taken, taken-row, taken_none, whole_taken, row-after}
+use Rattle.teaching_rows.proofs.Rows.{taken-row, taken_none, whole_taken}
 use Rattle.teaching_rows.proofs.is_whole.Goals as goal
 
 pub loop-at-init : goal.loop-at-init

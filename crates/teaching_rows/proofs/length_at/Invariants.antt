@@ -1,13 +1,8 @@
 -- `teaching_rows::length_at` meets its contract: after i turns n is the number of the first i bytes, and fits them.
 use Prim.Native.Nat.{◌-◌, ◌^◌, ◌≤◌, ◌<◌}
-use mathlib.Core.Path.{◌≡◌, ap, ◌∙◌}
-use native.Mathlib.Nat.{pow-zero}
-use native.Mathlib.Omega.{arith}
-use borrow.Author.Rules.{rules}
+use mathlib.Core.Path.{◌≡◌}
 use Rattle.body_formats.specs.Format.{number_at}
-use Rattle.body_formats.proofs.Readers.{number_start, number_more, more_fits}
 use Rattle.teaching_rows.specs.Rows.{length_bytes}
-use Rattle.teaching_rows.proofs.Lengths.{length_here, seven_bytes}
 use Rattle.teaching_rows.proofs.length_at.Given as goal
 
 abbrev pub invariant-loop-i : goal.invariant-loop-i

@@ -1,10 +1,5 @@
 -- `teaching_rows::put_length` meets its contract: the last byte is laid first, and those still to be laid on what stands make the whole.
-use Prim.Native.Nat.{◌≤◌}
-use mathlib.Core.Path.{◌≡◌, ◌∙◌}
-use lib.ListN.{length}
-use Rattle.ground_placing.specs.Placed.{placed}
-use Rattle.body_formats.specs.Format.{bytes_of}
-use Rattle.teaching_rows.specs.Rows.{length_bytes}
+use mathlib.Core.Path.{◌∙◌}
 use Rattle.teaching_rows.proofs.Lengths.{number_turn, number_done}
 use native.Mathlib.Omega.{arith}
 use borrow.Author.Rules.{rules}

@@ -1,6 +1,5 @@
 -- `teaching_rows::put_row` meets its contract: the length is laid, and the string after it.
 use native.Mathlib.Omega.{arith}
-use borrow.Author.Rules.{rules}
 use Rattle.teaching_rows.proofs.Rows.{row_laid}
 use Rattle.teaching_rows.proofs.put_row.Goals as goal
 

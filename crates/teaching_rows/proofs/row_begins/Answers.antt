@@ -3,7 +3,6 @@ use Prim.Native.Nat.{◌-◌}
 use mathlib.Core.Path.{sym}
 use lib.ListN.{length}
 use native.Mathlib.Omega.{arith}
-use borrow.Author.Rules.{rules}
 use Rattle.teaching_rows.proofs.Rows.{begins_past, begins_left}
 use Rattle.teaching_rows.proofs.row_begins.Goals as goal
 

@@ -1,6 +1,5 @@
 -- `teaching_rows::row_end` meets its contract: the row lies in the bytes, and with it its length.
 use native.Mathlib.Omega.{arith}
-use borrow.Author.Rules.{rules}
 use Rattle.teaching_rows.proofs.Rows.{row_room}
 use Rattle.teaching_rows.proofs.row_end.Goals as goal
 

@@ -22,8 +22,7 @@ list_bytes_spec =
     (λ c. (omega arith, (λ some. absurd (omega arith), untold)))
     (λ c. search rules)
     (λ c κs. search rules)
-    (λ c.
-    let told : tie.After-parts-bytes = search in (
-      omega (arith, told.parts-bytes.ensures.0),
-      (λ some. (omega arith, omega arith), list_laid _ _ _ _ (omega arith) (omega arith) told.parts-bytes.ensures.1),
+    (λ c. let told : tie.After-parts_bytes = search in (
+      omega (arith, told.parts_bytes.ensures.0),
+      (λ some. (omega arith, omega arith), list_laid _ _ _ _ (omega arith) (omega arith) told.parts_bytes.ensures.1),
     )))

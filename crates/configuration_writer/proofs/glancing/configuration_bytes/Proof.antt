@@ -11,20 +11,20 @@ use Rattle.configuration_writer.proofs.Glances.{command_laid, configuration_laid
 use Rattle.configuration_writer.proofs.glancing.configuration_bytes.Statement.{statement}
 use Rattle.configuration_writer.proofs.glancing.configuration_bytes.Tie as tie
 
-abbrev invariant-loop : tie.invariant-loop
-invariant-loop pool tape at₀ bytes₀ left₀ at bytes left =
+abbrev invariant-loop-left : tie.invariant-loop-left
+invariant-loop-left pool tape at₀ bytes₀ left₀ at bytes left =
     Coming command pool tape left₀ 1 left at (bytes - 1) × (at ≤ length tape) × (1 ≤ bytes) × (bytes + left * 65538 ≤ 1 + left₀ * 65538) × (left₀ ≤ 255)
     × (left₀ ≡ get_or tape 0 0)
 
-abbrev decreases-loop : tie.decreases-loop
-decreases-loop pool tape at₀ bytes₀ left₀ at bytes left = left
+abbrev decreases-loop-left : tie.decreases-loop-left
+decreases-loop-left pool tape at₀ bytes₀ left₀ at bytes left = left
 
 pub configuration_bytes_spec : {M : Type 1} → statement M
 configuration_bytes_spec =
     tie.close
     (tie.spec
-    invariant-loop
-    decreases-loop
+    invariant-loop-left
+    decreases-loop-left
     (λ c. (omega arith, untold))
     (λ c. search rules)
     (λ c. (omega arith, untold))
@@ -41,14 +41,13 @@ configuration_bytes_spec =
     (λ c. search rules)
     (λ c. search rules)
     (λ c. search rules)
-    (λ c.
-    let content : tie.After-see-said invariant-loop decreases-loop = search in
-    let told : tie.Else5 invariant-loop decreases-loop = search in
-    let turn : tie.In-loop invariant-loop decreases-loop = search in
-    let v = turn.before.loop.inv in
-    let seen = content.see-said.ensures in
+    (λ c. let content : tie.After-see_said-content invariant-loop-left decreases-loop-left = search in
+    let told : tie.Else-content-eq0 invariant-loop-left decreases-loop-left = search in
+    let turn : tie.In-loop-left invariant-loop-left decreases-loop-left = search in
+    let v = turn.before.loop-left.invariant in
+    let seen = content.see_said-content.ensures in
     let one = command_laid _ refl (omega arith) (omega arith) seen.few (seen.good (omega arith)) in (
-      coming-turn command _ _ _ _ v.0 _ (omega (arith, v.2)) turn.loop-test.taken one,
+      coming-turn command _ _ _ _ v.0 _ (omega (arith, v.2)) turn.loop-left-test.true one,
       seen.inside,
       omega (arith, v.2, seen.few),
       omega (arith, v.3, seen.few),
@@ -60,10 +59,9 @@ configuration_bytes_spec =
     (λ c. search rules)
     (λ c. (omega arith, untold))
     (λ c. search rules)
-    (λ c.
-    let loop : tie.At-loop invariant-loop decreases-loop = search in
-    let end : tie.After-last-part invariant-loop decreases-loop = search in
-    let v = loop.loop.inv in
+    (λ c. let loop : tie.At-loop-left invariant-loop-left decreases-loop-left = search in
+    let end : tie.After-last_part-signature invariant-loop-left decreases-loop-left = search in
+    let v = loop.loop-left.invariant in
     let done = coming-done command _ _ _ _ v.0 (omega arith) in
-    let whole = configuration_laid (omega arith) (omega arith) (done.0, done.1) (end.last-part.ensures.1 (omega arith)) in
+    let whole = configuration_laid (omega arith) (omega arith) (done.0, done.1) (end.last_part-signature.ensures.1 (omega arith)) in
     (omega arith, λ some. (whole.0, lays-to refl (omega (arith, v.2)) whole.1))))

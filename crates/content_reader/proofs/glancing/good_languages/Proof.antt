@@ -1,5 +1,4 @@
 -- `content_reader::glancing::good_languages` meets its contract: the count, each turn finds one language, those to come make the whole, and the
--- signature ends the body.
 use Prim.Native.Nat.{◌-◌, ◌≤◌}
 use mathlib.Core.Path.{◌≡◌}
 use lib.ListN.{length}
@@ -15,21 +14,21 @@ use Rattle.content_reader.proofs.Glances.{reads-few, reads-language}
 use Rattle.content_reader.proofs.glancing.good_languages.Statement.{statement}
 use Rattle.content_reader.proofs.glancing.good_languages.Tie as tie
 
-abbrev invariant-loop : tie.invariant-loop
-invariant-loop s p w l count at₀ left₀ at left = (at ≤ length s) × Coming (language w) s left₀ at₀ left at
+abbrev invariant-loop-left : tie.invariant-loop-left
+invariant-loop-left s p w l count at₀ left₀ at left = (at ≤ length s) × Coming (language w) s left₀ at₀ left at
 
-abbrev decreases-loop : tie.decreases-loop
-decreases-loop s p w l count at₀ left₀ at left = left
+abbrev decreases-loop-left : tie.decreases-loop-left
+decreases-loop-left s p w l count at₀ left₀ at left = left
 
-abbrev bytes : (known : tie.After-shared-slice-known invariant-loop decreases-loop) → Bytes known.before.args.s.now
-bytes known = λ i. (known.shared-slice-known.given i).fits
+abbrev bytes : (known : tie.After-shared_slice_known-1 invariant-loop-left decreases-loop-left) → Bytes known.before.args.s.now
+bytes known = λ i. (known.shared_slice_known-1.given i).fits
 
 pub good_languages_spec : {M : Type 1} → statement M
 good_languages_spec =
     tie.close
     (tie.spec
-    invariant-loop
-    decreases-loop
+    invariant-loop-left
+    decreases-loop-left
     (λ c. search rules)
     (λ c. not_good)
     (λ c. not_good)
@@ -47,23 +46,21 @@ good_languages_spec =
     (λ c. not_good)
     (λ c. search rules)
     (λ c. search rules)
-    (λ c.
-    let known : tie.After-shared-slice-known invariant-loop decreases-loop = search in
-    let turn : tie.In-loop invariant-loop decreases-loop = search in
-    let n : tie.After-three-or-four-bytes invariant-loop decreases-loop = search in
-    let fields : tie.After-good-language invariant-loop decreases-loop = search in
-    let filled = fields.good-language.ensures (not-false _ c.if5.false) in
-    let found = reads-language _ _ _ (bytes known) _ n.three-or-four-bytes.ensures (omega arith) filled in
-    (omega arith, coming-turn (language _) _ _ _ turn.before.loop.inv.1 turn.loop-test.taken found))
+    (λ c. let known : tie.After-shared_slice_known-1 invariant-loop-left decreases-loop-left = search in
+    let turn : tie.In-loop-left invariant-loop-left decreases-loop-left = search in
+    let n : tie.After-three_or_four_bytes-n invariant-loop-left decreases-loop-left = search in
+    let fields : tie.After-good_language invariant-loop-left decreases-loop-left = search in
+    let filled = fields.good_language.ensures (not-false _ c.if-not-good_language.false-raw) in
+    let found = reads-language _ _ _ (bytes known) _ n.three_or_four_bytes-n.ensures (omega arith) filled in
+    (omega arith, coming-turn (language _) _ _ _ turn.before.loop-left.invariant.1 turn.loop-left-test.true found))
     (λ c. search rules)
     (λ c. not_good)
     (λ c. search rules)
     (λ c. search rules)
     (λ c κs. search rules)
-    (λ c e.
-    let known : tie.After-shared-slice-known invariant-loop decreases-loop = search in
-    let loop : tie.At-loop invariant-loop decreases-loop = search in
-    let languages = coming-done (language _) _ _ _ loop.loop.inv.1 (omega arith) in
+    (λ c e. let known : tie.After-shared_slice_known-1 invariant-loop-left decreases-loop-left = search in
+    let loop : tie.At-loop-left invariant-loop-left decreases-loop-left = search in
+    let languages = coming-done (language _) _ _ _ loop.loop-left.invariant.1 (omega arith) in
     let counted = reads_list (language _) (reads-few _ _ 4 1 5 _ (omega arith) (omega arith) (omega arith) (omega arith)) languages.1 in
-    let rest : length known.before.args.s.now - loop.loop.at - 2 ≡ c.two_bytes.result = eqb-true _ _ e in
+    let rest : length known.before.args.s.now - loop.loop-left.at - 2 ≡ c.two_bytes.result = eqb-true _ _ e in
     (_, reads-pair counted (reads-to (omega arith) (reads-opaque _ _ 2 (bytes known)).1))))

@@ -1,0 +1,20 @@
+-- `configuration_writer::measuring::pen_commands` meets its contract: each turn goes past one more, the first refusal ends them, and the
+use mathlib.Core.Path.{sym, ◌∙◌}
+use native.Mathlib.Omega.{arith}
+use borrow.Author.Rules.{rules}
+use Rattle.body_pen.proofs.Lists.{Underway, list_start, list-pen, times-turn, times-stop, times-done}
+use Rattle.configuration.specs.Configuration.{command}
+use Rattle.configuration_writer.proofs.measuring.pen_commands.Goals as goal
+
+pub loop-left-init : goal.loop-left-init
+loop-left-init c = list_start (c.pen_count-things.ensures _)
+
+pub returns-in-Refused : goal.returns-in-Refused
+returns-in-Refused c = times-stop c.loop-left.invariant c.loop-left-test.true c.pen_command.ensures _ c.in-Refused.is
+    ∙ sym (list-pen _ (c.pen_count-things.ensures _))
+
+pub loop-left-preserved : goal.loop-left-preserved
+loop-left-preserved c = times-turn c.loop-left.invariant c.loop-left-test.true c.pen_command.ensures _ c.in-At.is
+
+pub returns : goal.returns
+returns c = times-done c.loop-left.invariant (omega arith) ∙ sym (list-pen _ (c.pen_count-things.ensures _))

@@ -1,0 +1,15 @@
+-- `configuration_writer::measuring::pen_parameters` meets its contract: each turn goes past one more, the first refusal ends them, and the
+use mathlib.Core.Path.{sym, ◌∙◌}
+use mathlib.Core.List.{List}
+use Prim.Native.Nat.{ℕ}
+use native.Mathlib.Omega.{arith}
+use borrow.Author.Rules.{rules}
+use Rattle.body_pen.proofs.Lists.{Underway, list_start, list-pen, times-turn, times-stop, times-done}
+use Rattle.body_formats.specs.Format.{number}
+use Rattle.configuration_writer.proofs.measuring.pen_parameters.Given as goal
+
+abbrev pub invariant-loop-left : goal.invariant-loop-left
+invariant-loop-left l = (pool : List ℕ) → Underway (number 1) pool l.tape l.initial.left l.initial.pen l.left l.pen
+
+abbrev pub decreases-loop-left : goal.decreases-loop-left
+decreases-loop-left l = l.left

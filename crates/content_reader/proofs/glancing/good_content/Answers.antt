@@ -1,0 +1,31 @@
+-- `content_reader::glancing::good_content` meets its contract: the identifier and what follows it, under their names, fill the body.
+use native.Mathlib.Nat.{le_refl}
+use native.Mathlib.Omega.{arith}
+use borrow.Author.Rules.{rules}
+use borrow.Author.Tests.{not-false}
+use Rattle.ground_refusal.specs.declared.Refusal.TheVariants.{LeftOver}
+use Rattle.body_glance.proofs.Finds.{reads-pair, reads-view, fills-exact}
+use Rattle.body_glance.proofs.Leaves.{not_good}
+use Rattle.content.specs.Content.{fields, content}
+use Rattle.content_reader.proofs.glancing.good_content.Goals as goal
+
+pub returns-then-s-lt19 : goal.returns-then-s-lt19
+unfolding content fields
+returns-then-s-lt19 c = not_good
+
+pub good_identifier-requires : goal.good_identifier-requires
+unfolding content fields
+good_identifier-requires c = search rules
+
+pub returns-then-not-good_identifier : goal.returns-then-not-good_identifier
+unfolding content fields
+returns-then-not-good_identifier c = not_good
+
+pub good_languages-requires : goal.good_languages-requires
+unfolding content fields
+good_languages-requires c = search rules
+
+pub returns : goal.returns
+unfolding content fields
+returns c e = let first = c.good_identifier.ensures (not-false _ c.if-not-good_identifier.false-raw) in
+    (_, fills-exact LeftOver (le_refl _) (reads-view _ _ (reads-pair first.1 (c.good_languages.ensures e).1)))

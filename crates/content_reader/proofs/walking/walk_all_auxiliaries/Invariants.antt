@@ -1,0 +1,14 @@
+-- `content_reader::walking::walk_all_auxiliaries` meets its contract: each turn walks one auxiliary file, and those left make the whole.
+use native.Mathlib.Omega.{arith}
+use borrow.Author.Rules.{rules}
+use Rattle.body_formats.specs.Format.{times}
+use Rattle.body_walk.proofs.Counts.{Ahead, ahead_start, times-turn, times-done}
+use Rattle.content.specs.Content.{auxiliary}
+use Rattle.content.proofs.Lawful.{auxiliary-lawful}
+use Rattle.content_reader.proofs.walking.walk_all_auxiliaries.Given as goal
+
+abbrev pub invariant-loop-left : goal.invariant-loop-left
+invariant-loop-left l = Ahead (times l.n (auxiliary l.w)) l.s l.l l.initial.at l.wet l.initial.tape (times l.left (auxiliary l.w)) l.at l.tape
+
+abbrev pub decreases-loop-left : goal.decreases-loop-left
+decreases-loop-left l = l.left

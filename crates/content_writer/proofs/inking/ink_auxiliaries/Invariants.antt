@@ -1,0 +1,18 @@
+-- `content_writer::inking::ink_auxiliaries` meets its contract: their count, and as many of them as it says.
+use mathlib.Core.Path.{◌≡◌, refl}
+use lib.ListN.{length}
+use native.Mathlib.Omega.{arith}
+use borrow.Author.Rules.{rules}
+use Rattle.body_ink.proofs.Pairs.{moved}
+use Rattle.body_ink.proofs.Numbers.{numeral-inked}
+use Rattle.body_ink.proofs.Lists.{Underway, list-ready, list-inked, times_start, times-next, times-turn, times-done}
+use Rattle.content.specs.Content.{auxiliary, auxiliaries}
+use Rattle.content_writer.proofs.Inkings.{files_count, auxiliary_entries, count_ready}
+use Rattle.content_writer.proofs.inking.ink_auxiliaries.Given as goal
+
+abbrev pub invariant-loop-left : goal.invariant-loop-left
+invariant-loop-left l =
+    (length l.out ≡ length l.initial.out) × Underway (auxiliary l.w) l.pool l.tape l.initial.left l.initial.past l.initial.entry l.initial.out l.left l.past l.entry l.out
+
+abbrev pub decreases-loop-left : goal.decreases-loop-left
+decreases-loop-left l = l.left

@@ -1,0 +1,41 @@
+-- `content_writer::inking::ink_languages` meets its contract: their count, and as many of them as it says.
+use mathlib.Core.Path.{◌≡◌, refl}
+use lib.ListN.{length}
+use native.Mathlib.Omega.{arith}
+use borrow.Author.Rules.{rules}
+use Rattle.body_ink.proofs.Pairs.{moved}
+use Rattle.body_ink.proofs.Numbers.{numeral-inked}
+use Rattle.body_ink.proofs.Lists.{Underway, list-ready, list-inked, times_start, times-next, times-turn, times-done}
+use Rattle.content.specs.Content.{language}
+use Rattle.content_writer.proofs.Inkings.{languages_count, count_ready}
+use Rattle.content_writer.proofs.inking.ink_languages.Goals as goal
+
+pub offset_bounds-tape-k : goal.offset_bounds-tape-k
+offset_bounds-tape-k c = omega (arith, count_ready 1 5 _ c.requires)
+
+pub bounds-tape-k : goal.bounds-tape-k
+bounds-tape-k c = omega (arith, count_ready 1 5 _ c.requires)
+
+pub overflow_add-n : goal.overflow_add-n
+overflow_add-n c = omega (arith, count_ready 1 5 _ c.requires)
+
+pub number-requires : goal.number-requires
+number-requires c = omega (arith, count_ready 1 5 _ c.requires)
+
+pub overflow_add-past : goal.overflow_add-past
+overflow_add-past c = omega (arith, count_ready 1 5 _ c.requires)
+
+pub overflow_add-entry : goal.overflow_add-entry
+overflow_add-entry c = omega (arith, count_ready 1 5 _ c.requires)
+
+pub loop-left-init : goal.loop-left-init
+loop-left-init c = (refl, times_start (moved (list-ready languages_count _ c.requires) refl refl (search rules)))
+
+pub ink_language-next-requires : goal.ink_language-next-requires
+ink_language-next-requires c = times-next c.loop-left.invariant.1 c.loop-left-test.true
+
+pub loop-left-preserved : goal.loop-left-preserved
+loop-left-preserved c = (search rules, times-turn c.loop-left.invariant.1 c.loop-left-test.true c.ink_language-next.ensures)
+
+pub returns : goal.returns
+returns c = list-inked languages_count _ (numeral-inked languages_count c.number.ensures refl refl) (times-done c.loop-left.invariant.1 (omega arith))

@@ -1,0 +1,20 @@
+-- `content_writer::measuring::pen_languages` meets its contract: each turn goes past one more, the first refusal ends them, and the
+use mathlib.Core.Path.{sym, ◌∙◌}
+use native.Mathlib.Omega.{arith}
+use borrow.Author.Rules.{rules}
+use Rattle.body_pen.proofs.Lists.{Underway, list_start, list-pen, times-turn, times-stop, times-done}
+use Rattle.content.specs.Content.{language}
+use Rattle.content_writer.proofs.measuring.pen_languages.Goals as goal
+
+pub loop-left-init : goal.loop-left-init
+loop-left-init c = list_start (c.pen_reserved_among-things.ensures _)
+
+pub returns-in-Refused : goal.returns-in-Refused
+returns-in-Refused c = times-stop c.loop-left.invariant c.loop-left-test.true c.pen_language.ensures _ c.in-Refused.is
+    ∙ sym (list-pen _ (c.pen_reserved_among-things.ensures _))
+
+pub loop-left-preserved : goal.loop-left-preserved
+loop-left-preserved c = times-turn c.loop-left.invariant c.loop-left-test.true c.pen_language.ensures _ c.in-At.is
+
+pub returns : goal.returns
+returns c = times-done c.loop-left.invariant (omega arith) ∙ sym (list-pen _ (c.pen_reserved_among-things.ensures _))

@@ -1,0 +1,15 @@
+-- `index_writer::inking::ink_all_streams` meets its contract: as many as the tape says.
+use mathlib.Core.Path.{◌≡◌, refl}
+use lib.ListN.{length}
+use native.Mathlib.Omega.{arith}
+use borrow.Author.Rules.{rules}
+use Rattle.body_ink.proofs.Lists.{Underway, many-count, many-ready, many-inked, times_start, times-next, times-turn, times-done}
+use Rattle.index.specs.Index.{stream}
+use Rattle.index_writer.proofs.inking.ink_all_streams.Given as goal
+
+abbrev pub invariant-loop-left : goal.invariant-loop-left
+invariant-loop-left l =
+    (length l.out ≡ length l.initial.out) × Underway stream l.pool l.tape l.initial.left l.initial.past l.initial.entry l.initial.out l.left l.past l.entry l.out
+
+abbrev pub decreases-loop-left : goal.decreases-loop-left
+decreases-loop-left l = l.left

@@ -1,0 +1,17 @@
+-- `index_writer::inking::ink_messages` meets its contract: their count, and as many of them as it says.
+use mathlib.Core.Path.{◌≡◌, refl}
+use lib.ListN.{length}
+use native.Mathlib.Omega.{arith}
+use borrow.Author.Rules.{rules}
+use Rattle.body_ink.proofs.Pairs.{moved}
+use Rattle.body_ink.proofs.Numbers.{a_count, numeral-ready, numeral-inked}
+use Rattle.body_ink.proofs.Lists.{Underway, list_count, list-ready, list-inked, times_start, times-next, times-turn, times-done}
+use Rattle.index.specs.Index.{message}
+use Rattle.index_writer.proofs.inking.ink_messages.Given as goal
+
+abbrev pub invariant-loop-left : goal.invariant-loop-left
+invariant-loop-left l =
+    (length l.out ≡ length l.initial.out) × Underway message l.pool l.tape l.initial.left l.initial.past l.initial.entry l.initial.out l.left l.past l.entry l.out
+
+abbrev pub decreases-loop-left : goal.decreases-loop-left
+decreases-loop-left l = l.left

@@ -1,0 +1,20 @@
+-- `index_writer::measuring::pen_all_descriptors_of_channel` meets its contract: each turn goes past one more, the first refusal ends them, and the
+use mathlib.Core.Path.{sym, ◌∙◌}
+use native.Mathlib.Omega.{arith}
+use borrow.Author.Rules.{rules}
+use Rattle.body_pen.proofs.Lists.{Underway, list_start, many-pen, times-turn, times-stop, times-done}
+use Rattle.index.specs.Index.{descriptor}
+use Rattle.index_writer.proofs.measuring.pen_all_descriptors_of_channel.Goals as goal
+
+pub loop-left-init : goal.loop-left-init
+loop-left-init c = list_start (c.take_count-things.ensures _)
+
+pub returns-in-Refused : goal.returns-in-Refused
+returns-in-Refused c = times-stop c.loop-left.invariant c.loop-left-test.true c.pen_descriptor.ensures _ c.in-Refused.is
+    ∙ sym (many-pen _ (c.take_count-things.ensures _))
+
+pub loop-left-preserved : goal.loop-left-preserved
+loop-left-preserved c = times-turn c.loop-left.invariant c.loop-left-test.true c.pen_descriptor.ensures _ c.in-At.is
+
+pub returns : goal.returns
+returns c = times-done c.loop-left.invariant (omega arith) ∙ sym (many-pen _ (c.take_count-things.ensures _))

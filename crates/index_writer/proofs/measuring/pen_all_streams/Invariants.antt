@@ -1,0 +1,13 @@
+-- `index_writer::measuring::pen_all_streams` meets its contract: each turn goes past one more, the first refusal ends them, and the
+use mathlib.Core.Path.{sym, ◌∙◌}
+use native.Mathlib.Omega.{arith}
+use borrow.Author.Rules.{rules}
+use Rattle.body_pen.proofs.Lists.{Underway, list_start, many-pen, times-turn, times-stop, times-done}
+use Rattle.index.specs.Index.{stream}
+use Rattle.index_writer.proofs.measuring.pen_all_streams.Given as goal
+
+abbrev pub invariant-loop-left : goal.invariant-loop-left
+invariant-loop-left l = Underway stream l.pool l.tape l.initial.left l.initial.pen l.left l.pen
+
+abbrev pub decreases-loop-left : goal.decreases-loop-left
+decreases-loop-left l = l.left

@@ -1,0 +1,23 @@
+-- `teaching_hand_out::hand_table` meets its contract: each way out is one of the table's answers.
+use native.Mathlib.Omega.{arith}
+use borrow.Author.Rules.{rules}
+use Rattle.ground_choices.proofs.Tests.{met, unmet}
+use Rattle.teaching_hand_out.proofs.Telling.{table-11, table-13, table-21, table-body}
+use Rattle.teaching_hand_out.proofs.hand_table.Goals as goal
+
+pub returns-then-not-agree : goal.returns-then-not-agree
+returns-then-not-agree c = table-11 _ _ _ (unmet c.agree.result c.agree.ensures c.if-not-agree.true-raw)
+
+pub returns-then-k-t : goal.returns-then-k-t
+returns-then-k-t c = table-13 _ _ _ (met c.agree.result c.agree.ensures c.if-not-agree.false-raw) _
+    c.smallest_missing-k.ensures (omega arith)
+
+pub returns-then-out-n : goal.returns-then-out-n
+returns-then-out-n c = table-21 _ _ _ (met c.agree.result c.agree.ensures c.if-not-agree.false-raw) _
+    c.smallest_missing-k.ensures (omega arith)
+    _ c.body_length-n.ensures c.if-out-n.true
+
+pub returns : goal.returns
+returns c = table-body _ _ _ (met c.agree.result c.agree.ensures c.if-not-agree.false-raw) _
+    c.smallest_missing-k.ensures (omega arith)
+    _ c.body_length-n.ensures (omega arith) _ c.join.ensures
