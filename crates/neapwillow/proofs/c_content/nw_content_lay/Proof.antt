@@ -12,4 +12,4 @@ nw_content_lay_spec =
     (λ c κs. search rules)
     (λ c κs. search rules)
     (λ c. search rules)
-    (λ c. (c.written-answer.ensures ∙ ap written_answer c.before.before.before.lay.ensures.0, c.before.before.before.lay.ensures.1)))
+    (λ c. (c.written_answer.ensures ∙ ap written_answer c.before.before.before.lay.ensures.0, c.before.before.before.lay.ensures.1)))

@@ -12,4 +12,4 @@ nw_content_write_spec =
     (λ c κs. search rules)
     (λ c κs. search rules)
     (λ c. search rules)
-    (λ c. (c.content-answer.ensures ∙ ap content_answer c.before.before.before.write.ensures.0, c.before.before.before.write.ensures.1)))
+    (λ c. (c.content_answer.ensures ∙ ap content_answer c.before.before.before.write.ensures.0, c.before.before.before.write.ensures.1)))

@@ -12,4 +12,4 @@ nw_packet_pack_spec =
     (λ c κs. search rules)
     (λ c κs. search rules)
     (λ c. search rules)
-    (λ c. (c.pack-answer.ensures ∙ ap pack_answer c.before.before.before.pack.ensures.0, c.before.before.before.pack.ensures.1)))
+    (λ c. (c.pack_answer.ensures ∙ ap pack_answer c.before.before.before.pack.ensures.0, c.before.before.before.pack.ensures.1)))

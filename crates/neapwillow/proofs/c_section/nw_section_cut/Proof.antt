@@ -12,4 +12,4 @@ nw_section_cut_spec =
     (λ c κs. search rules)
     (λ c κs. search rules)
     (λ c. search rules)
-    (λ c. (c.length-answer.ensures ∙ ap length_answer c.before.before.before.cut-section.ensures.0, c.before.before.before.cut-section.ensures.1)))
+    (λ c. (c.length_answer.ensures ∙ ap length_answer c.before.before.before.cut_section.ensures.0, c.before.before.before.cut_section.ensures.1)))

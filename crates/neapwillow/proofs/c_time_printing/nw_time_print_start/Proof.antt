@@ -14,11 +14,10 @@ nw_time_print_start_spec =
     (λ c κs. search rules)
     (λ c κs. search rules)
     (λ c. search rules)
-    (λ c.
-    let here = c.before.before.before in
+    (λ c. let here = c.before.before.before in
     let entry = here.before.before.before in
     let o = to_z-of_z entry.ranges.offset in
     let field = entry.args.field in
     let out = entry.args.out.now in
-    let e = here.print-start.ensures in
-    (c.printed-answer.ensures ∙ ap printed_answer (e.0 ∙ ap (λ z. printed_of (start_text field z) out) o), e.1 ∙ ap (λ z. output_of (start_text field z) out) o)))
+    let e = here.print_start.ensures in
+    (c.printed_answer.ensures ∙ ap printed_answer (e.0 ∙ ap (λ z. printed_of (start_text field z) out) o), e.1 ∙ ap (λ z. output_of (start_text field z) out) o)))

@@ -19,8 +19,7 @@ nw_times_read_text_spec =
     (tie.spec
     (λ c κs. search rules)
     (λ c κs. search rules)
-    (λ c.
-    let here = c.before.before in
-    let typed = here.read-times.ensures ∙ ap (typed_times _ _ _) (to_z-of_z here.before.before.before.ranges.offset) in
-    let e = c.times-answer.ensures in
+    (λ c. let here = c.before.before in
+    let typed = here.read_times.ensures ∙ ap (typed_times _ _ _) (to_z-of_z here.before.before.before.ranges.offset) in
+    let e = c.times_answer.ensures in
     (e.0 ∙ ap times_answer typed, e.1 ∙ left _ typed)))
