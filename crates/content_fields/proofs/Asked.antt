@@ -177,7 +177,7 @@ module _ (w : ℕ) (s : List ℕ) (b : Bytes s) where
         let at = p + 4 in
         let l = at + g.0 in
         let f = view_found named unnamed (language_fields w) s l at v l (exact_found PastPart _ s l at v l g.2).0 in
-        let inside : l ≤ length s = omega (arith, g.1.ends, g.1.in_Body) in
+        let inside : l ≤ length s = omega (arith, g.1.ends, g.1.in_body_lem) in
         record {
           size = g.0;
           part_follows = rw (three.1, lt-ltb i (length x.1.0) h.among, h.passed) g.1;
