@@ -1,0 +1,42 @@
+-- `screen_choice::choose` meets its contract: code, instant and body are refused in this order, and an accepted body's messages are walked.
+use Prim.Native.Nat.{ℕ}
+use mathlib.Core.Path.{◌≡◌, sym, ap, ◌∙◌}
+use borrow.Author.Rules.{rules}
+use borrow.Author.Tests.{not-true, not-false}
+use Rattle.crc.specs.Crc.{AreBytes}
+use Rattle.screen_choice.specs.Walk.{worth_of}
+use Rattle.screen_choice.proofs.Chosen.{holds, tabled, choice-no-code, choice-no-instant, choice-refused, choice-walked}
+use Rattle.screen_choice.proofs.choose.Goals as goal
+
+pub returns-then-not-is_code : goal.returns-then-not-is_code
+returns-then-not-is_code c = choice-no-code _ _ _ _ (sym c.is_code.ensures ∙ not-true _ c.if-not-is_code.true-raw)
+
+pub returns-then-not-is_instant : goal.returns-then-not-is_instant
+returns-then-not-is_instant c = choice-no-instant _ _ _ _ (sym c.is_code.ensures ∙ not-false _ c.if-not-is_code.false-raw)
+    (sym c.is_instant.ensures ∙ not-true _ c.if-not-is_instant.true-raw)
+
+pub pack-own-requires : goal.pack-own-requires
+pack-own-requires c = sym c.is_code.ensures ∙ not-false _ c.if-not-is_code.false-raw
+
+pub walked-requires : goal.walked-requires
+walked-requires c = let args = c.args in
+    let bytes : AreBytes args.s.now = record { byte = λ i. (c.type_inv.s i).fits } in
+    let h = holds _ _ bytes _ (sym c.in-At.is ∙ c.read.ensures) in
+    let code = sym c.is_code.ensures ∙ not-false _ c.if-not-is_code.false-raw in (
+      args.code.now,
+      h.0.messages,
+      tabled _ _ bytes _ _ _ h.0 h.2 (c.worth_of-count.ensures ∙ ap worth_of c.message_count.ensures) code
+          c.pack-own.ensures,
+    )
+
+pub returns-in-Refused : goal.returns-in-Refused
+returns-in-Refused c = choice-refused _ _ _ _ (sym c.is_code.ensures ∙ not-false _ c.if-not-is_code.false-raw)
+    (sym c.is_instant.ensures ∙ not-false _ c.if-not-is_instant.false-raw) _ (sym c.in-Refused.is ∙ c.read.ensures)
+
+pub returns-in-At : goal.returns-in-At
+returns-in-At c = let bytes : AreBytes c.args.s.now = record { byte = λ i. (c.type_inv.s i).fits } in
+    choice-walked _ _ _ _ (sym c.is_code.ensures ∙ not-false _ c.if-not-is_code.false-raw)
+    (sym c.is_instant.ensures ∙ not-false _ c.if-not-is_instant.false-raw) bytes _ (sym c.in-At.is ∙ c.read.ensures) _ _
+    c.pack-own.ensures (c.worth_of-count.ensures ∙ ap worth_of c.message_count.ensures)
+    c.walked.result
+    c.walked.ensures _ c.choice_told.ensures

@@ -1,0 +1,19 @@
+-- `screen_choice::walked` meets its contract. The loop's invariant: the messages that are left stand from p on, and what is kept leads those before.
+use Prim.Native.Nat.{◌+◌, ◌-◌, ◌≤◌}
+use mathlib.Core.List.{List}
+use Prim.Native.Nat.{ℕ}
+use native.Mathlib.Omega.{arith}
+use borrow.Author.Rules.{rules}
+use Rattle.index.specs.Index.{Message}
+use Rattle.screen_choice.specs.Walk.{Tabled, Table}
+use Rattle.screen_choice.proofs.Messages.{room, length_is, stands, Underway, underway, walked, here, on}
+use Rattle.screen_choice.proofs.walked.Given as goal
+
+abbrev pub invariant-loop-i : goal.invariant-loop-i
+invariant-loop-i l =
+    (l.i ≤ l.count) × Tabled l.s l.count l.own
+    × ((code : List ℕ) (ms : List Message) → Table l.s l.count l.own code ms → Underway l.s l.count code (record { l.day = l.day; l.second = l.second }) ms l.best l.p l.i)
+
+abbrev pub decreases-loop-i : goal.decreases-loop-i
+decreases-loop-i l = l.count - l.i
+
