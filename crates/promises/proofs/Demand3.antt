@@ -1,7 +1,7 @@
 -- Demand 3: the theorems of account, and a takeover by the laws of feeding.
 use Prim.Native.Nat.{ℕ}
 use mathlib.Core.Path.{◌≡◌, sym, ◌∙◌}
-use mathlib.Core.Bool.{true, or_true}
+use mathlib.Core.Bool.{true, or-true}
 use mathlib.Core.List.{List}
 use native.Mathlib.Omega.{arith}
 use lib.ListN.{length}
@@ -37,7 +37,7 @@ module _ (g : Gathering) (store s : List ℕ) (h : Heading) (n : ℕ) (p : possi
     (newer : is_newer (fixed_heading g) h ≡ true) (r : has_room (length store) h.last ≡ true) where
   first : begins g h ≡ true
   unfolding begins
-  first = rw newer (or_true (nothing_begun g))
+  first = rw newer (or-true (nothing_begun g))
 
   over : verdict_of g store s ≡ Begin h
   over = verdict-good g store s p h n e ∙ good_begins g store h (payload_of s) (record { current = rw c; known = rw first; roomy = rw r }) first
@@ -59,7 +59,7 @@ demand3 =
       feeds = feed-answers;
       all_feeds = run-answers;
       possible = run_possible;
-      has_room = λ store. table_room (has_room (length store));
+      has_room_lem = λ store. table_room (has_room (length store));
       takes_over = λ g store s h n p e c newer r. let f = feeds g store s (Begin h) (over g store s h n p e c newer r) in (sym f.0, sym f.1);
       counts_right = λ store fed b. counts_right (fed_to store fed).state (run_possible store fed b);
       stays_possible = stays_possible;

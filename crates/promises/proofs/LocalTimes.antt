@@ -54,6 +54,7 @@ module _ (t : LocalTime) (offset : ℤ) where
   given_none : Given (ImpossibleDay 0) (packing_lines t offset) → impossible t offset ≡ true
   unfolding packing_lines
   given_none (later o (here n)) = n
+  given_none (later o (later _ x)) = elim x [ ]
 
   pack_refused : is_offset offset ≡ true → (pack_of t offset ≡ NotFielded (ImpossibleDay 0)) ↔ NoField t offset
   unfolding impossible
@@ -81,6 +82,7 @@ module _ (field : ℕ) (offset : ℤ) where
   given-no-time : Given (ImpossibleDay 0) (unpacking_lines field offset) → (not (possible field) || offset_outside (local_day field offset)) ≡ true
   unfolding unpacking_lines
   given-no-time (later o (later w (later d (here n)))) = n
+  given-no-time (later o (later w (later d (later _ x)))) = elim x [ ]
 
   unpack_refused : is_offset offset ≡ true → field < 2 ^ 40 → is_decimal field ≡ true
       → (unpack_of field offset ≡ NotUnpacked (ImpossibleDay 0)) ↔ NoLocalTime field offset
@@ -98,6 +100,7 @@ text_accepts s offset field i = ap (λ (x : List ℕ). read_text x offset) i.cha
 -- one line can give its own refusal alone
 last_given : {r r' : Refusal} {b : Bool} → Given r (r' when b ∷ []) → r ≡ r'
 last_given (here e) = refl
+last_given (later _ x) = elim x [ ]
 
 module _ (s : List ℕ) (offset : ℤ) (o : is_offset offset ≡ true) where
   not-formed : Given NotOfTheForm (text_lines s offset) → formed form s ≡ false

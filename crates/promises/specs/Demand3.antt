@@ -64,7 +64,7 @@ pub record Demand3 : Type 0 where
   -- 12, "not a possible gathering state", is never among them,
   pub possible : (store : List ℕ) (fed : List (List ℕ)) → ByteStrings fed → possible_of (fed_to store fed).state ≡ true
   -- nor is 10 for a section of the fixed table: the store is not "shorter than (last + 1) × 4,084 bytes"
-  pub has_room : (store : List ℕ) (fed : List (List ℕ)) (t : Heading) (S : List Section) → heard_by store fed ≡ table t S → has_room (length store) t.last ≡ true
+  pub has_room_lem : (store : List ℕ) (fed : List (List ℕ)) (t : Heading) (S : List Section) → heard_by store fed ≡ table t S → has_room (length store) t.last ≡ true
   -- "the gathering shall start over with that section, spoiled or not", whatever possible state C has lent: 'taken', the state of the new table with the
   -- section alone, and of the store only its payload's place is written;
   pub takes_over : (g : Gathering) (store s : List ℕ) (h : Heading) (n : ℕ) → possible_of g ≡ true → read_section s ≡ Good h n → h.current ≡ true

@@ -19,6 +19,7 @@ module _ {A : Type 0} (refused : Refusal → A) where
 
   pub outcome-given : (lines : List Line) (value : A) (r : Refusal) → Given r lines → outcome lines value ≡ refused r
   unfolding outcome
+  outcome-given [] value r x = elim x [ ]
   outcome-given (r' when b ∷ lines) value r (here e) = rw e
   outcome-given (r' when b ∷ lines) value r (later e g) = rw e (outcome-given lines value r g)
 

@@ -132,6 +132,7 @@ module _ (t : LocalTime) (offset : ℤ) where
   unfolding packing_lines
   pack_refused r (here o) = pack_by t offset (not-true _ o)
   pack_refused r (later o (here d)) = where-true (pack-decides t offset (not-false _ o)) d
+  pack_refused r (later o (later _ x)) = elim x [ ]
 
   pack-answered : None (packing_lines t offset) → IsField (pack_of t offset)
   unfolding packing_lines
@@ -148,6 +149,7 @@ module _ (s : List ℕ) (offset : ℤ) where
   text-refused r (here o) = no_offset s offset (not-true _ o)
   text-refused r (later o (here f)) = by_form s offset (not-false _ o) (not-true _ f)
   text-refused r (later o (later f (here d))) = by_form s offset (not-false _ o) (not-false _ f) ∙ where-true (pack-decides (typed s) offset (not-false _ o)) d
+  text-refused r (later o (later f (later _ x))) = elim x [ ]
 
   text-answered : None (text_lines s offset) → IsField (read_text s offset)
   unfolding text_lines
@@ -203,6 +205,7 @@ module _ (field : ℕ) (offset : ℤ) where
   unpack_refused r (later o (later w (here d))) =
       unpack_by field offset (not-false _ o) ∙ ap (unpacked_at offset) (reads-no-digit field 0 (leb-false _ _ w) (not-true _ d))
   unpack_refused r (later o (later w (later d (here p)))) = where-true (time-decides field offset (not-false _ o) w (not-false _ d) _ refl) p
+  unpack_refused r (later o (later w (later d (later _ x)))) = elim x [ ]
 
   unpack-answered : None (unpacking_lines field offset) → IsLocalTime (unpack_of field offset)
   unfolding unpacking_lines
