@@ -19,6 +19,6 @@ returns-then-not-is_concerned c code m so_far st part told = let args = c.args i
 
 pub returns : goal.returns
 returns c code m so_far st part told = let args = c.args in
-    let present : Moment = record { day = args.day; c = args.second } in
+    let present : Moment = record { day = args.day; second = args.second } in
     may-show _ _ _ _ _ present args.best code m so_far st part told _ _ c.is_timely.ensures (not-false _ c.if-not-is_timely.false-raw)
     c.is_concerned.ensures (not-false _ c.if-not-is_concerned.false-raw) _ c.candidate.ensures _ c.better.ensures

@@ -12,8 +12,7 @@ use Rattle.screen_choice.proofs.walked.Given as goal
 abbrev pub invariant-loop-i : goal.invariant-loop-i
 invariant-loop-i l =
     (l.i ≤ l.count) × Tabled l.s l.count l.own
-    × ((code : List ℕ) (ms : List Message) → Table l.s l.count l.own code ms → Underway l.s l.count code (record { l.day = l.day; l.second = l.second }) ms l.best l.p l.i)
+    × ((code : List ℕ) (ms : List Message) → Table l.s l.count l.own code ms → Underway l.s l.count code (record { day = l.day; second = l.second }) ms l.best l.p l.i)
 
 abbrev pub decreases-loop-i : goal.decreases-loop-i
 decreases-loop-i l = l.count - l.i
-
