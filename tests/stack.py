@@ -270,6 +270,14 @@ PLANTED = [
 ]
 
 
+def as_kit(module, text, code):
+    """The words that the kit compiled the module with, for another text and object file: with fewer of them a function takes less stack."""
+    with open(re.sub(r'\.bc$', '.words', module), encoding='utf-8') as file:
+        words = file.read().splitlines()
+    words[words.index('-o') + 1] = code
+    return [text if word.endswith('.bc') else word for word in words]
+
+
 def too_deep(objdump, clang, module, function, size, header):
     """The functions that pass their limits where a buffer of so many bytes stands in a function of the module."""
     with tempfile.TemporaryDirectory() as folder:
@@ -284,7 +292,7 @@ def too_deep(objdump, clang, module, function, size, header):
         buffer = f'  %planted = alloca [{size} x i8], align 4\n  call void asm sideeffect "", "r,~{{memory}}"(ptr %planted)\n'
         with open(text, 'w', encoding='utf-8') as file:
             file.write(lines[:start.end()] + buffer + lines[start.end():])
-        subprocess.run(own + ['-c', '-O3', '-fPIC', '-ffunction-sections', '-o', code, text], check=True)
+        subprocess.run([clang] + as_kit(module, text, code) + ['-Wno-error', '-Wno-override-module'], check=True)
         stack, stated = Stack(objdump, code), limits(header)
         return {name for name in stack.offers(stated) if stated[name][0] is not None and stack.of(name)[0] > stated[name][0]}
 

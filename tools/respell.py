@@ -12,8 +12,15 @@ import re
 import sys
 
 WORD = re.compile(r"[^\s(){}.;,@\"«»\[\]|:λ↦]+")
-TOP = re.compile(r"(?m)^(?:(?:abbrev|unfoldable) )*(?:pub )?([^\s:(){}]+) :(.*)")
-BLOCK = re.compile(r"(?m)^(?:pub )?(?:record|data) [^\n]*(?:\n(?:[ \t]+[^\n]*|(?=\n)))*")
+TOP = re.compile(r"(?m)^ *(?:(?:abbrev|unfoldable) )*(?:pub )?([^\s:(){}]+)(?: \{[^}]*\})* :(.*)")
+# A record or a data type, at the left edge or in a section, with its lines.
+BLOCK = re.compile(r"(?m)^( *)(?:pub )?(?:record|data) [^\n]*(?:\n(?:\1[ \t]+[^\n]*|(?=\n)))*")
+# What a law takes by a name of its own, and what stands for a name from elsewhere.
+BOUND = re.compile(r"[({]([a-z][a-z0-9]*[A-Z][A-Za-z0-9]*) :|(?<= as )([a-z][^\s,;}]*)")
+# What a proof names on its way turns where its file has no such word.
+LET = re.compile(r"\blet ([a-z][^\s:(){}.]*) [:=]")
+# What comes from another library is not ours.
+FOREIGN = re.compile(r"(?m)^use ([\w.·+'-]+)\.\{([^}]*)\}")
 MEMBER = re.compile(r"(?m)^\s+([^\s:(){}]+(?: [^\s:(){}]+)*) :")
 USED = re.compile(r"(?m)^use ([\w.·+'-]+) as ([^\s]+)$")
 # What Rattle makes of a function: names behind these stay.
@@ -31,7 +38,14 @@ LOCAL = {
     "crates/packet_arrival/proofs/Readings.antt": ["too_long"],
 }
 # Lemmas beside a definition that port.py turned already.
-BESIDE = ["in-body", "in-range", "is-code", "is-complete", "number-of", "part-of"]
+BESIDE = """
+    address-length agency-in answer-by as-end both-among channel-fields content-read count-in day-fault day-of day-to digit-of first-packet fixed-heading
+    free-from free-room heading-kept identifier-day in-body in-channel in-command in-range is-code is-complete lacking-table laid-over number-of on-day
+    parse-many part-of payload-at pen-onward resource-at resource-digit resource-part row-begins slow-answers stream-fields variant-tape
+""".split()
+
+# A definition beside a lemma with its name.
+OTHERWISE = {"tooSmall": "small_room"}
 
 
 def snake(name):
@@ -45,12 +59,14 @@ def read(path):
 
 
 def declared(texts):
-    """The repository's own words, and those of them that are fields of a record."""
-    words, fields = set(), set()
+    """The repository's own words, those of them that are fields of a record, and those that only stand for another."""
+    words, bound, fields = set(), set(), set()
     for path, text in texts.items():
         for m in TOP.finditer(text):
             if not re.match(r"\s*(?:goal|g|given|walk)\.", m[2]) and not re.fullmatch(r"(?:invariant|decreases|returns)-?.*", m[1]):
                 words.add(m[1])
+        for m in BOUND.finditer(text):
+            bound.add(m[1] or m[2])
         for block in BLOCK.finditer(text):
             rest = block[0].split("\n", 1)
             if len(rest) > 1:
@@ -59,7 +75,15 @@ def declared(texts):
                         words.add(name)
                         fields.add(name)
     own = lambda n: n[0].islower() and ("-" in n or re.search("[A-Z]", n)) and not re.search("[◌→·*+]", n)
-    return {n for n in words if own(n)}, {n for n in fields if own(n)}
+    return {n for n in words | bound if own(n)}, {n for n in fields if own(n)}, bound - words
+
+
+def here(text, table):
+    """The table for one file: without the names that it takes from another library, and with those that it names on its way."""
+    seen = set(WORD.findall(text))
+    foreign = {w.split(" as ")[0].strip() for m in FOREIGN.finditer(text) if not m[1].startswith("Rattle.") or ".std" in m[1] for w in m[2].split(",")}
+    lets = {n: snake(n) for n in LET.findall(text) if "-" in n and snake(n) not in seen}
+    return {n: new for n, new in {**lets, **table}.items() if n not in foreign}
 
 
 def turned(text, table, fields):
@@ -85,7 +109,8 @@ def quiet_comments(text, mark, turn):
     held = {}
 
     def hide(m):
-        words = WORD.sub(lambda w: "\0" + w[0].replace("-", "\1") if "-" in w[0] and w[0] not in used else w[0], m[0])
+        spoken = re.sub(r"`[a-z]\w*[A-Z]\w*`", lambda w: snake(w[0]), m[0])
+        words = WORD.sub(lambda w: "\0" + w[0].replace("-", "\1") if "-" in w[0] and w[0] not in used else w[0], spoken)
         return words.replace("\0", "\2")
 
     hidden = re.sub(r"(?m)(?:^|(?<=\s))" + mark + r".*$", hide, text)
@@ -107,9 +132,10 @@ def rust(text, turn, names):
 def main():
     paths = sorted(glob.glob("crates/*/specs/**/*.antt", recursive=True) + glob.glob("crates/*/proofs/**/*.antt", recursive=True))
     texts = {p: read(p) for p in paths}
-    names, fields = declared(texts)
+    names, fields, bound = declared(texts)
     taken = {snake(n) for n in names if "-" not in n}
-    table = {n: snake(n) + (LEMMA if "-" in n and (snake(n) in taken or n in BESIDE) else "") for n in names}
+    lemma = {n for n in names if "-" in n and n not in bound and (snake(n) in taken or n in BESIDE)}
+    table = {n: OTHERWISE.get(n) or snake(n) + (LEMMA if n in lemma else "") for n in names}
     if "--look" in sys.argv:
         together = collections.defaultdict(set)
         for n, new in table.items():
@@ -127,11 +153,15 @@ def main():
             print("beside:", n, table[n], len(where), where[0])
         print(len(table), "names")
         return
+
     def turn(text):
-        return turned(text, table, fields)
+        return turned(text, here(text, table), fields)
+
     for p, t in texts.items():
         new = t
         for word in LOCAL.get(p, []):
+            if re.sub("_(.)", lambda m: m[1].upper(), word) not in t:
+                continue  # this was done already
             new = WORD.sub(lambda m: word + LEMMA if m[0] == word and not re.search(r"\.$", new[: m.start()]) else m[0], new)
         new = quiet_comments(new, "--", turn)
         if new != t:
@@ -143,7 +173,7 @@ def main():
             open(p, "w", encoding="utf-8").write(new)
     for p in sorted(glob.glob("crates/*/must-fail/*.edit")):
         t = read(p)
-        new = "\n".join(turn(l) if re.match("(?:old|new): ", l) else l for l in t.split("\n"))
+        new = "\n".join(turn(l) if re.match("(?:old|new|refused): ", l) else l for l in t.split("\n"))
         if new != t:
             open(p, "w", encoding="utf-8").write(new)
 

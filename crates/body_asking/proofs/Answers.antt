@@ -18,7 +18,7 @@ use Rattle.body_formats.specs.declared.Part.TheVariants.{Of, Refused as NoPart}
 use Rattle.body_formats.proofs.Outcomes.{need_found}
 use Rattle.body_formats.proofs.Classes.{Bytes}
 use Rattle.body_formats.proofs.Bits.{number_is_count}
-use Rattle.body_formats.proofs.Readers.{number_is, part_of_lem, least-is, least_none}
+use Rattle.body_formats.proofs.Readers.{number_is, part_of_lem, least_is, least_none}
 use Rattle.body_asking.specs.Asking.{field_in}
 
 -- ---- tests
@@ -72,7 +72,7 @@ module _ (s : List ℕ) (at n : ℕ) where
 pub part_there : (s : List ℕ) → Bytes s → (l : ℕ) → l ≤ length s → (p w m q : ℕ) → m ≡ number_at s p w → q ≡ p + w → q + m ≤ l → Of q m ≡ part_read w s l p
 part_there s b l inside p w m q e f h =
     let told = number_is s l p w (omega arith) (omega arith) m q e f in
-    part_of_lem s l p q m (omega arith) _ _ h (le-leb 0 m (omega arith)) ∙ least-is s l p w 0 m q b told ∙ least_none s l p w
+    part_of_lem s l p q m (omega arith) _ _ h (le-leb 0 m (omega arith)) ∙ least_is s l p w 0 m q b told ∙ least_none s l p w
 
 -- ---- from an answer back to what was read
 

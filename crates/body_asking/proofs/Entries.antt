@@ -25,34 +25,34 @@ use Rattle.body_asking.proofs.Sizes.{only_found}
 -- ---- an entry: its head ends where the number of as many bytes does
 
 module _ (s : List ℕ) (l p h : ℕ) where
-  head-refused : (r : Refusal) → NoNumber r ≡ number_read h s l p → (bytes h).parse s l p ≡ refused r
+  head_refused : (r : Refusal) → NoNumber r ≡ number_read h s l p → (bytes h).parse s l p ≡ refused r
   unfolding number_read count bytes
-  head-refused r e = within_refused s l p (p + h) _ _ r (found (take h (drop p s)) (p + h)) (number_refused ((count h).parse s l p) r e)
+  head_refused r e = within_refused s l p (p + h) _ _ r (found (take h (drop p s)) (p + h)) (number_refused ((count h).parse s l p) r e)
 
-  head-found : (v q : ℕ) → Is v q ≡ number_read h s l p → (bytes h).parse s l p ≡ found (take h (drop p s)) q
+  head_found : (v q : ℕ) → Is v q ≡ number_read h s l p → (bytes h).parse s l p ≡ found (take h (drop p s)) q
   unfolding number_read count bytes
-  head-found v q e =
+  head_found v q e =
       let f = within_found s l p (p + h) _ v q (number_found ((count h).parse s l p) v q e) in
       rw (le-leb (p + h) (length s) f.0, le-leb (p + h) l f.1) (ap (found (take h (drop p s))) (found_inj f.2).1)
 
   module _ (w : ℕ) where
-    pub head-no : (r : Refusal) → NoNumber r ≡ number_read h s l p → NoStep r ≡ ended (headed_part h w) s l p
+    pub head_no : (r : Refusal) → NoNumber r ≡ number_read h s l p → NoStep r ≡ ended (headed_part h w) s l p
     unfolding ended followed
-    head-no r e = rw (head-refused r e)
+    head_no r e = rw (head_refused r e)
 
     module _ (v q : ℕ) (e : Is v q ≡ number_read h s l p) where
-      pub entry-no : (r : Refusal) → NoPart r ≡ part_read w s l q → NoStep r ≡ ended (headed_part h w) s l p
+      pub entry_no : (r : Refusal) → NoPart r ≡ part_read w s l q → NoStep r ≡ ended (headed_part h w) s l p
       unfolding ended followed
-      entry-no r f = rw (head-found v q e, part_refused s l q w r f)
+      entry_no r f = rw (head_found v q e, part_refused s l q w r f)
 
       pub entry_at : (a m : ℕ) → Of a m ≡ part_read w s l q → At (a + m) ≡ ended (headed_part h w) s l p
       unfolding ended followed
-      entry_at a m f = rw (head-found v q e, (part_found s l q w a m f).1)
+      entry_at a m f = rw (head_found v q e, (part_found s l q w a m f).1)
 
     -- a number of h bytes, and then opaque bytes, are an entry
     pub entry_found : (v r : ℕ) → (number h).parse s l p ≡ found v r → (xs : List ℕ) (q : ℕ) → (opaque w).parse s l r ≡ found xs q → (headed_part h w).parse s l p ≡ found (take h (drop p s), xs) q
     unfolding number number_read followed
-    entry_found v r e xs q f = rw (head-found v r (sym (ap number_of (only_found _ (count h) s l p v r e))), f)
+    entry_found v r e xs q f = rw (head_found v r (sym (ap number_of (only_found _ (count h) s l p v r e))), f)
 
 -- ---- the i-th of n, by the code's test
 
@@ -61,9 +61,9 @@ module _ {A : Type 0} (F : Format A) (n i : ℕ) (s : List ℕ) (l p : ℕ) wher
   unfolding nth_of
   nth_past h = rw (le-ltb i n h)
 
-  pub nth-there : i < n → ended_all F i s l p ≡ step_of (nth_of F n i s l p)
+  pub nth_there : i < n → ended_all F i s l p ≡ step_of (nth_of F n i s l p)
   unfolding nth_of ended_all
-  nth-there h = rw (lt-ltb i n h)
+  nth_there h = rw (lt-ltb i n h)
 
 -- what is read after i others is read where they end
 pub after_all : {A : Type 0} (F : Format A) (s : List ℕ) (l i p : ℕ) (xs : List A) (q : ℕ) → repeat (F.parse s l) i p ≡ found xs q
@@ -89,26 +89,26 @@ module _ {A B : Type 0} (F : Format A) (G : Format B) (s : List ℕ) (l : ℕ) (
       (y.0 ∷ ys.0, rw (y.1, ys.1) (ap (found (y.0 ∷ ys.0)) (found_inj j.3).1))
 
   -- where the i-th begins
-  begins-same : (d : A) (n i p : ℕ) (xs : List A) (q : ℕ) → repeat (F.parse s l) n p ≡ found xs q → i < n
+  begins_same : (d : A) (n i p : ℕ) (xs : List A) (q : ℕ) → repeat (F.parse s l) n p ≡ found xs q → i < n
       → (ys : List B) × (t r : ℕ) × (repeat (G.parse s l) i p ≡ found ys t) × (F.parse s l t ≡ found (get_or xs i d) r)
   unfolding repeat
-  begins-same d zero i p xs q e h = absurd (omega arith)
-  begins-same d (suc n) zero p xs q e h =
+  begins_same d zero i p xs q e h = absurd (omega arith)
+  begins_same d (suc n) zero p xs q e h =
       let i = and_then_found (F.parse s l p) _ xs q e in
       let j = and_then_found (repeat (F.parse s l) n i.1) _ xs q i.3 in
       ([], p, i.1, refl, i.2 ∙ ap (λ x. found x i.1) (ap (λ ys. get_or ys 0 d) (found_inj j.3).0))
-  begins-same d (suc n) (suc k) p xs q e h =
+  begins_same d (suc n) (suc k) p xs q e h =
       let i = and_then_found (F.parse s l p) _ xs q e in
       let j = and_then_found (repeat (F.parse s l) n i.1) _ xs q i.3 in
       let y = same p i.0 i.1 i.2 in
-      let t = begins-same d n k i.1 j.0 j.1 j.2 (omega arith) in
+      let t = begins_same d n k i.1 j.0 j.1 j.2 (omega arith) in
       (y.0 ∷ t.0, t.1, t.2, rw (y.1, t.3), t.4 ∙ ap (λ x. found x t.2) (ap (λ ys. get_or ys (suc k) d) (found_inj j.3).0))
 
-  pub nth-same : (d : A) (n i p : ℕ) (xs : List A) (q : ℕ) → repeat (F.parse s l) n p ≡ found xs q → i < n
+  pub nth_same : (d : A) (n i p : ℕ) (xs : List A) (q : ℕ) → repeat (F.parse s l) n p ≡ found xs q → i < n
       → (ys : List B) × (t r : ℕ) × (nth_of G n i s l p ≡ found ys t) × (F.parse s l t ≡ found (get_or xs i d) r)
   unfolding nth_of
-  nth-same d n i p xs q e h =
-      let t = begins-same d n i p xs q e h in
+  nth_same d n i p xs q e h =
+      let t = begins_same d n i p xs q e h in
       (t.0, t.1, t.2, rw (lt-ltb i n h) t.3, t.4)
 
 -- ---- parts that nothing stands before
@@ -157,13 +157,13 @@ module _ (w : ℕ) (s : List ℕ) where
       go true e = inside p (leb-true p (length s) e)
       go false e = outside p (leb-false p (length s) e)
 
-  pub all-headless : (n p : ℕ) → ended_all (headed_part 0 w) n s (length s) p ≡ ended_all (opaque w) n s (length s) p
+  pub all_headless : (n p : ℕ) → ended_all (headed_part 0 w) n s (length s) p ≡ ended_all (opaque w) n s (length s) p
   unfolding ended_all
-  all-headless n p = all_alike (headed_part 0 w) (opaque w) s (length s) headless n p
+  all_headless n p = all_alike (headed_part 0 w) (opaque w) s (length s) headless n p
 
-  pub nth-headless : (n i p : ℕ) → step_of (nth_of (headed_part 0 w) n i s (length s) p) ≡ step_of (nth_of (opaque w) n i s (length s) p)
+  pub nth_headless : (n i p : ℕ) → step_of (nth_of (headed_part 0 w) n i s (length s) p) ≡ step_of (nth_of (opaque w) n i s (length s) p)
   unfolding nth_of
-  nth-headless n i p = go (ltb i n)
+  nth_headless n i p = go (ltb i n)
     where
       go : (t : Bool) → step_of (need t (OutsideSet 0) (repeat ((headed_part 0 w).parse s (length s)) i p)) ≡ step_of (need t (OutsideSet 0) (repeat ((opaque w).parse s (length s)) i p))
       go true = all_alike (headed_part 0 w) (opaque w) s (length s) headless i p

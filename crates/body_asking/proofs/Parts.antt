@@ -65,8 +65,8 @@ module _ {A : Type 0} (L : Length) (F : Format A) (f : Filling F) (s : List ℕ)
       let h = counted_holds L F s l p x q e in
       sym (f.ends s (h.at + h.size) h.at x q b h.in_body_lem (le-add_right h.at h.size) h.inner)
 
-  pub part-holds : PartHolds F s (part_of ((counted L rest).parse s l p)) x q
-  part-holds =
+  pub part_holds : PartHolds F s (part_of ((counted L rest).parse s l p)) x q
+  part_holds =
       let h = counted_holds L F s l p x q e in
       record {
         at = h.at;
@@ -78,8 +78,8 @@ module _ {A : Type 0} (L : Length) (F : Format A) (f : Filling F) (s : List ℕ)
       }
 
   -- its bytes end where it ends
-  pub bytes-hold : (xs : List ℕ) × ((counted L rest).parse s l p ≡ found xs q)
-  bytes-hold =
+  pub bytes_hold : (xs : List ℕ) × ((counted L rest).parse s l p ≡ found xs q)
+  bytes_hold =
       let h = counted_holds L F s l p x q e in
       (take h.size (drop h.at s), h.bytes ∙ ap (found (take h.size (drop h.at s))) ends_there)
 
@@ -93,23 +93,23 @@ length12_sized = reserved_sized 4 1
 
 -- a part begins after its length, of k bytes
 pub part_after_lem : {A : Type 0} (L : Length) (k : ℕ) → Sized L.field k → (F : Format A) (f : Filling F) (s : List ℕ) (b : Bytes s) (l p : ℕ) (x : A) (q : ℕ)
-    (e : (counted L F).parse s l p ≡ found x q) → (part-holds L F f s b l p x q e).at ≡ p + k
-unfolding part-holds
+    (e : (counted L F).parse s l p ≡ found x q) → (part_holds L F f s b l p x q e).at ≡ p + k
+unfolding part_holds
 part_after_lem L k z F f s b l p x q e =
     let h = counted_holds L F s l p x q e in
     z s l p h.counts h.at h.told
 
 pub part_begins : {A : Type 0} (w : ℕ) (F : Format A) (f : Filling F) (s : List ℕ) (b : Bytes s) (l p : ℕ) (x : A) (q : ℕ)
-    (e : (counted (length_of w) F).parse s l p ≡ found x q) → (part-holds (length_of w) F f s b l p x q e).at ≡ p + w
+    (e : (counted (length_of w) F).parse s l p ≡ found x q) → (part_holds (length_of w) F f s b l p x q e).at ≡ p + w
 part_begins w F f s b l p x q e = part_after_lem (length_of w) w (length_sized w) F f s b l p x q e
 
 -- ---- digits
 
 -- digits asked for one by one: so many as were read are there, and no other
 module _ (D : Format (List ℕ)) (s : List ℕ) (l p : ℕ) (ds : List ℕ) (q : ℕ) (e : D.parse s l p ≡ found ds q) (i : ℕ) where
-  pub digit-there : i < length ds → digit_read D i s l p ≡ Is (get_or ds i 0) (p + (i + 1) / 2)
+  pub digit_there : i < length ds → digit_read D i s l p ≡ Is (get_or ds i 0) (p + (i + 1) / 2)
   unfolding digit_read nth_digit
-  digit-there k = rw (e, lt-ltb i (length ds) k)
+  digit_there k = rw (e, lt-ltb i (length ds) k)
 
   pub digit_past : length ds ≤ i → digit_read D i s l p ≡ NoNumber (OutsideSet 0)
   unfolding digit_read nth_digit

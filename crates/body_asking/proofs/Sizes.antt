@@ -10,7 +10,7 @@ use Rattle.body_formats.specs.Reading.{found, Fault}
 use Rattle.body_formats.specs.Format.{Format, count, only, among, number, nibbles, nibbles_among, reserved, bytes, bytes_among, halves, tail, decimal, digits, ◌▷◌, repeat}
 use Rattle.body_formats.specs.Time.{time, end_time}
 use Rattle.body_formats.proofs.Outcomes.{found_inj, and_then_found, need_found, judged_found, within_found}
-use Rattle.body_formats.proofs.Leaves.{reserved-found}
+use Rattle.body_formats.proofs.Leaves.{reserved_found}
 use Rattle.body_formats.proofs.Elements.{followed_found}
 
 -- whatever F reads has n bytes
@@ -69,12 +69,12 @@ bytes_sized lo hi n s l p xs q e = sym (bytes_are lo hi n s l p xs q e).1
 
 pub reserved_sized : (k w : ℕ) → Sized (reserved k w) (suc w)
 unfolding reserved
-reserved_sized k w s l p a q e = sym (found_inj (within_found s l p (p + suc w) _ a q (reserved-found k s l p _ a q e).1).2).1
+reserved_sized k w s l p a q e = sym (found_inj (within_found s l p (p + suc w) _ a q (reserved_found k s l p _ a q e).1).2).1
 
 pub digits_sized : (h : ℕ) → Sized (digits h) (suc h)
 unfolding digits
 digits_sized h s l p ds q e =
-    let f = within_found s l p (p + suc h) _ ds q (reserved-found 4 s l p _ ds q e).1 in
+    let f = within_found s l p (p + suc h) _ ds q (reserved_found 4 s l p _ ds q e).1 in
     sym (found_inj (need_found (decimal (tail (halves (take (suc h) (drop p s))))) (DigitAboveNine p) _ ds q f.2).1).1
 
 -- ---- one after the other
@@ -89,29 +89,29 @@ next F G n z s l p r x q h e =
 -- ---- the i-th of n
 
 module _ {A : Type 0} (F : Format A) (w : ℕ) (z : Sized F w) (s : List ℕ) (l : ℕ) where
-  pub repeat-sized : (n p : ℕ) (xs : List A) (q : ℕ) → repeat (F.parse s l) n p ≡ found xs q → q ≡ p + w * n
+  pub repeat_sized : (n p : ℕ) (xs : List A) (q : ℕ) → repeat (F.parse s l) n p ≡ found xs q → q ≡ p + w * n
   unfolding repeat
-  repeat-sized zero p xs q e = omega (arith, (found_inj e).1)
-  repeat-sized (suc n) p xs q e =
+  repeat_sized zero p xs q e = omega (arith, (found_inj e).1)
+  repeat_sized (suc n) p xs q e =
       let i = and_then_found (F.parse s l p) _ xs q e in
       let j = and_then_found (repeat (F.parse s l) n i.1) _ xs q i.3 in
-      let m = repeat-sized n i.1 j.0 j.1 j.2 in
+      let m = repeat_sized n i.1 j.0 j.1 j.2 in
       omega (arith, (found_inj j.3).1, m, z s l p i.0 i.1 i.2, mul-suc w n)
 
-  pub nth-sized : (d : A) (n i p : ℕ) (xs : List A) (q : ℕ) → repeat (F.parse s l) n p ≡ found xs q → i < n
+  pub nth_sized : (d : A) (n i p : ℕ) (xs : List A) (q : ℕ) → repeat (F.parse s l) n p ≡ found xs q → i < n
       → F.parse s l (p + w * i) ≡ found (get_or xs i d) (p + w * i + w)
   unfolding repeat
-  nth-sized d zero i p xs q e h = absurd (omega arith)
-  nth-sized d (suc n) zero p xs q e h =
+  nth_sized d zero i p xs q e h = absurd (omega arith)
+  nth_sized d (suc n) zero p xs q e h =
       let a = and_then_found (F.parse s l p) _ xs q e in
       let b = and_then_found (repeat (F.parse s l) n a.1) _ xs q a.3 in
       let here : p ≡ p + w * 0 = omega (arith, mul-zero w) in
       subst (λ (t : ℕ). F.parse s l t ≡ found (get_or xs 0 d) (t + w)) here
       (a.2 ∙ ap₂ found (ap (λ ys. get_or ys 0 d) (found_inj b.3).0) (z s l p a.0 a.1 a.2))
-  nth-sized d (suc n) (suc i) p xs q e h =
+  nth_sized d (suc n) (suc i) p xs q e h =
       let a = and_then_found (F.parse s l p) _ xs q e in
       let b = and_then_found (repeat (F.parse s l) n a.1) _ xs q a.3 in
-      let t = nth-sized d n i a.1 b.0 b.1 b.2 (omega arith) in
+      let t = nth_sized d n i a.1 b.0 b.1 b.2 (omega arith) in
       let here : a.1 + w * i ≡ p + w * suc i = omega (arith, z s l p a.0 a.1 a.2, mul-suc w i) in
       subst (λ (t : ℕ). F.parse s l t ≡ found (get_or xs (suc i) d) (t + w)) here
       (t ∙ ap (λ x. found x (a.1 + w * i + w)) (ap (λ ys. get_or ys (suc i) d) (found_inj b.3).0))

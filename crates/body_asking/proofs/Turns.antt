@@ -16,11 +16,11 @@ use Rattle.body_formats.specs.declared.Part.TheVariants.{Of}
 use Rattle.body_formats.proofs.Outcomes.{found_inj, and_then_found, need_found, chosen}
 use Rattle.body_formats.proofs.Classes.{Bytes, Filling}
 use Rattle.body_formats.proofs.Stand.{taken}
-use Rattle.body_formats.proofs.Parts.{counted-lawful, length_counts, opaque_next}
+use Rattle.body_formats.proofs.Parts.{counted_lawful, length_counts, opaque_next}
 use Rattle.body_formats.proofs.Readers.{opaque_found}
 use Rattle.body_asking.specs.Agreement.{FillsAt, FollowsLength, InTurn, HoldsInTurn}
 use Rattle.body_asking.proofs.Sizes.{Sized}
-use Rattle.body_asking.proofs.Parts.{part-holds, part_after_lem, part_begins}
+use Rattle.body_asking.proofs.Parts.{part_holds, part_after_lem, part_begins}
 
 -- ---- in turn
 
@@ -51,11 +51,11 @@ pub record ReadAt {A B : Type 0} (F : Format A) (G : Format B) (s : List ℕ) (l
 
 module _ {A B : Type 0} (F : Format A) (G : Format B) (s : List ℕ) (l : ℕ)
     (same : (p : ℕ) (a : A) (q : ℕ) → F.parse s l p ≡ found a q → (y : B) × (G.parse s l p ≡ found y q)) where
-  read-on : (n first i : ℕ) (xs : List A) (p q : ℕ) (ys : List B) → n ≡ i + length xs → repeat (G.parse s l) i first ≡ found ys p
+  read_on : (n first i : ℕ) (xs : List A) (p q : ℕ) (ys : List B) → n ≡ i + length xs → repeat (G.parse s l) i first ≡ found ys p
       → repeat (F.parse s l) (length xs) p ≡ found xs q → InTurn (ReadAt F G s l n first) i xs p q
   unfolding InTurn repeat
-  read-on n first i [] p q ys m before e = (found_inj e).1
-  read-on n first i (x ∷ xs) p q ys m before e =
+  read_on n first i [] p q ys m before e = (found_inj e).1
+  read_on n first i (x ∷ xs) p q ys m before e =
       let a = and_then_found (F.parse s l p) _ (x ∷ xs) q e in
       let b = and_then_found (repeat (F.parse s l) (length xs) a.1) _ (x ∷ xs) q a.3 in
       let k = found_inj b.3 in
@@ -65,14 +65,14 @@ module _ {A B : Type 0} (F : Format A) (G : Format B) (s : List ℕ) (l : ℕ)
       let others : b.0 ≡ xs = ap (drop 1) k.0 in (
         a.1,
         record { among = omega arith; here = a.2 ∙ ap (λ z. found z a.1) this; before = ys; passed = before },
-        read-on n first (suc i) xs a.1 q more.0 (omega arith) more.1 (b.2 ∙ ap₂ found others k.1),
+        read_on n first (suc i) xs a.1 q more.0 (omega arith) more.1 (b.2 ∙ ap₂ found others k.1),
       )
 
   -- so each that was read stands in turn as T says, if that follows
-  pub read-in-turn : (p : ℕ) (xs : List A) (q : ℕ) → repeat (F.parse s l) (length xs) p ≡ found xs q
+  pub read_in_turn : (p : ℕ) (xs : List A) (q : ℕ) → repeat (F.parse s l) (length xs) p ≡ found xs q
       → (T : ℕ → A → ℕ → ℕ → Type 0) → ((i : ℕ) (x : A) (a r : ℕ) → ReadAt F G s l (length xs) p i x a r → T i x a r) → InTurn T 0 xs p q
   unfolding repeat
-  read-in-turn p xs q e T t = each_in_turn (ReadAt F G s l (length xs) p) T t 0 xs p q (read-on (length xs) p 0 xs p q [] (omega arith) refl e)
+  read_in_turn p xs q e T t = each_in_turn (ReadAt F G s l (length xs) p) T t 0 xs p q (read_on (length xs) p 0 xs p q [] (omega arith) refl e)
 
 -- ---- to the end of their part
 
@@ -106,11 +106,11 @@ pub holds_in_turn : {A : Type 0} (L : Length) (k : ℕ) → Sized L.field k → 
     → HoldsInTurn (λ i. T) s (part_of ((counted L rest).parse s l p)) at xs q
 unfolding many
 holds_in_turn L k z F f s b l p at from xs q e T t =
-    let h = part-holds L (many F) f s b l p xs q e in
+    let h = part_holds L (many F) f s b l p xs q e in
     let begins : h.at ≡ at = part_after_lem L k z (many F) f s b l p xs q e ∙ sym from in
     let size : h.size ≡ q - at = omega (arith, begins, h.ends) in
     let read = many_read F (q - h.at) s q h.at xs q h.inner in
-    let turn = read-in-turn F F s q (λ u x r g. (x, g)) h.at xs q read (λ i. T) (λ i x u r g. t h.in_body_lem x u r g.here) in
+    let turn = read_in_turn F F s q (λ u x r g. (x, g)) h.at xs q read (λ i. T) (λ i x u r g. t h.in_body_lem x u r g.here) in
     record {
       is = h.is ∙ ap₂ Of begins size;
       ordered = omega (arith, begins, h.ends);
@@ -141,10 +141,10 @@ pub follows_length : {A : Type 0} (w : ℕ) (F : Format A) → Filling F → (s 
     → (size : ℕ) × FollowsLength w s (part_of ((opaque w).parse s (length s) p)) ((counted (length_of w) F).print x) p size q
     × (F.parse s (p + w + size) (p + w) ≡ found x (p + w + size))
 follows_length w F f s b p x q e =
-    let h = part-holds (length_of w) F f s b (length s) p x q e in
+    let h = part_holds (length_of w) F f s b (length s) p x q e in
     let begins = part_begins w F f s b (length s) p x q e in
     let ends : q ≡ p + w + h.size = omega (arith, begins, h.ends) in
-    let law = counted-lawful (length_of w) F (length_counts w F) f in
+    let law = counted_lawful (length_of w) F (length_counts w F) f in
     let g = law.forth s (length s) p x q b (le_refl (length s)) (omega (arith, ends, h.in_body_lem)) e in
     let xs = (counted (length_of w) F).print x in
     let long : w + h.size ≡ length xs = omega (arith, ends, g.next) in (

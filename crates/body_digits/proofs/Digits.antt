@@ -37,27 +37,27 @@ split (suc a) b (x ∷ xs) =
 
 module _ (s : List ℕ) (p : ℕ) where
   -- the one law of every lane: a part of a + b bytes is its first a and the next b
-  pub digits-join : (a b : ℕ) → digits_at s p (a + b) ≡ (digits_at s p a && digits_at s (p + a) b)
-  digits-join a b = split a b (drop p s) ∙ ap (λ l. digits_at s p a && decimal (halves (take b l))) (drop-drop a p s)
+  pub digits_join : (a b : ℕ) → digits_at s p (a + b) ≡ (digits_at s p a && digits_at s (p + a) b)
+  digits_join a b = split a b (drop p s) ∙ ap (λ l. digits_at s p a && decimal (halves (take b l))) (drop-drop a p s)
 
   -- a part that passes has a start that does
-  digits-start : (a n : ℕ) → a ≤ n → digits_at s p n ≡ true → digits_at s p a ≡ true
-  digits-start a n h e =
+  digits_start : (a n : ℕ) → a ≤ n → digits_at s p n ≡ true → digits_at s p a ≡ true
+  digits_start a n h e =
       let z : a + (n - a) ≡ n = omega arith in
-      and_true _ _ (sym (digits-join a (n - a)) ∙ ap (digits_at s p) z ∙ e)
+      and_true _ _ (sym (digits_join a (n - a)) ∙ ap (digits_at s p) z ∙ e)
 
   module _ (n j : ℕ) (start : digits_at s p j ≡ true) where
     -- m bytes that fail, after a start that passes
-    pub digits-fail : (m : ℕ) → j + m ≤ n → digits_at s (p + j) m ≡ false → digits_at s p n ≡ false
-    digits-fail m h e =
+    pub digits_fail : (m : ℕ) → j + m ≤ n → digits_at s (p + j) m ≡ false → digits_at s p n ≡ false
+    digits_fail m h e =
         let z : j + m + (n - (j + m)) ≡ n = omega arith in
         ap (digits_at s p) (sym z)
-        ∙ digits-join (j + m) (n - (j + m))
-        ∙ ap (λ t. t && digits_at s (p + (j + m)) (n - (j + m))) (digits-join j m ∙ ap₂ ◌&&◌ start e)
+        ∙ digits_join (j + m) (n - (j + m))
+        ∙ ap (λ t. t && digits_at s (p + (j + m)) (n - (j + m))) (digits_join j m ∙ ap₂ ◌&&◌ start e)
 
     -- a longer start
-    pub digits-further : (m : ℕ) → digits_at s (p + j) m ≡ true → digits_at s p (j + m) ≡ true
-    digits-further m e = digits-join j m ∙ ap₂ ◌&&◌ start e
+    pub digits_further : (m : ℕ) → digits_at s (p + j) m ≡ true → digits_at s p (j + m) ≡ true
+    digits_further m e = digits_join j m ∙ ap₂ ◌&&◌ start e
 
     -- the last m bytes decide, where the start reaches to them or into them
     pub digits_last : (m : ℕ) → m ≤ n → n ≤ j + m → digits_at s (p + (n - m)) m ≡ digits_at s p n
@@ -65,8 +65,8 @@ module _ (s : List ℕ) (p : ℕ) where
         let z : n - m + m ≡ n = omega arith in
         sym
         (ap (digits_at s p) (sym z)
-        ∙ digits-join (n - m) m
-        ∙ ap (λ t. t && digits_at s (p + (n - m)) m) (digits-start (n - m) j (omega arith) start))
+        ∙ digits_join (n - m) m
+        ∙ ap (λ t. t && digits_at s (p + (n - m)) m) (digits_start (n - m) j (omega arith) start))
 
 -- eleven bytes by two windows of eight, of which the second, three bytes on, asks for five once more
 pub eleven : (s : List ℕ) (p q : ℕ) → q ≡ p + 3 → digits_at s p 8 ≡ true → digits_at s q 8 ≡ true → digits_at s p 11 ≡ true
@@ -84,9 +84,9 @@ below b = go (ltb b 160) refl
 -- a byte's two tests
 pub digits_one : (s : List ℕ) (p : ℕ) → p + 1 ≤ length s → (ltb (get_or s p 0) 160 && ltb (get_or s p 0 % 16) 10) ≡ digits_at s p 1
 unfolding decimal halves
-digits_one s p h = rw (below, drop-cons s p 0 (omega arith)) (and-unit (ltb (get_or s p 0 / 16) 10) (ltb (get_or s p 0 % 16) 10))
+digits_one s p h = rw (below, drop-cons s p 0 (omega arith)) (and_unit (ltb (get_or s p 0 / 16) 10) (ltb (get_or s p 0 % 16) 10))
   where
-    and-unit : (t u : Bool) → (t && u) ≡ (t && (u && true))
-    and-unit true true = refl
-    and-unit true false = refl
-    and-unit false u = refl
+    and_unit : (t u : Bool) → (t && u) ≡ (t && (u && true))
+    and_unit true true = refl
+    and_unit true false = refl
+    and_unit false u = refl

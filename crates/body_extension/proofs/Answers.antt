@@ -19,16 +19,16 @@ use Rattle.body_extension.specs.Extension.{extension_of, extension_at}
 use Rattle.body_extension.proofs.Bits.{checked}
 
 module _ (s : List ℕ) (l p : ℕ) where
-  pub extension-no : (r : Refusal) → NoPart r ≡ field_part p (identifier.parse s l p) → NoNumber r ≡ extension_at s l p
+  pub extension_no : (r : Refusal) → NoPart r ≡ field_part p (identifier.parse s l p) → NoNumber r ≡ extension_at s l p
   unfolding extension_at
-  extension-no r e = rw (field_refused p (identifier.parse s l p) r e)
+  extension_no r e = rw (field_refused p (identifier.parse s l p) r e)
 
   module _ (b : Bytes s) (a n : ℕ) (e : Of a n ≡ field_part p (identifier.parse s l p)) where
     filled : Fills identifier s l p 18
     filled = (identifier_fills s l p a n b e).2
 
-    pub identifier-there : p + 18 ≤ length s
-    identifier-there = filled.in_body_lem
+    pub identifier_there : p + 18 ≤ length s
+    identifier_there = filled.in_body_lem
 
     -- x is what the code works out of the 18 bytes
     pub extension_is : (x : ℕ) → l ≤ length s → x ≡ crc16_after_four (take (p + 18 - p) (drop p s)) → Is x (p + 18) ≡ extension_at s l p

@@ -43,8 +43,8 @@ paired_bits (suc h) a (x ∷ (y ∷ r)) n d =
     ∙ ap (λ (l : List Bool). bits_of 4 a ++ (bits_of 4 x ++ l)) (paired_bits h y r (omega arith) second.1)
 
 module _ (ds : List ℕ) (writable : identifier.writable ds ≡ true) where
-  pub checked-bits : length (identifier_bits ds) ≡ 140
-  checked-bits = length_identifier_bits ds ∙ omega (arith, (identifier_digits ds writable).0)
+  pub checked_bits : length (identifier_bits ds) ≡ 140
+  checked_bits = length_identifier_bits ds ∙ omega (arith, (identifier_digits ds writable).0)
 
   pub four_ones : bytes_bits (identifier.print ds) ≡ true ∷ true ∷ true ∷ true ∷ identifier_bits ds
   unfolding bits_of odd
@@ -58,6 +58,6 @@ module _ (ds : List ℕ) (writable : identifier.writable ds ≡ true) where
   checked = ap (λ (bits : List Bool). crc16_bits (drop 4 bits)) four_ones
 
   -- the CRC-16 of the 18 bytes is never the extension
-  pub other-of-bytes : crc16_of (identifier.print ds) ≡ extension_of ds → ⊥
+  pub other_of_bytes : crc16_of (identifier.print ds) ≡ extension_of ds → ⊥
   unfolding extension_of
-  other-of-bytes e = crc16_four_ones (identifier_bits ds) (ap crc16_bits (sym four_ones) ∙ crc16_whole (identifier.print ds) ∙ e)
+  other_of_bytes e = crc16_four_ones (identifier_bits ds) (ap crc16_bits (sym four_ones) ∙ crc16_whole (identifier.print ds) ∙ e)

@@ -36,53 +36,53 @@ not_good e = absurd (false≢true e)
 
 module _ {A : Type 0} {F : Format A} {pool tape : List ℕ} {k : ℕ} {a : A} {j n : ℕ} where
   -- of a stated set
-  pub lays-only : (fault : A → ℕ → Fault) → fault a k ≡ fine → Lays F pool tape k a j n → Lays (only fault F) pool tape k a j n
+  pub lays_only : (fault : A → ℕ → Fault) → fault a k ≡ fine → Lays F pool tape k a j n → Lays (only fault F) pool tape k a j n
   unfolding only
-  lays-only fault e l = record { laid = rw (l.laid, e); long = l.long; small = l.small }
+  lays_only fault e l = record { laid = rw (l.laid, e); long = l.long; small = l.small }
 
   -- one after the other
-  pub lays-followed : {B : A → Type 0} (G : (a : A) → Format (B a)) {b : B a} {i m : ℕ} → Lays F pool tape k a j n → Lays (G a) pool tape j b i m
+  pub lays_followed : {B : A → Type 0} (G : (a : A) → Format (B a)) {b : B a} {i m : ℕ} → Lays F pool tape k a j n → Lays (G a) pool tape j b i m
       → Lays (followed F G) pool tape k (a, b) i (n + m)
   unfolding followed
-  lays-followed G {b} l g =
+  lays_followed G {b} l g =
       record { laid = rw (l.laid, g.laid); long = rw (length-append, l.long, g.long); small = rw (l.small, g.small) }
 
-  pub lays-pair : {B : Type 0} {G : Format B} {b : B} {i m : ℕ} → Lays F pool tape k a j n → Lays G pool tape j b i m
+  pub lays_pair : {B : Type 0} {G : Format B} {b : B} {i m : ℕ} → Lays F pool tape k a j n → Lays G pool tape j b i m
       → Lays (F ▷ G) pool tape k (a, b) i (n + m)
-  lays-pair {G} l g = lays-followed (λ a. G) l g
+  lays_pair {G} l g = lays_followed (λ a. G) l g
 
   -- under other names
-  pub lays-view : {B : Type 0} (f : A → B) (g : B → A) → g (f a) ≡ a → Lays F pool tape k a j n → Lays (view f g F) pool tape k (f a) j n
+  pub lays_view : {B : Type 0} (f : A → B) (g : B → A) → g (f a) ≡ a → Lays F pool tape k a j n → Lays (view f g F) pool tape k (f a) j n
   unfolding view
-  lays-view f g e l = record { laid = rw l.laid; long = ap (λ x. length (F.print x)) e ∙ l.long; small = ap F.too_large e ∙ l.small }
+  lays_view f g e l = record { laid = rw l.laid; long = ap (λ x. length (F.print x)) e ∙ l.long; small = ap F.too_large e ∙ l.small }
 
   -- to the end of a part: a form has no bytes left
-  pub lays-exact : (leftOver : ℕ → Refusal) → Lays F pool tape k a j n → Lays (exact leftOver F) pool tape k a j n
+  pub lays_exact : (left_over : ℕ → Refusal) → Lays F pool tape k a j n → Lays (exact left_over F) pool tape k a j n
   unfolding exact
-  lays-exact leftOver l = record { laid = l.laid; long = l.long; small = l.small }
+  lays_exact left_over l = record { laid = l.laid; long = l.long; small = l.small }
 
   -- after a length that prints w bytes
-  pub lays-counted : (L : Length) (w : ℕ) → length (L.field.print n) ≡ w → n < L.limit → Lays F pool tape k a j n → Lays (counted L F) pool tape k a j (w + n)
+  pub lays_counted : (L : Length) (w : ℕ) → length (L.field.print n) ≡ w → n < L.limit → Lays F pool tape k a j n → Lays (counted L F) pool tape k a j (w + n)
   unfolding counted
-  lays-counted L w e h l = record { laid = l.laid; long = rw (length-append, l.long, e); small = rw (l.long, lt-ltb n L.limit h, l.small) }
+  lays_counted L w e h l = record { laid = l.laid; long = rw (length-append, l.long, e); small = rw (l.long, lt-ltb n L.limit h, l.small) }
 
   -- where the end and the bytes are known by other names
-  pub lays-to : {i m : ℕ} → j ≡ i → n ≡ m → Lays F pool tape k a j n → Lays F pool tape k a i m
-  lays-to e f l = rw (e, f) at l
+  pub lays_to : {i m : ℕ} → j ≡ i → n ≡ m → Lays F pool tape k a j n → Lays F pool tape k a i m
+  lays_to e f l = rw (e, f) at l
 
 -- ---- numbers
 
 module _ {pool tape : List ℕ} {k v : ℕ} (e : v ≡ get_or tape k 0) (h : k < length tape) (w : ℕ) (s : v < 256 ^ w) where
-  pub lays-count : Lays (count w) pool tape k v (k + 1) w
+  pub lays_count : Lays (count w) pool tape k v (k + 1) w
   unfolding count tape_entry
-  lays-count = record { laid = rw (le-leb (k + 1) (length tape) (omega arith), e); long = length_bytes_lem w v; small = rw (lt-ltb v (256 ^ w) s) }
+  lays_count = record { laid = rw (le-leb (k + 1) (length tape) (omega arith), e); long = length_bytes_lem w v; small = rw (lt-ltb v (256 ^ w) s) }
 
-  pub lays-number : Lays (number w) pool tape k v (k + 1) w
+  pub lays_number : Lays (number w) pool tape k v (k + 1) w
   unfolding number
-  lays-number = lays-only _ (rw (lt-ltb v (256 ^ w) s)) lays-count
+  lays_number = lays_only _ (rw (lt-ltb v (256 ^ w) s)) lays_count
 
-  pub lays-among : (lo hi : ℕ) → lo ≤ v → v ≤ hi → Lays (among lo hi (number w)) pool tape k v (k + 1) w
-  lays-among lo hi from until = lays-only _ (rw (le-leb lo v from, le-leb v hi until)) lays-number
+  pub lays_among : (lo hi : ℕ) → lo ≤ v → v ≤ hi → Lays (among lo hi (number w)) pool tape k v (k + 1) w
+  lays_among lo hi from until = lays_only _ (rw (le-leb lo v from, le-leb v hi until)) lays_number
 
 -- ---- bytes of the pool
 
@@ -98,31 +98,31 @@ after_start a n l h = go (leb n (l - a)) refl
     go false e = sym (lt-leb (a + n) l (omega (arith, leb-false n (l - a) e)))
 
 module _ (pool tape : List ℕ) (k : ℕ) {a n : ℕ} (ea : a ≡ get_or tape k 0) (en : n ≡ get_or tape (k + 1) 0) (h : k + 2 ≤ length tape) (s : a + n ≤ length pool) where
-  span-found : span pool tape k ≡ found (take n (drop a pool)) (k + 2)
+  span_found : span pool tape k ≡ found (take n (drop a pool)) (k + 2)
   unfolding span
-  span-found =
+  span_found =
       rw (le-leb (k + 2) (length tape) h, ← ea, ← en, le-leb (a + n) (length pool) s)
 
   pub span_length : length (take n (drop a pool)) ≡ n
   span_length = length-take-le n (drop a pool) (simp length-drop (omega arith))
 
-  pub lays-rest : Lays rest pool tape k (take n (drop a pool)) (k + 2) n
+  pub lays_rest : Lays rest pool tape k (take n (drop a pool)) (k + 2) n
   unfolding rest
-  lays-rest = record { laid = span-found; long = span_length; small = refl }
+  lays_rest = record { laid = span_found; long = span_length; small = refl }
 
   -- opaque bytes after a length of w
-  pub lays-opaque : (w : ℕ) → n < 256 ^ w → Lays (opaque w) pool tape k (take n (drop a pool)) (k + 2) (w + n)
+  pub lays_opaque : (w : ℕ) → n < 256 ^ w → Lays (opaque w) pool tape k (take n (drop a pool)) (k + 2) (w + n)
   unfolding length_of count
-  lays-opaque w l = lays-counted (length_of w) w (length_bytes_lem w n) l lays-rest
+  lays_opaque w l = lays_counted (length_of w) w (length_bytes_lem w n) l lays_rest
 
   -- 2 h + 1 digits
-  pub lays-digits : (p : ℕ) → n ≡ suc p → get_or pool a 0 % 16 ≤ 9 → decimal (halves (take p (drop (a + 1) pool))) ≡ true
+  pub lays_digits : (p : ℕ) → n ≡ suc p → get_or pool a 0 % 16 ≤ 9 → decimal (halves (take p (drop (a + 1) pool))) ≡ true
       → Lays (digits p) pool tape k (tail (halves (take n (drop a pool)))) (k + 2) n
   unfolding digits halves paired
-  lays-digits p e d t =
+  lays_digits p e d t =
       record {
         laid =
-            rw (span-found, span_length, eq-eqb n (suc p) e, e, first_digit pool a p (omega arith), lt-ltb (get_or pool a 0 % 16) 10 (omega arith), t);
+            rw (span_found, span_length, eq-eqb n (suc p) e, e, first_digit pool a p (omega arith), lt-ltb (get_or pool a 0 % 16) 10 (omega arith), t);
         long =
             rw (e, drop-cons pool a 0 (omega arith), paired_halves (take p (drop (suc a) pool)))
             (ap suc (length-take-le p (drop (suc a) pool) (simp length-drop (omega arith))));
@@ -133,7 +133,7 @@ module _ (pool tape : List ℕ) (k : ℕ) {a n : ℕ} (ea : a ≡ get_or tape k 
 pub part_laid : (pool tape : List ℕ) (k w : ℕ) {limit : ℕ} → limit ≡ 256 ^ w → get_or tape (k + 1) 0 < limit → k + 2 ≤ length tape
     → leb (get_or tape k 0 + get_or tape (k + 1) 0) (length pool) ≡ true
     → (a : List ℕ) × Lays (opaque w) pool tape k a (k + 2) (w + get_or tape (k + 1) 0)
-part_laid pool tape k w e s h t = (_, lays-opaque pool tape k refl refl h (leb-true _ _ t) w (rw (← e) s))
+part_laid pool tape k w e s h t = (_, lays_opaque pool tape k refl refl h (leb-true _ _ t) w (rw (← e) s))
 
 -- ---- whole forms
 

@@ -8,7 +8,7 @@ use Rattle.body_formats.specs.Format.{Format, repeat, print_all, some, count, ti
 use Rattle.body_formats.specs.Resource.{resource}
 use Rattle.body_formats.proofs.Elements.{repeat_length}
 use Rattle.body_form_glance.specs.Lays.{Lays, Listed}
-use Rattle.body_form_glance.proofs.Forms.{lays-count}
+use Rattle.body_form_glance.proofs.Forms.{lays_count}
 
 -- ---- so many
 
@@ -35,15 +35,15 @@ Coming {A} F pool tape n k left at bytes =
     (xs : List A) (j m : ℕ) → Lays (times left F) pool tape at xs j m → (ys : List A) × Lays (times n F) pool tape k ys j (bytes + m)
 
 module _ {A : Type 0} (F : Format A) {pool tape : List ℕ} (n : ℕ) {k : ℕ} (left at bytes : ℕ) (c : Coming F pool tape n k left at bytes) where
-  pub coming-turn : {j m : ℕ} (next : ℕ) → next ≡ bytes + m → 0 < left → (a : A) × Lays F pool tape at a j m → Coming F pool tape n k (left - 1) j next
-  coming-turn {j} {m} next e h g xs i l r =
+  pub coming_turn : {j m : ℕ} (next : ℕ) → next ≡ bytes + m → 0 < left → (a : A) × Lays F pool tape at a j m → Coming F pool tape n k (left - 1) j next
+  coming_turn {j} {m} next e h g xs i l r =
       let z : suc (left - 1) ≡ left = omega arith in
       let whole = c (g.0 ∷ xs) i (m + l) (rw z at (lays_more (left - 1) g.1 r)) in
       let same : bytes + (m + l) ≡ next + l = omega arith in
       (whole.0, rw same at whole.1)
 
-  pub coming-done : left ≡ 0 → (ys : List A) × Lays (times n F) pool tape k ys at bytes
-  coming-done e =
+  pub coming_done : left ≡ 0 → (ys : List A) × Lays (times n F) pool tape k ys at bytes
+  coming_done e =
       let whole = c [] at 0 (rw e (lays_none F pool tape at)) in
       let same : bytes + 0 ≡ bytes = omega arith in
       (whole.0, rw same at whole.1)
@@ -59,5 +59,5 @@ all_listed {pool} {tape} {k} {n} e h s l g =
     record {
       few = omega arith;
       inside = λ m f. omega arith;
-      good = λ m f. let z : n ≡ m = omega arith in (g.0, rw z at (lays_list resource (lays-count e h 1 s) g.1));
+      good = λ m f. let z : n ≡ m = omega arith in (g.0, rw z at (lays_list resource (lays_count e h 1 s) g.1));
     }

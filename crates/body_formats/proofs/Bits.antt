@@ -23,9 +23,9 @@ use Rattle.body_formats.specs.declared.Part.TheVariants.{Refused as NoPart}
 use Rattle.body_formats.proofs.Stand.{Stands, stands_get, stands_next, stands_byte}
 use Rattle.body_formats.proofs.Outcomes.{found_inj, not_found, and_then_found, need_found, within_found, within_there}
 use Rattle.body_formats.proofs.Classes.{Bytes, Formal, Lawful, moved}
-use Rattle.body_formats.proofs.Leaves.{entry_laid, number_below, reserved-found, bytes_lawful}
+use Rattle.body_formats.proofs.Leaves.{entry_laid, number_below, reserved_found, bytes_lawful}
 use Rattle.body_formats.proofs.Parts.{outside_lawful}
-use Rattle.body_formats.proofs.Readers.{number_found, number_refused, length-no, length_is}
+use Rattle.body_formats.proofs.Readers.{number_found, number_refused, length_no, length_is}
 
 -- ---- powers of two
 
@@ -59,71 +59,71 @@ within_refused {A} {B} s l at end a q r x e = go (leb end (length s)) (leb end l
     go false u f = let z : PastBody at ≡ r = cc in ap refused z
 
 module _ (s : List ℕ) (l p k w : ℕ) where
-  pub reserved-no : (r : Refusal) → NoNumber r ≡ number_read 1 s l p → NoNumber r ≡ number_of ((reserved k w).parse s l p)
+  pub reserved_no : (r : Refusal) → NoNumber r ≡ number_read 1 s l p → NoNumber r ≡ number_of ((reserved k w).parse s l p)
   unfolding number_read count reserved
-  reserved-no r e = ap number_of (sym (within_refused s l p (p + 1) _ _ r _ (number_refused ((count 1).parse s l p) r e)))
+  reserved_no r e = ap number_of (sym (within_refused s l p (p + 1) _ _ r _ (number_refused ((count 1).parse s l p) r e)))
 
   module _ (first q : ℕ) (e : Is first q ≡ number_read 1 s l p) where
-    first-is : (p + 1 ≤ length s) × (p + 1 ≤ l) × (get_or s p 0 ≡ first)
+    first_is : (p + 1 ≤ length s) × (p + 1 ≤ l) × (get_or s p 0 ≡ first)
     unfolding number_read count
-    first-is =
+    first_is =
         let f = within_found s l p (p + 1) _ first q (number_found ((count 1).parse s l p) first q e) in
         (f.0, f.1, sym (one_byte s p) ∙ (found_inj f.2).0)
 
-    pub reserved-zero : (first / 2 ^ (8 - k) ≡ 2 ^ k - 1 → ⊥) → NoNumber (ReservedBitZero p) ≡ number_of ((reserved k w).parse s l p)
+    pub reserved_zero : (first / 2 ^ (8 - k) ≡ 2 ^ k - 1 → ⊥) → NoNumber (ReservedBitZero p) ≡ number_of ((reserved k w).parse s l p)
     unfolding reserved
-    reserved-zero h =
-        let f = first-is in
+    reserved_zero h =
+        let f = first_is in
         rw (le-leb (p + 1) (length s) f.0, le-leb (p + 1) l f.1, f.2, ne_eqb (first / 2 ^ (8 - k)) (2 ^ k - 1) h)
 
     module _ (ones : first / 2 ^ (8 - k) ≡ 2 ^ k - 1) where
-      past-bits : (reserved k w).parse s l p ≡ within s l p (p + (w + 1)) (found (number_at s p (w + 1) % 2 ^ (8 * w + (8 - k))) (p + (w + 1)))
+      past_bits : (reserved k w).parse s l p ≡ within s l p (p + (w + 1)) (found (number_at s p (w + 1) % 2 ^ (8 * w + (8 - k))) (p + (w + 1)))
       unfolding reserved
-      past-bits =
-          let f = first-is in
+      past_bits =
+          let f = first_is in
           rw (add-one w, ← below_power k w, le-leb (p + 1) (length s) f.0, le-leb (p + 1) l f.1, f.2, eq-eqb (first / 2 ^ (8 - k)) (2 ^ k - 1) ones)
 
-      pub reserved-past : (r : Refusal) → NoNumber r ≡ number_read (w + 1) s l p → NoNumber r ≡ number_of ((reserved k w).parse s l p)
+      pub reserved_past : (r : Refusal) → NoNumber r ≡ number_read (w + 1) s l p → NoNumber r ≡ number_of ((reserved k w).parse s l p)
       unfolding number_read count
-      reserved-past r g = ap number_of (sym (past-bits ∙ within_refused s l p (p + (w + 1)) _ _ r _ (number_refused ((count (w + 1)).parse s l p) r g)))
+      reserved_past r g = ap number_of (sym (past_bits ∙ within_refused s l p (p + (w + 1)) _ _ r _ (number_refused ((count (w + 1)).parse s l p) r g)))
 
-      pub reserved-is : (v end : ℕ) → Is v end ≡ number_read (w + 1) s l p → Is (v % 2 ^ (8 * w + (8 - k))) end ≡ number_of ((reserved k w).parse s l p)
+      pub reserved_is : (v end : ℕ) → Is v end ≡ number_read (w + 1) s l p → Is (v % 2 ^ (8 * w + (8 - k))) end ≡ number_of ((reserved k w).parse s l p)
       unfolding number_read count
-      reserved-is v end g =
+      reserved_is v end g =
           let f = within_found s l p (p + (w + 1)) _ v end (number_found ((count (w + 1)).parse s l p) v end g) in
           let i = found_inj f.2 in
-          rw (past-bits, le-leb (p + (w + 1)) (length s) f.0, le-leb (p + (w + 1)) l f.1, i.0, i.1)
+          rw (past_bits, le-leb (p + (w + 1)) (length s) f.0, le-leb (p + (w + 1)) l f.1, i.0, i.1)
 
 -- ---- a part after a 12-bit length
 
 pub reserved_inside : (s : List ℕ) (l p k w n q : ℕ) → Is n q ≡ number_of ((reserved k w).parse s l p) → q ≤ length s
 unfolding reserved
 reserved_inside s l p k w n q e =
-    let f = within_found s l p (p + suc w) _ n q (reserved-found k s l p _ n q (number_found ((reserved k w).parse s l p) n q e)).1 in
+    let f = within_found s l p (p + suc w) _ n q (reserved_found k s l p _ n q (number_found ((reserved k w).parse s l p) n q e)).1 in
     rw (← (found_inj f.2).1) f.0
 
 module _ (s : List ℕ) (l p : ℕ) where
-  pub part12-no : (r : Refusal) → NoNumber r ≡ number_of ((reserved 4 1).parse s l p) → NoPart r ≡ part_of ((counted length12 rest).parse s l p)
+  pub part12_no : (r : Refusal) → NoNumber r ≡ number_of ((reserved 4 1).parse s l p) → NoPart r ≡ part_of ((counted length12 rest).parse s l p)
   unfolding length12
-  part12-no r e = length-no length12 s l p r e
+  part12_no r e = length_no length12 s l p r e
 
-  pub part12-is : (n q : ℕ) → Is n q ≡ number_of ((reserved 4 1).parse s l p)
+  pub part12_is : (n q : ℕ) → Is n q ≡ number_of ((reserved 4 1).parse s l p)
       → part_of (within s l p (q + n % 1024) (judged (unless (ltb n 1024) (ReservedBitZero p)) (rest.parse s (q + n % 1024) q)))
       ≡ part_of ((counted length12 rest).parse s l p)
   unfolding length12
-  part12-is n q e = length_is length12 s l p n (n % 1024) q e refl
+  part12_is n q e = length_is length12 s l p n (n % 1024) q e refl
 
 -- ---- a number of a stated set
 
 module _ (lo hi p v q : ℕ) where
-  pub among-less : v < lo → NoNumber (OutsideSet p) ≡ number_among lo hi p (Is v q)
-  among-less h = rw (lt-leb lo v h)
+  pub among_less : v < lo → NoNumber (OutsideSet p) ≡ number_among lo hi p (Is v q)
+  among_less h = rw (lt-leb lo v h)
 
-  pub among-more : lo ≤ v → hi < v → NoNumber (OutsideSet p) ≡ number_among lo hi p (Is v q)
-  among-more h k = rw (le-leb lo v h, lt-leb v hi k)
+  pub among_more : lo ≤ v → hi < v → NoNumber (OutsideSet p) ≡ number_among lo hi p (Is v q)
+  among_more h k = rw (le-leb lo v h, lt-leb v hi k)
 
-  pub among-is : lo ≤ v → v ≤ hi → Is v q ≡ number_among lo hi p (Is v q)
-  among-is h k = rw (le-leb lo v h, le-leb v hi k)
+  pub among_is : lo ≤ v → v ≤ hi → Is v q ≡ number_among lo hi p (Is v q)
+  among_is h k = rw (le-leb lo v h, le-leb v hi k)
 
 pub number_among_lem : (lo hi : ℕ) (F : Format ℕ) (s : List ℕ) (l p : ℕ) → number_among lo hi p (number_of (F.parse s l p)) ≡ number_of ((among lo hi F).parse s l p)
 unfolding only
@@ -195,37 +195,37 @@ nibbles_lawful =
 -- ---- a stated set keeps the laws
 
 module _ (lo hi : ℕ) where
-  both-among : Lawful (both_among lo hi)
-  both-among = outside_lawful (λ x. (leb lo x.0 && leb x.0 hi) && (leb lo x.1 && leb x.1 hi)) nibbles nibbles_lawful
+  both_among_lem : Lawful (both_among lo hi)
+  both_among_lem = outside_lawful (λ x. (leb lo x.0 && leb x.0 hi) && (leb lo x.1 && leb x.1 hi)) nibbles nibbles_lawful
 
   -- one on a tape
-  nibble-found : (tape : List ℕ) (k x j : ℕ) → nibble_among lo hi tape k ≡ found x j → (ltb x 16 ≡ true) × ((leb lo x && leb x hi) ≡ true)
-  nibble-found tape k x j e =
+  nibble_found : (tape : List ℕ) (k x j : ℕ) → nibble_among lo hi tape k ≡ found x j → (ltb x 16 ≡ true) × ((leb lo x && leb x hi) ≡ true)
+  nibble_found tape k x j e =
       let a = and_then_found (tape_entry tape k) _ x j e in
       let f = need_found (ltb a.0 16 && (leb lo a.0 && leb a.0 hi)) (OutsideSet k) _ x j a.3 in
       rw (← (found_inj f.1).0) (both _ _ f.0)
 
-  nibble-laid : (tape : List ℕ) (k x : ℕ) (xs : List ℕ) → Stands tape k (x ∷ xs) → k + 1 ≤ length tape → ltb x 16 ≡ true → (leb lo x && leb x hi) ≡ true
+  nibble_laid : (tape : List ℕ) (k x : ℕ) (xs : List ℕ) → Stands tape k (x ∷ xs) → k + 1 ≤ length tape → ltb x 16 ≡ true → (leb lo x && leb x hi) ≡ true
       → nibble_among lo hi tape k ≡ found x (k + 1)
-  nibble-laid tape k x xs t h small inside = rw (entry_laid tape k x xs t h, small, inside)
+  nibble_laid tape k x xs t h small inside = rw (entry_laid tape k x xs t h, small, inside)
 
-  nibbles-formal : Formal (nibbles_among lo hi)
+  nibbles_formal : Formal (nibbles_among lo hi)
   unfolding only nibbles
-  nibbles-formal =
+  nibbles_formal =
       record {
         sound = λ pool tape k x j e.
             let a = and_then_found (nibble_among lo hi tape k) _ x j e in
             let c = and_then_found (nibble_among lo hi tape a.1) _ x j a.3 in
-            let f = nibble-found tape k a.0 a.1 a.2 in
-            let g = nibble-found tape a.1 c.0 c.1 c.2 in
+            let f = nibble_found tape k a.0 a.1 a.2 in
+            let g = nibble_found tape a.1 c.0 c.1 c.2 in
             rw (← (found_inj c.3).0, f.0, g.0, f.1, g.1);
         laid = λ pool p tape k x r t h u m.
             let w = both (ltb x.0 16 && ltb x.1 16) _ r in
             let small = both (ltb x.0 16) (ltb x.1 16) w.0 in
             let inside = both (leb lo x.0 && leb x.0 hi) (leb lo x.1 && leb x.1 hi) (fine_test _ w.1) in
-            let one = nibble-laid tape k x.0 (x.1 ∷ []) u (omega (arith, m)) small.0 inside.0 in
+            let one = nibble_laid tape k x.0 (x.1 ∷ []) u (omega (arith, m)) small.0 inside.0 in
             let next = stands_next tape k x.0 (x.1 ∷ []) u in
-            let two = nibble-laid tape (k + 1) x.1 [] next (omega (arith, m)) small.1 inside.1 in
+            let two = nibble_laid tape (k + 1) x.1 [] next (omega (arith, m)) small.1 inside.1 in
             let j : k + 1 + 1 ≡ k + 2 = omega arith in
             rw (one, two, j);
         steady = λ x p. refl;
@@ -235,19 +235,19 @@ module _ (lo hi : ℕ) where
       fine_test true e = refl
       fine_test false e = absurd (false≢true e)
 
-  pub nibbles-among-lawful : Lawful (nibbles_among lo hi)
-  nibbles-among-lawful =
+  pub nibbles_among_lawful : Lawful (nibbles_among lo hi)
+  nibbles_among_lawful =
       record {
-        back = λ s l p x o t h k. both-among.back s l p x (record { writable = o.writable; small = o.small }) t h k;
+        back = λ s l p x o t h k. both_among_lem.back s l p x (record { writable = o.writable; small = o.small }) t h k;
         forth = λ s l p x q b k h e.
-            let v = both-among.forth s l p x q b k h e in
+            let v = both_among_lem.forth s l p x q b k h e in
             record {
               ok = record { writable = v.ok.writable; small = v.ok.small };
               stands = v.stands;
               next = v.next;
               inside = v.inside;
             };
-        formal = nibbles-formal;
+        formal = nibbles_formal;
       }
 
 pub among_lawful : (lo hi : ℕ) (F : Format ℕ) → Lawful F → Lawful (among lo hi F)

@@ -25,12 +25,12 @@ repeat_length f (suc n) p xs q e =
     let j = and_then_found (repeat f n i.1) _ xs q i.3 in
     ap length (sym (found_inj j.3).0) ∙ ap suc (repeat_length f n i.1 j.0 j.1 j.2)
 
-pub exact_found : {A : Type 0} (leftOver : ℕ → Refusal) (F : Format A) (s : List ℕ) (l p : ℕ) (a : A) (q : ℕ) → (exact leftOver F).parse s l p ≡ found a q
+pub exact_found : {A : Type 0} (left_over : ℕ → Refusal) (F : Format A) (s : List ℕ) (l p : ℕ) (a : A) (q : ℕ) → (exact left_over F).parse s l p ≡ found a q
     → (F.parse s l p ≡ found a q) × (l ≤ q)
 unfolding exact
-exact_found leftOver F s l p a q e =
+exact_found left_over F s l p a q e =
     let i = and_then_found (F.parse s l p) _ a q e in
-    let j = need_found (leb l i.1) (leftOver i.1) _ a q i.3 in
+    let j = need_found (leb l i.1) (left_over i.1) _ a q i.3 in
     let g = found_inj j.1 in
     (i.2 ∙ ap₂ found g.0 g.1, omega (arith, leb-true l i.1 j.0, g.1))
 
@@ -78,16 +78,16 @@ after_is F d (suc n) (suc i) s l p xs q e h =
     (t.0, t.1, ap (λ x. and_then x (λ y r. after F i s l r)) a.2 ∙ t.2 ∙ same, t.3 ∙ same)
 
 module _ {A : Type 0} (C : Format ℕ) (F : Format A) (s : List ℕ) (l p : ℕ) (xs : List A) (q : ℕ) (e : (list_of C F).parse s l p ≡ found xs q) where
-  pub listed-is : (d : A) (i : ℕ) → i < length xs → (t r : ℕ) × (thing_listed C F i s l p ≡ found (get_or xs i d) r) × (F.parse s l t ≡ found (get_or xs i d) r)
+  pub listed_is : (d : A) (i : ℕ) → i < length xs → (t r : ℕ) × (thing_listed C F i s l p ≡ found (get_or xs i d) r) × (F.parse s l t ≡ found (get_or xs i d) r)
   unfolding thing_listed
-  listed-is d i h =
+  listed_is d i h =
       let f = list_found C F s l p xs q e in
       let a = after_is F d (length xs) i s l f.0 xs q f.2 h in
       (a.0, a.1, rw (f.1, lt-ltb i (length xs) h) a.2, a.3)
 
-  pub listed-past : (i : ℕ) → length xs ≤ i → thing_listed C F i s l p ≡ refused (OutsideSet 0)
+  pub listed_past : (i : ℕ) → length xs ≤ i → thing_listed C F i s l p ≡ refused (OutsideSet 0)
   unfolding thing_listed
-  listed-past i h =
+  listed_past i h =
       let f = list_found C F s l p xs q e in
       rw (f.1, le-ltb i (length xs) h)
 

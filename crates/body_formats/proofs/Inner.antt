@@ -49,13 +49,13 @@ module _ {A : Type 0} (F : Format A) (f : Lawful F) (takes : (a : A) → 0 < len
       let e : l - p ≡ suc (l - (p + 1)) = omega arith in
       rw (e, lt-leb l p h)
 
-  pub many-stop : (p : ℕ) (r : Refusal) → p < l → NoStep r ≡ ended F s l p → NoStep r ≡ ended (many F) s l p
+  pub many_stop : (p : ℕ) (r : Refusal) → p < l → NoStep r ≡ ended F s l p → NoStep r ≡ ended (many F) s l p
   unfolding ended many
-  many-stop p r h e = rw (unrolled p h, step_refused F s l p r e)
+  many_stop p r h e = rw (unrolled p h, step_refused F s l p r e)
 
-  pub many-go : (p q : ℕ) → p < l → At q ≡ ended F s l p → ended (many F) s l p ≡ ended (many F) s l q
+  pub many_go : (p q : ℕ) → p < l → At q ≡ ended F s l p → ended (many F) s l p ≡ ended (many F) s l q
   unfolding ended many
-  many-go p q h e =
+  many_go p q h e =
       let g = step_found F s l p q e in
       let w = forward p g.0 q (omega arith) g.1 in
       rw (unrolled p h, g.1) (last g.0 (parse_many F (l - (p + 1)) s l q) ∙ ap step_of (fuel (l - (p + 1)) (l - q) q w.1 (omega (arith, w.0)) (le_refl (l - q))))

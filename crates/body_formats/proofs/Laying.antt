@@ -31,9 +31,9 @@ pub record LaidOut {A : Type 0} (F : Format A) (own kind : ℕ) (s tape now : Li
   pub left : now ≡ laid_tape F own kind s tape
 
 module _ {A : Type 0} (F : Format A) (own kind : ℕ) (s tape : List ℕ) where
-  pub laid-no : (r : Refusal) → NoStep r ≡ body_read F own kind s → LaidOut F own kind s tape tape (NoStep r)
+  pub laid_no : (r : Refusal) → NoStep r ≡ body_read F own kind s → LaidOut F own kind s tape tape (NoStep r)
   unfolding body_read body_laid laid_tape laying
-  laid-no r e =
+  laid_no r e =
       let x : reading F own kind s ≡ refused r = go (reading F own kind s) e in
       record { said = rw x; left = rw x }
     where
@@ -42,9 +42,9 @@ module _ {A : Type 0} (F : Format A) (own kind : ℕ) (s tape : List ℕ) where
       go (found a q) g = absurd (let z : ◌≡◌ {A = ℕ} 0 1 = cc in omega arith)
 
   module _ (q : ℕ) (e : At q ≡ body_read F own kind s) where
-    pub laid-small : (n : ℕ) → n ≡ length (F.tape (table F own kind s q e).0 0) → length tape < n → LaidOut F own kind s tape tape (NoStep OutputTooSmall)
+    pub laid_small : (n : ℕ) → n ≡ length (F.tape (table F own kind s q e).0 0) → length tape < n → LaidOut F own kind s tape tape (NoStep OutputTooSmall)
     unfolding body_laid laid_tape laying
-    laid-small n z h =
+    laid_small n z h =
         let t = lt-leb (length (F.tape (table F own kind s q e).0 0)) (length tape) (omega arith) in
         record { said = rw ((table F own kind s q e).1, t); left = rw ((table F own kind s q e).1, t) }
 

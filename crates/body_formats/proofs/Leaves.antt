@@ -97,14 +97,14 @@ count_lawful w =
 -- ---- reserved bits
 
 module _ {A : Type 0} (k : ℕ) (s : List ℕ) (l p : ℕ) (x : Reading A) where
-  pub reserved-there : (b : ℕ) (bs : List ℕ) → Stands s p (b ∷ bs) → b / 2 ^ (8 - k) ≡ 2 ^ k - 1 → p + 1 ≤ l → l ≤ length s
+  pub reserved_there : (b : ℕ) (bs : List ℕ) → Stands s p (b ∷ bs) → b / 2 ^ (8 - k) ≡ 2 ^ k - 1 → p + 1 ≤ l → l ≤ length s
       → reserved_first k s l p x ≡ x
-  reserved-there b bs t e h m =
+  reserved_there b bs t e h m =
       within_there s l p (p + 1) _ h m
       ∙ rw (stands_get s p b bs t, eq-eqb (b / 2 ^ (8 - k)) (2 ^ k - 1) e)
 
-  pub reserved-found : (a : A) (q : ℕ) → reserved_first k s l p x ≡ found a q → (get_or s p 0 / 2 ^ (8 - k) ≡ 2 ^ k - 1) × (x ≡ found a q)
-  reserved-found a q e =
+  pub reserved_found : (a : A) (q : ℕ) → reserved_first k s l p x ≡ found a q → (get_or s p 0 / 2 ^ (8 - k) ≡ 2 ^ k - 1) × (x ≡ found a q)
+  reserved_found a q e =
       let f = within_found s l p (p + 1) _ a q e in
       let g = need_found (eqb (get_or s p 0 / 2 ^ (8 - k)) (2 ^ k - 1)) (ReservedBitZero p) x a q f.2 in
       (eqb-true _ _ g.0, g.1)
@@ -143,20 +143,20 @@ module _ (k w : ℕ) (bits : k ≤ 8) where
   fits_all : (x : ℕ) → x < below k w → (2 ^ k - 1) * below k w + x < 256 ^ suc w
   fits_all x h = rw (← all_of) (digits_lt {m = 2 ^ k} (let z = pow_pos k in omega arith) h)
 
-  pub reserved-lawful : Lawful (reserved k w)
+  pub reserved_lawful : Lawful (reserved k w)
   unfolding reserved
-  reserved-lawful =
+  reserved_lawful =
       record {
         back = λ s l p x o t h m.
             let lt = ltb-true x (below k w) o.writable in
             let y = (2 ^ k - 1) * below k w + x in
             let first = bytes_first w y (fits_all x lt) in
             let top : y / 256 ^ w / 2 ^ (8 - k) ≡ 2 ^ k - 1 = div-div-eq-div-mul y (256 ^ w) (2 ^ (8 - k)) ∙ digits_div (2 ^ k - 1) lt in
-            reserved-there k s l p _ (y / 256 ^ w) first.0 (rw first.1 at t) top (omega (arith, rw length_bytes_lem at h)) m
+            reserved_there k s l p _ (y / 256 ^ w) first.0 (rw first.1 at t) top (omega (arith, rw length_bytes_lem at h)) m
             ∙ within_there s l p (p + suc w) _ (rw length_bytes_lem at h) m
             ∙ rw (number_value s p (suc w) y (fits_all x lt) t, digits_mod (2 ^ k - 1) lt, length_bytes_lem);
         forth = λ s l p x q b m h e.
-            let g = reserved-found k s l p _ x q e in
+            let g = reserved_found k s l p _ x q e in
             let f = within_found s l p (p + suc w) _ x q g.1 in
             let i = found_inj f.2 in
             let n = number_at s p (suc w) in
@@ -165,7 +165,7 @@ module _ (k w : ℕ) (bits : k ≤ 8) where
             let whole : (2 ^ k - 1) * below k w + n % below k w ≡ n = ap (λ z. z * below k w + n % below k w) (sym top) ∙ div-add-mod' n (below k w) in
             moved (reserved k w) s l p i
             record {
-              ok = record { writable = lt-ltb (n % below k w) (below k w) (mod-lt n (below-pos)); small = refl };
+              ok = record { writable = lt-ltb (n % below k w) (below k w) (mod-lt n (below_pos)); small = refl };
               stands = rw whole (number_stands s p (suc w) b f.0);
               next = rw length_bytes_lem;
               inside = f.1;
@@ -180,8 +180,8 @@ module _ (k w : ℕ) (bits : k ≤ 8) where
         };
       }
     where
-      below-pos : 0 < below k w
-      below-pos = mul-pos (bytes_pos w) (pow_pos (8 - k))
+      below_pos : 0 < below k w
+      below_pos = mul-pos (bytes_pos w) (pow_pos (8 - k))
 
 -- ---- several bytes that are one field
 
@@ -263,22 +263,22 @@ module _ (h : ℕ) where
   halves_of (b ∷ bs) n e =
       (ap (λ (x : ℕ). paired (x ∷ b % 16 ∷ halves bs)) (sym e) ∙ paired_halves (b ∷ bs), omega (arith, length_halves bs))
 
-  digits-back : (s : List ℕ) (l p : ℕ) (ds : List ℕ) → Ok (digits h) ds → Stands s p (paired (15 ∷ ds)) → p + length (paired (15 ∷ ds)) ≤ l → l ≤ length s
+  digits_back : (s : List ℕ) (l p : ℕ) (ds : List ℕ) → Ok (digits h) ds → Stands s p (paired (15 ∷ ds)) → p + length (paired (15 ∷ ds)) ≤ l → l ≤ length s
       → (digits h).parse s l p ≡ found ds (p + length (paired (15 ∷ ds)))
   unfolding digits
-  digits-back s l p ds o t e k =
+  digits_back s l p ds o t e k =
       let c = digits_of ds o.writable in
       let f = first_of ds c.2 in
       let n = c.1 in
       let bs : take (suc h) (drop p s) ≡ paired (15 ∷ ds) = ap (λ m. take m (drop p s)) (sym n) ∙ taken s p (paired (15 ∷ ds)) t in
-      reserved-there 4 s l p _ f.0 f.1 (rw f.2 at t) f.3 (omega (arith, n)) k
+      reserved_there 4 s l p _ f.0 f.1 (rw f.2 at t) f.3 (omega (arith, n)) k
       ∙ within_there s l p (p + suc h) _ (omega (arith, n)) k
       ∙ rw (bs, c.0, c.2, n)
 
-  digits-forth : Forth (digits h)
+  digits_forth : Forth (digits h)
   unfolding digits
-  digits-forth s l p ds q b k e x =
-      let g = reserved-found 4 s l p _ ds q x in
+  digits_forth s l p ds q b k e x =
+      let g = reserved_found 4 s l p _ ds q x in
       let f = within_found s l p (p + suc h) _ ds q g.1 in
       let bs = take (suc h) (drop p s) in
       let d = need_found (decimal (tail (halves bs))) (DigitAboveNine p) _ ds q f.2 in
@@ -293,19 +293,19 @@ module _ (h : ℕ) where
         inside = f.1;
       }
 
-  pub digits-lawful : Lawful (digits h)
+  pub digits_lawful : Lawful (digits h)
   unfolding digits
-  digits-lawful =
+  digits_lawful =
       record {
-        back = digits-back;
-        forth = digits-forth;
+        back = digits_back;
+        forth = digits_forth;
         formal = record {
           sound = λ pool tape k ds j e.
               let i = and_then_found (span pool tape k) _ ds j e in
               let m = need_found (eqb (length i.0) (suc h)) (OutsideSet k) _ ds j i.3 in
               let d = need_found (decimal (tail (halves i.0))) (DigitAboveNine k) _ ds j m.1 in
               rw (← (found_inj d.1).0)
-              (and_of (eq-eqb (length (tail (halves i.0))) (h + h + 1) (tail-length i.0 (eqb-true (length i.0) (suc h) m.0))) d.0);
+              (and_of (eq-eqb (length (tail (halves i.0))) (h + h + 1) (tail_length i.0 (eqb-true (length i.0) (suc h) m.0))) d.0);
           laid = λ pool p tape k ds r t e u m.
               let c = digits_of ds r in
               rw (span_laid pool tape k p (paired (15 ∷ ds)) t e (rw c.1 u) m, c.1, eq-eqb (suc h) (suc h) refl, c.0, c.2);
@@ -313,9 +313,9 @@ module _ (h : ℕ) where
         };
       }
     where
-      tail-length : (bs : List ℕ) → length bs ≡ suc h → length (tail (halves bs)) ≡ h + h + 1
-      tail-length bs n = omega (arith, length_halves bs, n, tail-less (halves bs))
+      tail_length : (bs : List ℕ) → length bs ≡ suc h → length (tail (halves bs)) ≡ h + h + 1
+      tail_length bs n = omega (arith, length_halves bs, n, tail_less (halves bs))
         where
-          tail-less : (r : List ℕ) → length (tail r) ≡ length r - 1
-          tail-less [] = refl
-          tail-less (a ∷ r) = omega arith
+          tail_less : (r : List ℕ) → length (tail r) ≡ length r - 1
+          tail_less [] = refl
+          tail_less (a ∷ r) = omega arith

@@ -17,76 +17,76 @@ use Rattle.body_formats.specs.Format.{Format, bytes_of, count, only, outside, nu
 use Rattle.body_formats.proofs.Stand.{Stands, stands_nil, stands_left, stands_right, stands_join, stands_take, taken}
 use Rattle.body_formats.proofs.Outcomes.{found_inj, and_then_found, need_found, judged_found, within_found, within_there, fine_of, neither}
 use Rattle.body_formats.proofs.Classes.{Bytes, Ok, Found, Forth, Formal, Lawful, Filling, moved}
-use Rattle.body_formats.proofs.Leaves.{length_bytes_lem, span_laid, count_lawful, count_small, small_count, reserved-lawful}
+use Rattle.body_formats.proofs.Leaves.{length_bytes_lem, span_laid, count_lawful, count_small, small_count, reserved_lawful}
 
 -- ---- value sets: whether a value is in the set does not depend on its place
 
 module _ {A : Type 0} (fault : A → ℕ → Fault) (F : Format A) (even : (a : A) (p : ℕ) → is_fine (fault a p) ≡ is_fine (fault a 0)) where
-  at-any : (a : A) (p q : ℕ) → fault a p ≡ fine → fault a q ≡ fine
-  at-any a p q h = fine_of (fault a q) (even a q ∙ sym (even a p) ∙ ap is_fine h)
+  at_any : (a : A) (p q : ℕ) → fault a p ≡ fine → fault a q ≡ fine
+  at_any a p q h = fine_of (fault a q) (even a q ∙ sym (even a p) ∙ ap is_fine h)
 
-  pub only-ok : (a : A) → Ok (only fault F) a → Ok F a × (fault a 0 ≡ fine)
+  pub only_ok : (a : A) → Ok (only fault F) a → Ok F a × (fault a 0 ≡ fine)
   unfolding only
-  only-ok a o =
+  only_ok a o =
       let t = both (F.writable a) (is_fine (fault a 0)) o.writable in
       (record { writable = t.0; small = o.small }, fine_of (fault a 0) t.1)
 
-  only-formal : Formal F → Formal (only fault F)
+  only_formal : Formal F → Formal (only fault F)
   unfolding only
-  only-formal u =
+  only_formal u =
       record {
         sound = λ pool tape k a j e.
             let i = and_then_found (F.form pool tape k) _ a j e in
             let g = judged_found (fault i.0 k) _ a j i.3 in
             let z = found_inj g.1 in
-            rw (← z.0) (and_of (u.sound pool tape k i.0 i.1 i.2) (ap is_fine (at-any i.0 k 0 g.0)));
+            rw (← z.0) (and_of (u.sound pool tape k i.0 i.1 i.2) (ap is_fine (at_any i.0 k 0 g.0)));
         laid = λ pool p tape k a r t h v m.
             let c = both (F.writable a) (is_fine (fault a 0)) r in
-            rw (u.laid pool p tape k a c.0 t h v m, at-any a 0 k (fine_of (fault a 0) c.1));
+            rw (u.laid pool p tape k a c.0 t h v m, at_any a 0 k (fine_of (fault a 0) c.1));
         steady = u.steady;
       }
 
-  only-back : (s : List ℕ) (l p : ℕ) (a : A) (q : ℕ) → Ok (only fault F) a → (Ok F a → F.parse s l p ≡ found a q) → (only fault F).parse s l p ≡ found a q
+  only_back : (s : List ℕ) (l p : ℕ) (a : A) (q : ℕ) → Ok (only fault F) a → (Ok F a → F.parse s l p ≡ found a q) → (only fault F).parse s l p ≡ found a q
   unfolding only
-  only-back s l p a q o e =
-      let c = only-ok a o in
-      rw (e c.0, at-any a 0 p c.1)
+  only_back s l p a q o e =
+      let c = only_ok a o in
+      rw (e c.0, at_any a 0 p c.1)
 
-  only-forth : Forth F → Forth (only fault F)
+  only_forth : Forth F → Forth (only fault F)
   unfolding only
-  only-forth u s l p a q b k h e =
+  only_forth u s l p a q b k h e =
       let i = and_then_found (F.parse s l p) _ a q e in
       let g = judged_found (fault i.0 p) _ a q i.3 in
       let v = u s l p i.0 i.1 b k h i.2 in
       moved (only fault F) s l p (found_inj g.1)
       record {
-        ok = record { writable = and_of v.ok.writable (ap is_fine (at-any i.0 p 0 g.0)); small = v.ok.small };
+        ok = record { writable = and_of v.ok.writable (ap is_fine (at_any i.0 p 0 g.0)); small = v.ok.small };
         stands = v.stands;
         next = v.next;
         inside = v.inside;
       }
 
-  pub only-lawful : Lawful F → Lawful (only fault F)
+  pub only_lawful : Lawful F → Lawful (only fault F)
   unfolding only
-  only-lawful u =
+  only_lawful u =
       record {
-        back = λ s l p a o t h k. only-back s l p a (p + length (F.print a)) (record { writable = o.writable; small = o.small })
+        back = λ s l p a o t h k. only_back s l p a (p + length (F.print a)) (record { writable = o.writable; small = o.small })
             (λ c. u.back s l p a c t h k);
-        forth = only-forth u.forth;
-        formal = only-formal u.formal;
+        forth = only_forth u.forth;
+        formal = only_formal u.formal;
       }
 
-  pub only-filling : Filling F → Filling (only fault F)
+  pub only_filling : Filling F → Filling (only fault F)
   unfolding only
-  only-filling u =
+  only_filling u =
       record {
-        back = λ s l p a o t h k. only-back s l p a l (record { writable = o.writable; small = o.small }) (λ c. u.back s l p a c t h k);
-        forth = only-forth u.forth;
+        back = λ s l p a o t h k. only_back s l p a l (record { writable = o.writable; small = o.small }) (λ c. u.back s l p a c t h k);
+        forth = only_forth u.forth;
         ends = λ s l p a q b k h e.
             let i = and_then_found (F.parse s l p) _ a q e in
             let g = judged_found (fault i.0 p) _ a q i.3 in
             sym (found_inj g.1).1 ∙ u.ends s l p i.0 i.1 b k h i.2;
-        formal = only-formal u.formal;
+        formal = only_formal u.formal;
       }
 
 pub unless_even : (t : Bool) (refusal : ℕ → Refusal) (p : ℕ) → is_fine (unless t (refusal p)) ≡ is_fine (unless t (refusal 0))
@@ -97,7 +97,7 @@ pub outside_even : {A : Type 0} (test : A → Bool) (a : A) (p : ℕ) → is_fin
 outside_even test a p = unless_even (test a) OutsideSet p
 
 pub outside_lawful : {A : Type 0} (test : A → Bool) (F : Format A) → Lawful F → Lawful (only (outside test) F)
-outside_lawful test F u = only-lawful (outside test) F (outside_even test) u
+outside_lawful test F u = only_lawful (outside test) F (outside_even test) u
 
 pub number_lawful : (w : ℕ) → Lawful (number w)
 unfolding number
@@ -106,16 +106,16 @@ number_lawful w = outside_lawful (λ x. ltb x (256 ^ w)) (count w) (count_lawful
 -- ---- one after the other
 
 module _ {A : Type 0} {B : A → Type 0} (F : Format A) (G : (a : A) → Format (B a)) (f : Lawful F) where
-  followed-ok : (x : (a : A) × B a) → Ok (followed F G) x → Ok F x.0 × Ok (G x.0) x.1
+  followed_ok : (x : (a : A) × B a) → Ok (followed F G) x → Ok F x.0 × Ok (G x.0) x.1
   unfolding followed
-  followed-ok x o =
+  followed_ok x o =
       let r = both _ _ o.writable in
       let m = neither _ _ o.small in
       (record { writable = r.0; small = m.0 }, record { writable = r.1; small = m.1 })
 
-  found-followed : (s : List ℕ) (l p : ℕ) (a : A) (q : ℕ) (b : B a) (r : ℕ) → Found F s l p a q → Found (G a) s l q b r → Found (followed F G) s l p (a, b) r
+  found_followed : (s : List ℕ) (l p : ℕ) (a : A) (q : ℕ) (b : B a) (r : ℕ) → Found F s l p a q → Found (G a) s l q b r → Found (followed F G) s l p (a, b) r
   unfolding followed
-  found-followed s l p a q b r u v =
+  found_followed s l p a q b r u v =
       record {
         ok = record { writable = and_of u.ok.writable v.ok.writable; small = rw (u.ok.small, v.ok.small) };
         stands = stands_join s p (F.print a) ((G a).print b) u.stands (rw u.next at v.stands);
@@ -123,23 +123,23 @@ module _ {A : Type 0} {B : A → Type 0} (F : Format A) (G : (a : A) → Format 
         inside = v.inside;
       }
 
-  followed-forth : ((a : A) → Forth (G a)) → Forth (followed F G)
+  followed_forth : ((a : A) → Forth (G a)) → Forth (followed F G)
   unfolding followed
-  followed-forth g s l p x q b k h e =
+  followed_forth g s l p x q b k h e =
       let i = and_then_found (F.parse s l p) _ x q e in
       let j = and_then_found ((G i.0).parse s l i.1) _ x q i.3 in
       let u = f.forth s l p i.0 i.1 b k h i.2 in
       let v = g i.0 s l i.1 j.0 j.1 b k u.inside j.2 in
-      moved (followed F G) s l p (found_inj j.3) (found-followed s l p i.0 i.1 j.0 j.1 u v)
+      moved (followed F G) s l p (found_inj j.3) (found_followed s l p i.0 i.1 j.0 j.1 u v)
 
-  followed-back : (s : List ℕ) (l p : ℕ) (a : A) (b : B a) (q : ℕ) → Ok F a → Stands s p (F.print a) → p + length (F.print a) ≤ l → l ≤ length s
+  followed_back : (s : List ℕ) (l p : ℕ) (a : A) (b : B a) (q : ℕ) → Ok F a → Stands s p (F.print a) → p + length (F.print a) ≤ l → l ≤ length s
       → (G a).parse s l (p + length (F.print a)) ≡ found b q → (followed F G).parse s l p ≡ found (a, b) q
   unfolding followed
-  followed-back s l p a b q o t h k e = rw (f.back s l p a o t h k, e)
+  followed_back s l p a b q o t h k e = rw (f.back s l p a o t h k, e)
 
-  followed-formal : ((a : A) → Formal (G a)) → Formal (followed F G)
+  followed_formal : ((a : A) → Formal (G a)) → Formal (followed F G)
   unfolding followed
-  followed-formal g =
+  followed_formal g =
       record {
         sound = λ pool tape k x j e.
             let i = and_then_found (F.form pool tape k) _ x j e in
@@ -172,18 +172,18 @@ module _ {A : Type 0} {B : A → Type 0} (F : Format A) (G : (a : A) → Format 
             );
       }
 
-  pub followed-lawful : ((a : A) → Lawful (G a)) → Lawful (followed F G)
+  pub followed_lawful : ((a : A) → Lawful (G a)) → Lawful (followed F G)
   unfolding followed
-  followed-lawful g =
+  followed_lawful g =
       record {
         back = λ s l p x o t h k.
-            let c = followed-ok x o in
+            let c = followed_ok x o in
             let m = simp (length-append, ← add_assoc) at h in
             simp length-append
-            (followed-back s l p x.0 x.1 _ c.0 (stands_left s p (F.print x.0) ((G x.0).print x.1) t) (omega (arith, m)) k
+            (followed_back s l p x.0 x.1 _ c.0 (stands_left s p (F.print x.0) ((G x.0).print x.1) t) (omega (arith, m)) k
             ((g x.0).back s l _ x.1 c.1 (stands_right s p (F.print x.0) ((G x.0).print x.1) t) m k) ∙ simp add_assoc);
-        forth = followed-forth (λ a. (g a).forth);
-        formal = followed-formal (λ a. (g a).formal);
+        forth = followed_forth (λ a. (g a).forth);
+        formal = followed_formal (λ a. (g a).formal);
       }
 
 -- ---- a flag, and what follows it
@@ -254,22 +254,22 @@ rest_filling =
       };
     }
 
-pub exact_filling : {A : Type 0} (leftOver : ℕ → Refusal) (F : Format A) → Lawful F → Filling (exact leftOver F)
+pub exact_filling : {A : Type 0} (left_over : ℕ → Refusal) (F : Format A) → Lawful F → Filling (exact left_over F)
 unfolding exact
-exact_filling leftOver F f =
+exact_filling left_over F f =
     record {
       back = λ s l p a o t h k.
           let one = f.back s l p a (record { writable = o.writable; small = o.small }) t (le_of_eq h) k in
           rw (one, h, le-leb l l (le_refl l));
       forth = λ s l p a q b k h e.
           let i = and_then_found (F.parse s l p) _ a q e in
-          let j = need_found (leb l i.1) (leftOver i.1) _ a q i.3 in
+          let j = need_found (leb l i.1) (left_over i.1) _ a q i.3 in
           let u = f.forth s l p i.0 i.1 b k h i.2 in
-          moved (exact leftOver F) s l p (found_inj j.1)
+          moved (exact left_over F) s l p (found_inj j.1)
           record { ok = record { writable = u.ok.writable; small = u.ok.small }; stands = u.stands; next = u.next; inside = u.inside };
       ends = λ s l p a q b k h e.
           let i = and_then_found (F.parse s l p) _ a q e in
-          let j = need_found (leb l i.1) (leftOver i.1) _ a q i.3 in
+          let j = need_found (leb l i.1) (left_over i.1) _ a q i.3 in
           let u = f.forth s l p i.0 i.1 b k h i.2 in
           omega (arith, leb-true l i.1 j.0, u.inside, (found_inj j.1).1);
       formal = record { sound = f.formal.sound; laid = f.formal.laid; steady = f.formal.steady };
@@ -285,9 +285,9 @@ pub record Counts {A : Type 0} (L : Length) (F : Format A) : Type 0 where
   pub limits : (n p : ℕ) → Ok L.field n → L.fault n p ≡ fine → n < L.limit
 
 module _ {A : Type 0} (L : Length) (F : Format A) (c : Counts L F) (f : Filling F) where
-  counted-ok : (a : A) → Ok (counted L F) a → Ok F a × (length (F.print a) < L.limit)
+  counted_ok : (a : A) → Ok (counted L F) a → Ok F a × (length (F.print a) < L.limit)
   unfolding counted
-  counted-ok a o =
+  counted_ok a o =
       let m = neither (not (ltb (length (F.print a)) L.limit)) (F.too_large a) o.small in
       (record { writable = o.writable; small = m.1 }, ltb-true (length (F.print a)) L.limit (not-false (ltb (length (F.print a)) L.limit) m.0))
 
@@ -303,9 +303,9 @@ module _ {A : Type 0} (L : Length) (F : Format A) (c : Counts L F) (f : Filling 
       let more = f.back s (q + n) q a o (stands_right s p (L.field.print n) (F.print a) t) refl (omega arith) in
       rw (one, mod-eq_of_lt m) (within_there s l p (q + n) _ h k ∙ rw (c.accepts a p o m, more))
 
-  counted-forth : Forth (counted L F)
+  counted_forth : Forth (counted L F)
   unfolding counted
-  counted-forth s l p a q b k h e =
+  counted_forth s l p a q b k h e =
       let i = and_then_found (L.field.parse s l p) _ a q e in
       let n = i.0 in
       let r = i.1 in
@@ -324,14 +324,14 @@ module _ {A : Type 0} (L : Length) (F : Format A) (c : Counts L F) (f : Filling 
         inside = omega (arith, z, g.1);
       }
 
-  pub counted-lawful : Lawful (counted L F)
+  pub counted_lawful : Lawful (counted L F)
   unfolding counted
-  counted-lawful =
+  counted_lawful =
       record {
         back = λ s l p a o t h k.
-            let d = counted-ok a o in
+            let d = counted_ok a o in
             simp length-append (counted_back s l p a d.0 d.1 t (simp (length-append, ← add_assoc) at h) k ∙ simp add_assoc);
-        forth = counted-forth;
+        forth = counted_forth;
         formal = record {
           sound = f.formal.sound;
           laid = λ pool p tape k a r t h u m.
@@ -364,7 +364,7 @@ least_counts w least F enough =
     }
 
 pub opaque_lawful : (w : ℕ) → Lawful (opaque w)
-opaque_lawful w = counted-lawful (length_of w) rest (length_counts w rest) rest_filling
+opaque_lawful w = counted_lawful (length_of w) rest (length_counts w rest) rest_filling
 
 part_starts : (s : List ℕ) (l w p : ℕ) (xs : List ℕ) (q : ℕ) → (opaque w).parse s l p ≡ found xs q → p ≤ l
 unfolding counted length_of count
@@ -386,12 +386,12 @@ pub length12_counts : {A : Type 0} (F : Format A) → Counts length12 F
 unfolding length12 reserved
 length12_counts F =
     record {
-      lawful = reserved-lawful 4 1 (omega arith);
+      lawful = reserved_lawful 4 1 (omega arith);
       holds = λ n h. record { writable = lt-ltb n (below 4 1) (omega arith); small = refl };
       accepts = λ a p o h. rw (lt-ltb (length (F.print a)) 1024 h);
-      limits = λ n p o h. ltb-true n 1024 (unless-fine (ltb n 1024) (ReservedBitZero p) h);
+      limits = λ n p o h. ltb-true n 1024 (unless_fine (ltb n 1024) (ReservedBitZero p) h);
     }
   where
-    unless-fine : (t : Bool) (r : Refusal) → unless t r ≡ fine → t ≡ true
-    unless-fine true r h = refl
-    unless-fine false r h = absurd (let z : ◌≡◌ {A = ℕ} 0 1 = cc in omega arith)
+    unless_fine : (t : Bool) (r : Refusal) → unless t r ≡ fine → t ≡ true
+    unless_fine true r h = refl
+    unless_fine false r h = absurd (let z : ◌≡◌ {A = ℕ} 0 1 = cc in omega arith)

@@ -14,7 +14,7 @@ use Rattle.ground_refusal.specs.Numbers.{refusal_place}
 use Rattle.ground_refusal.specs.declared.Refusal.{Refusal}
 use Rattle.ground_refusal.specs.declared.Refusal.TheVariants.{PastPart, ReservedBitZero, DigitAboveNine, OutsideSet, ImpossibleDay}
 use Rattle.ground_refusal.proofs.Numbers.{placeless_is}
-use Rattle.time_fields.specs.Field.{read_time, read_end, is_decimal as decimalField, possible, moment_of, live_mark, as_end}
+use Rattle.time_fields.specs.Field.{read_time, read_end, is_decimal as decimal_field, possible, moment_of, live_mark, as_end}
 use Rattle.time_fields.specs.declared.Timed.{Timed}
 use Rattle.time_fields.specs.declared.Timed.TheVariants.{At, Refused}
 use Rattle.time_fields.specs.declared.EndTimed.TheVariants.{Live}
@@ -49,39 +49,39 @@ then_until (found a q) k (ends h) g = g a q h
 then_until (refused r) k (stands h) g = stands h
 
 module _ {A : Type 0} {place last : ℕ} where
-  pub need-until : (t : Bool) (r : Refusal) {x : Reading A} → refusal_place r ≤ place → (t ≡ true → Until place last x) → Until place last (need t r x)
-  need-until true r h g = g refl
-  need-until false r h g = stands h
+  pub need_until : (t : Bool) (r : Refusal) {x : Reading A} → refusal_place r ≤ place → (t ≡ true → Until place last x) → Until place last (need t r x)
+  need_until true r h g = g refl
+  need_until false r h g = stands h
 
-  pub judged-until : {at : ℕ} (f : Fault) {x : Reading A} → FaultUntil at f → at ≤ place → Until place last x → Until place last (judged f x)
-  judged-until fine none h g = g
-  judged-until (faulty r) (stands k) h g = stands (le_trans k h)
+  pub judged_until : {at : ℕ} (f : Fault) {x : Reading A} → FaultUntil at f → at ≤ place → Until place last x → Until place last (judged f x)
+  judged_until fine none h g = g
+  judged_until (faulty r) (stands k) h g = stands (le_trans k h)
 
-  pub within-until : (s : List ℕ) (l at end : ℕ) {x : Reading A} → at ≤ place → (end ≤ length s → Until place last x)
+  pub within_until : (s : List ℕ) (l at end : ℕ) {x : Reading A} → at ≤ place → (end ≤ length s → Until place last x)
       → Until place last (within s l at end x)
-  within-until s l at end h g =
-      need-until (leb end (length s)) _ h (λ t. need-until (leb end l) _ h (λ u. g (leb-true end (length s) t)))
+  within_until s l at end h g =
+      need_until (leb end (length s)) _ h (λ t. need_until (leb end l) _ h (λ u. g (leb-true end (length s) t)))
 
-  first-until : (k : ℕ) (s : List ℕ) (l p : ℕ) {x : Reading A} → p ≤ place → Until place last x → Until place last (reserved_first k s l p x)
-  first-until k s l p h g = within-until s l p (p + 1) h (λ m. need-until (eqb (get_or s p 0 / 2 ^ (8 - k)) (2 ^ k - 1)) _ h (λ t. g))
+  first_until : (k : ℕ) (s : List ℕ) (l p : ℕ) {x : Reading A} → p ≤ place → Until place last x → Until place last (reserved_first k s l p x)
+  first_until k s l p h g = within_until s l p (p + 1) h (λ m. need_until (eqb (get_or s p 0 / 2 ^ (8 - k)) (2 ^ k - 1)) _ h (λ t. g))
 
-  pub repeat-until : (f : ℕ → Reading A) → ((p : ℕ) → p ≤ last → Until place last (f p)) → (n p : ℕ) → p ≤ last → Until place last (repeat f n p)
+  pub repeat_until : (f : ℕ → Reading A) → ((p : ℕ) → p ≤ last → Until place last (f p)) → (n p : ℕ) → p ≤ last → Until place last (repeat f n p)
   unfolding repeat
-  repeat-until f h zero p k = ends k
-  repeat-until f h (suc n) p k = then_until (f p) _ (h p k) (λ a q m. then_until (repeat f n q) _ (repeat-until f h n q m) (λ xs i o. ends o))
+  repeat_until f h zero p k = ends k
+  repeat_until f h (suc n) p k = then_until (f p) _ (h p k) (λ a q m. then_until (repeat f n q) _ (repeat_until f h n q m) (λ xs i o. ends o))
 
 -- ---- the entries of a tape
 
 module _ (pool tape : List ℕ) where
-  entry-until : (k : ℕ) → k ≤ length tape → Until (length tape) (length tape) (tape_entry tape k)
+  entry_until : (k : ℕ) → k ≤ length tape → Until (length tape) (length tape) (tape_entry tape k)
   unfolding tape_entry
-  entry-until k h = need-until (leb (k + 1) (length tape)) _ h (λ t. ends (leb-true _ _ t))
+  entry_until k h = need_until (leb (k + 1) (length tape)) _ h (λ t. ends (leb-true _ _ t))
 
-  span-until : (k : ℕ) → k ≤ length tape → Until (length tape) (length tape) (span pool tape k)
+  span_until : (k : ℕ) → k ≤ length tape → Until (length tape) (length tape) (span pool tape k)
   unfolding span
-  span-until k h =
-      need-until (leb (k + 2) (length tape)) _ h (λ t.
-      need-until (leb (get_or tape k 0 + get_or tape (k + 1) 0) (length pool)) _ h (λ u. ends (leb-true _ _ t)))
+  span_until k h =
+      need_until (leb (k + 2) (length tape)) _ h (λ t.
+      need_until (leb (get_or tape k 0 + get_or tape (k + 1) 0) (length pool)) _ h (λ u. ends (leb-true _ _ t)))
 
 -- ---- formats
 
@@ -94,25 +94,25 @@ pub count_placed : (w : ℕ) → Placed (count w)
 unfolding count
 count_placed w =
     record {
-      read = λ s l p h k. within-until s l p (p + w) k ends;
-      formed = λ pool tape k h. entry-until pool tape k h;
+      read = λ s l p h k. within_until s l p (p + w) k ends;
+      formed = λ pool tape k h. entry_until pool tape k h;
     }
 
 module _ {A : Type 0} (fault : A → ℕ → Fault) (F : Format A) (there : (a : A) (at : ℕ) → FaultUntil at (fault a at)) where
-  pub only-placed : Placed F → Placed (only fault F)
+  pub only_placed : Placed F → Placed (only fault F)
   unfolding only
-  only-placed f =
+  only_placed f =
       record {
-        read = λ s l p h k. then_until (F.parse s l p) _ (f.read s l p h k) (λ a q m. judged-until (fault a p) (there a p) k (ends m));
+        read = λ s l p h k. then_until (F.parse s l p) _ (f.read s l p h k) (λ a q m. judged_until (fault a p) (there a p) k (ends m));
         formed = λ pool tape k h.
-            then_until (F.form pool tape k) _ (f.formed pool tape k h) (λ a j m. judged-until (fault a k) (there a k) h (ends m));
+            then_until (F.form pool tape k) _ (f.formed pool tape k h) (λ a j m. judged_until (fault a k) (there a k) h (ends m));
       }
 
 pub outside_until : {A : Type 0} (test : A → Bool) (a : A) (at : ℕ) → FaultUntil at (outside test a at)
 outside_until test a at = unless_until (test a) (OutsideSet at) (le_refl at)
 
 pub outside_placed : {A : Type 0} (test : A → Bool) (F : Format A) → Placed F → Placed (only (outside test) F)
-outside_placed test F f = only-placed (outside test) F (outside_until test) f
+outside_placed test F f = only_placed (outside test) F (outside_until test) f
 
 pub number_placed : (w : ℕ) → Placed (number w)
 unfolding number
@@ -122,29 +122,29 @@ pub nibbles_placed : Placed nibbles
 unfolding nibbles
 nibbles_placed =
     record {
-      read = λ s l p h k. within-until s l p (p + 1) k ends;
+      read = λ s l p h k. within_until s l p (p + 1) k ends;
       formed = λ pool tape k h.
-          then_until (tape_entry tape k) _ (entry-until pool tape k h) (λ high j g.
-          need-until (ltb high 16) _ h (λ t.
-          then_until (tape_entry tape j) _ (entry-until pool tape j g) (λ low i m. need-until (ltb low 16) _ g (λ u. ends m))));
+          then_until (tape_entry tape k) _ (entry_until pool tape k h) (λ high j g.
+          need_until (ltb high 16) _ h (λ t.
+          then_until (tape_entry tape j) _ (entry_until pool tape j g) (λ low i m. need_until (ltb low 16) _ g (λ u. ends m))));
     }
 
 pub reserved_placed : (k w : ℕ) → Placed (reserved k w)
 unfolding reserved
 reserved_placed k w =
     record {
-      read = λ s l p h m. first-until k s l p m (within-until s l p (p + suc w) m ends);
+      read = λ s l p h m. first_until k s l p m (within_until s l p (p + suc w) m ends);
       formed = λ pool tape j h.
-          then_until (tape_entry tape j) _ (entry-until pool tape j h) (λ x i m. need-until (ltb x (below k w)) _ h (λ t. ends m));
+          then_until (tape_entry tape j) _ (entry_until pool tape j h) (λ x i m. need_until (ltb x (below k w)) _ h (λ t. ends m));
     }
 
 pub bytes_placed : (n : ℕ) → Placed (bytes n)
 unfolding bytes
 bytes_placed n =
     record {
-      read = λ s l p h k. within-until s l p (p + n) k ends;
+      read = λ s l p h k. within_until s l p (p + n) k ends;
       formed = λ pool tape k h.
-          then_until (span pool tape k) _ (span-until pool tape k h) (λ xs j m. need-until (eqb (length xs) n) _ h (λ t. ends m));
+          then_until (span pool tape k) _ (span_until pool tape k h) (λ xs j m. need_until (eqb (length xs) n) _ h (λ t. ends m));
     }
 
 pub digits_placed : (h : ℕ) → Placed (digits h)
@@ -152,38 +152,38 @@ unfolding digits
 digits_placed h =
     record {
       read = λ s l p g k.
-          first-until 4 s l p k
-          (within-until s l p (p + suc h) k (λ m. need-until (decimal (tail (halves (take (suc h) (drop p s))))) _ k (λ t. ends m)));
+          first_until 4 s l p k
+          (within_until s l p (p + suc h) k (λ m. need_until (decimal (tail (halves (take (suc h) (drop p s))))) _ k (λ t. ends m)));
       formed = λ pool tape k g.
-          then_until (span pool tape k) _ (span-until pool tape k g) (λ bs j m.
-          need-until (eqb (length bs) (suc h)) _ g (λ t. need-until (decimal (tail (halves bs))) _ g (λ u. ends m)));
+          then_until (span pool tape k) _ (span_until pool tape k g) (λ bs j m.
+          need_until (eqb (length bs) (suc h)) _ g (λ t. need_until (decimal (tail (halves bs))) _ g (λ u. ends m)));
     }
 
 -- ---- values from lo to hi
 
 module _ (lo hi : ℕ) where
-  pub among-placed : (F : Format ℕ) → Placed F → Placed (among lo hi F)
-  among-placed = outside_placed (λ x. leb lo x && leb x hi)
+  pub among_placed : (F : Format ℕ) → Placed F → Placed (among lo hi F)
+  among_placed = outside_placed (λ x. leb lo x && leb x hi)
 
-  both-among : Placed (both_among lo hi)
-  both-among = outside_placed (λ x. (leb lo x.0 && leb x.0 hi) && (leb lo x.1 && leb x.1 hi)) nibbles nibbles_placed
+  both_among_lem : Placed (both_among lo hi)
+  both_among_lem = outside_placed (λ x. (leb lo x.0 && leb x.0 hi) && (leb lo x.1 && leb x.1 hi)) nibbles nibbles_placed
 
-  nibble-until : (pool tape : List ℕ) (k : ℕ) → k ≤ length tape → Until (length tape) (length tape) (nibble_among lo hi tape k)
-  nibble-until pool tape k h =
-      then_until (tape_entry tape k) _ (entry-until pool tape k h) (λ x j m.
-      need-until (ltb x 16 && (leb lo x && leb x hi)) _ h (λ t. ends m))
+  nibble_until : (pool tape : List ℕ) (k : ℕ) → k ≤ length tape → Until (length tape) (length tape) (nibble_among lo hi tape k)
+  nibble_until pool tape k h =
+      then_until (tape_entry tape k) _ (entry_until pool tape k h) (λ x j m.
+      need_until (ltb x 16 && (leb lo x && leb x hi)) _ h (λ t. ends m))
 
-  pub nibbles-among-placed : Placed (nibbles_among lo hi)
-  nibbles-among-placed =
+  pub nibbles_among_placed : Placed (nibbles_among lo hi)
+  nibbles_among_placed =
       record {
-        read = both-among.read;
+        read = both_among_lem.read;
         formed = λ pool tape k h.
-            then_until (nibble_among lo hi tape k) _ (nibble-until pool tape k h) (λ high j m.
-            then_until (nibble_among lo hi tape j) _ (nibble-until pool tape j m) (λ low i o. ends o));
+            then_until (nibble_among lo hi tape k) _ (nibble_until pool tape k h) (λ high j m.
+            then_until (nibble_among lo hi tape j) _ (nibble_until pool tape j m) (λ low i o. ends o));
       }
 
-  pub bytes-among-placed : (n : ℕ) → Placed (bytes_among lo hi n)
-  bytes-among-placed n = outside_placed (every (λ x. leb lo x && leb x hi)) (bytes n) (bytes_placed n)
+  pub bytes_among_placed : (n : ℕ) → Placed (bytes_among lo hi n)
+  bytes_among_placed n = outside_placed (every (λ x. leb lo x && leb x hi)) (bytes n) (bytes_placed n)
 
 -- ---- one after the other, a flag, other names
 
@@ -216,26 +216,26 @@ view_placed f g F u =
 -- ---- lists
 
 module _ {A : Type 0} (F : Format A) (f : Placed F) where
-  pub times-placed : (n : ℕ) → Placed (times n F)
+  pub times_placed : (n : ℕ) → Placed (times n F)
   unfolding times
-  times-placed n =
+  times_placed n =
       record {
-        read = λ s l p h k. repeat-until (F.parse s l) (λ q m. f.read s l q h m) n p k;
-        formed = λ pool tape k h. repeat-until (F.form pool tape) (f.formed pool tape) n k h;
+        read = λ s l p h k. repeat_until (F.parse s l) (λ q m. f.read s l q h m) n p k;
+        formed = λ pool tape k h. repeat_until (F.form pool tape) (f.formed pool tape) n k h;
       }
 
-  pub list-placed : (C : Format ℕ) → Placed C → Placed (list_of C F)
+  pub list_placed : (C : Format ℕ) → Placed C → Placed (list_of C F)
   unfolding list_of times
-  list-placed C c =
+  list_placed C c =
       record {
-        read = λ s l p h k. then_until (C.parse s l p) _ (c.read s l p h k) (λ n q m. (times-placed n).read s l q h m);
-        formed = λ pool tape k h. then_until (C.form pool tape k) _ (c.formed pool tape k h) (λ n j m. (times-placed n).formed pool tape j m);
+        read = λ s l p h k. then_until (C.parse s l p) _ (c.read s l p h k) (λ n q m. (times_placed n).read s l q h m);
+        formed = λ pool tape k h. then_until (C.form pool tape k) _ (c.formed pool tape k h) (λ n j m. (times_placed n).formed pool tape j m);
       }
 
-  many-until : (n : ℕ) (s : List ℕ) (l p : ℕ) → l ≤ length s → p ≤ length s → Until (length s) (length s) (parse_many F n s l p)
+  many_until : (n : ℕ) (s : List ℕ) (l p : ℕ) → l ≤ length s → p ≤ length s → Until (length s) (length s) (parse_many F n s l p)
   unfolding parse_many
-  many-until zero s l p h k = need-until (leb l p) _ k (λ t. ends k)
-  many-until (suc n) s l p h k = go (λ q m. many-until n s l q h m) (leb l p)
+  many_until zero s l p h k = need_until (leb l p) _ k (λ t. ends k)
+  many_until (suc n) s l p h k = go (λ q m. many_until n s l q h m) (leb l p)
     where
       go : ((q : ℕ) → q ≤ length s → Until (length s) (length s) (parse_many F n s l q)) → (t : Bool)
           → Until (length s) (length s)
@@ -243,25 +243,25 @@ module _ {A : Type 0} (F : Format A) (f : Placed F) where
       go again true = ends k
       go again false = then_until (F.parse s l p) _ (f.read s l p h k) (λ a q m. then_until (parse_many F n s l q) _ (again q m) (λ xs r o. ends o))
 
-  pub many-placed : Placed (many F)
+  pub many_placed : Placed (many F)
   unfolding many times
-  many-placed =
+  many_placed =
       record {
-        read = λ s l p h k. many-until (l - p) s l p h k;
-        formed = λ pool tape k h. then_until (tape_entry tape k) _ (entry-until pool tape k h) (λ n j m. (times-placed n).formed pool tape j m);
+        read = λ s l p h k. many_until (l - p) s l p h k;
+        formed = λ pool tape k h. then_until (tape_entry tape k) _ (entry_until pool tape k h) (λ n j m. (times_placed n).formed pool tape j m);
       }
 
 -- ---- parts
 
 pub rest_placed : Placed rest
 unfolding rest
-rest_placed = record { read = λ s l p h k. ends h; formed = λ pool tape k h. span-until pool tape k h }
+rest_placed = record { read = λ s l p h k. ends h; formed = λ pool tape k h. span_until pool tape k h }
 
-pub exact_placed : {A : Type 0} (leftOver : ℕ → Refusal) (F : Format A) → ((at : ℕ) → refusal_place (leftOver at) ≤ at) → Placed F → Placed (exact leftOver F)
+pub exact_placed : {A : Type 0} (left_over : ℕ → Refusal) (F : Format A) → ((at : ℕ) → refusal_place (left_over at) ≤ at) → Placed F → Placed (exact left_over F)
 unfolding exact
-exact_placed leftOver F first f =
+exact_placed left_over F first f =
     record {
-      read = λ s l p h k. then_until (F.parse s l p) _ (f.read s l p h k) (λ a q m. need-until (leb l q) _ (le_trans (first q) m) (λ t. ends m));
+      read = λ s l p h k. then_until (F.parse s l p) _ (f.read s l p h k) (λ a q m. need_until (leb l q) _ (le_trans (first q) m) (λ t. ends m));
       formed = f.formed;
     }
 
@@ -272,7 +272,7 @@ counted_placed L F c there f =
     record {
       read = λ s l p h k.
           then_until (L.field.parse s l p) _ (c.read s l p h k) (λ n q m.
-          within-until s l p (q + n % L.limit) k (λ inside. judged-until (L.fault n p) (there n p) k (f.read s (q + n % L.limit) q inside m)));
+          within_until s l p (q + n % L.limit) k (λ inside. judged_until (L.fault n p) (there n p) k (f.read s (q + n % L.limit) q inside m)));
       formed = f.formed;
     }
 
@@ -302,7 +302,7 @@ time_until : (f at : ℕ) → FaultUntil at (time_fault (read_time f at))
 unfolding read_time
 time_until f at =
     refused_until (leb (2 ^ 40) f) (OutsideSet at) _ (le_refl at)
-    (refused_until (not (decimalField f)) (DigitAboveNine at) _ (le_refl at)
+    (refused_until (not (decimal_field f)) (DigitAboveNine at) _ (le_refl at)
     (refused_until (not (possible f)) (ImpossibleDay at) (At (moment_of f)) (le_refl at) none))
 
 end_until : (f at : ℕ) → FaultUntil at (end_fault (read_end f at))
@@ -316,14 +316,14 @@ end_until f at = go (eqb f live_mark) (read_time f at) (time_until f at)
 
 pub time_placed : Placed time
 unfolding time
-time_placed = only-placed (λ f at. time_fault (read_time f at)) (number 5) time_until (number_placed 5)
+time_placed = only_placed (λ f at. time_fault (read_time f at)) (number 5) time_until (number_placed 5)
 
 pub end_placed : Placed end_time
 unfolding end_time
-end_placed = only-placed (λ f at. end_fault (read_end f at)) (number 5) end_until (number_placed 5)
+end_placed = only_placed (λ f at. end_fault (read_end f at)) (number 5) end_until (number_placed 5)
 
 pub resources_placed : Placed resources
-resources_placed = list-placed resource (digits_placed resource_pairs) (count 1) (count_placed 1)
+resources_placed = list_placed resource (digits_placed resource_pairs) (count 1) (count_placed 1)
 
 -- ---- whole bodies
 
@@ -334,45 +334,45 @@ step_place (refused t) (stands h) r e = let same : t ≡ r = cc in rw same at h
 
 module _ {A : Type 0} (F : Format A) (f : Placed F) where
   module _ (own kind : ℕ) (s : List ℕ) where
-    pub reading-until : Until (length s) (length s) (reading F own kind s)
+    pub reading_until : Until (length s) (length s) (reading F own kind s)
     unfolding reading
-    reading-until =
-        need-until (eqb kind own) _ zero-le (λ t.
-        need-until (leb (length s) body_most) _ zero-le (λ u. f.read s (length s) 0 (le_refl (length s)) zero-le))
+    reading_until =
+        need_until (eqb kind own) _ zero-le (λ t.
+        need_until (leb (length s) body_most) _ zero-le (λ u. f.read s (length s) 0 (le_refl (length s)) zero-le))
 
-    pub read-place : (r : Refusal) → body_read F own kind s ≡ NoStep r → refusal_place r ≤ length s
+    pub read_place : (r : Refusal) → body_read F own kind s ≡ NoStep r → refusal_place r ≤ length s
     unfolding body_read
-    read-place = step_place (reading F own kind s) reading-until
+    read_place = step_place (reading F own kind s) reading_until
 
-    pub laid-place : (room : ℕ) (r : Refusal) → body_laid F own kind s room ≡ NoStep r → refusal_place r ≤ length s
+    pub laid_place : (room : ℕ) (r : Refusal) → body_laid F own kind s room ≡ NoStep r → refusal_place r ≤ length s
     unfolding body_laid laying
-    laid-place room =
-        step_place (laying F own kind s room) (then_until {last' = room} (reading F own kind s) _ reading-until (λ a q m.
-        need-until (leb (length (F.tape a 0)) room) _ zero-le (λ t. ends (leb-true _ _ t))))
+    laid_place room =
+        step_place (laying F own kind s room) (then_until {last' = room} (reading F own kind s) _ reading_until (λ a q m.
+        need_until (leb (length (F.tape a 0)) room) _ zero-le (λ t. ends (leb-true _ _ t))))
 
   module _ (pool tape : List ℕ) where
-    pub measuring-until : Until (length tape) body_most (measuring F pool tape)
+    pub measuring_until : Until (length tape) body_most (measuring F pool tape)
     unfolding measuring
-    measuring-until =
+    measuring_until =
         then_until (F.form pool tape 0) _ (f.formed pool tape 0 zero-le) (λ a k m.
-        need-until (leb (length tape) k) _ m (λ t.
-        need-until (not (F.too_large a)) _ zero-le (λ u.
-        need-until (leb (length (F.print a)) body_most) _ zero-le (λ v. ends (leb-true _ _ v)))))
+        need_until (leb (length tape) k) _ m (λ t.
+        need_until (not (F.too_large a)) _ zero-le (λ u.
+        need_until (leb (length (F.print a)) body_most) _ zero-le (λ v. ends (leb-true _ _ v)))))
 
-    pub measured-place : (r : Refusal) → measured F pool tape ≡ NoStep r → refusal_place r ≤ length tape
+    pub measured_place : (r : Refusal) → measured F pool tape ≡ NoStep r → refusal_place r ≤ length tape
     unfolding measured
-    measured-place = step_place (measuring F pool tape) measuring-until
+    measured_place = step_place (measuring F pool tape) measuring_until
 
 -- a writer's place is 0, whatever its format
 module _ {A : Type 0} (F : Format A) (pool tape : List ℕ) (room : ℕ) where
-  pub writing-until : Until 0 room (writing F pool tape room)
+  pub writing_until : Until 0 room (writing F pool tape room)
   unfolding writing
-  writing-until = go (measuring F pool tape)
+  writing_until = go (measuring F pool tape)
     where
       go : (x : Reading A) → Until 0 room (fitting room x)
-      go (found a n) = need-until (leb n room) _ zero-le (λ t. ends (leb-true _ _ t))
+      go (found a n) = need_until (leb n room) _ zero-le (λ t. ends (leb-true _ _ t))
       go (refused r) = stands (le_of_eq (placeless_is r).1)
 
-  pub written-place : (r : Refusal) → body_written F pool tape room ≡ NoStep r → refusal_place r ≡ 0
+  pub written_place : (r : Refusal) → body_written F pool tape room ≡ NoStep r → refusal_place r ≡ 0
   unfolding body_written
-  written-place r e = let none = step_place (writing F pool tape room) writing-until r e in omega arith
+  written_place r e = let none = step_place (writing F pool tape room) writing_until r e in omega arith

@@ -44,13 +44,13 @@ six_bytes k v h l = lt_of_lt_of_le l (pow-le-pow_right (omega arith) h)
 -- ---- a number
 
 module _ (s : List ℕ) (l p w : ℕ) where
-  pub number-14 : length s < p + w → NoNumber (PastBody p) ≡ number_read w s l p
+  pub number_14 : length s < p + w → NoNumber (PastBody p) ≡ number_read w s l p
   unfolding number_read count
-  number-14 h = rw (lt-leb (p + w) (length s) h)
+  number_14 h = rw (lt-leb (p + w) (length s) h)
 
-  pub number-15 : p + w ≤ length s → l < p + w → NoNumber (PastPart p) ≡ number_read w s l p
+  pub number_15 : p + w ≤ length s → l < p + w → NoNumber (PastPart p) ≡ number_read w s l p
   unfolding number_read count
-  number-15 h k = rw (le-leb (p + w) (length s) h, lt-leb (p + w) l k)
+  number_15 h k = rw (le-leb (p + w) (length s) h, lt-leb (p + w) l k)
 
   pub number_is : p + w ≤ length s → p + w ≤ l → (v q : ℕ) → v ≡ number_at s p w → q ≡ p + w → Is v q ≡ number_read w s l p
   unfolding number_read count
@@ -77,12 +77,12 @@ field_refused p (found a q) r e = absurd (let z : ◌≡◌ {A = ℕ} 0 1 = cc i
 -- ---- a counted part: what its length's field answers, and then the bytes from q on
 
 module _ (s : List ℕ) (l p q m : ℕ) where
-  pub part-14 : (x : Reading (List ℕ)) → length s < q + m → NoPart (PastBody p) ≡ part_of (within s l p (q + m) x)
-  part-14 x h = rw (lt-leb (q + m) (length s) h)
+  pub part_14 : (x : Reading (List ℕ)) → length s < q + m → NoPart (PastBody p) ≡ part_of (within s l p (q + m) x)
+  part_14 x h = rw (lt-leb (q + m) (length s) h)
 
   module _ (inside : q + m ≤ length s) where
-    pub part-15 : (x : Reading (List ℕ)) → l < q + m → NoPart (PastPart p) ≡ part_of (within s l p (q + m) x)
-    part-15 x h = rw (le-leb (q + m) (length s) inside, lt-leb (q + m) l h)
+    pub part_15 : (x : Reading (List ℕ)) → l < q + m → NoPart (PastPart p) ≡ part_of (within s l p (q + m) x)
+    part_15 x h = rw (le-leb (q + m) (length s) inside, lt-leb (q + m) l h)
 
     pub part_of_lem : (t : Bool) (r : Refusal) → q + m ≤ l → t ≡ true → Of q m ≡ part_of (within s l p (q + m) (judged (unless t r) (rest.parse s (q + m) q)))
     unfolding rest
@@ -90,13 +90,13 @@ module _ (s : List ℕ) (l p q m : ℕ) where
         let n : length (take m (drop q s)) ≡ m = length-take-le m (drop q s) (simp length-drop (omega arith)) in
         rw (le-leb (q + m) (length s) inside, le-leb (q + m) l h, e, add-sub_cancel_left q m, n, add-sub_cancel q m)
 
-    pub part-faulty : (t : Bool) (r : Refusal) → q + m ≤ l → t ≡ false → NoPart r ≡ part_of (within s l p (q + m) (judged (unless t r) (rest.parse s (q + m) q)))
-    part-faulty t r h e = rw (le-leb (q + m) (length s) inside, le-leb (q + m) l h, e)
+    pub part_faulty : (t : Bool) (r : Refusal) → q + m ≤ l → t ≡ false → NoPart r ≡ part_of (within s l p (q + m) (judged (unless t r) (rest.parse s (q + m) q)))
+    part_faulty t r h e = rw (le-leb (q + m) (length s) inside, le-leb (q + m) l h, e)
 
 module _ (L : Length) (s : List ℕ) (l p : ℕ) where
-  pub length-no : (r : Refusal) → NoNumber r ≡ number_of (L.field.parse s l p) → NoPart r ≡ part_of ((counted L rest).parse s l p)
+  pub length_no : (r : Refusal) → NoNumber r ≡ number_of (L.field.parse s l p) → NoPart r ≡ part_of ((counted L rest).parse s l p)
   unfolding counted
-  length-no r e = rw (number_refused (L.field.parse s l p) r e)
+  length_no r e = rw (number_refused (L.field.parse s l p) r e)
 
   pub length_is : (n m q : ℕ) → Is n q ≡ number_of (L.field.parse s l p) → n % L.limit ≡ m
       → part_of (within s l p (q + m) (judged (L.fault n p) (rest.parse s (q + m) q))) ≡ part_of ((counted L rest).parse s l p)
@@ -112,14 +112,14 @@ number_facts s l p w v q b e =
 
 -- by a length of w bytes that counts so many at least
 module _ (s : List ℕ) (l p w least : ℕ) where
-  pub least-no : (r : Refusal) → NoNumber r ≡ number_read w s l p → NoPart r ≡ part_of ((counted (least_of w least) rest).parse s l p)
+  pub least_no : (r : Refusal) → NoNumber r ≡ number_read w s l p → NoPart r ≡ part_of ((counted (least_of w least) rest).parse s l p)
   unfolding least_of number_read
-  least-no r e = length-no (least_of w least) s l p r e
+  least_no r e = length_no (least_of w least) s l p r e
 
-  pub least-is : (n q : ℕ) → Bytes s → Is n q ≡ number_read w s l p
+  pub least_is : (n q : ℕ) → Bytes s → Is n q ≡ number_read w s l p
       → part_of (within s l p (q + n) (judged (unless (leb least n) (PastPart p)) (rest.parse s (q + n) q))) ≡ part_of ((counted (least_of w least) rest).parse s l p)
   unfolding least_of number_read
-  least-is n q b e = length_is (least_of w least) s l p n n q e (mod-eq_of_lt (number_facts s l p w n q b e).2)
+  least_is n q b e = length_is (least_of w least) s l p n n q e (mod-eq_of_lt (number_facts s l p w n q b e).2)
 
 -- every length is at least 0
 pub least_none : (s : List ℕ) (l p w : ℕ) → part_of ((counted (least_of w 0) rest).parse s l p) ≡ part_read w s l p
@@ -161,8 +161,8 @@ module _ (s : List ℕ) (l p w : ℕ) where
   unfolding part_read
   part_found a n e = part_inv ((opaque w).parse s l p) a n e (λ xs q f. (opaque_found s l p w xs q f).0)
 
-  pub part-facts : (a n : ℕ) → Of a n ≡ part_read w s l p → (a + n ≤ length s) × (a + n ≤ l)
-  part-facts a n e =
+  pub part_facts : (a n : ℕ) → Of a n ≡ part_read w s l p → (a + n ≤ length s) × (a + n ≤ l)
+  part_facts a n e =
       let i = part_found a n e in
       let f = opaque_found s l p w i.0 (a + n) i.1 in
       (f.1, f.2)
@@ -176,13 +176,13 @@ module _ (s : List ℕ) (l p w : ℕ) where
       go (found y q) f = absurd (let z : ◌≡◌ {A = ℕ} 0 1 = cc in omega arith)
 
   -- where opaque bytes end
-  pub opaque-at : (a n : ℕ) → Of a n ≡ part_read w s l p → At (a + n) ≡ ended (opaque w) s l p
+  pub opaque_at : (a n : ℕ) → Of a n ≡ part_read w s l p → At (a + n) ≡ ended (opaque w) s l p
   unfolding ended
-  opaque-at a n e = rw (part_found a n e).1
+  opaque_at a n e = rw (part_found a n e).1
 
-  pub opaque-no : (r : Refusal) → NoPart r ≡ part_read w s l p → NoStep r ≡ ended (opaque w) s l p
+  pub opaque_no : (r : Refusal) → NoPart r ≡ part_read w s l p → NoStep r ≡ ended (opaque w) s l p
   unfolding ended
-  opaque-no r e = rw (part_refused r e)
+  opaque_no r e = rw (part_refused r e)
 
 -- ---- from where a part ends back to what was read
 
@@ -214,10 +214,10 @@ module _ {A : Type 0} (F : Format A) (s : List ℕ) (l p : ℕ) where
   unfolding ended_all repeat
   all_done n z = rw z
 
-  pub all-stop : (n : ℕ) (r : Refusal) → 0 < n → NoStep r ≡ ended F s l p → NoStep r ≡ ended_all F n s l p
+  pub all_stop : (n : ℕ) (r : Refusal) → 0 < n → NoStep r ≡ ended F s l p → NoStep r ≡ ended_all F n s l p
   unfolding ended ended_all repeat
-  all-stop zero r h e = absurd (omega arith)
-  all-stop (suc n) r h e = go (F.parse s l p) e
+  all_stop zero r h e = absurd (omega arith)
+  all_stop (suc n) r h e = go (F.parse s l p) e
     where
       go : (x : Reading A) → NoStep r ≡ step_of x → NoStep r ≡ step_of (and_then x (λ a q. and_then (repeat (F.parse s l) n q) (λ xs t. found (a ∷ xs) t)))
       go (found a q) f = absurd (let z : ◌≡◌ {A = ℕ} 0 1 = cc in omega arith)
@@ -233,44 +233,44 @@ module _ {A : Type 0} (F : Format A) (s : List ℕ) (l p : ℕ) where
       go (refused r) f = absurd (let z : ◌≡◌ {A = ℕ} 0 1 = cc in omega arith)
 
 module _ (s : List ℕ) (l p w : ℕ) where
-  pub after-done : (i : ℕ) → i ≡ 0 → part_read w s l p ≡ part_after w i s l p
+  pub after_done : (i : ℕ) → i ≡ 0 → part_read w s l p ≡ part_after w i s l p
   unfolding part_after after part_read
-  after-done i z = rw z
+  after_done i z = rw z
 
   pub after_stop : (i : ℕ) (r : Refusal) → 0 < i → NoPart r ≡ part_read w s l p → NoPart r ≡ part_after w i s l p
   unfolding part_after after
   after_stop zero r h e = absurd (omega arith)
   after_stop (suc i) r h e = rw (part_refused s l p w r e)
 
-  pub after-go : (i a n : ℕ) → 0 < i → Of a n ≡ part_read w s l p → part_after w i s l p ≡ part_after w (i - 1) s l (a + n)
+  pub after_go : (i a n : ℕ) → 0 < i → Of a n ≡ part_read w s l p → part_after w i s l p ≡ part_after w (i - 1) s l (a + n)
   unfolding part_after after
-  after-go zero a n h e = absurd (omega arith)
-  after-go (suc i) a n h e =
+  after_go zero a n h e = absurd (omega arith)
+  after_go (suc i) a n h e =
       let d : suc i - 1 ≡ i = omega arith in
       rw (d, (part_found s l p w a n e).1)
 
 -- ---- a list after its count
 
 module _ (s : List ℕ) (l p c : ℕ) where
-  pub list-no : {A : Type 0} (F : Format A) (r : Refusal) → NoNumber r ≡ number_read c s l p → NoStep r ≡ ended (list_of (count c) F) s l p
+  pub list_no : {A : Type 0} (F : Format A) (r : Refusal) → NoNumber r ≡ number_read c s l p → NoStep r ≡ ended (list_of (count c) F) s l p
   unfolding ended list_of number_read
-  list-no F r e = rw (number_refused ((count c).parse s l p) r e)
+  list_no F r e = rw (number_refused ((count c).parse s l p) r e)
 
   pub list_all : {A : Type 0} (F : Format A) (n q : ℕ) → Is n q ≡ number_read c s l p → ended_all F n s l q ≡ ended (list_of (count c) F) s l p
   unfolding ended ended_all list_of number_read
   list_all F n q e = rw (number_found ((count c).parse s l p) n q e)
 
-  pub listed-no : (w i : ℕ) (r : Refusal) → NoNumber r ≡ number_read c s l p → NoPart r ≡ part_listed c w i s l p
+  pub listed_no : (w i : ℕ) (r : Refusal) → NoNumber r ≡ number_read c s l p → NoPart r ≡ part_listed c w i s l p
   unfolding part_listed thing_listed number_read
-  listed-no w i r e = rw (number_refused ((count c).parse s l p) r e)
+  listed_no w i r e = rw (number_refused ((count c).parse s l p) r e)
 
-  pub listed-none : (w i n q : ℕ) → Is n q ≡ number_read c s l p → n ≤ i → NoPart (OutsideSet 0) ≡ part_listed c w i s l p
+  pub listed_none : (w i n q : ℕ) → Is n q ≡ number_read c s l p → n ≤ i → NoPart (OutsideSet 0) ≡ part_listed c w i s l p
   unfolding part_listed thing_listed number_read
-  listed-none w i n q e h = rw (number_found ((count c).parse s l p) n q e, le-ltb i n h)
+  listed_none w i n q e h = rw (number_found ((count c).parse s l p) n q e, le-ltb i n h)
 
-  pub listed-part : (w i n q : ℕ) → Is n q ≡ number_read c s l p → i < n → part_after w i s l q ≡ part_listed c w i s l p
+  pub listed_part : (w i n q : ℕ) → Is n q ≡ number_read c s l p → i < n → part_after w i s l q ≡ part_listed c w i s l p
   unfolding part_listed thing_listed part_after number_read
-  listed-part w i n q e h = rw (number_found ((count c).parse s l p) n q e, lt-ltb i n h)
+  listed_part w i n q e h = rw (number_found ((count c).parse s l p) n q e, lt-ltb i n h)
 
 -- ---- whole bodies
 
@@ -289,9 +289,9 @@ module _ (own kind : ℕ) (s : List ℕ) where
     is_open h = rw (eq-eqb kind own e, le-leb (length s) body_most h)
 
   module _ {A : Type 0} (F : Format A) where
-    pub body-no : (r : Refusal) → NoStep r ≡ opened own kind s → NoStep r ≡ body_read F own kind s
+    pub body_no : (r : Refusal) → NoStep r ≡ opened own kind s → NoStep r ≡ body_read F own kind s
     unfolding opened body_read reading nothing
-    body-no r e = go (eqb kind own) (leb (length s) body_most) e
+    body_no r e = go (eqb kind own) (leb (length s) body_most) e
       where
         go : (a b : Bool) → NoStep r ≡ step_of (need a OtherKind (need b TooLarge (nothing.parse s (length s) 0))) → NoStep r ≡ step_of (need a OtherKind (need b TooLarge (F.parse s (length s) 0)))
         go false b f = f

@@ -65,8 +65,8 @@ module _ {A : Type 0} (F : Format A) (f : Filling F) (own : ℕ) where
         (eqb-true kind own t.0, leb-true (length s) body_most u.0, u.1)
 
     -- each accepted body prints back to its bytes
-    pub prints-back : (F.print a ≡ s) × Ok F a
-    prints-back =
+    pub prints_back : (F.print a ≡ s) × Ok F a
+    prints_back =
         let p = accepted.2 in
         let u = f.forth s (length s) 0 a q b (le_refl (length s)) zero-le p in
         let z = f.ends s (length s) 0 a q b (le_refl (length s)) zero-le p in
@@ -77,7 +77,7 @@ module _ {A : Type 0} (F : Format A) (f : Filling F) (own : ℕ) where
         → (writing F s (F.tape a 0) (length out) ≡ found a (length s)) × (output_written F s (F.tape a 0) out ≡ placed out 0 s)
     unfolding measuring writing output_written
     writes_back out h =
-        let w = prints-back in
+        let w = prints_back in
         let n : length (F.print a) ≡ length s = ap length w.0 in
         let t = F.tape a 0 in
         let form = f.formal.laid s 0 t 0 a w.1.writable (rw w.0 (stands_whole s)) (omega (arith, n)) (stands_whole t) (omega arith) in
@@ -108,7 +108,7 @@ module _ {A : Type 0} (F : Format A) (f : Filling F) (own : ℕ) where
   pub accepted_exactly : (s : List ℕ) → Bytes s → (a : A) (q : ℕ)
       → (reading F own own s ≡ found a q → (s ≡ F.print a) × Ok F a × (length s ≤ body_most) × (q ≡ length s))
   accepted_exactly s b a q e =
-      let w = prints-back own s b a q e in
+      let w = prints_back own s b a q e in
       let t = accepted own s b a q e in
       let z = f.ends s (length s) 0 a q b (le_refl (length s)) zero-le t.2 in
       (sym w.0, w.1, t.1, z)

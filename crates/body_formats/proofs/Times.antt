@@ -13,7 +13,7 @@ use Rattle.body_formats.specs.Reading.{is_fine}
 use Rattle.body_formats.specs.Format.{number}
 use Rattle.body_formats.specs.Time.{time_fault, end_fault, time, end_time}
 use Rattle.body_formats.proofs.Classes.{Lawful}
-use Rattle.body_formats.proofs.Parts.{only-lawful, number_lawful}
+use Rattle.body_formats.proofs.Parts.{only_lawful, number_lawful}
 
 -- the answer at a place, by the three tests
 answer : Bool → Bool → Bool → Moment → ℕ → Timed
@@ -44,8 +44,8 @@ end_even f p = go (eqb f live_mark)
 
 pub time_lawful : Lawful time
 unfolding time
-time_lawful = only-lawful (λ f at. time_fault (read_time f at)) (number 5) (λ f p. (time_even f p).0) (number_lawful 5)
+time_lawful = only_lawful (λ f at. time_fault (read_time f at)) (number 5) (λ f p. (time_even f p).0) (number_lawful 5)
 
 pub end_lawful : Lawful end_time
 unfolding end_time
-end_lawful = only-lawful (λ f at. end_fault (read_end f at)) (number 5) end_even (number_lawful 5)
+end_lawful = only_lawful (λ f at. end_fault (read_end f at)) (number 5) end_even (number_lawful 5)

@@ -308,9 +308,9 @@ rest =
 
 -- F, and no byte is left: "for left-over bytes the first of them"
 unfoldable pub exact : {A : Type 0} → (ℕ → Refusal) → Format A → Format A
-exact {A} leftOver F =
+exact {A} left_over F =
     record {
-      parse = λ s l p. and_then (F.parse s l p) (λ a q. need (leb l q) (leftOver q) (found a q));
+      parse = λ s l p. and_then (F.parse s l p) (λ a q. need (leb l q) (left_over q) (found a q));
       print = F.print;
       writable = F.writable;
       too_large = F.too_large;

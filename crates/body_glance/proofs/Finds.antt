@@ -36,22 +36,22 @@ module _ {A : Type 0} {F : Format A} {s : List ℕ} {p : ℕ} {a : A} {q : ℕ} 
   reads_followed G r g =
       record { forward = omega (arith, r.forward, g.forward); here = λ l h k. rw (r.here l (omega (arith, g.forward)) k, g.here l h k) }
 
-  pub reads-pair : {B : Type 0} {G : Format B} {b : B} {t : ℕ} → Reads F s p a q → Reads G s q b t → Reads (F ▷ G) s p (a, b) t
-  reads-pair {G} r g = reads_followed (λ a. G) r g
+  pub reads_pair : {B : Type 0} {G : Format B} {b : B} {t : ℕ} → Reads F s p a q → Reads G s q b t → Reads (F ▷ G) s p (a, b) t
+  reads_pair {G} r g = reads_followed (λ a. G) r g
 
   -- under other names
-  pub reads-view : {B : Type 0} (f : A → B) (g : B → A) → Reads F s p a q → Reads (view f g F) s p (f a) q
+  pub reads_view : {B : Type 0} (f : A → B) (g : B → A) → Reads F s p a q → Reads (view f g F) s p (f a) q
   unfolding view
-  reads-view f g r = record { forward = r.forward; here = λ l h k. rw (r.here l h k) }
+  reads_view f g r = record { forward = r.forward; here = λ l h k. rw (r.here l h k) }
 
   -- to the end of the part, with no byte left
-  pub fills-exact : (leftOver : ℕ → Refusal) → q ≤ length s → Reads F s p a q → Fills (exact leftOver F) s q p a
+  pub fills_exact : (left_over : ℕ → Refusal) → q ≤ length s → Reads F s p a q → Fills (exact left_over F) s q p a
   unfolding exact
-  fills-exact leftOver k r = record { whole = rw (r.here q (le_refl q) k, le-leb q q (le_refl q)) }
+  fills_exact left_over k r = record { whole = rw (r.here q (le_refl q) k, le-leb q q (le_refl q)) }
 
   -- where the end is known by another name
-  pub reads-to : {t : ℕ} → q ≡ t → Reads F s p a q → Reads F s p a t
-  reads-to e r = rw e at r
+  pub reads_to : {t : ℕ} → q ≡ t → Reads F s p a q → Reads F s p a t
+  reads_to e r = rw e at r
 
   -- what its flag says is there
   pub reads_on : (flag : ℕ) → Reads F s p a q → Reads (under F (suc flag)) s p a q
@@ -70,18 +70,18 @@ unfolding number_at
 one_byte s p = rw add-zero (omega arith)
 
 module _ (s : List ℕ) (p w : ℕ) where
-  pub reads-count : Reads (count w) s p (number_at s p w) (p + w)
+  pub reads_count : Reads (count w) s p (number_at s p w) (p + w)
   unfolding count
-  reads-count = record { forward = omega arith; here = λ l h k. within_there s l p (p + w) _ h k }
+  reads_count = record { forward = omega arith; here = λ l h k. within_there s l p (p + w) _ h k }
 
-  pub reads-number : Bytes s → Reads (number w) s p (number_at s p w) (p + w)
+  pub reads_number : Bytes s → Reads (number w) s p (number_at s p w) (p + w)
   unfolding number
-  reads-number b = reads_only _ (rw (lt-ltb (number_at s p w) (256 ^ w) (number_below s p w b))) reads-count
+  reads_number b = reads_only _ (rw (lt-ltb (number_at s p w) (256 ^ w) (number_below s p w b))) reads_count
 
   -- after k reserved bits
-  pub reads-reserved : (k : ℕ) → get_or s p 0 / 2 ^ (8 - k) ≡ 2 ^ k - 1 → Reads (reserved k w) s p (number_at s p (suc w) % below k w) (p + suc w)
+  pub reads_reserved : (k : ℕ) → get_or s p 0 / 2 ^ (8 - k) ≡ 2 ^ k - 1 → Reads (reserved k w) s p (number_at s p (suc w) % below k w) (p + suc w)
   unfolding reserved
-  reads-reserved k e =
+  reads_reserved k e =
       record {
         forward = omega arith;
         here = λ l h m.
@@ -107,8 +107,8 @@ module _ (s : List ℕ) (p n : ℕ) where
   unfolding bytes
   reads_bytes = record { forward = omega arith; here = λ l h k. within_there s l p (p + n) _ h k }
 
-  pub reads-among : (lo hi : ℕ) → every (λ x. leb lo x && leb x hi) (take n (drop p s)) ≡ true → Reads (bytes_among lo hi n) s p (take n (drop p s)) (p + n)
-  reads-among lo hi e = reads_only _ (rw e) reads_bytes
+  pub reads_among : (lo hi : ℕ) → every (λ x. leb lo x && leb x hi) (take n (drop p s)) ≡ true → Reads (bytes_among lo hi n) s p (take n (drop p s)) (p + n)
+  reads_among lo hi e = reads_only _ (rw e) reads_bytes
 
 -- 2 h + 1 digits, after four reserved bits
 pub reads_digits : (s : List ℕ) (p h : ℕ) → get_or s p 0 / 16 ≡ 15 → decimal (tail (halves (take (suc h) (drop p s)))) ≡ true
@@ -136,22 +136,22 @@ reads_counted L {F} {s} {p} {n} {q} {m} e f r g =
 
 module _ (s : List ℕ) (p w : ℕ) (b : Bytes s) where
   -- by a length of w bytes
-  pub reads-part : {A : Type 0} {F : Format A} {a : A} → Fills F s (p + w + number_at s p w) (p + w) a
+  pub reads_part : {A : Type 0} {F : Format A} {a : A} → Fills F s (p + w + number_at s p w) (p + w) a
       → Reads (counted (length_of w) F) s p a (p + w + number_at s p w)
   unfolding length_of
-  reads-part g = reads_counted (length_of w) (mod-eq_of_lt (number_below s p w b)) refl (reads-count s p w) g
+  reads_part g = reads_counted (length_of w) (mod-eq_of_lt (number_below s p w b)) refl (reads_count s p w) g
 
   -- opaque bytes
-  pub reads-opaque : (xs : List ℕ) × Reads (opaque w) s p xs (p + w + number_at s p w)
+  pub reads_opaque : (xs : List ℕ) × Reads (opaque w) s p xs (p + w + number_at s p w)
   unfolding rest
-  reads-opaque = (_, reads-part {F = rest} (record { whole = refl }))
+  reads_opaque = (_, reads_part {F = rest} (record { whole = refl }))
 
   -- by a length of w bytes that counts so many at least
-  pub reads-least : {A : Type 0} {F : Format A} {a : A} (least : ℕ) → least ≤ number_at s p w → Fills F s (p + w + number_at s p w) (p + w) a
+  pub reads_least : {A : Type 0} {F : Format A} {a : A} (least : ℕ) → least ≤ number_at s p w → Fills F s (p + w + number_at s p w) (p + w) a
       → Reads (counted (least_of w least) F) s p a (p + w + number_at s p w)
   unfolding least_of
-  reads-least least h g =
-      reads_counted (least_of w least) (mod-eq_of_lt (number_below s p w b)) (rw (le-leb least (number_at s p w) h)) (reads-count s p w) g
+  reads_least least h g =
+      reads_counted (least_of w least) (mod-eq_of_lt (number_below s p w b)) (rw (le-leb least (number_at s p w) h)) (reads_count s p w) g
 
 -- by a 12-bit length below four reserved bits, of which the low ten count and the two above them are 0
 pub reads_part12 : (s : List ℕ) (p m : ℕ) → Bytes s → get_or s p 0 * 256 + get_or s (p + 1) 0 ≡ 0xF000 + m → m < 1024
@@ -159,7 +159,7 @@ pub reads_part12 : (s : List ℕ) (p m : ℕ) → Bytes s → get_or s p 0 * 256
 unfolding length12 number_at
 reads_part12 s p m b e h g =
     let z : number_at s p 2 % below 4 1 ≡ m = rw add-zero (omega arith) in
-    reads_counted length12 (mod-eq_of_lt h) (rw (lt-ltb m 1024 h)) (rw z at (reads-reserved s p 1 4 (omega (arith, b p, b (p + 1))))) g
+    reads_counted length12 (mod-eq_of_lt h) (rw (lt-ltb m 1024 h)) (rw z at (reads_reserved s p 1 4 (omega (arith, b p, b (p + 1))))) g
 
 -- ---- whole bodies
 

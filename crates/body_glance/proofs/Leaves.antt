@@ -13,7 +13,7 @@ use Rattle.ground_choices.proofs.Tests.{both, and_of}
 use Rattle.time_days.specs.Calendar.{in_range}
 use Rattle.time_fields.specs.Field.{worth, decimal_pair, day_part, hour_part, minute_part, second_part, is_decimal, possible, moment_of, read_time, as_end, read_end, live_mark}
 use Rattle.time_fields.proofs.Parts.{Parts, parts}
-use Rattle.time_fields.proofs.Reading.{reads-time, end_live, end-timed}
+use Rattle.time_fields.proofs.Reading.{reads_time, end_live, end_timed}
 use Rattle.body_formats.specs.Reading.{found, fine}
 use Rattle.body_formats.specs.Format.{number_at, halves, tail, decimal, digits, only, number}
 use Rattle.body_formats.specs.Time.{time_fault, end_fault, time, end_time}
@@ -28,7 +28,7 @@ use Rattle.body_formats.proofs.Identifiers.{digits_in}
 use Rattle.body_formats.proofs.Strings.{first_digit}
 use Rattle.body_identifier.proofs.Days.{digits_read}
 use Rattle.body_glance.specs.Glance.{Reads}
-use Rattle.body_glance.proofs.Finds.{reads_only, reads-to, reads-number, reads_digits}
+use Rattle.body_glance.proofs.Finds.{reads_only, reads_to, reads_number, reads_digits}
 
 -- no is never yes
 pub not_good : {P : Type 0} → false ≡ true → P
@@ -41,17 +41,17 @@ pub digits_good : (s : List ℕ) (p h : ℕ) → p < length s → 240 ≤ get_or
 digits_good s p h k from until d =
     let first : get_or s p 0 % 16 < 10 = omega arith in
     let all = first_digit s p h k ∙ and_of (lt-ltb (get_or s p 0 % 16) 10 first) d in
-    (_, reads-to (ap (λ n. p + n) (sym (add-one h))) (reads_digits s p h (omega arith) all))
+    (_, reads_to (ap (λ n. p + n) (sym (add-one h))) (reads_digits s p h (omega arith) all))
 
 -- ---- an identifier
 
 module _ (s : List ℕ) (p : ℕ) (k : p + 18 ≤ length s) (g : (ds : List ℕ) × Reads (digits identifier_pairs) s p ds (p + 18)) where
-  pub identifier-decimal : decimal (digits_in s p identifier_bytes) ≡ true
-  identifier-decimal = (digits_read s (p + 18) p g.0 (p + 18) (g.1.here (p + 18) (le_refl (p + 18)) k)).1
+  pub identifier_decimal : decimal (digits_in s p identifier_bytes) ≡ true
+  identifier_decimal = (digits_read s (p + 18) p g.0 (p + 18) (g.1.here (p + 18) (le_refl (p + 18)) k)).1
 
-  pub identifier-good : has_real_day (digits_in s p identifier_bytes) ≡ true → (ds : List ℕ) × Reads identifier s p ds (p + 18)
+  pub identifier_good : has_real_day (digits_in s p identifier_bytes) ≡ true → (ds : List ℕ) × Reads identifier s p ds (p + 18)
   unfolding identifier
-  identifier-good e =
+  identifier_good e =
       let same = (digits_read s (p + 18) p g.0 (p + 18) (g.1.here (p + 18) (le_refl (p + 18)) k)).0 in
       (g.0, reads_only unreal_day (rw (← same, e)) g.1)
 
@@ -78,9 +78,9 @@ module _ (s : List ℕ) (p : ℕ) (b : Bytes s) where
     pub hour : get_or s (p + 2) 0 ≤ 0x23
     pub minute : get_or s (p + 3) 0 ≤ 0x59
     pub second : get_or s (p + 4) 0 ≤ 0x59
-    pub hour-digit : get_or s (p + 2) 0 % 16 ≤ 9
-    pub minute-digit : get_or s (p + 3) 0 % 16 ≤ 9
-    pub second-digit : get_or s (p + 4) 0 % 16 ≤ 9
+    pub hour_digit : get_or s (p + 2) 0 % 16 ≤ 9
+    pub minute_digit : get_or s (p + 3) 0 % 16 ≤ 9
+    pub second_digit : get_or s (p + 4) 0 % 16 ≤ 9
 
   module _ (t : Timely) where
     timed : read_time (number_at s p 5) p ≡ At (moment_of (number_at s p 5))
@@ -91,19 +91,19 @@ module _ (s : List ℕ) (p : ℕ) (b : Bytes s) where
         rw five (parts (get_or s p 0 * 256 + get_or s (p + 1) 0) (b (p + 2)) (b (p + 3)) (b (p + 4))) in
         let from : 15079 ≤ day_part f = omega (arith, u.day, t.day) in
         let until : day_part f ≤ 65535 = omega (arith, u.day, b p, b (p + 1)) in
-        let hours : worth (hour_part f) ≤ 23 = worth_most 2 3 u.hour t.hour t.hour-digit (omega arith) in
-        let minutes : worth (minute_part f) ≤ 59 = worth_most 5 9 u.minute t.minute t.minute-digit (omega arith) in
-        let seconds : worth (second_part f) ≤ 59 = worth_most 5 9 u.second t.second t.second-digit (omega arith) in
-        reads-time f p (number_below s p 5 b)
-        (and_of (pair_decimal u.hour (omega (arith, t.hour)) t.hour-digit)
-        (and_of (pair_decimal u.minute t.minute t.minute-digit) (pair_decimal u.second t.second t.second-digit)))
+        let hours : worth (hour_part f) ≤ 23 = worth_most 2 3 u.hour t.hour t.hour_digit (omega arith) in
+        let minutes : worth (minute_part f) ≤ 59 = worth_most 5 9 u.minute t.minute t.minute_digit (omega arith) in
+        let seconds : worth (second_part f) ≤ 59 = worth_most 5 9 u.second t.second t.second_digit (omega arith) in
+        reads_time f p (number_below s p 5 b)
+        (and_of (pair_decimal u.hour (omega (arith, t.hour)) t.hour_digit)
+        (and_of (pair_decimal u.minute t.minute t.minute_digit) (pair_decimal u.second t.second t.second_digit)))
         (and_of (and_of (le-leb 15079 (day_part f) from) (le-leb (day_part f) 65535 until))
         (and_of (le-leb (worth (hour_part f)) 23 hours)
         (and_of (le-leb (worth (minute_part f)) 59 minutes) (le-leb (worth (second_part f)) 59 seconds))))
 
-    pub time-good : (x : ℕ) × Reads time s p x (p + 5)
+    pub time_good : (x : ℕ) × Reads time s p x (p + 5)
     unfolding time
-    time-good = (number_at s p 5, reads_only _ (rw timed) (reads-number s p 5 b))
+    time_good = (number_at s p 5, reads_only _ (rw timed) (reads_number s p 5 b))
 
   -- the tests as a glance makes them, one after the other
   pub timely : (day : ℕ) → day ≡ get_or s p 0 * 256 + get_or s (p + 1) 0
@@ -111,10 +111,10 @@ module _ (s : List ℕ) (p : ℕ) (b : Bytes s) where
       && leb (get_or s (p + 3) 0 % 16) 9 && leb (get_or s (p + 4) 0 % 16) 9) ≡ true
       → Timely
   timely day e tests =
-      let second-digit = both _ _ tests in
-      let minute-digit = both _ _ second-digit.0 in
-      let hour-digit = both _ _ minute-digit.0 in
-      let second = both _ _ hour-digit.0 in
+      let second_digit = both _ _ tests in
+      let minute_digit = both _ _ second_digit.0 in
+      let hour_digit = both _ _ minute_digit.0 in
+      let second = both _ _ hour_digit.0 in
       let minute = both _ _ second.0 in
       let hour = both _ _ minute.0 in
       record {
@@ -122,32 +122,32 @@ module _ (s : List ℕ) (p : ℕ) (b : Bytes s) where
         hour = leb-true _ _ hour.1;
         minute = leb-true _ _ minute.1;
         second = leb-true _ _ second.1;
-        hour-digit = leb-true _ _ hour-digit.1;
-        minute-digit = leb-true _ _ minute-digit.1;
-        second-digit = leb-true _ _ second-digit.1;
+        hour_digit = leb-true _ _ hour_digit.1;
+        minute_digit = leb-true _ _ minute_digit.1;
+        second_digit = leb-true _ _ second_digit.1;
       }
 
   -- what is a time is an end
-  pub end-good : p + 5 ≤ length s → (x : ℕ) × Reads time s p x (p + 5) → (x : ℕ) × Reads end_time s p x (p + 5)
+  pub end_good : p + 5 ≤ length s → (x : ℕ) × Reads time s p x (p + 5) → (x : ℕ) × Reads end_time s p x (p + 5)
   unfolding time end_time only read_end
-  end-good k g =
+  end_good k g =
       let i = and_then_found ((number 5).parse s (p + 5) p) _ g.0 (p + 5) (g.1.here (p + 5) (le_refl (p + 5)) k) in
-      let same = found_inj (sym ((reads-number s p 5 b).here (p + 5) (le_refl (p + 5)) k) ∙ i.2) in
+      let same = found_inj (sym ((reads_number s p 5 b).here (p + 5) (le_refl (p + 5)) k) ∙ i.2) in
       let e = (judged_found (time_fault (read_time i.0 p)) _ g.0 (p + 5) i.3).0 in
-      (number_at s p 5, reads_only (λ f at. end_fault (read_end f at)) (as-end (number_at s p 5) (rw same.0 e)) (reads-number s p 5 b))
+      (number_at s p 5, reads_only (λ f at. end_fault (read_end f at)) (as_end_lem (number_at s p 5) (rw same.0 e)) (reads_number s p 5 b))
     where
-      by-time : (x : Timed) → time_fault x ≡ fine → end_fault (as_end x) ≡ fine
-      by-time (At m) e = refl
-      by-time (Refused r) e = e
+      by_time : (x : Timed) → time_fault x ≡ fine → end_fault (as_end x) ≡ fine
+      by_time (At m) e = refl
+      by_time (Refused r) e = e
 
-      by-mark : (f : ℕ) (live : Bool) → time_fault (read_time f p) ≡ fine → end_fault (cond live Live (as_end (read_time f p))) ≡ fine
-      by-mark f true e = refl
-      by-mark f false e = by-time (read_time f p) e
+      by_mark : (f : ℕ) (live : Bool) → time_fault (read_time f p) ≡ fine → end_fault (cond live Live (as_end (read_time f p))) ≡ fine
+      by_mark f true e = refl
+      by_mark f false e = by_time (read_time f p) e
 
-      as-end : (f : ℕ) → time_fault (read_time f p) ≡ fine → end_fault (read_end f p) ≡ fine
-      as-end f e = by-mark f (eqb f live_mark) e
+      as_end_lem : (f : ℕ) → time_fault (read_time f p) ≡ fine → end_fault (read_end f p) ≡ fine
+      as_end_lem f e = by_mark f (eqb f live_mark) e
 
-  pub live-good : get_or s p 0 ≡ 255 → get_or s (p + 1) 0 ≡ 255 → get_or s (p + 2) 0 ≡ 255 → get_or s (p + 3) 0 ≡ 255 → get_or s (p + 4) 0 ≡ 255
+  pub live_good : get_or s p 0 ≡ 255 → get_or s (p + 1) 0 ≡ 255 → get_or s (p + 2) 0 ≡ 255 → get_or s (p + 3) 0 ≡ 255 → get_or s (p + 4) 0 ≡ 255
       → (x : ℕ) × Reads end_time s p x (p + 5)
   unfolding end_time
-  live-good v w x y z = (number_at s p 5, reads_only _ (rw (end_live (number_at s p 5) p (rw (five, v, w, x, y, z)))) (reads-number s p 5 b))
+  live_good v w x y z = (number_at s p 5, reads_only _ (rw (end_live (number_at s p 5) p (rw (five, v, w, x, y, z)))) (reads_number s p 5 b))

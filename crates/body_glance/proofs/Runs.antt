@@ -38,13 +38,13 @@ abbrev pub Coming : {A : Type 0} → Format A → List ℕ → ℕ → ℕ → �
 Coming {A} F s n p left at = (xs : List A) (q : ℕ) → Reads (times left F) s at xs q → (ys : List A) × Reads (times n F) s p ys q
 
 module _ {A : Type 0} (F : Format A) {s : List ℕ} (n : ℕ) {p : ℕ} (left at : ℕ) (c : Coming F s n p left at) where
-  pub coming-turn : {q : ℕ} → 0 < left → (a : A) × Reads F s at a q → Coming F s n p (left - 1) q
-  coming-turn h g xs t r =
+  pub coming_turn : {q : ℕ} → 0 < left → (a : A) × Reads F s at a q → Coming F s n p (left - 1) q
+  coming_turn h g xs t r =
       let e : suc (left - 1) ≡ left = omega arith in
       c (g.0 ∷ xs) t (rw e at (reads_more (left - 1) g.1 r))
 
-  pub coming-done : left ≡ 0 → (ys : List A) × Reads (times n F) s p ys at
-  coming-done e = c [] at (rw e (reads_none F s at))
+  pub coming_done : left ≡ 0 → (ys : List A) × Reads (times n F) s p ys at
+  coming_done e = c [] at (rw e (reads_none F s at))
 
 -- ---- to the end of their part
 
@@ -88,8 +88,8 @@ abbrev pub Filling : {A : Type 0} → Format A → List ℕ → ℕ → ℕ → 
 Filling {A} F s l p at = (xs : List A) → Fills (many F) s l at xs → (ys : List A) × Fills (many F) s l p ys
 
 module _ {A : Type 0} (F : Format A) {s : List ℕ} {l p : ℕ} (at : ℕ) (f : Filling F s l p at) where
-  pub filling-turn : {q : ℕ} → at < q → q ≤ l → l ≤ length s → (a : A) × Reads F s at a q → Filling F s l p q
-  filling-turn h k m g xs e = f (g.0 ∷ xs) (fills_more F h k m g.1 e)
+  pub filling_turn : {q : ℕ} → at < q → q ≤ l → l ≤ length s → (a : A) × Reads F s at a q → Filling F s l p q
+  filling_turn h k m g xs e = f (g.0 ∷ xs) (fills_more F h k m g.1 e)
 
-  pub filling-done : at ≡ l → (ys : List A) × Fills (many F) s l p ys
-  filling-done e = f [] (rw e (fills_none F s l))
+  pub filling_done : at ≡ l → (ys : List A) × Fills (many F) s l p ys
+  filling_done e = f [] (rw e (fills_none F s l))

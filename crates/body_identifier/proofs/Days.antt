@@ -10,7 +10,7 @@ use lib.Dec.{leb, ltb, lit≤}
 use borrow.Author.Tests.{ltb-true, leb-true}
 use Rattle.ground_choices.proofs.Tests.{both}
 use Rattle.ground_refusal.specs.declared.Refusal.TheVariants.{DigitAboveNine}
-use Rattle.time_dates.proofs.Dates.{usual-date}
+use Rattle.time_dates.proofs.Dates.{usual_date}
 use Rattle.time_fields.specs.Field.{worth}
 use Rattle.body_formats.specs.Reading.{found}
 use Rattle.body_formats.specs.Format.{halves, tail, decimal, digits}
@@ -18,10 +18,10 @@ use Rattle.body_formats.specs.Identifier.{identifier_pairs, identifier_bytes, ha
 use Rattle.body_formats.specs.Answers.{field_part}
 use Rattle.body_formats.specs.declared.Part.TheVariants.{Of}
 use Rattle.body_formats.proofs.Outcomes.{found_inj, need_found, within_found}
-use Rattle.body_formats.proofs.Leaves.{reserved-found}
+use Rattle.body_formats.proofs.Leaves.{reserved_found}
 use Rattle.body_formats.proofs.Readers.{field_found}
 use Rattle.body_formats.proofs.Strings.{low_digit, high_digit}
-use Rattle.body_formats.proofs.Identifiers.{digits_in, real-day}
+use Rattle.body_formats.proofs.Identifiers.{digits_in, real_day}
 
 -- ---- the digits that were read: they are decimal
 
@@ -29,7 +29,7 @@ pub digits_read : (s : List ℕ) (l p : ℕ) (ds : List ℕ) (q : ℕ) → (digi
     → (digits_in s p identifier_bytes ≡ ds) × (decimal (digits_in s p identifier_bytes) ≡ true)
 unfolding digits
 digits_read s l p ds q e =
-    let g = reserved-found 4 s l p _ ds q e in
+    let g = reserved_found 4 s l p _ ds q e in
     let f = within_found s l p (p + identifier_bytes) _ ds q g.1 in
     let d = need_found (decimal (digits_in s p identifier_bytes)) (DigitAboveNine p) _ ds q f.2 in
     ((found_inj d.1).0, d.0)
@@ -89,9 +89,9 @@ module _ (s : List ℕ) (p : ℕ) (there : p + identifier_bytes ≤ length s) (d
     months = (early && leb 1 m) && leb m 0x12
 
     -- a day that the comparisons tell
-    pub usual-day : y ≡ get_or s (p + 12) 0 * 256 + get_or s (p + 13) 0 → m ≡ get_or s (p + 14) 0 → d ≡ get_or s (p + 15) 0
+    pub usual_day : y ≡ get_or s (p + 12) 0 * 256 + get_or s (p + 13) 0 → m ≡ get_or s (p + 14) 0 → d ≡ get_or s (p + 15) 0
         → (last ≤ 0x30) × (m ≡ 2 → last ≡ 0x28) → ((months && leb 1 d) && leb d last) ≡ true → true ≡ has_real_day (digits_in s p identifier_bytes)
-    usual-day ey em ed long e =
+    usual_day ey em ed long e =
         let sixth = both (months && leb 1 d) (leb d last) e in
         let fifth = both months (leb 1 d) sixth.0 in
         let fourth = both (early && leb 1 m) (leb m 0x12) fifth.0 in
@@ -106,6 +106,6 @@ module _ (s : List ℕ) (p : ℕ) (there : p + identifier_bytes ≤ length s) (d
         let years = year_within (get_or s (p + 12) 0) (get_or s (p + 13) 0) (byte_pair 11 (lit≤ tt)) (byte_pair 12 (lit≤ tt)) (omega arith) (omega arith) in
         let month = month_within (get_or s (p + 14) 0) (byte_pair 13 (lit≤ tt)) (omega arith) (omega arith) in
         let day = day_within (get_or s (p + 15) 0) (byte_pair 14 (lit≤ tt)) (omega arith) (omega (arith, long.0)) in
-        sym (usual-date _ _ _ years.0 years.1 month.0 month.1 day.0 day.1
+        sym (usual_date _ _ _ years.0 years.1 month.0 month.1 day.0 day.1
         (λ f. day.2 (omega (arith, long.1 (omega (arith, month.2 f))))))
-        ∙ real-day s p there _ _ _ refl refl refl
+        ∙ real_day s p there _ _ _ refl refl refl

@@ -12,15 +12,15 @@ use Rattle.body_formats.proofs.Outcomes.{found_inj, and_then_found}
 use Rattle.body_formats.proofs.Elements.{repeat_length}
 use Rattle.body_pen.specs.Penned.{unprinted}
 use Rattle.body_ink.specs.Inked.{Ready, Inked}
-use Rattle.body_ink.proofs.Pairs.{Like, like-ready, like-inked, moved, form_both, first, second, pair-inked}
-use Rattle.body_ink.proofs.Numbers.{Numeral, unseen, numeral-ready, numeral-inked, after_number, number-then}
+use Rattle.body_ink.proofs.Pairs.{Like, like_ready, like_inked, moved, form_both, first, second, pair_inked}
+use Rattle.body_ink.proofs.Numbers.{Numeral, unseen, numeral_ready, numeral_inked, after_number, number_then}
 
 -- ---- n things
 
 module _ {A : Type 0} (F : Format A) (pool tape : List ℕ) where
-  more-like : (n : ℕ) → Like (F ▷ times n F) (times (suc n) F) pool tape
+  more_like : (n : ℕ) → Like (F ▷ times n F) (times (suc n) F) pool tape
   unfolding times repeat followed print_all
-  more-like n k xs j h =
+  more_like n k xs j h =
       let f = and_then_found (F.form pool tape k) _ xs j h in
       let r = and_then_found (repeat (F.form pool tape) n f.1) _ xs j f.3 in
       let z = found_inj r.3 in (
@@ -29,9 +29,9 @@ module _ {A : Type 0} (F : Format A) (pool tape : List ℕ) where
         ap (print_all F.print) (sym z.0),
       )
 
-  none-inked : (at k : ℕ) (out : List ℕ) → Inked (times 0 F) pool tape at k out at k out
+  none_inked : (at k : ℕ) (out : List ℕ) → Inked (times 0 F) pool tape at k out at k out
   unfolding times repeat print_all
-  none-inked at k out =
+  none_inked at k out =
       record {
         written = λ xs j h room.
             let z = found_inj h in
@@ -50,61 +50,61 @@ times_start g = record { ready = g; whole = λ at' k' out' i. i }
 
 module _ {A : Type 0} {F : Format A} {pool tape : List ℕ} {n at₀ k₀ : ℕ} {out₀ : List ℕ} {left at k : ℕ} {out : List ℕ}
     (u : Underway F pool tape n at₀ k₀ out₀ left at k out) where
-  pub times-done : left ≡ 0 → Inked (times n F) pool tape at₀ k₀ out₀ at k out
-  times-done z = u.whole at k out (subst (λ m. Inked (times m F) pool tape at k out at k out) (sym z) (none-inked F pool tape at k out))
+  pub times_done : left ≡ 0 → Inked (times n F) pool tape at₀ k₀ out₀ at k out
+  times_done z = u.whole at k out (subst (λ m. Inked (times m F) pool tape at k out at k out) (sym z) (none_inked F pool tape at k out))
 
   module _ (h : 0 < left) where
     one_more : Ready (F ▷ times (left - 1) F) pool tape at k (length out)
     one_more =
-        like-ready (more-like F pool tape (left - 1))
+        like_ready (more_like F pool tape (left - 1))
         (subst (λ m. Ready (times m F) pool tape at k (length out)) (let z : left ≡ suc (left - 1) = omega arith in z) u.ready)
 
-    pub times-next : Ready F pool tape at k (length out)
-    times-next = first F (λ a. times (left - 1) F) one_more
+    pub times_next : Ready F pool tape at k (length out)
+    times_next = first F (λ a. times (left - 1) F) one_more
 
-    pub times-turn : {at' k' : ℕ} {mid : List ℕ} → Inked F pool tape at k out at' k' mid → Underway F pool tape n at₀ k₀ out₀ (left - 1) at' k' mid
-    times-turn {at'} {k'} {mid} i =
+    pub times_turn : {at' k' : ℕ} {mid : List ℕ} → Inked F pool tape at k out at' k' mid → Underway F pool tape n at₀ k₀ out₀ (left - 1) at' k' mid
+    times_turn {at'} {k'} {mid} i =
         record {
           ready = second i one_more;
           whole = λ a b o t.
               u.whole a b o (subst (λ m. Inked (times m F) pool tape at k out a b o) (let z : suc (left - 1) ≡ left = omega arith in z)
-              (like-inked (more-like F pool tape (left - 1)) (pair-inked i t)));
+              (like_inked (more_like F pool tape (left - 1)) (pair_inked i t)));
         }
 
 -- ---- after a count, and with none in the body
 
 module _ {A : Type 0} (C : Format ℕ) (F : Format A) (pool tape : List ℕ) where
-  list-like : Like (followed C (λ n. times n F)) (list_of C F) pool tape
+  list_like : Like (followed C (λ n. times n F)) (list_of C F) pool tape
   unfolding list_of followed times
-  list-like k xs j h =
+  list_like k xs j h =
       let f = and_then_found (C.form pool tape k) _ xs j h in
       let l = repeat_length (F.form pool tape) f.0 f.1 xs j f.3 in
       ((f.0, xs), form_both C (λ n. times n F) pool tape k f.0 f.1 f.2 xs j f.3, ap (λ m. C.print m ++ print_all F.print xs) l)
 
 module _ {w : ℕ} {face : ℕ → ℕ} {C : Format ℕ} (c : Numeral w face C) {A : Type 0} (F : Format A) {pool tape : List ℕ} {at k : ℕ} where
-  pub list-ready : {room : ℕ} → Ready (list_of C F) pool tape at k room → Ready (times (get_or tape k 0) F) pool tape (at + w) (k + 1) room
-  list-ready g = after_number c (λ n. times n F) (like-ready (list-like C F pool tape) g)
+  pub list_ready : {room : ℕ} → Ready (list_of C F) pool tape at k room → Ready (times (get_or tape k 0) F) pool tape (at + w) (k + 1) room
+  list_ready g = after_number c (λ n. times n F) (like_ready (list_like C F pool tape) g)
 
   pub list_count : {room : ℕ} → Ready (list_of C F) pool tape at k room → Ready C pool tape at k room
-  list_count g = first C (λ n. times n F) (like-ready (list-like C F pool tape) g)
+  list_count g = first C (λ n. times n F) (like_ready (list_like C F pool tape) g)
 
-  pub list-inked : {out : List ℕ} {at' k' : ℕ} {mid : List ℕ} {at'' k'' : ℕ} {out' : List ℕ} → Inked C pool tape at k out at' k' mid
+  pub list_inked : {out : List ℕ} {at' k' : ℕ} {mid : List ℕ} {at'' k'' : ℕ} {out' : List ℕ} → Inked C pool tape at k out at' k' mid
       → Inked (times (get_or tape k 0) F) pool tape at' k' mid at'' k'' out' → Inked (list_of C F) pool tape at k out at'' k'' out'
-  list-inked p q = like-inked (list-like C F pool tape) (number-then c (λ n. times n F) p q)
+  list_inked p q = like_inked (list_like C F pool tape) (number_then c (λ n. times n F) p q)
 
 module _ {A : Type 0} (F : Format A) (pool tape : List ℕ) where
-  many-like : Like (list_of unprinted F) (many F) pool tape
+  many_like : Like (list_of unprinted F) (many F) pool tape
   unfolding many list_of unprinted
-  many-like k xs j h = (xs, h, refl)
+  many_like k xs j h = (xs, h, refl)
 
 module _ {A : Type 0} (F : Format A) {pool tape : List ℕ} {at k : ℕ} where
-  pub many-count : {room : ℕ} → Ready (many F) pool tape at k room → k < length tape
-  many-count g = (numeral-ready unseen (list_count unseen F (like-ready (many-like F pool tape) g))).0
+  pub many_count : {room : ℕ} → Ready (many F) pool tape at k room → k < length tape
+  many_count g = (numeral_ready unseen (list_count unseen F (like_ready (many_like F pool tape) g))).0
 
-  pub many-ready : {room : ℕ} → Ready (many F) pool tape at k room → Ready (times (get_or tape k 0) F) pool tape at (k + 1) room
-  many-ready g = moved (list-ready unseen F (like-ready (many-like F pool tape) g)) (add-zero at) refl refl
+  pub many_ready : {room : ℕ} → Ready (many F) pool tape at k room → Ready (times (get_or tape k 0) F) pool tape at (k + 1) room
+  many_ready g = moved (list_ready unseen F (like_ready (many_like F pool tape) g)) (add-zero at) refl refl
 
-  pub many-inked : {out : List ℕ} {at' k' : ℕ} {out' : List ℕ} → Inked (times (get_or tape k 0) F) pool tape at (k + 1) out at' k' out'
+  pub many_inked : {out : List ℕ} {at' k' : ℕ} {out' : List ℕ} → Inked (times (get_or tape k 0) F) pool tape at (k + 1) out at' k' out'
       → Inked (many F) pool tape at k out at' k' out'
   unfolding bytes_of
-  many-inked {out} i = like-inked (many-like F pool tape) (list-inked unseen F (numeral-inked unseen (sym (placed_none out at)) (sym (add-zero at)) refl) i)
+  many_inked {out} i = like_inked (many_like F pool tape) (list_inked unseen F (numeral_inked unseen (sym (placed_none out at)) (sym (add-zero at)) refl) i)

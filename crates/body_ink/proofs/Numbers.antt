@@ -19,7 +19,7 @@ use Rattle.body_formats.proofs.Outcomes.{found_inj, and_then_found, need_found}
 use Rattle.body_formats.proofs.Leaves.{length_bytes_lem}
 use Rattle.body_pen.specs.Penned.{unprinted}
 use Rattle.body_ink.specs.Inked.{Ready, Inked}
-use Rattle.body_ink.proofs.Pairs.{moved, only-form, apart, both, Fixed}
+use Rattle.body_ink.proofs.Pairs.{moved, only_form, apart, both, Fixed}
 
 -- ---- bytes laid from the last to the first
 
@@ -67,7 +67,7 @@ unseen = record { entry = λ pool tape k v j h. entry_is tape k v j h; prints = 
 pub of_a_set : {w : ℕ} {face : ℕ → ℕ} {C : Format ℕ} → Numeral w face C → (fault : ℕ → ℕ → Fault) → Numeral w face (only fault C)
 unfolding only
 of_a_set {w} {face} {C} n fault =
-    record { entry = λ pool tape k v j h. n.entry pool tape k v j (only-form C pool tape fault k v j h); prints = n.prints }
+    record { entry = λ pool tape k v j h. n.entry pool tape k v j (only_form C pool tape fault k v j h); prints = n.prints }
 
 pub a_number : (w : ℕ) → Numeral w (λ v. v) (number w)
 unfolding number
@@ -88,25 +88,25 @@ after_bits k w =
     }
 
 module _ {w : ℕ} {face : ℕ → ℕ} {C : Format ℕ} (n : Numeral w face C) where
-  numeral-length : (v : ℕ) → length (C.print v) ≡ w
-  numeral-length v = ap length (n.prints v) ∙ length_bytes_lem w (face v)
+  numeral_length : (v : ℕ) → length (C.print v) ≡ w
+  numeral_length v = ap length (n.prints v) ∙ length_bytes_lem w (face v)
 
 pub numeral_fixed : {w : ℕ} {face : ℕ → ℕ} {C : Format ℕ} → Numeral w face C → Fixed w 1 C
-numeral_fixed n = record { ends = λ pool tape k v j h. let e = n.entry pool tape k v j h in (numeral-length n v, e.2, omega (arith, e.0)) }
+numeral_fixed n = record { ends = λ pool tape k v j h. let e = n.entry pool tape k v j h in (numeral_length n v, e.2, omega (arith, e.0)) }
 
 module _ {w : ℕ} {face : ℕ → ℕ} {C : Format ℕ} (n : Numeral w face C) {pool tape : List ℕ} {at k : ℕ} where
-  pub numeral-ready : {room : ℕ} → Ready C pool tape at k room → (k < length tape) × (at + w ≤ room) × (at + w ≤ body_most)
-  numeral-ready g =
-      let l = numeral-length n g.value in
+  pub numeral_ready : {room : ℕ} → Ready C pool tape at k room → (k < length tape) × (at + w ≤ room) × (at + w ≤ body_most)
+  numeral_ready g =
+      let l = numeral_length n g.value in
       ((n.entry pool tape k g.value g.next g.laid).0, omega (arith, l, g.fits), omega (arith, l, g.short))
 
-  pub numeral-inked : {out : List ℕ} {at' k' : ℕ} {out' : List ℕ} → out' ≡ placed out at (bytes_of w (face (get_or tape k 0))) → at' ≡ at + w → k' ≡ k + 1
+  pub numeral_inked : {out : List ℕ} {at' k' : ℕ} {out' : List ℕ} → out' ≡ placed out at (bytes_of w (face (get_or tape k 0))) → at' ≡ at + w → k' ≡ k + 1
       → Inked C pool tape at k out at' k' out'
-  numeral-inked {out} {at'} {k'} {out'} e a b =
+  numeral_inked {out} {at'} {k'} {out'} e a b =
       record {
         written = λ v j h room.
             let f = n.entry pool tape k v j h in (
-              a ∙ ap (λ m. at + m) (sym (numeral-length n v)),
+              a ∙ ap (λ m. at + m) (sym (numeral_length n v)),
               b ∙ sym f.2,
               e ∙ ap (placed out at) (ap (λ x. bytes_of w (face x)) (sym f.1) ∙ sym (n.prints v)),
             );
@@ -118,11 +118,11 @@ module _ {w : ℕ} {face : ℕ → ℕ} {C : Format ℕ} (n : Numeral w face C) 
     after_number {room} g =
         let p = apart C G g in
         let e = n.entry pool tape k p.0 p.1 p.2 in
-        subst (λ v. Ready (G v) pool tape (at + w) (k + 1) room) e.1 (moved p.4 (ap (λ m. at + m) (numeral-length n p.0)) e.2 refl)
+        subst (λ v. Ready (G v) pool tape (at + w) (k + 1) room) e.1 (moved p.4 (ap (λ m. at + m) (numeral_length n p.0)) e.2 refl)
 
-    pub number-then : {out : List ℕ} {at' k' : ℕ} {mid : List ℕ} {at'' k'' : ℕ} {out' : List ℕ} → Inked C pool tape at k out at' k' mid
+    pub number_then : {out : List ℕ} {at' k' : ℕ} {mid : List ℕ} {at'' k'' : ℕ} {out' : List ℕ} → Inked C pool tape at k out at' k' mid
         → Inked (G (get_or tape k 0)) pool tape at' k' mid at'' k'' out' → Inked (followed C G) pool tape at k out at'' k'' out'
-    number-then {out} {at'} {k'} {mid} {at''} {k''} {out'} p q =
+    number_then {out} {at'} {k'} {mid} {at''} {k''} {out'} p q =
         both G p (λ v j h. subst (λ x. Inked (G x) pool tape at' k' mid at'' k'' out') (sym (n.entry pool tape k v j h).1) q)
 
 -- a number beside its reserved bits leaves them as they are
@@ -136,22 +136,22 @@ reserved_below k w {pool} {tape} {at} {i} g =
 -- ---- two numbers of four bits
 
 module _ (lo hi : ℕ) where
-  nibble-is : (tape : List ℕ) (k v j : ℕ) → nibble_among lo hi tape k ≡ found v j → (k < length tape) × (v ≡ get_or tape k 0) × (j ≡ k + 1) × (v < 16)
-  nibble-is tape k v j h =
+  nibble_is : (tape : List ℕ) (k v j : ℕ) → nibble_among lo hi tape k ≡ found v j → (k < length tape) × (v ≡ get_or tape k 0) × (j ≡ k + 1) × (v < 16)
+  nibble_is tape k v j h =
       let f = and_then_found (tape_entry tape k) _ v j h in
       let n = need_found (ltb f.0 16 && (leb lo f.0 && leb f.0 hi)) (OutsideSet k) _ v j f.3 in
       let z = found_inj n.1 in
       let e = entry_is tape k f.0 f.1 f.2 in
       (e.0, sym z.0 ∙ e.1, sym z.1 ∙ e.2, omega (arith, z.0, ltb-true f.0 16 (each _ _ n.0).0))
 
-  nibbles-are : (pool tape : List ℕ) (k : ℕ) (x : ℕ × ℕ) (j : ℕ) → (nibbles_among lo hi).form pool tape k ≡ found x j
+  nibbles_are : (pool tape : List ℕ) (k : ℕ) (x : ℕ × ℕ) (j : ℕ) → (nibbles_among lo hi).form pool tape k ≡ found x j
       → (k + 2 ≤ length tape) × (x.0 ≡ get_or tape k 0) × (x.1 ≡ get_or tape (k + 1) 0) × (j ≡ k + 2) × (x.0 < 16) × (x.1 < 16)
-  nibbles-are pool tape k x j h =
+  nibbles_are pool tape k x j h =
       let f = and_then_found (nibble_among lo hi tape k) _ x j h in
       let g = and_then_found (nibble_among lo hi tape f.1) _ x j f.3 in
       let z = found_inj g.3 in
-      let e = nibble-is tape k f.0 f.1 f.2 in
-      let d = nibble-is tape f.1 g.0 g.1 g.2 in
+      let e = nibble_is tape k f.0 f.1 f.2 in
+      let d = nibble_is tape f.1 g.0 g.1 g.2 in
       let high : f.0 ≡ x.0 = ap (λ (y : ℕ × ℕ). y.0) z.0 in
       let low : g.0 ≡ x.1 = ap (λ (y : ℕ × ℕ). y.1) z.0 in (
         omega (arith, d.0, e.2),
@@ -163,20 +163,20 @@ module _ (lo hi : ℕ) where
       )
 
   module _ {pool tape : List ℕ} {at k : ℕ} where
-    pub nibbles-ready : {room : ℕ} → Ready (nibbles_among lo hi) pool tape at k room
+    pub nibbles_ready : {room : ℕ} → Ready (nibbles_among lo hi) pool tape at k room
         → (k + 2 ≤ length tape) × (at + 1 ≤ room) × (at + 1 ≤ body_most) × (get_or tape k 0 < 16) × (get_or tape (k + 1) 0 < 16)
     unfolding only nibbles
-    nibbles-ready g =
-        let e = nibbles-are pool tape k g.value g.next g.laid in
+    nibbles_ready g =
+        let e = nibbles_are pool tape k g.value g.next g.laid in
         (e.0, g.fits, g.short, omega (arith, e.1, e.4), omega (arith, e.2, e.5))
 
-    pub nibbles-inked : {out : List ℕ} {l at' k' : ℕ} {out' : List ℕ} → l ≡ k + 1 → out' ≡ placed out at (bytes_of 1 (get_or tape k 0 * 16 + get_or tape l 0))
+    pub nibbles_inked : {out : List ℕ} {l at' k' : ℕ} {out' : List ℕ} → l ≡ k + 1 → out' ≡ placed out at (bytes_of 1 (get_or tape k 0 * 16 + get_or tape l 0))
         → at' ≡ at + 1 → k' ≡ k + 2 → Inked (nibbles_among lo hi) pool tape at k out at' k' out'
     unfolding only nibbles
-    nibbles-inked {out} next e a b =
+    nibbles_inked {out} next e a b =
         record {
           written = λ x j h room.
-              let f = nibbles-are pool tape k x j h in
+              let f = nibbles_are pool tape k x j h in
               let v = x.0 * 16 + x.1 in (
                 a,
                 b ∙ sym f.3,

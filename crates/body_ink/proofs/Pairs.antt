@@ -7,12 +7,12 @@ use native.Mathlib.Nat.{add-zero}
 use lib.ListN.{length, length-append}
 use Rattle.ground_numbers.specs.Sizes.{body_most}
 use Rattle.ground_placing.specs.Placed.{placed}
-use Rattle.ground_placing.proofs.Placing.{placed-next, placed-length, placed_none}
+use Rattle.ground_placing.proofs.Placing.{placed_next, placed_length, placed_none}
 use Rattle.ground_refusal.specs.declared.Refusal.{Refusal}
 use Rattle.body_formats.specs.Reading.{found, Fault}
 use Rattle.body_formats.specs.Format.{Format, followed, ◌▷◌, nothing, under, view, exact, only}
 use Rattle.body_formats.proofs.Outcomes.{found_inj, and_then_found, judged_found}
-use Rattle.body_pen.proofs.Pairs.{form-parts}
+use Rattle.body_pen.proofs.Pairs.{form_parts}
 use Rattle.body_ink.specs.Inked.{Ready, Inked}
 
 -- ---- the same places, said in other words
@@ -44,14 +44,14 @@ Like {A} {B} F G pool tape =
     (k : ℕ) (b : B) (j : ℕ) → G.form pool tape k ≡ found b j → (a : A) × (F.form pool tape k ≡ found a j) × (G.print b ≡ F.print a)
 
 module _ {A B : Type 0} {F : Format A} {G : Format B} {pool tape : List ℕ} (like : Like F G pool tape) where
-  pub like-ready : {at k room : ℕ} → Ready G pool tape at k room → Ready F pool tape at k room
-  like-ready {at} {k} {room} g =
+  pub like_ready : {at k room : ℕ} → Ready G pool tape at k room → Ready F pool tape at k room
+  like_ready {at} {k} {room} g =
       let l = like k g.value g.next g.laid in
       let n = ap length l.2 in
       record { value = l.0; next = g.next; laid = l.1; fits = omega (arith, n, g.fits); short = omega (arith, n, g.short) }
 
-  pub like-inked : {at k : ℕ} {out : List ℕ} {at' k' : ℕ} {out' : List ℕ} → Inked F pool tape at k out at' k' out' → Inked G pool tape at k out at' k' out'
-  like-inked {at} {k} {out} i =
+  pub like_inked : {at k : ℕ} {out : List ℕ} {at' k' : ℕ} {out' : List ℕ} → Inked F pool tape at k out at' k' out' → Inked G pool tape at k out at' k' out'
+  like_inked {at} {k} {out} i =
       record {
         written = λ b j h room.
             let l = like k b j h in
@@ -61,32 +61,32 @@ module _ {A B : Type 0} {F : Format A} {G : Format B} {pool tape : List ℕ} (li
       }
 
 module _ {A : Type 0} (F : Format A) (pool tape : List ℕ) where
-  pub view-like : {B : Type 0} (f : A → B) (g : B → A) → ((a : A) → g (f a) ≡ a) → Like F (view f g F) pool tape
+  pub view_like : {B : Type 0} (f : A → B) (g : B → A) → ((a : A) → g (f a) ≡ a) → Like F (view f g F) pool tape
   unfolding view
-  view-like f g gf k b j h =
+  view_like f g gf k b j h =
       let p = and_then_found (F.form pool tape k) _ b j h in
       let z = found_inj p.3 in
       (p.0, p.2 ∙ ap (found p.0) z.1, ap F.print (ap g (sym z.0) ∙ gf p.0))
 
-  pub exact-like : (leftOver : ℕ → Refusal) → Like F (exact leftOver F) pool tape
+  pub exact_like : (left_over : ℕ → Refusal) → Like F (exact left_over F) pool tape
   unfolding exact
-  exact-like leftOver k a j h = (a, h, refl)
+  exact_like left_over k a j h = (a, h, refl)
 
-  pub only-form : (fault : A → ℕ → Fault) (k : ℕ) (a : A) (j : ℕ) → (only fault F).form pool tape k ≡ found a j → F.form pool tape k ≡ found a j
+  pub only_form : (fault : A → ℕ → Fault) (k : ℕ) (a : A) (j : ℕ) → (only fault F).form pool tape k ≡ found a j → F.form pool tape k ≡ found a j
   unfolding only
-  only-form fault k a j h =
+  only_form fault k a j h =
       let p = and_then_found (F.form pool tape k) _ a j h in
       p.2 ∙ (judged_found (fault p.0 k) _ a j p.3).1
 
-  pub only-like : (fault : A → ℕ → Fault) → Like F (only fault F) pool tape
+  pub only_like : (fault : A → ℕ → Fault) → Like F (only fault F) pool tape
   unfolding only
-  only-like fault k a j h = (a, only-form fault k a j h, refl)
+  only_like fault k a j h = (a, only_form fault k a j h, refl)
 
   -- a part under its flag
-  pub under-like : (flag : ℕ) → 0 < flag → Like F (under F flag) pool tape
+  pub under_like : (flag : ℕ) → 0 < flag → Like F (under F flag) pool tape
   unfolding under
-  under-like zero h k a j e = absurd (omega arith)
-  under-like (suc n) h k a j e = (a, e, refl)
+  under_like zero h k a j e = absurd (omega arith)
+  under_like (suc n) h k a j e = (a, e, refl)
 
 pub nothing_inked : {pool tape : List ℕ} (at k : ℕ) (out : List ℕ) → Inked nothing pool tape at k out at k out
 unfolding nothing
@@ -100,38 +100,38 @@ under_none F (suc n) z at k out = absurd (omega arith)
 
 -- the same, for each
 module _ {A : Type 0} {F : Format A} {pool tape : List ℕ} {at k : ℕ} where
-  pub view-ready : {B : Type 0} (f : A → B) (g : B → A) {room : ℕ} → Ready (view f g F) pool tape at k room → ((a : A) → g (f a) ≡ a)
+  pub view_ready : {B : Type 0} (f : A → B) (g : B → A) {room : ℕ} → Ready (view f g F) pool tape at k room → ((a : A) → g (f a) ≡ a)
       → Ready F pool tape at k room
-  view-ready f g r gf = like-ready (view-like F pool tape f g gf) r
+  view_ready f g r gf = like_ready (view_like F pool tape f g gf) r
 
-  pub exact-ready : (leftOver : ℕ → Refusal) {room : ℕ} → Ready (exact leftOver F) pool tape at k room → Ready F pool tape at k room
-  exact-ready leftOver r = like-ready (exact-like F pool tape leftOver) r
+  pub exact_ready : (left_over : ℕ → Refusal) {room : ℕ} → Ready (exact left_over F) pool tape at k room → Ready F pool tape at k room
+  exact_ready left_over r = like_ready (exact_like F pool tape left_over) r
 
-  pub under-ready : (flag : ℕ) → 0 < flag → {room : ℕ} → Ready (under F flag) pool tape at k room → Ready F pool tape at k room
-  under-ready flag h r = like-ready (under-like F pool tape flag h) r
+  pub under_ready : (flag : ℕ) → 0 < flag → {room : ℕ} → Ready (under F flag) pool tape at k room → Ready F pool tape at k room
+  under_ready flag h r = like_ready (under_like F pool tape flag h) r
 
-  pub only-ready : (fault : A → ℕ → Fault) {room : ℕ} → Ready (only fault F) pool tape at k room → Ready F pool tape at k room
-  only-ready fault r = like-ready (only-like F pool tape fault) r
+  pub only_ready : (fault : A → ℕ → Fault) {room : ℕ} → Ready (only fault F) pool tape at k room → Ready F pool tape at k room
+  only_ready fault r = like_ready (only_like F pool tape fault) r
 
   module _ {out : List ℕ} {at' k' : ℕ} {out' : List ℕ} (i : Inked F pool tape at k out at' k' out') where
-    pub view-inked : {B : Type 0} (f : A → B) (g : B → A) → ((a : A) → g (f a) ≡ a) → Inked (view f g F) pool tape at k out at' k' out'
-    view-inked f g gf = like-inked (view-like F pool tape f g gf) i
+    pub view_inked : {B : Type 0} (f : A → B) (g : B → A) → ((a : A) → g (f a) ≡ a) → Inked (view f g F) pool tape at k out at' k' out'
+    view_inked f g gf = like_inked (view_like F pool tape f g gf) i
 
-    pub exact-inked : (leftOver : ℕ → Refusal) → Inked (exact leftOver F) pool tape at k out at' k' out'
-    exact-inked leftOver = like-inked (exact-like F pool tape leftOver) i
+    pub exact_inked : (left_over : ℕ → Refusal) → Inked (exact left_over F) pool tape at k out at' k' out'
+    exact_inked left_over = like_inked (exact_like F pool tape left_over) i
 
     pub under_some : (flag : ℕ) → 0 < flag → Inked (under F flag) pool tape at k out at' k' out'
-    under_some flag h = like-inked (under-like F pool tape flag h) i
+    under_some flag h = like_inked (under_like F pool tape flag h) i
 
-    pub only-inked : (fault : A → ℕ → Fault) → Inked (only fault F) pool tape at k out at' k' out'
-    only-inked fault = like-inked (only-like F pool tape fault) i
+    pub only_inked : (fault : A → ℕ → Fault) → Inked (only fault F) pool tape at k out at' k' out'
+    only_inked fault = like_inked (only_like F pool tape fault) i
 
 -- ---- one after the other, where the second may depend on what the first found
 
 module _ {A : Type 0} {B : A → Type 0} (F : Format A) (G : (a : A) → Format (B a)) where
-  bytes-both : (x : (a : A) × B a) → length ((followed F G).print x) ≡ length (F.print x.0) + length ((G x.0).print x.1)
+  bytes_both : (x : (a : A) × B a) → length ((followed F G).print x) ≡ length (F.print x.0) + length ((G x.0).print x.1)
   unfolding followed
-  bytes-both x = length-append (F.print x.0) ((G x.0).print x.1)
+  bytes_both x = length-append (F.print x.0) ((G x.0).print x.1)
 
   pub form_both : (pool tape : List ℕ) (k : ℕ) (a : A) (j : ℕ) → F.form pool tape k ≡ found a j → (b : B a) (i : ℕ) → (G a).form pool tape j ≡ found b i
       → (followed F G).form pool tape k ≡ (let z : (a : A) × B a = (a, b) in found z i)
@@ -140,16 +140,16 @@ module _ {A : Type 0} {B : A → Type 0} (F : Format A) (G : (a : A) → Format 
 
   pub first : {pool tape : List ℕ} {at k room : ℕ} → Ready (followed F G) pool tape at k room → Ready F pool tape at k room
   first {pool} {tape} {at} {k} g =
-      let p = form-parts F G pool tape k g.value g.next g.laid in
-      let n = bytes-both g.value in
+      let p = form_parts F G pool tape k g.value g.next g.laid in
+      let n = bytes_both g.value in
       record { value = g.value.0; next = p.0; laid = p.1; fits = omega (arith, n, g.fits); short = omega (arith, n, g.short) }
 
   -- what the first found, and the second from there on
   pub apart : {pool tape : List ℕ} {at k room : ℕ} → Ready (followed F G) pool tape at k room
       → (a : A) × (j : ℕ) × (F.form pool tape k ≡ found a j) × (at + length (F.print a) ≤ room) × Ready (G a) pool tape (at + length (F.print a)) j room
   apart {pool} {tape} {at} {k} {room} g =
-      let p = form-parts F G pool tape k g.value g.next g.laid in
-      let n = bytes-both g.value in
+      let p = form_parts F G pool tape k g.value g.next g.laid in
+      let n = bytes_both g.value in
       let onward : Ready (G g.value.0) pool tape (at + length (F.print g.value.0)) p.0 room =
       record { value = g.value.1; next = g.next; laid = p.2; fits = omega (arith, n, g.fits); short = omega (arith, n, g.short) } in
       (g.value.0, p.0, p.1, omega (arith, n, g.fits), onward)
@@ -162,15 +162,15 @@ module _ {A : Type 0} {B : A → Type 0} {F : Format A} (G : (a : A) → Format 
   both {at''} {k''} {out'} q =
       record {
         written = λ x j h room.
-            let p = form-parts F G pool tape k x j h in
+            let p = form_parts F G pool tape k x j h in
             let xs = F.print x.0 in
             let ys = (G x.0).print x.1 in
             let n = length-append xs ys in
             let fits : at + length xs ≤ length out = omega (arith, n) in
             let one = i.written x.0 p.0 p.1 fits in
-            let same = ap length one.2 ∙ placed-length out at xs fits in
+            let same = ap length one.2 ∙ placed_length out at xs fits in
             let two = (q x.0 p.0 p.1).written x.1 j (ap ((G x.0).form pool tape) one.1 ∙ p.2) (omega (arith, n, same, one.0)) in
-            (omega (arith, n, one.0, two.0), two.1, two.2 ∙ ap (λ d. placed d at' ys) one.2 ∙ placed-next out at xs fits ys at' one.0);
+            (omega (arith, n, one.0, two.0), two.1, two.2 ∙ ap (λ d. placed d at' ys) one.2 ∙ placed_next out at xs fits ys at' one.0);
       }
 
 -- one after the other
@@ -180,10 +180,10 @@ module _ {A B : Type 0} {F : Format A} {G : Format B} {pool tape : List ℕ} {at
   second g =
       let p = apart F (λ a. G) g in
       let w = i.written p.0 p.1 p.2 p.3 in
-      moved p.4 (sym w.0) (sym w.1) (sym (ap length w.2 ∙ placed-length out at (F.print p.0) p.3))
+      moved p.4 (sym w.0) (sym w.1) (sym (ap length w.2 ∙ placed_length out at (F.print p.0) p.3))
 
-  pub pair-inked : {at'' k'' : ℕ} {out' : List ℕ} → Inked G pool tape at' k' mid at'' k'' out' → Inked (F ▷ G) pool tape at k out at'' k'' out'
-  pair-inked q = both (λ a. G) i (λ a j h. q)
+  pub pair_inked : {at'' k'' : ℕ} {out' : List ℕ} → Inked G pool tape at' k' mid at'' k'' out' → Inked (F ▷ G) pool tape at k out at'' k'' out'
+  pair_inked q = both (λ a. G) i (λ a j h. q)
 
 -- ---- fields of a fixed number of bytes and of entries
 
@@ -193,7 +193,7 @@ pub record Fixed {A : Type 0} (bytes entries : ℕ) (F : Format A) : Type 0 wher
 
 pub only_fixed : {A : Type 0} {bytes entries : ℕ} {F : Format A} → Fixed bytes entries F → (fault : A → ℕ → Fault) → Fixed bytes entries (only fault F)
 unfolding only
-only_fixed {A} {bytes} {entries} {F} f fault = record { ends = λ pool tape k a j h. f.ends pool tape k a j (only-form F pool tape fault k a j h) }
+only_fixed {A} {bytes} {entries} {F} f fault = record { ends = λ pool tape k a j h. f.ends pool tape k a j (only_form F pool tape fault k a j h) }
 
 -- what follows one, whatever it is
 pub after_fixed : {A B : Type 0} {bytes entries : ℕ} {F : Format A} → Fixed bytes entries F → {G : Format B} {pool tape : List ℕ} {at k room : ℕ}
@@ -213,8 +213,8 @@ pub both_fixed : {A B : Type 0} {b₁ e₁ b₂ e₂ : ℕ} {F : Format A} {G : 
 both_fixed {A} {B} {b₁} {e₁} {b₂} {e₂} {F} {G} f g =
     record {
       ends = λ pool tape k x i h.
-          let p = form-parts F (λ a. G) pool tape k x i h in
+          let p = form_parts F (λ a. G) pool tape k x i h in
           let one = f.ends pool tape k x.0 p.0 p.1 in
           let two = g.ends pool tape p.0 x.1 i p.2 in
-          (omega (arith, bytes-both F (λ a. G) x, one.0, two.0), omega (arith, one.1, two.1), omega (arith, one.1, two.2));
+          (omega (arith, bytes_both F (λ a. G) x, one.0, two.0), omega (arith, one.1, two.1), omega (arith, one.1, two.2));
     }

@@ -12,7 +12,7 @@ use borrow.Author.Tests.{leb-true, ltb-true, eqb-true}
 use Rattle.ground_choices.proofs.Tests.{both as each}
 use Rattle.ground_numbers.specs.Sizes.{body_most}
 use Rattle.ground_placing.specs.Placed.{placed}
-use Rattle.ground_placing.proofs.Placing.{placed-next}
+use Rattle.ground_placing.proofs.Placing.{placed_next}
 use Rattle.ground_refusal.specs.declared.Refusal.TheVariants.{DigitAboveNine, OutsideSet}
 use Rattle.body_formats.specs.Reading.{found}
 use Rattle.body_formats.specs.Format.{span, bytes_of, count, number, ◌▷◌, view, bytes, halves, paired, tail, decimal, digits, rest, length_of, counted, opaque}
@@ -21,8 +21,8 @@ use Rattle.body_formats.proofs.Leaves.{length_bytes_lem, paired_halves}
 use Rattle.body_formats.proofs.Strings.{first_digit}
 use Rattle.body_pen.proofs.Leaves.{span_length}
 use Rattle.body_ink.specs.Inked.{Ready, Inked}
-use Rattle.body_ink.proofs.Pairs.{Fixed, view-ready, view-inked, pair-inked}
-use Rattle.body_ink.proofs.Numbers.{one_byte, a_number, numeral-inked, after_number}
+use Rattle.body_ink.proofs.Pairs.{Fixed, view_ready, view_inked, pair_inked}
+use Rattle.body_ink.proofs.Numbers.{one_byte, a_number, numeral_inked, after_number}
 
 -- ---- bytes of the pool
 
@@ -34,11 +34,11 @@ abbrev pub spanned : List ℕ → List ℕ → ℕ → List ℕ
 spanned pool tape k = take (get_or tape (k + 1) 0) (drop (get_or tape k 0) pool)
 
 module _ (pool tape : List ℕ) (k : ℕ) where
-  span-is : (xs : List ℕ) (j : ℕ) → span pool tape k ≡ found xs j
+  span_is : (xs : List ℕ) (j : ℕ) → span pool tape k ≡ found xs j
       → (k + 2 ≤ length tape) × (get_or tape k 0 + get_or tape (k + 1) 0 ≤ length pool) × (xs ≡ spanned pool tape k) × (j ≡ k + 2)
       × (length xs ≡ get_or tape (k + 1) 0)
   unfolding span
-  span-is xs j h =
+  span_is xs j h =
       let entries = need_found (leb (k + 2) (length tape)) (OutsideSet k) _ xs j h in
       let inside = need_found (leb (get_or tape k 0 + get_or tape (k + 1) 0) (length pool)) (OutsideSet k) _ xs j entries.1 in
       let z = found_inj inside.1 in
@@ -53,63 +53,63 @@ module _ (pool tape : List ℕ) (k : ℕ) where
 -- ---- opaque bytes
 
 module _ (w : ℕ) {pool tape : List ℕ} {at k : ℕ} where
-  pub part-ready : {room : ℕ} → Ready (opaque w) pool tape at k room
+  pub part_ready : {room : ℕ} → Ready (opaque w) pool tape at k room
       → (k + 2 ≤ length tape) × (get_or tape k 0 + get_or tape (k + 1) 0 ≤ length pool) × (at + w + get_or tape (k + 1) 0 ≤ room)
       × (at + w + get_or tape (k + 1) 0 ≤ body_most)
   unfolding counted rest length_of count
-  part-ready g =
-      let s = span-is pool tape k g.value g.next g.laid in
+  part_ready g =
+      let s = span_is pool tape k g.value g.next g.laid in
       let n = length-append (bytes_of w (length g.value)) g.value in
       let l = length_bytes_lem w (length g.value) in
       (s.0, s.1, omega (arith, n, l, s.4, g.fits), omega (arith, n, l, s.4, g.short))
 
-  pub part-inked : {out mid : List ℕ} {at' k' : ℕ} {out' : List ℕ} → mid ≡ placed out at (bytes_of w (get_or tape (k + 1) 0))
+  pub part_inked : {out mid : List ℕ} {at' k' : ℕ} {out' : List ℕ} → mid ≡ placed out at (bytes_of w (get_or tape (k + 1) 0))
       → out' ≡ placed mid (at + w) (take (get_or tape (k + 1) 0) (drop (get_or tape k 0) pool)) → at' ≡ at + w + get_or tape (k + 1) 0 → k' ≡ k + 2
       → Inked (opaque w) pool tape at k out at' k' out'
   unfolding counted rest length_of count
-  part-inked {out} {mid} e f a b =
+  part_inked {out} {mid} e f a b =
       record {
         written = λ xs j h room.
-            let s = span-is pool tape k xs j h in
+            let s = span_is pool tape k xs j h in
             let n = get_or tape (k + 1) 0 in
             let l = length_bytes_lem w (length xs) in
             let m = length-append (bytes_of w (length xs)) xs in (
               omega (arith, l, m, s.4, a),
               b ∙ sym s.3,
               f ∙ ap₂ (λ d x. placed d (at + w) x) (e ∙ ap (λ c. placed out at (bytes_of w c)) (sym s.4)) (sym s.2)
-                  ∙ placed-next out at (bytes_of w (length xs)) (omega (arith, l, m)) xs (at + w) (ap (λ c. at + c) (sym l)),
+                  ∙ placed_next out at (bytes_of w (length xs)) (omega (arith, l, m)) xs (at + w) (ap (λ c. at + c) (sym l)),
             );
       }
 
 -- a tag or a type of one byte and then opaque bytes, under their names
 module _ {A : Type 0} (w : ℕ) (f : ℕ × List ℕ → A) (g : A → ℕ × List ℕ) {pool tape : List ℕ} {at k : ℕ} where
-  pub tagged-ready : {room : ℕ} → Ready (view f g (number 1 ▷ opaque w)) pool tape at k room → ((x : ℕ × List ℕ) → g (f x) ≡ x)
+  pub tagged_ready : {room : ℕ} → Ready (view f g (number 1 ▷ opaque w)) pool tape at k room → ((x : ℕ × List ℕ) → g (f x) ≡ x)
       → (k + 3 ≤ length tape) × (at + 1 ≤ room) × (at + 1 ≤ body_most) × Ready (opaque w) pool tape (at + 1) (k + 1) room
-  tagged-ready r gf =
-      let p = after_number (a_number 1) _ (view-ready f g r gf) in
-      let s = part-ready w p in
+  tagged_ready r gf =
+      let p = after_number (a_number 1) _ (view_ready f g r gf) in
+      let s = part_ready w p in
       (omega arith, omega arith, omega arith, p)
 
-  pub tagged-inked : {out mid : List ℕ} {at' k' : ℕ} {out' : List ℕ} → mid ≡ placed out at (bytes_of 1 (get_or tape k 0))
+  pub tagged_inked : {out mid : List ℕ} {at' k' : ℕ} {out' : List ℕ} → mid ≡ placed out at (bytes_of 1 (get_or tape k 0))
       → Inked (opaque w) pool tape (at + 1) (k + 1) mid at' k' out' → ((x : ℕ × List ℕ) → g (f x) ≡ x)
       → Inked (view f g (number 1 ▷ opaque w)) pool tape at k out at' k' out'
-  tagged-inked e i gf = view-inked (pair-inked (numeral-inked (a_number 1) e refl refl) i) f g gf
+  tagged_inked e i gf = view_inked (pair_inked (numeral_inked (a_number 1) e refl refl) i) f g gf
 
 module _ {pool tape : List ℕ} {at k : ℕ} where
-  pub rest-ready : {room : ℕ} → Ready rest pool tape at k room
+  pub rest_ready : {room : ℕ} → Ready rest pool tape at k room
       → (k + 2 ≤ length tape) × (get_or tape k 0 + get_or tape (k + 1) 0 ≤ length pool) × (at + get_or tape (k + 1) 0 ≤ room) × (at + get_or tape (k + 1) 0 ≤ body_most)
   unfolding rest
-  rest-ready g =
-      let s = span-is pool tape k g.value g.next g.laid in
+  rest_ready g =
+      let s = span_is pool tape k g.value g.next g.laid in
       (s.0, s.1, omega (arith, s.4, g.fits), omega (arith, s.4, g.short))
 
-  pub rest-inked : {out : List ℕ} {at' k' : ℕ} {out' : List ℕ} → out' ≡ placed out at (take (get_or tape (k + 1) 0) (drop (get_or tape k 0) pool))
+  pub rest_inked : {out : List ℕ} {at' k' : ℕ} {out' : List ℕ} → out' ≡ placed out at (take (get_or tape (k + 1) 0) (drop (get_or tape k 0) pool))
       → at' ≡ at + get_or tape (k + 1) 0 → k' ≡ k + 2 → Inked rest pool tape at k out at' k' out'
   unfolding rest
-  rest-inked {out} e a b =
+  rest_inked {out} e a b =
       record {
         written = λ xs j h room.
-            let s = span-is pool tape k xs j h in
+            let s = span_is pool tape k xs j h in
             (a ∙ ap (λ c. at + c) (sym s.4), b ∙ sym s.3, e ∙ ap (placed out at) (sym s.2));
       }
 
@@ -122,7 +122,7 @@ module _ (n : ℕ) (pool tape : List ℕ) (k : ℕ) where
   bytes_are xs j h =
       let f = and_then_found (span pool tape k) _ xs j h in
       let m = need_found (eqb (length f.0) n) (OutsideSet k) _ xs j f.3 in
-      let s = span-is pool tape k f.0 f.1 f.2 in
+      let s = span_is pool tape k f.0 f.1 f.2 in
       (f.2 ∙ m.1, sym s.4 ∙ eqb-true (length f.0) n m.0)
 
 bytes_print : (n : ℕ) (xs : List ℕ) → length ((bytes n).print xs) ≡ length xs
@@ -135,17 +135,17 @@ module _ (n : ℕ) {pool tape : List ℕ} {at k : ℕ} where
   unfolding bytes
   bytes_ready g =
       let f = bytes_are n pool tape k g.value g.next g.laid in
-      let s = span-is pool tape k g.value g.next f.0 in
+      let s = span_is pool tape k g.value g.next f.0 in
       (s.0, omega (arith, s.1, f.1), omega (arith, s.4, f.1, g.fits), omega (arith, s.4, f.1, g.short))
 
-  pub bytes-inked : {out : List ℕ} {at' k' : ℕ} {out' : List ℕ} → out' ≡ placed out at (take n (drop (get_or tape k 0) pool))
+  pub bytes_inked : {out : List ℕ} {at' k' : ℕ} {out' : List ℕ} → out' ≡ placed out at (take n (drop (get_or tape k 0) pool))
       → at' ≡ at + n → k' ≡ k + 2 → Inked (bytes n) pool tape at k out at' k' out'
   unfolding bytes
-  bytes-inked {out} e a b =
+  bytes_inked {out} e a b =
       record {
         written = λ xs j h room.
             let f = bytes_are n pool tape k xs j h in
-            let s = span-is pool tape k xs j f.0 in (
+            let s = span_is pool tape k xs j f.0 in (
               omega (arith, a, s.4, f.1),
               b ∙ sym s.3,
               e ∙ ap (placed out at) (ap (λ c. take c (drop (get_or tape k 0) pool)) (sym f.1) ∙ sym s.2),
@@ -163,7 +163,7 @@ module _ (h : ℕ) (pool tape : List ℕ) (k : ℕ) where
       let f = and_then_found (span pool tape k) _ ds j e in
       let m = need_found (eqb (length f.0) (suc h)) (OutsideSet k) _ ds j f.3 in
       let right = need_found (decimal (tail (halves f.0))) (DigitAboveNine k) _ ds j m.1 in
-      let s = span-is pool tape k f.0 f.1 f.2 in
+      let s = span_is pool tape k f.0 f.1 f.2 in
       let n : get_or tape (k + 1) 0 ≡ suc h = sym s.4 ∙ eqb-true (length f.0) (suc h) m.0 in
       let z = found_inj right.1 in
       let here : f.0 ≡ take (suc h) (drop a pool) = s.2 ∙ ap (λ c. take c (drop a pool)) n in
@@ -191,16 +191,16 @@ module _ (h : ℕ) (pool tape : List ℕ) (k : ℕ) where
       omega (arith, n, length_bytes_lem 1 (240 + get_or pool a 0 % 16), span_length pool (a + 1) h (omega (arith, d.1)))
 
 module _ (h : ℕ) {pool tape : List ℕ} {at k : ℕ} where
-  pub digits-ready : {room : ℕ} → Ready (digits h) pool tape at k room
+  pub digits_ready : {room : ℕ} → Ready (digits h) pool tape at k room
       → (k + 2 ≤ length tape) × (get_or tape k 0 + (h + 1) ≤ length pool) × (at + (h + 1) ≤ room) × (at + (h + 1) ≤ body_most)
-  digits-ready g =
+  digits_ready g =
       let d = digits_are h pool tape k g.value g.next g.laid in
       let n = digits_length h pool tape k g.value g.next g.laid in
       (d.0, d.1, omega (arith, n, g.fits), omega (arith, n, g.short))
 
-  pub digits-inked : {out mid out' : List ℕ} {v : ℕ} → v ≡ 240 + get_or pool (get_or tape k 0) 0 % 16 → mid ≡ placed out at (bytes_of 1 v)
+  pub digits_inked : {out mid out' : List ℕ} {v : ℕ} → v ≡ 240 + get_or pool (get_or tape k 0) 0 % 16 → mid ≡ placed out at (bytes_of 1 v)
       → out' ≡ placed mid (at + 1) (take h (drop (get_or tape k 0 + 1) pool)) → Inked (digits h) pool tape at k out (at + (h + 1)) (k + 2) out'
-  digits-inked {out} v e f =
+  digits_inked {out} v e f =
       record {
         written = λ ds j g room.
             let d = digits_are h pool tape k ds j g in
@@ -212,7 +212,7 @@ module _ (h : ℕ) {pool tape : List ℕ} {at k : ℕ} where
               ap (λ c. at + c) (sym n),
               sym d.2,
               f ∙ ap (λ x. placed x (at + 1) ys) (e ∙ ap (λ b. placed out at (bytes_of 1 b)) v)
-                  ∙ placed-next out at xs (omega (arith, n, l)) ys (at + 1) (ap (λ c. at + c) (sym l))
+                  ∙ placed_next out at xs (omega (arith, n, l)) ys (at + 1) (ap (λ c. at + c) (sym l))
                   ∙ ap (placed out at) (sym d.3),
             );
       }
@@ -225,6 +225,6 @@ bytes_fixed n =
     record {
       ends = λ pool tape k xs j e.
           let f = bytes_are n pool tape k xs j e in
-          let s = span-is pool tape k xs j f.0 in
+          let s = span_is pool tape k xs j f.0 in
           (bytes_print n xs ∙ s.4 ∙ f.1, s.3, s.0);
     }

@@ -11,7 +11,7 @@ use Rattle.body_formats.specs.Body.{measured, writing, body_written, output_writ
 use Rattle.body_formats.specs.declared.Step.TheVariants.{At as StepAt}
 use Rattle.body_formats.proofs.RoundTrips.{measured_value, written_measured}
 use Rattle.body_pen.specs.Penned.{step_fitting}
-use Rattle.body_pen.proofs.Writers.{fitted-is, Wrote}
+use Rattle.body_pen.proofs.Writers.{fitted_is, Wrote}
 use Rattle.body_ink.specs.Inked.{Ready, Inked, Whole}
 
 pub whole : {A : Type 0} {F : Format A} {pool tape out : List ℕ} {end next : ℕ} {out' : List ℕ} → Inked F pool tape 0 0 out end next out'
@@ -20,22 +20,22 @@ whole {A} {F} {pool} {tape} {out} {end} {next} i = record { end = end; next = ne
 
 module _ {A : Type 0} (F : Format A) (pool tape out : List ℕ) (size : ℕ) (e : step_fitting (length out) (measured F pool tape) ≡ StepAt size) where
   told : (a : A) × (writing F pool tape (length out) ≡ found a size)
-  told = go (writing F pool tape (length out)) (sym (fitted-is F pool tape out) ∙ e)
+  told = go (writing F pool tape (length out)) (sym (fitted_is F pool tape out) ∙ e)
     where
       go : (y : Reading A) → step_of y ≡ StepAt size → (a : A) × (y ≡ found a size)
       go (found a n) g = (a, ap (found a) (let z : n ≡ size = cc in z))
       go (refused u) g = absurd (let z : ◌≡◌ {A = ℕ} 0 1 = cc in omega arith)
 
-  pub write-ready : Ready F pool tape 0 0 (length out)
-  write-ready =
+  pub write_ready : Ready F pool tape 0 0 (length out)
+  write_ready =
       let w = told in
       let fits = written_measured F pool tape (length out) w.0 size w.1 in
       let v = measured_value F pool tape w.0 size fits.0 in
       record { value = w.0; next = v.0; laid = v.1; fits = omega (arith, v.3, fits.1); short = omega (arith, v.3, v.4) }
 
-  pub write-inked : {out' : List ℕ} → Whole F pool tape out out' → Wrote F pool tape out out' (StepAt size)
-  unfolding body_written output_written told write-ready
-  write-inked i =
+  pub write_inked : {out' : List ℕ} → Whole F pool tape out out' → Wrote F pool tape out out' (StepAt size)
+  unfolding body_written output_written told write_ready
+  write_inked i =
       let w = told in
-      let g = write-ready in
+      let g = write_ready in
       (rw w.1, rw w.1 (i.inked.written g.value g.next g.laid g.fits).2)

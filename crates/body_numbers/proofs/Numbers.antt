@@ -16,10 +16,10 @@ unfolding number_at
 number_two s p h k = rw add-zero (omega arith)
 
 module _ (s : List ℕ) (p w : ℕ) {m c : ℕ} (h : m ≡ number_at s p 2) (k : c ≡ get_or s (p + 2) 0) where
-  pub number-three : w ≡ 3 → m * 256 + c ≡ number_at s p w
+  pub number_three : w ≡ 3 → m * 256 + c ≡ number_at s p w
   unfolding number_at
-  number-three e = rw e (omega arith)
+  number_three e = rw e (omega arith)
 
-  pub number-four : {d : ℕ} → w ≡ 4 → d ≡ get_or s (p + 3) 0 → (m * 256 + c) * 256 + d ≡ number_at s p w
+  pub number_four : {d : ℕ} → w ≡ 4 → d ≡ get_or s (p + 3) 0 → (m * 256 + c) * 256 + d ≡ number_at s p w
   unfolding number_at
-  number-four e l = rw e (omega arith)
+  number_four e l = rw e (omega arith)

@@ -18,7 +18,7 @@ use Rattle.body_pen.specs.Penned.{pen_onward, penned, entry_of}
 use Rattle.body_pen.specs.declared.Pen.{Pen}
 use Rattle.body_pen.specs.declared.Pen.TheVariants.{At, Refused}
 use Rattle.body_pen.proofs.Leaves.{span_length, stopped}
-use Rattle.body_pen.proofs.Pairs.{pen-onward, entry_is, refusing-at, only-fine, only-faulty}
+use Rattle.body_pen.proofs.Pairs.{pen_onward_lem, entry_is, refusing_at, only_fine, only_faulty}
 
 -- digits that a form lays out stand in the pool, where their first entry says
 pub digits_laid : (h : ℕ) (pool tape : List ℕ) (k : ℕ) (ds : List ℕ) (j : ℕ) → (digits h).form pool tape k ≡ found ds j
@@ -42,13 +42,13 @@ digits_laid h pool tape k ds j e =
 module _ (pool tape : List ℕ) (x y : Pen) (p : y ≡ penned (digits identifier_pairs) pool tape x) where
   -- where the pen comes to, by what the form lays out
   onward : (size k : ℕ) → x ≡ At size k → (z : Reading (List ℕ)) → (digits identifier_pairs).form pool tape k ≡ z → y ≡ pen_onward (digits identifier_pairs) size z
-  onward size k e z f = p ∙ pen-onward (digits identifier_pairs) pool tape x size k e z f
+  onward size k e z f = p ∙ pen_onward_lem (digits identifier_pairs) pool tape x size k e z f
 
   -- a pen that stopped before the digits' end went through none
-  pub identifier-stopped : (r : Refusal) → y ≡ Refused r → Refused r ≡ penned identifier pool tape x
+  pub identifier_stopped : (r : Refusal) → y ≡ Refused r → Refused r ≡ penned identifier pool tape x
   unfolding identifier
-  identifier-stopped r e =
-      sym e ∙ p ∙ sym (only-fine unreal_day (digits identifier_pairs) pool tape x
+  identifier_stopped r e =
+      sym e ∙ p ∙ sym (only_fine unreal_day (digits identifier_pairs) pool tape x
       (λ size k h ds j f. absurd (let o = onward size k h (found ds j) f in let z : ◌≡◌ {A = ℕ} 0 1 = cc in omega arith)))
 
   module _ (k : ℕ) (here : k ≡ entry_of x) (size j : ℕ) (e : y ≡ At size j) where
@@ -65,25 +65,25 @@ module _ (pool tape : List ℕ) (x y : Pen) (p : y ≡ penned (digits identifier
         go (At n i) h = at n i h ((digits identifier_pairs).form pool tape i) refl
         go (Refused r) h = absurd (let o = stopped (digits identifier_pairs) pool tape x r h in let z : ◌≡◌ {A = ℕ} 0 1 = cc in omega arith)
 
-    pub identifier-laid : (k < length tape) × (get_or tape k 0 + identifier_bytes ≤ length pool)
-    identifier-laid = let f = past in let l = digits_laid identifier_pairs pool tape k f.0 f.1 f.2 in (l.0, l.1)
+    pub identifier_laid : (k < length tape) × (get_or tape k 0 + identifier_bytes ≤ length pool)
+    identifier_laid = let f = past in let l = digits_laid identifier_pairs pool tape k f.0 f.1 f.2 in (l.0, l.1)
 
-    same-day : (size k' : ℕ) → x ≡ At size k' → (ds : List ℕ) (i : ℕ) → (digits identifier_pairs).form pool tape k' ≡ found ds i
+    same_day : (size k' : ℕ) → x ≡ At size k' → (ds : List ℕ) (i : ℕ) → (digits identifier_pairs).form pool tape k' ≡ found ds i
         → (k ≡ k') × (has_real_day ds ≡ has_real_day (digits_in pool (get_or tape k 0) identifier_bytes))
-    same-day size k' h ds i f =
+    same_day size k' h ds i f =
         let z : k ≡ k' = here ∙ entry_is x size k' h in
         (z, ap has_real_day ((digits_laid identifier_pairs pool tape k' ds i f).2 ∙ ap (λ (m : ℕ). digits_in pool (get_or tape m 0) identifier_bytes) (sym z)))
 
-    pub identifier-real : has_real_day (digits_in pool (get_or tape k 0) identifier_bytes) ≡ true → At size j ≡ penned identifier pool tape x
+    pub identifier_real : has_real_day (digits_in pool (get_or tape k 0) identifier_bytes) ≡ true → At size j ≡ penned identifier pool tape x
     unfolding identifier
-    identifier-real t =
-        sym e ∙ p ∙ sym (only-fine unreal_day (digits identifier_pairs) pool tape x
-        (λ size k' h ds i f. ap (λ b. unless b (ImpossibleDay k')) ((same-day size k' h ds i f).1 ∙ t)))
+    identifier_real t =
+        sym e ∙ p ∙ sym (only_fine unreal_day (digits identifier_pairs) pool tape x
+        (λ size k' h ds i f. ap (λ b. unless b (ImpossibleDay k')) ((same_day size k' h ds i f).1 ∙ t)))
 
-    pub identifier-unreal : has_real_day (digits_in pool (get_or tape k 0) identifier_bytes) ≡ false → Refused (ImpossibleDay k) ≡ penned identifier pool tape x
+    pub identifier_unreal : has_real_day (digits_in pool (get_or tape k 0) identifier_bytes) ≡ false → Refused (ImpossibleDay k) ≡ penned identifier pool tape x
     unfolding identifier
-    identifier-unreal t =
-        sym (refusing-at (penned (digits identifier_pairs) pool tape x) (ImpossibleDay k) size j (sym p ∙ e))
-        ∙ sym (only-faulty unreal_day (digits identifier_pairs) pool tape x (ImpossibleDay k) (λ size k' h ds i f.
-        let s = same-day size k' h ds i f in
+    identifier_unreal t =
+        sym (refusing_at (penned (digits identifier_pairs) pool tape x) (ImpossibleDay k) size j (sym p ∙ e))
+        ∙ sym (only_faulty unreal_day (digits identifier_pairs) pool tape x (ImpossibleDay k) (λ size k' h ds i f.
+        let s = same_day size k' h ds i f in
         ap (λ b. unless b (ImpossibleDay k')) (s.1 ∙ t) ∙ ap (λ (i : ℕ). unless false (ImpossibleDay i)) (sym s.0)))

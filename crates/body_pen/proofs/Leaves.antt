@@ -53,9 +53,9 @@ module _ {A : Type 0} (F : Format A) (pool tape : List ℕ) (x : Pen) where
   stopped r e = rw e
 
   module _ (size k : ℕ) (e : x ≡ At size k) where
-    pub refused-here : (r : Refusal) → F.form pool tape k ≡ refused r → Refused r ≡ penned F pool tape x
+    pub refused_here : (r : Refusal) → F.form pool tape k ≡ refused r → Refused r ≡ penned F pool tape x
     unfolding penned
-    refused-here r f = rw (e, f)
+    refused_here r f = rw (e, f)
 
     pub passed : (a : A) (j : ℕ) → F.form pool tape k ≡ found a j → (over : Bool) → F.too_large a ≡ over → (n : ℕ) → length (F.print a) ≡ n
         → (z : ℕ) → z ≡ more size n over → At z j ≡ penned F pool tape x
@@ -63,19 +63,19 @@ module _ {A : Type 0} (F : Format A) (pool tape : List ℕ) (x : Pen) where
     passed a j f over o n l z g = rw (e, f, o, l, g)
 
 module _ (F : Format ℕ) (pool tape : List ℕ) (x : Pen) where
-  pub count-stopped : (r : Refusal) → x ≡ Refused r → Counted F pool tape x (record { pen = Refused r; n = 0 })
+  pub count_stopped : (r : Refusal) → x ≡ Refused r → Counted F pool tape x (record { pen = Refused r; n = 0 })
   unfolding value_penned
-  count-stopped r e = record { past = stopped F pool tape x r e; value = rw e }
+  count_stopped r e = record { past = stopped F pool tape x r e; value = rw e }
 
   module _ (size k : ℕ) (e : x ≡ At size k) where
     pub count_refused : (r : Refusal) → F.form pool tape k ≡ refused r → Counted F pool tape x (record { pen = Refused r; n = 0 })
     unfolding value_penned
-    count_refused r f = record { past = refused-here F pool tape x size k e r f; value = rw (e, f) }
+    count_refused r f = record { past = refused_here F pool tape x size k e r f; value = rw (e, f) }
 
-    pub count-passed : (v j : ℕ) → F.form pool tape k ≡ found v j → (over : Bool) → F.too_large v ≡ over → (n : ℕ) → length (F.print v) ≡ n
+    pub count_passed : (v j : ℕ) → F.form pool tape k ≡ found v j → (over : Bool) → F.too_large v ≡ over → (n : ℕ) → length (F.print v) ≡ n
         → (z : ℕ) → z ≡ more size n over → Counted F pool tape x (record { pen = At z j; n = v })
     unfolding value_penned
-    count-passed v j f over o n l z g = record { past = passed F pool tape x size k e v j f over o n l z g; value = rw (e, f) }
+    count_passed v j f over o n l z g = record { past = passed F pool tape x size k e v j f over o n l z g; value = rw (e, f) }
 
 -- ---- entries of the tape
 
@@ -84,9 +84,9 @@ module _ (tape : List ℕ) (k : ℕ) where
   unfolding tape_entry
   entry_none h = rw (lt-leb (k + 1) (length tape) (omega arith))
 
-  pub entry-there : k < length tape → Is (get_or tape k 0) (k + 1) ≡ number_of (tape_entry tape k)
+  pub entry_there : k < length tape → Is (get_or tape k 0) (k + 1) ≡ number_of (tape_entry tape k)
   unfolding tape_entry
-  entry-there h = rw (le-leb (k + 1) (length tape) (omega arith))
+  entry_there h = rw (le-leb (k + 1) (length tape) (omega arith))
 
 -- a number below a bound and from lo to hi
 abbrev pub kept : List ℕ → ℕ → ℕ → ℕ → ℕ → Reading ℕ
@@ -97,17 +97,17 @@ module _ (tape : List ℕ) (k bound lo hi : ℕ) where
   kept_none r e = rw (number_refused (tape_entry tape k) r e)
 
   module _ (v j : ℕ) (e : Is v j ≡ number_of (tape_entry tape k)) where
-    pub kept-large : bound ≤ v → NoNumber (OutsideSet k) ≡ number_of (kept tape k bound lo hi)
-    kept-large h = rw (number_found (tape_entry tape k) v j e, le-ltb v bound h)
+    pub kept_large : bound ≤ v → NoNumber (OutsideSet k) ≡ number_of (kept tape k bound lo hi)
+    kept_large h = rw (number_found (tape_entry tape k) v j e, le-ltb v bound h)
 
-    pub kept-outside : (v < bound) → (leb lo v && leb v hi) ≡ false → NoNumber (OutsideSet k) ≡ number_of (kept tape k bound lo hi)
-    kept-outside h f = rw (number_found (tape_entry tape k) v j e, lt-ltb v bound h, f)
+    pub kept_outside : (v < bound) → (leb lo v && leb v hi) ≡ false → NoNumber (OutsideSet k) ≡ number_of (kept tape k bound lo hi)
+    kept_outside h f = rw (number_found (tape_entry tape k) v j e, lt-ltb v bound h, f)
 
     pub kept_is : v < bound → lo ≤ v → v ≤ hi → Is v j ≡ number_of (kept tape k bound lo hi)
     kept_is h l m = rw (number_found (tape_entry tape k) v j e, lt-ltb v bound h, le-leb lo v l, le-leb v hi m)
 
-  pub kept-below : (v j : ℕ) → kept tape k bound lo hi ≡ found v j → v < bound
-  kept-below v j e =
+  pub kept_below : (v j : ℕ) → kept tape k bound lo hi ≡ found v j → v < bound
+  kept_below v j e =
       let i = and_then_found (tape_entry tape k) _ v j e in
       let g = need_found (ltb i.0 bound && (leb lo i.0 && leb i.0 hi)) (OutsideSet k) _ v j i.3 in
       rw (← (found_inj g.1).0) (ltb-true i.0 bound (both _ _ g.0).0)
@@ -133,26 +133,26 @@ module _ (pool tape : List ℕ) (k : ℕ) where
   no_span e =
       (λ r f. e ∙ ap refused (let z : OutsideSet k ≡ r = cc in z), λ a n f. absurd (let z : ◌≡◌ {A = ℕ} 0 1 = cc in omega arith))
 
-  pub span-short : length tape < k + 2 → Spanned pool tape k (NoPart (OutsideSet k))
+  pub span_short : length tape < k + 2 → Spanned pool tape k (NoPart (OutsideSet k))
   unfolding span
-  span-short h = no_span (rw (lt-leb (k + 2) (length tape) h))
+  span_short h = no_span (rw (lt-leb (k + 2) (length tape) h))
 
   module _ (h : k + 2 ≤ length tape) where
-    two-entries : span pool tape k
+    two_entries : span pool tape k
         ≡ need (leb (get_or tape k 0 + get_or tape (k + 1) 0) (length pool)) (OutsideSet k) (found (take (get_or tape (k + 1) 0) (drop (get_or tape k 0) pool)) (k + 2))
     unfolding span
-    two-entries = rw (le-leb (k + 2) (length tape) h)
+    two_entries = rw (le-leb (k + 2) (length tape) h)
 
-    pub span-outside : length pool < get_or tape k 0 + get_or tape (k + 1) 0 → Spanned pool tape k (NoPart (OutsideSet k))
-    span-outside g = no_span (rw (two-entries, lt-leb (get_or tape k 0 + get_or tape (k + 1) 0) (length pool) g))
+    pub span_outside : length pool < get_or tape k 0 + get_or tape (k + 1) 0 → Spanned pool tape k (NoPart (OutsideSet k))
+    span_outside g = no_span (rw (two_entries, lt-leb (get_or tape k 0 + get_or tape (k + 1) 0) (length pool) g))
 
-    pub span-there : get_or tape k 0 + get_or tape (k + 1) 0 ≤ length pool → Spanned pool tape k (Of (get_or tape k 0) (get_or tape (k + 1) 0))
-    span-there g = (
+    pub span_there : get_or tape k 0 + get_or tape (k + 1) 0 ≤ length pool → Spanned pool tape k (Of (get_or tape k 0) (get_or tape (k + 1) 0))
+    span_there g = (
       λ r f. absurd (let z : ◌≡◌ {A = ℕ} 0 1 = cc in omega arith),
       λ a n f.
           let ea : get_or tape k 0 ≡ a = cc in
           let en : get_or tape (k + 1) 0 ≡ n = cc in
-          (h, omega arith, rw (two-entries, le-leb (get_or tape k 0 + get_or tape (k + 1) 0) (length pool) g, ea, en)),
+          (h, omega arith, rw (two_entries, le-leb (get_or tape k 0 + get_or tape (k + 1) 0) (length pool) g, ea, en)),
     )
 
 pub span_length : (pool : List ℕ) (a n : ℕ) → a + n ≤ length pool → length (take n (drop a pool)) ≡ n

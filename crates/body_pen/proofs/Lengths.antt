@@ -19,13 +19,13 @@ use Rattle.body_pen.specs.declared.Pen.TheVariants.{At, Refused}
 -- ---- past a length that is not known yet
 
 module _ (w : ℕ) (x : Pen) where
-  pub gapped-at : (size k : ℕ) → x ≡ At size k → gapped w x ≡ At (more size w false) k
+  pub gapped_at : (size k : ℕ) → x ≡ At size k → gapped w x ≡ At (more size w false) k
   unfolding gapped
-  gapped-at size k e = rw e
+  gapped_at size k e = rw e
 
-  pub gapped-refused : (e : Refusal) → x ≡ Refused e → gapped w x ≡ Refused e
+  pub gapped_refused : (e : Refusal) → x ≡ Refused e → gapped w x ≡ Refused e
   unfolding gapped
-  gapped-refused e q = rw q
+  gapped_refused e q = rw q
 
 -- ---- the length of a part that has come to its end
 
@@ -49,31 +49,31 @@ closed_more w limit size m n over h end e = go (ltb (end - size - w) limit) refl
 
 -- what closing answers, by where the two pens stand
 module _ (w limit : ℕ) (x b : Pen) where
-  pub close-none : (e : Refusal) → x ≡ Refused e → Refused e ≡ closed w limit x b
+  pub close_none : (e : Refusal) → x ≡ Refused e → Refused e ≡ closed w limit x b
   unfolding closed
-  close-none e q = rw q
+  close_none e q = rw q
 
   module _ (size k : ℕ) (q : x ≡ At size k) where
-    pub close-refused : (e : Refusal) → b ≡ Refused e → Refused e ≡ closed w limit x b
+    pub close_refused : (e : Refusal) → b ≡ Refused e → Refused e ≡ closed w limit x b
     unfolding closed
-    close-refused e f = rw (q, f)
+    close_refused e f = rw (q, f)
 
     module _ (end j : ℕ) (f : b ≡ At end j) (n : ℕ) (part : n ≡ end - size - w) where
-      pub close-over : limit ≤ n → At above_body j ≡ closed w limit x b
+      pub close_over : limit ≤ n → At above_body j ≡ closed w limit x b
       unfolding closed more
-      close-over h = rw (q, f, ← part, le-ltb n limit h)
+      close_over h = rw (q, f, ← part, le-ltb n limit h)
 
-      pub close-within : n < limit → (z : ℕ) → z ≡ more end 0 false → At z j ≡ closed w limit x b
+      pub close_within : n < limit → (z : ℕ) → z ≡ more end 0 false → At z j ≡ closed w limit x b
       unfolding closed
-      close-within h z e = rw (q, f, ← part, lt-ltb n limit h, e)
+      close_within h z e = rw (q, f, ← part, lt-ltb n limit h, e)
 
 -- ---- past a length, the part, and then its length, are the counted part
 
 module _ {A : Type 0} (L : Length) (w : ℕ) (prints : (n : ℕ) → n < L.limit → length (L.field.print n) ≡ w) (F : Format A) (pool tape : List ℕ) where
-  counted-pen : (x : Pen) → penned (counted L F) pool tape x ≡ closed w L.limit x (penned F pool tape (gapped w x))
+  counted_pen : (x : Pen) → penned (counted L F) pool tape x ≡ closed w L.limit x (penned F pool tape (gapped w x))
   unfolding penned counted gapped closed
-  counted-pen (Refused r) = refl
-  counted-pen (At size k) = go (F.form pool tape k)
+  counted_pen (Refused r) = refl
+  counted_pen (At size k) = go (F.form pool tape k)
     where
       go : (y : Reading A) → pen_onward (counted L F) size y ≡ closed w L.limit (At size k) (pen_onward F (more size w false) y)
       go (found a j) =
@@ -89,7 +89,7 @@ module _ {A : Type 0} (L : Length) (w : ℕ) (prints : (n : ℕ) → n < L.limit
 pub number_pen : {A : Type 0} (L : Length) (w : ℕ) → L.field ≡ count w → (F : Format A) (pool tape : List ℕ) (x : Pen)
     → penned (counted L F) pool tape x ≡ closed w L.limit x (penned F pool tape (gapped w x))
 unfolding count
-number_pen L w e = counted-pen L w (λ n h. ap (λ (C : Format ℕ). length (C.print n)) e ∙ length_bytes_lem w n)
+number_pen L w e = counted_pen L w (λ n h. ap (λ (C : Format ℕ). length (C.print n)) e ∙ length_bytes_lem w n)
 
 pub length_pen : {A : Type 0} (w : ℕ) (F : Format A) (pool tape : List ℕ) (x : Pen)
     → penned (counted (length_of w) F) pool tape x ≡ closed w (256 ^ w) x (penned F pool tape (gapped w x))
@@ -104,4 +104,4 @@ least_pen w least = number_pen (least_of w least) w refl
 pub length12_pen : {A : Type 0} (F : Format A) (pool tape : List ℕ) (x : Pen)
     → penned (counted length12 F) pool tape x ≡ closed 2 1024 x (penned F pool tape (gapped 2 x))
 unfolding length12 reserved
-length12_pen = counted-pen length12 2 (λ n h. length_bytes_lem 2 _)
+length12_pen = counted_pen length12 2 (λ n h. length_bytes_lem 2 _)

@@ -23,8 +23,8 @@ use Rattle.body_pen.specs.Penned.{more, penned, value_penned, Counted}
 use Rattle.body_pen.specs.declared.Pen.{Pen}
 use Rattle.body_pen.specs.declared.Pen.TheVariants.{At, Refused}
 use Rattle.body_pen.specs.declared.Count.{Count}
-use Rattle.body_pen.proofs.Leaves.{refused-here, passed, count_refused, count-passed, kept, kept-below}
-use Rattle.body_pen.proofs.Pairs.{as_found, same-pen}
+use Rattle.body_pen.proofs.Leaves.{refused_here, passed, count_refused, count_passed, kept, kept_below}
+use Rattle.body_pen.proofs.Pairs.{as_found, same_pen}
 
 -- ---- a count
 
@@ -44,11 +44,11 @@ module _ (w : ℕ) (pool tape : List ℕ) (x : Pen) (size k : ℕ) (e : x ≡ At
   unfolding count
   count_no r f = count_refused (count w) pool tape x size k e r (number_refused (tape_entry tape k) r f)
 
-  pub count-is : (v j : ℕ) → Is v j ≡ number_of (tape_entry tape k) → (p : ℕ) → p ≡ 2 ^ (8 * w) → (z : ℕ) → z ≡ more size w (leb p v)
+  pub count_is : (v j : ℕ) → Is v j ≡ number_of (tape_entry tape k) → (p : ℕ) → p ≡ 2 ^ (8 * w) → (z : ℕ) → z ≡ more size w (leb p v)
       → Counted (count w) pool tape x (record { pen = At z j; n = v })
   unfolding count
-  count-is v j f p ep z ez =
-      count-passed (count w) pool tape x size k e v j (number_found (tape_entry tape k) v j f) (leb p v) (count_over w v p ep) w (length_bytes_lem w v) z ez
+  count_is v j f p ep z ez =
+      count_passed (count w) pool tape x size k e v j (number_found (tape_entry tape k) v j f) (leb p v) (count_over w v p ep) w (length_bytes_lem w v) z ez
 
 -- ---- two formats that a form lays out alike
 
@@ -60,7 +60,7 @@ pub alike_counted : {F G : Format ℕ} {pool tape : List ℕ} → Alike F G pool
 unfolding value_penned
 alike_counted {F} {G} {pool} {tape} s {x} c =
     record {
-      past = c.past ∙ same-pen G F (λ a. a) pool tape (λ k. s.forms k ∙ as_found (G.form pool tape k)) (λ k a j e. s.prints k a j (s.forms k ∙ e)) x;
+      past = c.past ∙ same_pen G F (λ a. a) pool tape (λ k. s.forms k ∙ as_found (G.form pool tape k)) (λ k a j e. s.prints k a j (s.forms k ∙ e)) x;
       value = c.value ∙ values x;
     }
   where
@@ -95,20 +95,20 @@ limited p q at (found v j) = go (p v)
     go false = refl
 
 module _ (k w lo hi : ℕ) (pool tape : List ℕ) (i b : ℕ) (eb : b ≡ below k w) where
-  reserved-form : (among lo hi (reserved k w)).form pool tape i ≡ kept tape i b lo hi
+  reserved_form : (among lo hi (reserved k w)).form pool tape i ≡ kept tape i b lo hi
   unfolding only reserved
-  reserved-form = rw eb (limited (λ v. ltb v (below k w)) (λ v. leb lo v && leb v hi) i (tape_entry tape i))
+  reserved_form = rw eb (limited (λ v. ltb v (below k w)) (λ v. leb lo v && leb v hi) i (tape_entry tape i))
 
   module _ (x : Pen) (size : ℕ) (e : x ≡ At size i) where
-    pub reserved-refused : (r : Refusal) → NoNumber r ≡ number_of (kept tape i b lo hi)
+    pub reserved_refused : (r : Refusal) → NoNumber r ≡ number_of (kept tape i b lo hi)
         → Counted (among lo hi (reserved k w)) pool tape x (record { pen = Refused r; n = 0 })
-    reserved-refused r f = count_refused (among lo hi (reserved k w)) pool tape x size i e r (reserved-form ∙ number_refused (kept tape i b lo hi) r f)
+    reserved_refused r f = count_refused (among lo hi (reserved k w)) pool tape x size i e r (reserved_form ∙ number_refused (kept tape i b lo hi) r f)
 
-    pub reserved-passed : (v j : ℕ) → Is v j ≡ number_of (kept tape i b lo hi) → (z : ℕ) → z ≡ more size (w + 1) false
+    pub reserved_passed : (v j : ℕ) → Is v j ≡ number_of (kept tape i b lo hi) → (z : ℕ) → z ≡ more size (w + 1) false
         → Counted (among lo hi (reserved k w)) pool tape x (record { pen = At z j; n = v })
     unfolding only reserved
-    reserved-passed v j f z ez =
-        count-passed (among lo hi (reserved k w)) pool tape x size i e v j (reserved-form ∙ number_found (kept tape i b lo hi) v j f) false refl (w + 1)
+    reserved_passed v j f z ez =
+        count_passed (among lo hi (reserved k w)) pool tape x size i e v j (reserved_form ∙ number_found (kept tape i b lo hi) v j f) false refl (w + 1)
         (length_bytes_lem (suc w) _ ∙ sym (add-one w)) z ez
 
 -- a range that leaves out no number
@@ -160,7 +160,7 @@ reserved_none (suc w) lo hi h pool tape =
       forms = λ k. go all k (tape_entry tape k);
       prints = λ k a j e. (
         ap (bytes_of (suc w)) (let z : (2 ^ 0 - 1) * below 0 w + a ≡ a = rw (zero-mul, zero-add) in z),
-        rw (lt-ltb a (256 ^ suc w) (rw all at (kept-below tape k (below 0 w) lo hi a j (sym (reserved-form 0 w lo hi pool tape k (below 0 w) refl) ∙ e)))),
+        rw (lt-ltb a (256 ^ suc w) (rw all at (kept_below tape k (below 0 w) lo hi a j (sym (reserved_form 0 w lo hi pool tape k (below 0 w) refl) ∙ e)))),
       );
     }
   where
@@ -178,28 +178,28 @@ abbrev pair_of : Reading ℕ → (ℕ → Reading ℕ) → Reading (ℕ × ℕ)
 pair_of x f = and_then x (λ high j. and_then (f j) (λ low i. let z : ℕ × ℕ = (high, low) in found z i))
 
 module _ (lo hi : ℕ) (pool tape : List ℕ) (k : ℕ) where
-  nibbles-form : (nibbles_among lo hi).form pool tape k ≡ pair_of (kept tape k 16 lo hi) (λ j. kept tape j 16 lo hi)
-  nibbles-form = refl
+  nibbles_form : (nibbles_among lo hi).form pool tape k ≡ pair_of (kept tape k 16 lo hi) (λ j. kept tape j 16 lo hi)
+  nibbles_form = refl
 
   module _ (x : Pen) (size : ℕ) (e : x ≡ At size k) where
-    pub high-refused : (r : Refusal) → NoNumber r ≡ number_of (kept tape k 16 lo hi) → Refused r ≡ penned (nibbles_among lo hi) pool tape x
-    high-refused r f =
-        refused-here (nibbles_among lo hi) pool tape x size k e r
-        (nibbles-form ∙ ap (λ (y : Reading ℕ). pair_of y (λ j. kept tape j 16 lo hi)) (number_refused (kept tape k 16 lo hi) r f))
+    pub high_refused : (r : Refusal) → NoNumber r ≡ number_of (kept tape k 16 lo hi) → Refused r ≡ penned (nibbles_among lo hi) pool tape x
+    high_refused r f =
+        refused_here (nibbles_among lo hi) pool tape x size k e r
+        (nibbles_form ∙ ap (λ (y : Reading ℕ). pair_of y (λ j. kept tape j 16 lo hi)) (number_refused (kept tape k 16 lo hi) r f))
 
     module _ (high j : ℕ) (f : Is high j ≡ number_of (kept tape k 16 lo hi)) where
-      low-form : (nibbles_among lo hi).form pool tape k ≡ and_then (kept tape j 16 lo hi) (λ low i. let z : ℕ × ℕ = (high, low) in found z i)
-      low-form = nibbles-form ∙ ap (λ (y : Reading ℕ). pair_of y (λ j. kept tape j 16 lo hi)) (number_found (kept tape k 16 lo hi) high j f)
+      low_form : (nibbles_among lo hi).form pool tape k ≡ and_then (kept tape j 16 lo hi) (λ low i. let z : ℕ × ℕ = (high, low) in found z i)
+      low_form = nibbles_form ∙ ap (λ (y : Reading ℕ). pair_of y (λ j. kept tape j 16 lo hi)) (number_found (kept tape k 16 lo hi) high j f)
 
-      pub low-refused : (r : Refusal) → NoNumber r ≡ number_of (kept tape j 16 lo hi) → Refused r ≡ penned (nibbles_among lo hi) pool tape x
-      low-refused r g =
-          refused-here (nibbles_among lo hi) pool tape x size k e r
-          (low-form ∙ ap (λ (y : Reading ℕ). and_then y (λ low i. let z : ℕ × ℕ = (high, low) in found z i)) (number_refused (kept tape j 16 lo hi) r g))
+      pub low_refused : (r : Refusal) → NoNumber r ≡ number_of (kept tape j 16 lo hi) → Refused r ≡ penned (nibbles_among lo hi) pool tape x
+      low_refused r g =
+          refused_here (nibbles_among lo hi) pool tape x size k e r
+          (low_form ∙ ap (λ (y : Reading ℕ). and_then y (λ low i. let z : ℕ × ℕ = (high, low) in found z i)) (number_refused (kept tape j 16 lo hi) r g))
 
-      pub nibbles-passed : (low i : ℕ) → Is low i ≡ number_of (kept tape j 16 lo hi) → (z : ℕ) → z ≡ more size 1 false
+      pub nibbles_passed : (low i : ℕ) → Is low i ≡ number_of (kept tape j 16 lo hi) → (z : ℕ) → z ≡ more size 1 false
           → At z i ≡ penned (nibbles_among lo hi) pool tape x
       unfolding only nibbles
-      nibbles-passed low i g z ez =
+      nibbles_passed low i g z ez =
           passed (nibbles_among lo hi) pool tape x size k e (high, low) i
-          (low-form ∙ ap (λ (y : Reading ℕ). and_then y (λ low i. let z : ℕ × ℕ = (high, low) in found z i)) (number_found (kept tape j 16 lo hi) low i g))
+          (low_form ∙ ap (λ (y : Reading ℕ). and_then y (λ low i. let z : ℕ × ℕ = (high, low) in found z i)) (number_found (kept tape j 16 lo hi) low i g))
           false refl 1 refl z ez

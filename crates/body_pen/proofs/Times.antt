@@ -20,7 +20,7 @@ use Rattle.body_formats.proofs.Readers.{number_found, number_refused}
 use Rattle.body_pen.specs.Penned.{more, penned}
 use Rattle.body_pen.specs.declared.Pen.{Pen}
 use Rattle.body_pen.specs.declared.Pen.TheVariants.{At, Refused}
-use Rattle.body_pen.proofs.Leaves.{refused-here, passed}
+use Rattle.body_pen.proofs.Leaves.{refused_here, passed}
 use Rattle.body_pen.proofs.Numbers.{only_below}
 
 -- a number of more than 40 bits, which its judge refuses alike, need not be looked at before
@@ -55,32 +55,32 @@ stop_large v at h = rw (ne_eqb v live_mark (λ e. omega (arith, e)), time_large 
 
 -- one law for both, over what is wrong with a number
 module _ (fault : ℕ → ℕ → Fault) (large : (v at : ℕ) → 256 ^ 5 ≤ v → fault v at ≡ faulty (OutsideSet at)) (tape : List ℕ) (k : ℕ) where
-  timed-form : (pool : List ℕ) → (only fault (number 5)).form pool tape k ≡ and_then (tape_entry tape k) (λ v j. judged (fault v k) (found v j))
+  timed_form : (pool : List ℕ) → (only fault (number 5)).form pool tape k ≡ and_then (tape_entry tape k) (λ v j. judged (fault v k) (found v j))
   unfolding number only count
-  timed-form pool = judged_alone (λ v. fault v k) k (λ v h. large v k h) (tape_entry tape k)
+  timed_form pool = judged_alone (λ v. fault v k) k (λ v h. large v k h) (tape_entry tape k)
 
-  pub timed-none : (r : Refusal) → NoNumber r ≡ number_of (tape_entry tape k) → NoNumber r ≡ number_of ((only fault (number 5)).form [] tape k)
-  timed-none r e = rw (timed-form [], number_refused (tape_entry tape k) r e)
+  pub timed_none : (r : Refusal) → NoNumber r ≡ number_of (tape_entry tape k) → NoNumber r ≡ number_of ((only fault (number 5)).form [] tape k)
+  timed_none r e = rw (timed_form [], number_refused (tape_entry tape k) r e)
 
   module _ (v j : ℕ) (e : Is v j ≡ number_of (tape_entry tape k)) where
-    pub timed-no : (r : Refusal) → fault v k ≡ faulty r → NoNumber r ≡ number_of ((only fault (number 5)).form [] tape k)
-    timed-no r f = rw (timed-form [], number_found (tape_entry tape k) v j e, f)
+    pub timed_no : (r : Refusal) → fault v k ≡ faulty r → NoNumber r ≡ number_of ((only fault (number 5)).form [] tape k)
+    timed_no r f = rw (timed_form [], number_found (tape_entry tape k) v j e, f)
 
-    pub timed-is : fault v k ≡ fine → Is v j ≡ number_of ((only fault (number 5)).form [] tape k)
-    timed-is f = rw (timed-form [], number_found (tape_entry tape k) v j e, f)
+    pub timed_is : fault v k ≡ fine → Is v j ≡ number_of ((only fault (number 5)).form [] tape k)
+    timed_is f = rw (timed_form [], number_found (tape_entry tape k) v j e, f)
 
   module _ (pool : List ℕ) (x : Pen) (size : ℕ) (e : x ≡ At size k) where
-    any-pool : (only fault (number 5)).form pool tape k ≡ (only fault (number 5)).form [] tape k
-    any-pool = timed-form pool ∙ sym (timed-form [])
+    any_pool : (only fault (number 5)).form pool tape k ≡ (only fault (number 5)).form [] tape k
+    any_pool = timed_form pool ∙ sym (timed_form [])
 
-    pub timed-refused : (r : Refusal) → NoNumber r ≡ number_of ((only fault (number 5)).form [] tape k) → Refused r ≡ penned (only fault (number 5)) pool tape x
-    timed-refused r f =
-        refused-here (only fault (number 5)) pool tape x size k e r (any-pool ∙ number_refused ((only fault (number 5)).form [] tape k) r f)
+    pub timed_refused : (r : Refusal) → NoNumber r ≡ number_of ((only fault (number 5)).form [] tape k) → Refused r ≡ penned (only fault (number 5)) pool tape x
+    timed_refused r f =
+        refused_here (only fault (number 5)) pool tape x size k e r (any_pool ∙ number_refused ((only fault (number 5)).form [] tape k) r f)
 
-    pub timed-passed : (v j : ℕ) → Is v j ≡ number_of ((only fault (number 5)).form [] tape k) → (z : ℕ) → z ≡ more size 5 false
+    pub timed_passed : (v j : ℕ) → Is v j ≡ number_of ((only fault (number 5)).form [] tape k) → (z : ℕ) → z ≡ more size 5 false
         → At z j ≡ penned (only fault (number 5)) pool tape x
     unfolding number only count
-    timed-passed v j f z ez =
-        let g = any-pool ∙ number_found ((only fault (number 5)).form [] tape k) v j f in
+    timed_passed v j f z ez =
+        let g = any_pool ∙ number_found ((only fault (number 5)).form [] tape k) v j f in
         passed (only fault (number 5)) pool tape x size k e v j g false (rw (lt-ltb v (256 ^ 5) (only_below fault 5 pool tape k v j g)))
         5 (length_bytes_lem 5 v) z ez

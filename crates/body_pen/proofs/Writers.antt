@@ -50,29 +50,29 @@ sized a n false = go (leb n body_most) refl
 
 -- what the code's tests make of a pen past the form
 module _ (entries : ℕ) (x : Pen) where
-  pub form-stopped : (r : Refusal) → x ≡ Refused r → NoStep r ≡ form_measured entries x
+  pub form_stopped : (r : Refusal) → x ≡ Refused r → NoStep r ≡ form_measured entries x
   unfolding form_measured
-  form-stopped r e = rw e
+  form_stopped r e = rw e
 
   module _ (size k : ℕ) (e : x ≡ At size k) where
-    pub form-left : k < entries → NoStep (OutsideSet k) ≡ form_measured entries x
+    pub form_left : k < entries → NoStep (OutsideSet k) ≡ form_measured entries x
     unfolding form_measured
-    form-left h = rw (e, lt-ltb k entries h)
+    form_left h = rw (e, lt-ltb k entries h)
 
-    pub form-long : entries ≤ k → body_most < size → NoStep TooLarge ≡ form_measured entries x
+    pub form_long : entries ≤ k → body_most < size → NoStep TooLarge ≡ form_measured entries x
     unfolding form_measured
-    form-long h l = rw (e, le-ltb k entries h, lt-ltb body_most size l)
+    form_long h l = rw (e, le-ltb k entries h, lt-ltb body_most size l)
 
-    pub form-whole : entries ≤ k → size ≤ body_most → StepAt size ≡ form_measured entries x
+    pub form_whole : entries ≤ k → size ≤ body_most → StepAt size ≡ form_measured entries x
     unfolding form_measured
-    form-whole h l = rw (e, le-ltb k entries h, le-ltb body_most size l)
+    form_whole h l = rw (e, le-ltb k entries h, le-ltb body_most size l)
 
 module _ {A : Type 0} (F : Format A) (tape : List ℕ) where
-  form-found : (a : A) (k : ℕ) → form_measured (length tape) (pen_onward F 0 (found a k))
+  form_found : (a : A) (k : ℕ) → form_measured (length tape) (pen_onward F 0 (found a k))
       ≡ step_of (need (leb (length tape) k) (OutsideSet k)
       (need (not (F.too_large a)) TooLarge (need (leb (length (F.print a)) body_most) TooLarge (found a (length (F.print a))))))
   unfolding form_measured
-  form-found a k = go (leb (length tape) k) refl
+  form_found a k = go (leb (length tape) k) refl
     where
       go : (b : Bool) → leb (length tape) k ≡ b
           → (if ltb k (length tape) then NoStep (OutsideSet k) else
@@ -82,20 +82,20 @@ module _ {A : Type 0} (F : Format A) (tape : List ℕ) where
       go true e = rw (le-ltb k (length tape) (leb-true (length tape) k e)) (sized a (length (F.print a)) (F.too_large a))
       go false e = rw (lt-ltb k (length tape) (leb-false (length tape) k e))
 
-  form-refused : (r : Refusal) → form_measured (length tape) (Refused r) ≡ NoStep r
+  form_refused : (r : Refusal) → form_measured (length tape) (Refused r) ≡ NoStep r
   unfolding form_measured
-  form-refused r = refl
+  form_refused r = refl
 
   -- a pen past the whole form tells what is measured
-  pub measured-is : (pool : List ℕ) → form_measured (length tape) (penned F pool tape (At 0 0)) ≡ measured F pool tape
+  pub measured_is : (pool : List ℕ) → form_measured (length tape) (penned F pool tape (At 0 0)) ≡ measured F pool tape
   unfolding penned measured measuring
-  measured-is pool = go (F.form pool tape 0)
+  measured_is pool = go (F.form pool tape 0)
     where
       go : (x : Reading A) → form_measured (length tape) (pen_onward F 0 x)
           ≡ step_of (and_then x (λ a k. need (leb (length tape) k) (OutsideSet k)
           (need (not (F.too_large a)) TooLarge (need (leb (length (F.print a)) body_most) TooLarge (found a (length (F.print a)))))))
-      go (found a k) = form-found a k
-      go (refused r) = form-refused r
+      go (found a k) = form_found a k
+      go (refused r) = form_refused r
 
 -- ---- a form written
 
@@ -114,9 +114,9 @@ module _ (room : ℕ) (x : Step) where
     unfolding step_fitting
     fit_small h = rw (e, lt-leb n room h)
 
-    pub fit-room : n ≤ room → StepAt n ≡ step_fitting room x
+    pub fit_room : n ≤ room → StepAt n ≡ step_fitting room x
     unfolding step_fitting
-    fit-room h = rw (e, le-leb n room h)
+    fit_room h = rw (e, le-leb n room h)
 
 fitting_step : {A : Type 0} (room : ℕ) (x : Reading A) → step_fitting room (step_of x) ≡ step_of (fitting room x)
 unfolding step_fitting
@@ -128,13 +128,13 @@ fitting_step room (found a n) = go (leb n room)
 fitting_step room (refused r) = refl
 
 module _ {A : Type 0} (F : Format A) (pool tape out : List ℕ) where
-  pub fitted-is : step_fitting (length out) (measured F pool tape) ≡ step_of (writing F pool tape (length out))
+  pub fitted_is : step_fitting (length out) (measured F pool tape) ≡ step_of (writing F pool tape (length out))
   unfolding measured writing
-  fitted-is = fitting_step (length out) (measuring F pool tape)
+  fitted_is = fitting_step (length out) (measuring F pool tape)
 
-  pub write-refused : (e : Refusal) → step_fitting (length out) (measured F pool tape) ≡ NoStep e → Wrote F pool tape out out (NoStep e)
+  pub write_refused : (e : Refusal) → step_fitting (length out) (measured F pool tape) ≡ NoStep e → Wrote F pool tape out out (NoStep e)
   unfolding body_written output_written
-  write-refused e f = let w = go (writing F pool tape (length out)) (sym fitted-is ∙ f) in (rw w, rw w)
+  write_refused e f = let w = go (writing F pool tape (length out)) (sym fitted_is ∙ f) in (rw w, rw w)
     where
       go : (y : Reading A) → step_of y ≡ NoStep e → y ≡ refused e
       go (found a n) g = absurd (let z : ◌≡◌ {A = ℕ} 0 1 = cc in omega arith)

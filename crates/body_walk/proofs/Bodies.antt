@@ -20,7 +20,7 @@ use Rattle.body_formats.specs.declared.Step.{Step}
 use Rattle.body_formats.specs.declared.Step.TheVariants.{At as Ends, Refused as NoStep}
 use Rattle.body_formats.proofs.Outcomes.{found_inj}
 use Rattle.body_formats.proofs.Classes.{Bytes}
-use Rattle.body_formats.proofs.Laying.{table, LaidOut, laid-no, laid-small, laid_done}
+use Rattle.body_formats.proofs.Laying.{table, LaidOut, laid_no, laid_small, laid_done}
 use Rattle.body_walk.specs.Walked.{Walked, body_end, entries_needed}
 use Rattle.body_walk.specs.declared.Walk.{Walk}
 use Rattle.body_walk.specs.declared.Walk.TheVariants.{At, Refused}
@@ -39,37 +39,37 @@ reading_is {A} F own kind s q o = go (eqb kind own) (leb (length s) body_most) o
 
 module _ {A : Type 0} {F : Format A} (own kind : ℕ) {s : List ℕ} {q : ℕ} (o : Ends q ≡ opened own kind s) where
   module _ {room : ℕ} {wet : Bool} {t : List ℕ} {y : Walk} {t' : List ℕ} (w : Walked F s (length s) (At 0 room) wet t y t') where
-    read-stop : {e : Refusal} → y ≡ Refused e → NoStep e ≡ body_read F own kind s
+    read_stop : {e : Refusal} → y ≡ Refused e → NoStep e ≡ body_read F own kind s
     unfolding body_read
-    read-stop h = ap step_of (sym (reading_is F own kind s q o ∙ stopped w h))
+    read_stop h = ap step_of (sym (reading_is F own kind s q o ∙ stopped w h))
 
     read_end_lem : {end left : ℕ} → y ≡ At end left → Ends end ≡ body_read F own kind s
     unfolding body_read
     read_end_lem h = ap step_of (sym (reading_is F own kind s q o ∙ (went_on w h).1))
 
     -- the walk's answer is the reader's
-    pub read-walked : {r : Step} → r ≡ body_end y → r ≡ body_read F own kind s
-    read-walked e = e ∙ go y refl
+    pub read_walked : {r : Step} → r ≡ body_end y → r ≡ body_read F own kind s
+    read_walked e = e ∙ go y refl
       where
         go : (z : Walk) → y ≡ z → body_end z ≡ body_read F own kind s
         go (At end left) h = read_end_lem h
-        go (Refused r) h = read-stop h
+        go (Refused r) h = read_stop h
 
   -- laying: a dry walk, and where all fits a wet one
   module _ {tape : List ℕ} {y : Walk} {mid : List ℕ} (w : Walked F s (length s) (At 0 (length tape + 1)) false tape y mid) where
     unlaid : {r : Step} → LaidOut F own kind s tape tape r → LaidOut F own kind s tape mid r
     unlaid {r} d = subst (λ now. LaidOut F own kind s tape now r) (sym (w.dry refl)) d
 
-    lay-stop : {e : Refusal} → y ≡ Refused e → LaidOut F own kind s tape mid (NoStep e)
-    lay-stop {e} h = unlaid (laid-no F own kind s tape e (read-stop w h))
+    lay_stop : {e : Refusal} → y ≡ Refused e → LaidOut F own kind s tape mid (NoStep e)
+    lay_stop {e} h = unlaid (laid_no F own kind s tape e (read_stop w h))
 
     module _ {end left : ℕ} (h : y ≡ At end left) where
       -- what was walked is the body's table
       entries : F.tape (went_on w h).0 0 ≡ F.tape (table F own kind s end (read_end_lem w h)).0 0
       entries = ap (λ a. F.tape a 0) (found_inj (sym (went_on w h).1 ∙ sym (reading_is F own kind s q o) ∙ (table F own kind s end (read_end_lem w h)).1)).0
 
-      lay-small : left ≡ 0 → LaidOut F own kind s tape mid (NoStep OutputTooSmall)
-      lay-small z = unlaid (laid-small F own kind s tape end (read_end_lem w h) (length (F.tape (went_on w h).0 0)) (ap length entries) (omega (arith, (went_on w h).2)))
+      lay_small : left ≡ 0 → LaidOut F own kind s tape mid (NoStep OutputTooSmall)
+      lay_small z = unlaid (laid_small F own kind s tape end (read_end_lem w h) (length (F.tape (went_on w h).0 0)) (ap length entries) (omega (arith, (went_on w h).2)))
 
       lay_done : Bytes s → 0 < left → {z : Walk} {tape' : List ℕ} → Walked F s (length s) (At 0 (length tape + 1)) true mid z tape' → {n : ℕ}
           → n ≡ length tape + 1 - left
@@ -84,22 +84,22 @@ module _ {A : Type 0} {F : Format A} (own kind : ℕ) {s : List ℕ} {q : ℕ} (
           (put ∙ ap₂ (λ d k. placed d k (F.tape a.0 0)) same start ∙ ap (placed tape 0) entries)
 
     -- what the dry walk says decides: why nothing is laid, or how many entries the wet one lays
-    pub lay-no : {e : Refusal} → NoStep e ≡ entries_needed (length tape + 1) y → LaidOut F own kind s tape mid (NoStep e)
-    lay-no {e} g = go y refl g
+    pub lay_no : {e : Refusal} → NoStep e ≡ entries_needed (length tape + 1) y → LaidOut F own kind s tape mid (NoStep e)
+    lay_no {e} g = go y refl g
       where
         small : (end left : ℕ) → y ≡ At end left → (t : Bool) → (t ≡ true → left ≡ 0)
             → NoStep e ≡ (if t then NoStep OutputTooSmall else Ends (length tape + 1 - left))
             → LaidOut F own kind s tape mid (NoStep e)
-        small end left h true z k = subst (λ r. LaidOut F own kind s tape mid r) (sym k) (lay-small h (z refl))
+        small end left h true z k = subst (λ r. LaidOut F own kind s tape mid r) (sym k) (lay_small h (z refl))
         small end left h false z k = absurd (let z : ◌≡◌ {A = ℕ} 0 1 = cc in omega arith)
 
         go : (x : Walk) → y ≡ x → NoStep e ≡ entries_needed (length tape + 1) x → LaidOut F own kind s tape mid (NoStep e)
         go (At end left) h k = small end left h (eqb left 0) (eqb-true left 0) k
-        go (Refused r) h k = subst (λ r. LaidOut F own kind s tape mid r) (sym k) (lay-stop h)
+        go (Refused r) h k = subst (λ r. LaidOut F own kind s tape mid r) (sym k) (lay_stop h)
 
     module _ {n : ℕ} (g : Ends n ≡ entries_needed (length tape + 1) y) (b : Bytes s) where
-      pub lay-all : {z : Walk} {tape' : List ℕ} → Walked F s (length s) (At 0 (length tape + 1)) true mid z tape' → LaidOut F own kind s tape tape' (Ends n)
-      lay-all {z} {tape'} v = go y refl g
+      pub lay_all : {z : Walk} {tape' : List ℕ} → Walked F s (length s) (At 0 (length tape + 1)) true mid z tape' → LaidOut F own kind s tape tape' (Ends n)
+      lay_all {z} {tape'} v = go y refl g
         where
           fits : (end left : ℕ) → y ≡ At end left → (t : Bool) → (t ≡ false → left ≡ 0 → ⊥)
               → Ends n ≡ (if t then NoStep OutputTooSmall else Ends (length tape + 1 - left))

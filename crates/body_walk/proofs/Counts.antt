@@ -16,8 +16,8 @@ use Rattle.body_formats.specs.Format.{Format, followed, ◌▷◌, nothing, unde
 use Rattle.body_formats.specs.Answers.{part_of}
 use Rattle.body_formats.proofs.Outcomes.{found_inj, and_then_found, judged_found, within_found}
 use Rattle.body_formats.proofs.Classes.{Formal, Lawful, Filling}
-use Rattle.body_formats.proofs.Parts.{Counts, counted-lawful}
-use Rattle.body_formats.proofs.Lists.{all-steady}
+use Rattle.body_formats.proofs.Parts.{Counts, counted_lawful}
+use Rattle.body_formats.proofs.Lists.{all_steady}
 use Rattle.body_formats.proofs.Elements.{repeat_length}
 use Rattle.body_walk.specs.Walked.{walk_onward, walked, Walked, value_walked, Counted, opened_by, entered}
 use Rattle.body_walk.specs.declared.Walk.{Walk}
@@ -44,10 +44,10 @@ told_walk {G} {s} {l} {wet} {c} {t₁} {r} {t₂} f g w v =
 
 module _ {A : Type 0} {C : Format ℕ} {G : Format A} {s : List ℕ} {l : ℕ} {x : Walk} {wet : Bool} {t : List ℕ} {c : Count} {t₁ : List ℕ} (f : Lawful C)
     (g : Formal G) (w : Counted C s l x wet t c t₁) where
-  under-steady : (flag : ℕ) → Steady (under G flag)
+  under_steady : (flag : ℕ) → Steady (under G flag)
   unfolding under nothing
-  under-steady zero a p = refl
-  under-steady (suc n) a p = g.steady a p
+  under_steady zero a p = refl
+  under_steady (suc n) a p = g.steady a p
 
   off : (n : ℕ) → n ≡ 0 → Walked (under G n) s l c.walk wet t₁ c.walk t₁
   unfolding under nothing
@@ -60,10 +60,10 @@ module _ {A : Type 0} {C : Format ℕ} {G : Format A} {s : List ℕ} {l : ℕ} {
   on (suc n) h v = v
 
   pub flag_off : c.n ≡ 0 → Walked (followed C (λ flag. under G flag)) s l x wet t c.walk t₁
-  flag_off z = dependent f under-steady w.past (λ n p q room e h. off n (sym (value_found w n p q room e h) ∙ z)) (λ e h. refl) (λ d. refl)
+  flag_off z = dependent f under_steady w.past (λ n p q room e h. off n (sym (value_found w n p q room e h) ∙ z)) (λ e h. refl) (λ d. refl)
 
-  pub flag-on : {r : Walk} {t₂ : List ℕ} → 0 < c.n → Walked G s l c.walk wet t₁ r t₂ → Walked (followed C (λ flag. under G flag)) s l x wet t r t₂
-  flag-on h v = dependent f under-steady w.past (λ n p q room e k. on n (omega (arith, value_found w n p q room e k)) v) (passed v) v.dry
+  pub flag_on : {r : Walk} {t₂ : List ℕ} → 0 < c.n → Walked G s l c.walk wet t₁ r t₂ → Walked (followed C (λ flag. under G flag)) s l x wet t r t₂
+  flag_on h v = dependent f under_steady w.past (λ n p q room e k. on n (omega (arith, value_found w n p q room e k)) v) (passed v) v.dry
 
 -- ---- a part by its length
 
@@ -77,15 +77,15 @@ module _ (L : Length) (s : List ℕ) (l : ℕ) where
       let end : q + m - length (take (q + m - q) (drop q s)) + length (take (q + m - q) (drop q s)) ≡ q + m = omega arith in
       ap₂ (λ i e. let o : Opened = record { walk = At i room; end = e } in o) at end
 
-  part-entered : (p room n i : ℕ) → L.field.parse s l p ≡ found n i → i + n % L.limit ≤ length s → i + n % L.limit ≤ l → L.fault n p ≡ fine
+  part_entered : (p room n i : ℕ) → L.field.parse s l p ≡ found n i → i + n % L.limit ≤ length s → i + n % L.limit ≤ l → L.fault n p ≡ fine
       → entered L s l (At p room) ≡ record { walk = At i room; end = i + n % L.limit }
   unfolding entered counted
-  part-entered p room n i e h k f = rw (e, le-leb (i + n % L.limit) (length s) h, le-leb (i + n % L.limit) l k, f) (into room i (n % L.limit) h)
+  part_entered p room n i e h k f = rw (e, le-leb (i + n % L.limit) (length s) h, le-leb (i + n % L.limit) l k, f) (into room i (n % L.limit) h)
 
-  ends-inside : (x : Walk) → (entered L s l x).end ≤ length s
+  ends_inside : (x : Walk) → (entered L s l x).end ≤ length s
   unfolding entered counted
-  ends-inside (Refused e) = omega arith
-  ends-inside (At p room) = go (L.field.parse s l p)
+  ends_inside (Refused e) = omega arith
+  ends_inside (At p room) = go (L.field.parse s l p)
     where
       tests : (m q : ℕ) (t b : Bool) (f : Fault) → leb (q + m) (length s) ≡ t
           → (opened_by room (part_of (need t (PastBody p) (need b (PastPart p) (judged f (rest.parse s (q + m) q)))))).end ≤ length s
@@ -100,8 +100,8 @@ module _ (L : Length) (s : List ℕ) (l : ℕ) where
       go (found n q) = tests (n % L.limit) q (leb (q + n % L.limit) (length s)) (leb (q + n % L.limit) l) (L.fault n p) refl
 
   -- a part that is entered ends in the body
-  pub entered-inside : (x : Walk) {o : Opened} → o ≡ entered L s l x → o.end ≤ length s
-  entered-inside x e = omega (arith, ap (λ (o : Opened). o.end) e, ends-inside x)
+  pub entered_inside : (x : Walk) {o : Opened} → o ≡ entered L s l x → o.end ≤ length s
+  entered_inside x e = omega (arith, ap (λ (o : Opened). o.end) e, ends_inside x)
 
 -- a walk through what fills a part
 abbrev within_part : {A : Type 0} → Format A → List ℕ → Opened → Walk
@@ -109,10 +109,10 @@ within_part F s o = walked F s o.end o.walk
 
 module _ {A : Type 0} (L : Length) (F : Format A) (s : List ℕ) (l : ℕ) where
   -- the entries of a part are those of what fills it
-  counted-said : Steady F → (x : Walk) → within_part F s (entered L s l x) ≡ walked (counted L F) s l x
+  counted_said : Steady F → (x : Walk) → within_part F s (entered L s l x) ≡ walked (counted L F) s l x
   unfolding entered walked counted
-  counted-said steady (Refused e) = refl
-  counted-said steady (At p room) = go (L.field.parse s l p)
+  counted_said steady (Refused e) = refl
+  counted_said steady (At p room) = go (L.field.parse s l p)
     where
       same : (y : Reading A) → walk_onward F room y ≡ walk_onward (counted L F) room y
       same (refused e) = refl
@@ -133,29 +133,29 @@ module _ {A : Type 0} (L : Length) (F : Format A) (s : List ℕ) (l : ℕ) where
       go (found n q) = tests (n % L.limit) q (leb (q + n % L.limit) (length s)) (leb (q + n % L.limit) l) (L.fault n p) refl
 
   -- where a part was found: it begins at i and has m bytes, and what fills it was found there
-  counted-found : (p room : ℕ) (a : A) (q : ℕ) → (counted L F).parse s l p ≡ found a q
+  counted_found : (p room : ℕ) (a : A) (q : ℕ) → (counted L F).parse s l p ≡ found a q
       → (i m : ℕ) × (i + m ≤ length s) × (entered L s l (At p room) ≡ record { walk = At i room; end = i + m }) × (F.parse s (i + m) i ≡ found a q)
   unfolding counted
-  counted-found p room a q e =
+  counted_found p room a q e =
       let d = and_then_found (L.field.parse s l p) _ a q e in
       let m = d.0 % L.limit in
       let g = within_found s l p (d.1 + m) _ a q d.3 in
       let j = judged_found (L.fault d.0 p) _ a q g.2 in
-      (d.1, m, g.0, part-entered L s l p room d.0 d.1 d.2 g.0 g.1 j.0, j.1)
+      (d.1, m, g.0, part_entered L s l p room d.0 d.1 d.2 g.0 g.1 j.0, j.1)
 
 pub counted_walk : {A : Type 0} {L : Length} {F : Format A} {s : List ℕ} {l : ℕ} {x : Walk} {wet : Bool} {t : List ℕ} {r : Walk} {t' : List ℕ} {o : Opened}
     → Counts L F → Filling F → o ≡ entered L s l x → Walked F s o.end o.walk wet t r t' → Walked (counted L F) s l x wet t r t'
 unfolding counted
 counted_walk {A} {L} {F} {s} {l} {x} {wet} {t} {r} {t'} {o} c f e w =
     record {
-      said = w.said ∙ ap (within_part F s) e ∙ counted-said L F s l f.formal.steady x;
+      said = w.said ∙ ap (within_part F s) e ∙ counted_said L F s l f.formal.steady x;
       dry = w.dry;
       laid = λ v p room h here a q k small fits.
-          let d = counted-found L F s l p room a q k in
+          let d = counted_found L F s l p room a q k in
           let i = d.0 in
           let there : o ≡ record { walk = At i room; end = i + d.1 } = e ∙ ap (entered L s l) h ∙ d.3 in
           let end : o.end ≡ i + d.1 = ap (λ (y : Opened). y.end) there in
-          let u = (counted-lawful L F c f).forth s l p a q here.bytes here.part here.here k in
+          let u = (counted_lawful L F c f).forth s l p a q here.bytes here.part here.here k in
           let z = f.forth s (i + d.1) i a q here.bytes d.2 (omega arith) d.4 in
           let at : p + length (L.field.print (length (F.print a))) ≡ i =
           omega (arith, u.next, z.next, length-append (L.field.print (length (F.print a))) (F.print a)) in
@@ -180,7 +180,7 @@ times_more {F} {s} {l} {wet} {r} {t₁} {r'} {t₂} (suc n) h f w v =
     let less : suc n - 1 ≡ n = omega arith in
     let v' : Walked (times n F) s l r wet t₁ r' t₂ = rw less at v in
     renamed {F = F ▷ times n F} (λ z. z.0 ∷ z.1) (λ p room e. regroup (λ a xs. a ∷ xs) (F.parse s l p) (λ a q. repeat (F.parse s l) n q)) (λ z p q k e. refl)
-    (dependent f (λ a xs p. all-steady F f xs p 0) w (λ a p q room e i. v') (passed v') v'.dry)
+    (dependent f (λ a xs p. all_steady F f xs p 0) w (λ a p q room e i. v') (passed v') v'.dry)
 
 -- What is still to be walked, G from y on the tape t', makes the whole, F from x on the tape t; the tape is as long as it was.
 pub record Ahead {A B : Type 0} (F : Format A) (s : List ℕ) (l : ℕ) (x : Walk) (wet : Bool) (t : List ℕ) (G : Format B) (y : Walk) (t' : List ℕ) : Type 0 where
@@ -191,12 +191,12 @@ pub ahead_start : {A : Type 0} {F : Format A} {s : List ℕ} {l : ℕ} {x : Walk
 ahead_start = record { same = refl; whole = λ r t'' w. w }
 
 module _ {A B : Type 0} {W : Format A} (F : Format B) {s : List ℕ} {l : ℕ} {x : Walk} {wet : Bool} {t : List ℕ} {y : Walk} {t' : List ℕ} (n : ℕ) where
-  pub times-turn : {z : Walk} {t'' : List ℕ} → Lawful F → 0 < n → Ahead W s l x wet t (times n F) y t'
+  pub times_turn : {z : Walk} {t'' : List ℕ} → Lawful F → 0 < n → Ahead W s l x wet t (times n F) y t'
       → Walked F s l y wet t' z t'' → length t'' ≡ length t' → Ahead W s l x wet t (times (n - 1) F) z t''
-  times-turn f h a w same = record { same = same ∙ a.same; whole = λ r t''' v. a.whole r t''' (times_more n h f w v) }
+  times_turn f h a w same = record { same = same ∙ a.same; whole = λ r t''' v. a.whole r t''' (times_more n h f w v) }
 
-  pub times-done : n ≡ 0 → Ahead W s l x wet t (times n F) y t' → Walked W s l x wet t y t'
-  times-done e a = a.whole y t' (times_none F n e)
+  pub times_done : n ≡ 0 → Ahead W s l x wet t (times n F) y t' → Walked W s l x wet t y t'
+  times_done e a = a.whole y t' (times_none F n e)
 
 -- ---- a list after its count
 
@@ -212,7 +212,7 @@ list_walk {A} {C} {F} {s} {l} {x} {wet} {t} {c} {t₁} {r} {t₂} f g w v =
     let many : length z.1 ≡ z.0 =
     ap (λ y. length y.1) (sym (found_inj j.3).0) ∙ repeat_length (F.parse s l) i.0 i.1 j.0 j.1 j.2 ∙ ap (λ y. y.0) (found_inj j.3).0 in
     ap (λ n. C.tape n k ++ tape_all F z.1 (k + length (C.print n))) many)
-    (dependent f (λ n xs p. all-steady F g xs p 0) w.past
+    (dependent f (λ n xs p. all_steady F g xs p 0) w.past
     (λ n p q room e h. subst (λ m. Walked (times m F) s l c.walk wet t₁ r t₂) (value_found w n p q room e h) v)
     (passed v) v.dry)
   where

@@ -10,7 +10,7 @@ use lib.Seq.{length-take-le}
 use lib.Dec.{leb}
 use borrow.Author.Tests.{eq-eqb, ne_eqb, le-leb, lt-leb}
 use Rattle.ground_placing.specs.Placed.{placed}
-use Rattle.ground_placing.proofs.Placing.{stored, placed_none, placed-next}
+use Rattle.ground_placing.proofs.Placing.{stored, placed_none, placed_next}
 use Rattle.ground_refusal.specs.declared.Refusal.{Refusal}
 use Rattle.ground_refusal.specs.declared.Refusal.TheVariants.{PastBody, PastPart, OutsideSet, OutputTooSmall}
 use Rattle.body_formats.specs.Reading.{Reading, found, refused, and_then, need, Fault, unless, judged, value_of}
@@ -34,7 +34,7 @@ use Rattle.body_walk.specs.declared.Count.{Count}
 use Rattle.body_walk.specs.Walked.{walk_onward, walked, leaving, entries_needed, Inside, Walked, value_walked, Counted, opened_by, entered}
 use Rattle.body_walk.specs.Entries.{Laid, Stepped, entry_of, past_number, number_worth, Told, span_of, past_part, end_of}
 use Rattle.body_walk.proofs.Pairs.{stays}
-use Rattle.body_walk.proofs.Counts.{entered-inside}
+use Rattle.body_walk.proofs.Counts.{entered_inside}
 
 -- ---- entries on a tape
 
@@ -43,11 +43,11 @@ module _ (tape : List ℕ) (room : ℕ) (wet : Bool) where
   laid_none = record { dry = λ e. refl; there = λ e h k. sym (placed_none tape (length tape + 1 - room)) }
 
   -- a tape stays where the walk is dry, or the entries don't fit
-  pub laid-not : (xs : List ℕ) → (wet ≡ true → length xs < room → room ≤ length tape + 1 → ⊥) → Laid tape room wet xs tape
-  laid-not xs never = record { dry = λ e. refl; there = λ e h k. absurd (never e h k) }
+  pub laid_not : (xs : List ℕ) → (wet ≡ true → length xs < room → room ≤ length tape + 1 → ⊥) → Laid tape room wet xs tape
+  laid_not xs never = record { dry = λ e. refl; there = λ e h k. absurd (never e h k) }
 
-  pub laid-dry : (xs : List ℕ) → wet ≡ false → Laid tape room wet xs tape
-  laid-dry xs e = laid-not xs (λ f h k. let z : ◌≡◌ {A = ℕ} 0 1 = cc in omega arith)
+  pub laid_dry : (xs : List ℕ) → wet ≡ false → Laid tape room wet xs tape
+  laid_dry xs e = laid_not xs (λ f h k. let z : ◌≡◌ {A = ℕ} 0 1 = cc in omega arith)
 
   pub laid_one : (v k : ℕ) → wet ≡ true → k ≡ length tape + 1 - room → 1 < room → room ≤ length tape + 1 → Laid tape room wet (v ∷ []) (set tape k v)
   laid_one v k e f h m =
@@ -66,7 +66,7 @@ module _ (tape : List ℕ) (room : ℕ) (wet : Bool) where
             let at = length tape + 1 - room in
             b.there g (omega arith) (omega arith)
             ∙ rw (a.there g (omega arith) k)
-            (placed-next tape at xs (omega arith) ys (length (placed tape at xs) + 1 - left) (omega (arith, same, ap length (a.there g (omega arith) k))));
+            (placed_next tape at xs (omega arith) ys (length (placed tape at xs) + 1 - left) (omega (arith, same, ap length (a.there g (omega arith) k))));
       }
 
 -- what a step leaves, by what its answer is
@@ -93,15 +93,15 @@ module _ {A : Type 0} (F : Format A) (s : List ℕ) (l : ℕ) (x : Walk) (wet : 
       }
 
   module _ (p room : ℕ) (e : x ≡ At p room) where
-    pub leaf-refused : (r : Refusal) → F.parse s l p ≡ refused r → Walked F s l x wet tape (Refused r) tape
-    leaf-refused r f =
+    pub leaf_refused : (r : Refusal) → F.parse s l p ≡ refused r → Walked F s l x wet tape (Refused r) tape
+    leaf_refused r f =
         leaf p room e (Refused r) [] (Refused r) tape record { said = refl; laid = laid_none tape room wet } (rw f)
         (λ i a q g. absurd (let z : ◌≡◌ {A = ℕ} 0 1 = cc in omega arith))
 
-    pub leaf-found : (a : A) (q left : ℕ) (tape' : List ℕ) → F.parse s l p ≡ found a q → left ≡ room - length (F.tape a 0)
+    pub leaf_found : (a : A) (q left : ℕ) (tape' : List ℕ) → F.parse s l p ≡ found a q → left ≡ room - length (F.tape a 0)
         → Laid tape room wet (F.tape a p) tape'
         → Walked F s l x wet tape (At q left) tape'
-    leaf-found a q left tape' f g t =
+    leaf_found a q left tape' f g t =
         leaf p room e (At q left) (F.tape a p) (At q left) tape' record { said = refl; laid = t } (rw (f, g))
         (λ i b k h. ap (λ c. F.tape c p) (found_inj (sym h ∙ f)).0)
 
@@ -113,8 +113,8 @@ count_refused C s l x wet tape r e = record { past = stays e; value = rw e }
 -- a number, and its one entry
 module _ (F : Format ℕ) (one : (v p : ℕ) → F.tape v p ≡ v ∷ []) (s : List ℕ) (l : ℕ) (x : Walk) (wet : Bool) (tape : List ℕ) (p room : ℕ) (e : x ≡ At p room)
     (n : Number) (f : n ≡ number_of (F.parse s l p)) where
-  pub number-leaf : (r : Walk) (tape' : List ℕ) → Stepped (past_number room n) (entry_of n) tape room wet r tape' → Walked F s l x wet tape r tape'
-  number-leaf r tape' t =
+  pub number_leaf : (r : Walk) (tape' : List ℕ) → Stepped (past_number room n) (entry_of n) tape room wet r tape' → Walked F s l x wet tape r tape'
+  number_leaf r tape' t =
       leaf F s l x wet tape p room e (past_number room n) (entry_of n) r tape' t (ap (past_number room) f ∙ go (F.parse s l p))
       (λ i a q g. one a p ∙ sym (ap entry_of (f ∙ ap number_of g)))
     where
@@ -122,9 +122,9 @@ module _ (F : Format ℕ) (one : (v p : ℕ) → F.tape v p ≡ v ∷ []) (s : L
       go (found v q) = ap (λ k. At q (room - k)) (sym (ap length (one v 0)))
       go (refused r) = refl
 
-  pub number-counted : (r : Count) (tape' : List ℕ) → Told n tape room wet r tape' → Counted F s l x wet tape r tape'
+  pub number_counted : (r : Count) (tape' : List ℕ) → Told n tape room wet r tape' → Counted F s l x wet tape r tape'
   unfolding value_walked
-  number-counted r tape' t = record { past = number-leaf r.walk tape' t.past; value = t.value ∙ ap number_worth f ∙ go (F.parse s l p) ∙ rw e }
+  number_counted r tape' t = record { past = number_leaf r.walk tape' t.past; value = t.value ∙ ap number_worth f ∙ go (F.parse s l p) ∙ rw e }
     where
       go : (y : Reading ℕ) → number_worth (number_of y) ≡ value_of y
       go (found v q) = refl
@@ -186,7 +186,7 @@ end_one = only_one _ (number 5) (number_one 5)
 
 pub counted_end : (L : Length) (s : List ℕ) (l p : ℕ) (y : Part) → y ≡ part_of ((counted L rest).parse s l p) → end_of y ≤ length s
 unfolding entered
-counted_end L s l p y e = rw e (go (part_of ((counted L rest).parse s l p)) (entered-inside L s l (At p 0) refl))
+counted_end L s l p y e = rw e (go (part_of ((counted L rest).parse s l p)) (entered_inside L s l (At p 0) refl))
   where
     go : (y : Part) → (opened_by 0 y).end ≤ length s → end_of y ≤ length s
     go (Of a n) h = h
@@ -241,9 +241,9 @@ module _ {A : Type 0} (F : Format A) (n : ℕ) (two : (a : A) (i : ℕ) → F.ta
       go (found a q) h = let g = h a q refl in omega (arith, g.0, g.1)
       go (refused r) h = omega arith
 
-  pub field-leaf : (x : Walk) (wet : Bool) (tape : List ℕ) (room : ℕ) → x ≡ At p room → (r : Walk) (tape' : List ℕ)
+  pub field_leaf : (x : Walk) (wet : Bool) (tape : List ℕ) (room : ℕ) → x ≡ At p room → (r : Walk) (tape' : List ℕ)
       → Stepped (past_part room y) (span_of y) tape room wet r tape' → Walked F s l x wet tape r tape'
-  field-leaf x wet tape room e r tape' t =
+  field_leaf x wet tape room e r tape' t =
       leaf F s l x wet tape p room e (past_part room y) (span_of y) r tape' t (ap (past_part room) f ∙ go (F.parse s l p) fits)
       (λ i a q g.
       let k : q - p ≡ n = omega (arith, (fits a q g).0) in
@@ -257,9 +257,9 @@ module _ {A : Type 0} (F : Format A) (n : ℕ) (two : (a : A) (i : ℕ) → F.ta
 
 -- bytes that are one field
 module _ (lo hi n : ℕ) where
-  pub bytes-two : (xs : List ℕ) (i : ℕ) → (bytes_among lo hi n).tape xs i ≡ i ∷ n ∷ []
+  pub bytes_two : (xs : List ℕ) (i : ℕ) → (bytes_among lo hi n).tape xs i ≡ i ∷ n ∷ []
   unfolding only bytes
-  bytes-two xs i = refl
+  bytes_two xs i = refl
 
   pub bytes_fit : (s : List ℕ) (l p : ℕ) (xs : List ℕ) (q : ℕ) → (bytes_among lo hi n).parse s l p ≡ found xs q → (q ≡ p + n) × (q ≤ length s)
   unfolding only bytes
@@ -291,28 +291,28 @@ nibbles_of s l p = rw byte_at (go (leb (p + 1) (length s)) (leb (p + 1) l) (get_
     go false b v = refl
 
 module _ (lo hi : ℕ) (s : List ℕ) (l p : ℕ) (x : Walk) (wet : Bool) (tape : List ℕ) (room : ℕ) (e : x ≡ At p room) where
-  pub nibbles-no : (r : Refusal) → NoNumber r ≡ number_read 1 s l p → Walked (nibbles_among lo hi) s l x wet tape (Refused r) tape
+  pub nibbles_no : (r : Refusal) → NoNumber r ≡ number_read 1 s l p → Walked (nibbles_among lo hi) s l x wet tape (Refused r) tape
   unfolding only number_read
-  nibbles-no r f = leaf-refused (nibbles_among lo hi) s l x wet tape p room e r (rw (nibbles_of, number_refused ((count 1).parse s l p) r f))
+  nibbles_no r f = leaf_refused (nibbles_among lo hi) s l x wet tape p room e r (rw (nibbles_of, number_refused ((count 1).parse s l p) r f))
 
   module _ (v q : ℕ) (f : Is v q ≡ number_read 1 s l p) where
-    nibbles-judged : (nibbles_among lo hi).parse s l p
+    nibbles_judged : (nibbles_among lo hi).parse s l p
         ≡ judged (unless ((leb lo (v / 16) && leb (v / 16) hi) && (leb lo (v % 16) && leb (v % 16) hi)) (OutsideSet p)) (found (high_low v) q)
     unfolding only number_read
-    nibbles-judged = rw (nibbles_of, number_found ((count 1).parse s l p) v q f)
+    nibbles_judged = rw (nibbles_of, number_found ((count 1).parse s l p) v q f)
 
-    pub high-out : (leb lo (v / 16) && leb (v / 16) hi) ≡ false → Walked (nibbles_among lo hi) s l x wet tape (Refused (OutsideSet p)) tape
-    high-out g = leaf-refused (nibbles_among lo hi) s l x wet tape p room e (OutsideSet p) (nibbles-judged ∙ rw g)
+    pub high_out : (leb lo (v / 16) && leb (v / 16) hi) ≡ false → Walked (nibbles_among lo hi) s l x wet tape (Refused (OutsideSet p)) tape
+    high_out g = leaf_refused (nibbles_among lo hi) s l x wet tape p room e (OutsideSet p) (nibbles_judged ∙ rw g)
 
     module _ (g : (leb lo (v / 16) && leb (v / 16) hi) ≡ true) where
-      pub low-out : (leb lo (v % 16) && leb (v % 16) hi) ≡ false → Walked (nibbles_among lo hi) s l x wet tape (Refused (OutsideSet p)) tape
-      low-out h = leaf-refused (nibbles_among lo hi) s l x wet tape p room e (OutsideSet p) (nibbles-judged ∙ rw (g, h))
+      pub low_out : (leb lo (v % 16) && leb (v % 16) hi) ≡ false → Walked (nibbles_among lo hi) s l x wet tape (Refused (OutsideSet p)) tape
+      low_out h = leaf_refused (nibbles_among lo hi) s l x wet tape p room e (OutsideSet p) (nibbles_judged ∙ rw (g, h))
 
-      pub both-in : (leb lo (v % 16) && leb (v % 16) hi) ≡ true → (left : ℕ) (tape' : List ℕ) → left ≡ room - 2
+      pub both_in : (leb lo (v % 16) && leb (v % 16) hi) ≡ true → (left : ℕ) (tape' : List ℕ) → left ≡ room - 2
           → Laid tape room wet ((v / 16) ∷ (v % 16) ∷ []) tape'
           → Walked (nibbles_among lo hi) s l x wet tape (At q left) tape'
       unfolding only nibbles
-      both-in h left tape' k t = leaf-found (nibbles_among lo hi) s l x wet tape p room e (high_low v) q left tape' (nibbles-judged ∙ rw (g, h)) k t
+      both_in h left tape' k t = leaf_found (nibbles_among lo hi) s l x wet tape p room e (high_low v) q left tape' (nibbles_judged ∙ rw (g, h)) k t
 
 -- ---- into a part, and out of it with no byte left
 
@@ -330,25 +330,25 @@ pub enter_part : (w : ℕ) (s : List ℕ) (l : ℕ) (x : Walk) (p room : ℕ) �
 unfolding part_read
 enter_part w s l x p room e y f = enter_at (length_of w) s l x p room e y f
 
-module _ (leftOver : ℕ → Refusal) (l : ℕ) (x : Walk) where
-  pub leave-refused : (r : Refusal) → x ≡ Refused r → Refused r ≡ leaving leftOver l x
+module _ (left_over : ℕ → Refusal) (l : ℕ) (x : Walk) where
+  pub leave_refused : (r : Refusal) → x ≡ Refused r → Refused r ≡ leaving left_over l x
   unfolding leaving
-  leave-refused r e = rw e
+  leave_refused r e = rw e
 
   module _ (q room : ℕ) (e : x ≡ At q room) where
-    pub leave-over : q < l → Refused (leftOver q) ≡ leaving leftOver l x
+    pub leave_over : q < l → Refused (left_over q) ≡ leaving left_over l x
     unfolding leaving
-    leave-over h = rw (e, lt-leb l q h)
+    leave_over h = rw (e, lt-leb l q h)
 
-    pub leave-at : l ≤ q → At q room ≡ leaving leftOver l x
+    pub leave_at : l ≤ q → At q room ≡ leaving left_over l x
     unfolding leaving
-    leave-at h = rw (e, le-leb l q h)
+    leave_at h = rw (e, le-leb l q h)
 
 -- ---- out of a whole body
 
 module _ (room : ℕ) (x : Walk) (q left : ℕ) (e : x ≡ At q left) where
-  pub entries-small : left ≡ 0 → NoStep OutputTooSmall ≡ entries_needed room x
-  entries-small z = rw (e, eq-eqb left 0 z)
+  pub entries_small : left ≡ 0 → NoStep OutputTooSmall ≡ entries_needed room x
+  entries_small z = rw (e, eq-eqb left 0 z)
 
   pub entries_fit : (left ≡ 0 → ⊥) → (n : ℕ) → n ≡ room - left → Ends n ≡ entries_needed room x
   entries_fit z n f = rw (e, ne_eqb left 0 z, f)

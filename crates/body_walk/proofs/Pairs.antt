@@ -8,7 +8,7 @@ use lib.ListN.{length, length-append}
 use lib.Dec.{leb}
 use Rattle.std.specs.Prelude.{if◌then◌else◌}
 use Rattle.ground_placing.specs.Placed.{placed}
-use Rattle.ground_placing.proofs.Placing.{placed-next, placed-length, placed_none}
+use Rattle.ground_placing.proofs.Placing.{placed_next, placed_length, placed_none}
 use Rattle.ground_refusal.specs.declared.Refusal.{Refusal}
 use Rattle.body_formats.specs.Reading.{Reading, found, refused, and_then, need, Fault, unless, judged}
 use Rattle.body_formats.specs.Format.{Format, only, followed, ◌▷◌, view, exact}
@@ -91,13 +91,13 @@ Steady {A} F = (a : A) (p : ℕ) → length (F.tape a p) ≡ length (F.tape a 0)
 -- ---- one after the other, where the second may depend on what the first found
 
 module _ {A : Type 0} {B : A → Type 0} (F : Format A) (G : (a : A) → Format (B a)) (s : List ℕ) (l : ℕ) where
-  both-said : ((a : A) → Steady (G a)) → (x r r' : Walk) → r ≡ walked F s l x
+  both_said : ((a : A) → Steady (G a)) → (x r r' : Walk) → r ≡ walked F s l x
       → ((a : A) (p q room : ℕ) → x ≡ At p room → F.parse s l p ≡ found a q → r' ≡ walked (G a) s l r)
       → ((e : Refusal) → r ≡ Refused e → r' ≡ r)
       → r' ≡ walked (followed F G) s l x
   unfolding walked followed
-  both-said steady (Refused e) r r' h go stop = stop e h ∙ h
-  both-said steady (At p room) r r' h go stop = first (F.parse s l p) refl h
+  both_said steady (Refused e) r r' h go stop = stop e h ∙ h
+  both_said steady (At p room) r r' h go stop = first (F.parse s l p) refl h
     where
       second : (a : A) (y : Reading (B a))
           → walk_onward (G a) (room - length (F.tape a 0)) y ≡ walk_onward (followed F G) room (and_then y (λ b v. let z : (a : A) × B a = (a, b) in found z v))
@@ -110,13 +110,13 @@ module _ {A : Type 0} {B : A → Type 0} (F : Format A) (G : (a : A) → Format 
       first (found a q) i k = go a p q room refl i ∙ ap (walked (G a) s l) k ∙ second a ((G a).parse s l q)
 
   -- the entries of the first, and those of the second after them
-  both-laid : (p room : ℕ) (t t₁ t₂ : List ℕ) (a : A) (b : B a) (q : ℕ) → Steady F → q ≡ p + length (F.print a)
+  both_laid : (p room : ℕ) (t t₁ t₂ : List ℕ) (a : A) (b : B a) (q : ℕ) → Steady F → q ≡ p + length (F.print a)
       → (length (F.tape a p) < room → room ≤ length t + 1 → t₁ ≡ placed t (length t + 1 - room) (F.tape a p))
       → (length ((G a).tape b q) < room - length (F.tape a 0) → room - length (F.tape a 0) ≤ length t₁ + 1 → t₂ ≡ placed t₁ (length t₁ + 1 - (room - length (F.tape a 0))) ((G a).tape b q))
       → length ((followed F G).tape (a, b) p) < room → room ≤ length t + 1
       → t₂ ≡ placed t (length t + 1 - room) ((followed F G).tape (a, b) p)
   unfolding followed
-  both-laid p room t t₁ t₂ a b q steady n one two small fits =
+  both_laid p room t t₁ t₂ a b q steady n one two small fits =
       let xs = F.tape a p in
       let ys = (G a).tape b q in
       let same : (G a).tape b (p + length (F.print a)) ≡ ys = ap ((G a).tape b) (sym n) in
@@ -124,10 +124,10 @@ module _ {A : Type 0} {B : A → Type 0} (F : Format A) (G : (a : A) → Format 
       let k = length t + 1 - room in
       let put = one (omega arith) fits in
       let room_for : k + length xs ≤ length t = omega arith in
-      let long : length t₁ ≡ length t = ap length put ∙ placed-length t k xs room_for in
+      let long : length t₁ ≡ length t = ap length put ∙ placed_length t k xs room_for in
       let next = two (omega (arith, steady a p)) (omega (arith, steady a p)) in
       next ∙ ap (λ d. placed d (length t₁ + 1 - (room - length (F.tape a 0))) ys) put
-      ∙ placed-next t k xs room_for ys (length t₁ + 1 - (room - length (F.tape a 0))) (omega (arith, steady a p))
+      ∙ placed_next t k xs room_for ys (length t₁ + 1 - (room - length (F.tape a 0))) (omega (arith, steady a p))
       ∙ ap (λ zs. placed t k (xs ++ zs)) (sym same)
 
 module _ {A : Type 0} {B : A → Type 0} {F : Format A} {G : (a : A) → Format (B a)} {s : List ℕ} {l : ℕ} {x : Walk} {wet : Bool} {t : List ℕ} {r : Walk}
@@ -141,7 +141,7 @@ module _ {A : Type 0} {B : A → Type 0} {F : Format A} {G : (a : A) → Format 
   unfolding followed
   dependent f steady w go stop dry =
       record {
-        said = both-said F G s l steady x r r' w.said (λ a p q room e h. (go a p q room e h).said) stop;
+        said = both_said F G s l steady x r r' w.said (λ a p q room e h. (go a p q room e h).said) stop;
         dry = λ d. dry d ∙ w.dry d;
         laid = λ v p room e here z q h small fits.
             let i = and_then_found (F.parse s l p) _ z q h in
@@ -151,7 +151,7 @@ module _ {A : Type 0} {B : A → Type 0} {F : Format A} {G : (a : A) → Format 
             let u = f.forth s l p a i.1 here.bytes here.part here.here i.2 in
             let at : r ≡ At i.1 (room - length (F.tape a 0)) = w.said ∙ ap (walked F s l) e ∙ walked_at F s l p room ∙ ap (walk_onward F room) i.2 in
             subst (λ y. length ((followed F G).tape y p) < room → t₂ ≡ placed t (length t + 1 - room) ((followed F G).tape y p)) (found_inj j.3).0
-            (λ m. both-laid F G s l p room t t₁ t₂ a b i.1 f.formal.steady u.next
+            (λ m. both_laid F G s l p room t t₁ t₂ a b i.1 f.formal.steady u.next
             (λ m₁ k. w.laid v p room e here a i.1 i.2 m₁ k)
             (λ m₂ k. (go a p i.1 room e i.2).laid v i.1 (room - length (F.tape a 0)) at (record { bytes = here.bytes; part = here.part; here = u.inside }) b j.1 j.2 m₂ k)
             m fits)
@@ -206,80 +206,80 @@ view_walk {F} f g gf w = renamed f (λ p room e. refl) (λ a p q k e. ap (λ y. 
 
 -- ---- no byte left
 
-pub exact_walk : {A : Type 0} {F : Format A} (leftOver : ℕ → Refusal) {s : List ℕ} {l : ℕ} {x : Walk} {wet : Bool} {t : List ℕ} {r : Walk} {t' : List ℕ} {r' : Walk}
-    → Walked F s l x wet t r t' → r' ≡ leaving leftOver l r → Walked (exact leftOver F) s l x wet t r' t'
+pub exact_walk : {A : Type 0} {F : Format A} (left_over : ℕ → Refusal) {s : List ℕ} {l : ℕ} {x : Walk} {wet : Bool} {t : List ℕ} {r : Walk} {t' : List ℕ} {r' : Walk}
+    → Walked F s l x wet t r t' → r' ≡ leaving left_over l r → Walked (exact left_over F) s l x wet t r' t'
 unfolding exact leaving
-exact_walk {A} {F} leftOver {s} {l} {x} w h =
+exact_walk {A} {F} left_over {s} {l} {x} w h =
     record {
-      said = h ∙ ap (leaving leftOver l) w.said ∙ go x;
+      said = h ∙ ap (leaving left_over l) w.said ∙ go x;
       dry = w.dry;
       laid = λ v p room e here a q i small fits.
-          w.laid v p room e here a q (exact_found leftOver F s l p a q i).0 small fits;
+          w.laid v p room e here a q (exact_found left_over F s l p a q i).0 small fits;
     }
   where
     last : (room : ℕ) (a : A) (q : ℕ) (b : Bool)
-        → (if b then At q (room - length (F.tape a 0)) else Refused (leftOver q)) ≡ walk_onward (exact leftOver F) room (need b (leftOver q) (found a q))
+        → (if b then At q (room - length (F.tape a 0)) else Refused (left_over q)) ≡ walk_onward (exact left_over F) room (need b (left_over q) (found a q))
     last room a q true = refl
     last room a q false = refl
 
     read : (room : ℕ) (y : Reading A)
-        → leaving leftOver l (walk_onward F room y) ≡ walk_onward (exact leftOver F) room (and_then y (λ a q. need (leb l q) (leftOver q) (found a q)))
+        → leaving left_over l (walk_onward F room y) ≡ walk_onward (exact left_over F) room (and_then y (λ a q. need (leb l q) (left_over q) (found a q)))
     read room (refused e) = refl
     read room (found a q) = last room a q (leb l q)
 
-    go : (x : Walk) → leaving leftOver l (walked F s l x) ≡ walked (exact leftOver F) s l x
-    go (Refused e) = ap (leaving leftOver l) (walked_refused F s l e) ∙ sym (walked_refused (exact leftOver F) s l e)
-    go (At p room) = ap (leaving leftOver l) (walked_at F s l p room) ∙ read room (F.parse s l p) ∙ sym (walked_at (exact leftOver F) s l p room)
+    go : (x : Walk) → leaving left_over l (walked F s l x) ≡ walked (exact left_over F) s l x
+    go (Refused e) = ap (leaving left_over l) (walked_refused F s l e) ∙ sym (walked_refused (exact left_over F) s l e)
+    go (At p room) = ap (leaving left_over l) (walked_at F s l p room) ∙ read room (F.parse s l p) ∙ sym (walked_at (exact left_over F) s l p room)
 
 -- the last of several things fills the part where all of them do
-module _ {A : Type 0} {B : A → Type 0} (leftOver : ℕ → Refusal) (F : Format A) (G : (a : A) → Format (B a)) {s : List ℕ} {l : ℕ} {x : Walk} {wet : Bool}
+module _ {A : Type 0} {B : A → Type 0} (left_over : ℕ → Refusal) (F : Format A) (G : (a : A) → Format (B a)) {s : List ℕ} {l : ℕ} {x : Walk} {wet : Bool}
     {t : List ℕ} {r : Walk} {t' : List ℕ} where
-  pub exact-last : Walked (followed F (λ a. exact leftOver (G a))) s l x wet t r t' → Walked (exact leftOver (followed F G)) s l x wet t r t'
+  pub exact_last : Walked (followed F (λ a. exact left_over (G a))) s l x wet t r t' → Walked (exact left_over (followed F G)) s l x wet t r t'
   unfolding exact followed
-  exact-last w = renamed {F = followed F (λ a. exact leftOver (G a))} (λ z. z) (λ p room e. first (F.parse s l p)) (λ z p q k e. refl) w
+  exact_last w = renamed {F = followed F (λ a. exact left_over (G a))} (λ z. z) (λ p room e. first (F.parse s l p)) (λ z p q k e. refl) w
     where
       third : (a : A) (b : B a) (v : ℕ) (u : Bool)
-          → need u (leftOver v) (let z : (a : A) × B a = (a, b) in found z v)
-          ≡ and_then (and_then (need u (leftOver v) (found b v)) (λ b v. let z : (a : A) × B a = (a, b) in found z v)) (λ z q. found z q)
+          → need u (left_over v) (let z : (a : A) × B a = (a, b) in found z v)
+          ≡ and_then (and_then (need u (left_over v) (found b v)) (λ b v. let z : (a : A) × B a = (a, b) in found z v)) (λ z q. found z q)
       third a b v true = refl
       third a b v false = refl
 
       second : (a : A) (y : Reading (B a))
-          → and_then (and_then y (λ b v. let z : (a : A) × B a = (a, b) in found z v)) (λ z q. need (leb l q) (leftOver q) (found z q))
-          ≡ and_then (and_then (and_then y (λ b q. need (leb l q) (leftOver q) (found b q))) (λ b v. let z : (a : A) × B a = (a, b) in found z v)) (λ z q. found z q)
+          → and_then (and_then y (λ b v. let z : (a : A) × B a = (a, b) in found z v)) (λ z q. need (leb l q) (left_over q) (found z q))
+          ≡ and_then (and_then (and_then y (λ b q. need (leb l q) (left_over q) (found b q))) (λ b v. let z : (a : A) × B a = (a, b) in found z v)) (λ z q. found z q)
       second a (refused e) = refl
       second a (found b v) = third a b v (leb l v)
 
       first : (y : Reading A)
-          → and_then (and_then y (λ a q. and_then ((G a).parse s l q) (λ b v. let z : (a : A) × B a = (a, b) in found z v))) (λ z q. need (leb l q) (leftOver q) (found z q))
-          ≡ and_then (and_then y (λ a q. and_then (and_then ((G a).parse s l q) (λ b q. need (leb l q) (leftOver q) (found b q))) (λ b v. let z : (a : A) × B a = (a, b) in found z v))) (λ z q. found z q)
+          → and_then (and_then y (λ a q. and_then ((G a).parse s l q) (λ b v. let z : (a : A) × B a = (a, b) in found z v))) (λ z q. need (leb l q) (left_over q) (found z q))
+          ≡ and_then (and_then y (λ a q. and_then (and_then ((G a).parse s l q) (λ b q. need (leb l q) (left_over q) (found b q))) (λ b v. let z : (a : A) × B a = (a, b) in found z v))) (λ z q. found z q)
       first (refused e) = refl
       first (found a q) = second a ((G a).parse s l q)
 
-pub exact_pair : {A B : Type 0} {F : Format A} {G : Format B} (leftOver : ℕ → Refusal) {s : List ℕ} {l : ℕ} {x : Walk} {wet : Bool} {t : List ℕ} {r : Walk} {t₁ : List ℕ} {r' : Walk} {t₂ : List ℕ}
-    → Lawful F → Lawful G → Walked F s l x wet t r t₁ → Walked (exact leftOver G) s l r wet t₁ r' t₂ → Walked (exact leftOver (F ▷ G)) s l x wet t r' t₂
-exact_pair {F} {G} leftOver f g w v = exact-last leftOver F (λ a. G) (pair f (exact_filling leftOver G g).formal w v)
+pub exact_pair : {A B : Type 0} {F : Format A} {G : Format B} (left_over : ℕ → Refusal) {s : List ℕ} {l : ℕ} {x : Walk} {wet : Bool} {t : List ℕ} {r : Walk} {t₁ : List ℕ} {r' : Walk} {t₂ : List ℕ}
+    → Lawful F → Lawful G → Walked F s l x wet t r t₁ → Walked (exact left_over G) s l r wet t₁ r' t₂ → Walked (exact left_over (F ▷ G)) s l x wet t r' t₂
+exact_pair {F} {G} left_over f g w v = exact_last left_over F (λ a. G) (pair f (exact_filling left_over G g).formal w v)
 
 -- ---- a value judged once it was read
 
 module _ (refusal : ℕ → Refusal) {x y : Walk} (holds : Bool) where
-  pub judged-before : {e : Refusal} → x ≡ Refused e → y ≡ judged_from refusal x holds y
+  pub judged_before : {e : Refusal} → x ≡ Refused e → y ≡ judged_from refusal x holds y
   unfolding judged_from
-  judged-before h = rw h
+  judged_before h = rw h
 
   module _ {p room : ℕ} (h : x ≡ At p room) where
-    pub judged-refused : {e : Refusal} → y ≡ Refused e → Refused e ≡ judged_from refusal x holds y
+    pub judged_refused : {e : Refusal} → y ≡ Refused e → Refused e ≡ judged_from refusal x holds y
     unfolding judged_from
-    judged-refused k = rw (h, k)
+    judged_refused k = rw (h, k)
 
     module _ {q left : ℕ} (k : y ≡ At q left) where
-      pub judged-holds : holds ≡ true → At q left ≡ judged_from refusal x holds y
+      pub judged_holds : holds ≡ true → At q left ≡ judged_from refusal x holds y
       unfolding judged_from
-      judged-holds b = rw (h, k, b)
+      judged_holds b = rw (h, k, b)
 
-      pub judged-fails : holds ≡ false → Refused (refusal p) ≡ judged_from refusal x holds y
+      pub judged_fails : holds ≡ false → Refused (refusal p) ≡ judged_from refusal x holds y
       unfolding judged_from
-      judged-fails b = rw (h, k, b)
+      judged_fails b = rw (h, k, b)
 
 -- the test says of what F found whether it is at fault
 pub only_walk : {A : Type 0} {F : Format A} {fault : A → ℕ → Fault} (refusal : ℕ → Refusal) {s : List ℕ} {l : ℕ} {x : Walk} {wet : Bool} {t : List ℕ} {r : Walk} {t' : List ℕ} {r' : Walk} (holds : Bool)

@@ -28,8 +28,8 @@ walked F s l (Refused r) = Refused r
 
 -- no byte is left in a part that ends at l
 unfoldable pub leaving : (ℕ → Refusal) → ℕ → Walk → Walk
-leaving leftOver l (At q room) = if leb l q then At q room else Refused (leftOver q)
-leaving leftOver l (Refused r) = Refused r
+leaving left_over l (At q room) = if leb l q then At q room else Refused (left_over q)
+leaving left_over l (Refused r) = Refused r
 
 -- what was walked from x to y, judged once it was read: where the test fails, it is refused at x
 unfoldable pub judged_from : (ℕ → Refusal) → Walk → Bool → Walk → Walk

@@ -1,4 +1,4 @@
--- What a reader has to believe of the answers to C: which value each answer of the library becomes; a refusal is always `refusedOf`.
+-- What a reader has to believe of the answers to C: which value each answer of the library becomes; a refusal is always `refused_of`.
 use Rattle.std.specs.Prelude.{cond, List, [], ◌∷◌, ℕ, ◌+◌, ◌*◌, ◌%◌, ◌^◌, ℤ}
 use Rattle.ground_refusal.specs.Numbers.{refusal_number, refusal_place}
 use Rattle.ground_refusal.specs.declared.Refusal.{Refusal}

@@ -1,4 +1,4 @@
--- What a reader has to believe of these answers to C: which value each becomes; a refusal is always `refusedOf`.
+-- What a reader has to believe of these answers to C: which value each becomes; a refusal is always `refused_of`.
 use Rattle.std.specs.Prelude.{ℕ}
 use Rattle.rooms_end.specs.declared.Ended.{Ended}
 use Rattle.rooms_end.specs.declared.Ended.TheVariants as ended

@@ -1,4 +1,4 @@
--- What a reader has to believe of the slow gathering's answers to C: which value each becomes; a refusal is always `refusedOf`.
+-- What a reader has to believe of the slow gathering's answers to C: which value each becomes; a refusal is always `refused_of`.
 use Rattle.std.specs.Prelude.{ℕ}
 use Rattle.teaching_hand_out.specs.declared.Headed.{Headed}
 use Rattle.teaching_hand_out.specs.declared.Headed.TheVariants as headed

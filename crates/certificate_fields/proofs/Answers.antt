@@ -22,22 +22,22 @@ module _ (s : List ℕ) where
     unfolding certificate_part
     part_no i = rw (step_refused (parts 2) s (length s) 0 r e)
 
-    pub signature-no : NoPart r ≡ signature_part s
+    pub signature_no : NoPart r ≡ signature_part s
     unfolding signature_part
-    signature-no = rw (step_refused (parts 2) s (length s) 0 r e)
+    signature_no = rw (step_refused (parts 2) s (length s) 0 r e)
 
   module _ (a : ℕ) (e : At a ≡ ended (parts 2) s (length s) 0) where
-    pub count-is : number_read 1 s (length s) a ≡ certificate_count s
+    pub count_is : number_read 1 s (length s) a ≡ certificate_count s
     unfolding certificate_count number_read
-    count-is = rw (step_found (parts 2) s (length s) 0 a e).1
+    count_is = rw (step_found (parts 2) s (length s) 0 a e).1
 
     pub part_is : (i : ℕ) → part_listed 1 1 i s (length s) a ≡ certificate_part s i
     unfolding certificate_part part_listed
     part_is i = rw (step_found (parts 2) s (length s) 0 a e).1
 
-    pub signature-none : (r : Refusal) → NoStep r ≡ ended (parts 1) s (length s) a → NoPart r ≡ signature_part s
+    pub signature_none : (r : Refusal) → NoStep r ≡ ended (parts 1) s (length s) a → NoPart r ≡ signature_part s
     unfolding signature_part
-    signature-none r f = rw ((step_found (parts 2) s (length s) 0 a e).1, step_refused (parts 1) s (length s) a r f)
+    signature_none r f = rw ((step_found (parts 2) s (length s) 0 a e).1, step_refused (parts 1) s (length s) a r f)
 
     pub signature_is : (b : ℕ) → At b ≡ ended (parts 1) s (length s) a → part_read 2 s (length s) b ≡ signature_part s
     unfolding signature_part part_read

@@ -19,7 +19,7 @@ use Rattle.body_formats.specs.Held.{Fills}
 use Rattle.body_formats.proofs.Outcomes.{found_inj, and_then_found, within_found}
 use Rattle.body_formats.proofs.Leaves.{length_bytes_lem}
 use Rattle.body_formats.proofs.Parts.{opaque_next}
-use Rattle.body_formats.proofs.Elements.{exact_found, view_found, followed_found, list_found, listed-is, listed-past, opaque_fills}
+use Rattle.body_formats.proofs.Elements.{exact_found, view_found, followed_found, list_found, listed_is, listed_past, opaque_fills}
 use Rattle.body_formats.proofs.RoundTrips as trips
 use Rattle.certificate.specs.Certificate.{parts, Certificates, certificate_kind, named, unnamed, fields, certificate}
 use Rattle.certificate_fields.specs.Asked.{authorization_count, authorization_part, certificate_count, certificate_part, signature_part}
@@ -44,23 +44,23 @@ module _ (s : List ℕ) (b : Bytes s) (w : ℕ) where
   printed xss = length (print_all (opaque w).print xss)
 
   -- the part after i others ends after their bytes and its own
-  after-ends : (i p : ℕ) (xss : List (List ℕ)) (q : ℕ) → repeat ((opaque w).parse s l) (length xss) p ≡ found xss q → i < length xss
+  after_ends : (i p : ℕ) (xss : List (List ℕ)) (q : ℕ) → repeat ((opaque w).parse s l) (length xss) p ≡ found xss q → i < length xss
       → after (opaque w) i s l p ≡ found (get_or xss i []) (p + printed (take i xss) + w + length (get_or xss i []))
   unfolding repeat after print_all
-  after-ends i p [] q e h = absurd (omega arith)
-  after-ends zero p (xs ∷ xss) q e h =
+  after_ends i p [] q e h = absurd (omega arith)
+  after_ends zero p (xs ∷ xss) q e h =
       let f = and_then_found ((opaque w).parse s l p) _ (xs ∷ xss) q e in
       let g = and_then_found (repeat ((opaque w).parse s l) (length xss) f.1) _ (xs ∷ xss) q f.3 in
       let this : f.0 ≡ xs = ap (λ yss. get_or yss 0 xs) (found_inj g.3).0 in
       let ends : f.1 ≡ p + 0 + w + length xs = omega (arith, opaque_next s l b (le_refl l) w p f.0 f.1 f.2, ap length this) in
       f.2 ∙ ap₂ found this ends
-  after-ends (suc i) p (xs ∷ xss) q e h =
+  after_ends (suc i) p (xs ∷ xss) q e h =
       let f = and_then_found ((opaque w).parse s l p) _ (xs ∷ xss) q e in
       let g = and_then_found (repeat ((opaque w).parse s l) (length xss) f.1) _ (xs ∷ xss) q f.3 in
       let k = found_inj g.3 in
       let this : f.0 ≡ xs = ap (λ yss. get_or yss 0 xs) k.0 in
       let others : g.0 ≡ xss = ap (drop 1) k.0 in
-      let more = after-ends i f.1 xss q (g.2 ∙ ap₂ found others k.1) (omega arith) in
+      let more = after_ends i f.1 xss q (g.2 ∙ ap₂ found others k.1) (omega arith) in
       let takes = length-append ((opaque w).print xs) (print_all (opaque w).print (take i xss)) in
       let n = length (get_or xss i []) in
       let ends : f.1 + printed (take i xss) + w + n ≡ p + length ((opaque w).print xs ++ print_all (opaque w).print (take i xss)) + w + n =
@@ -75,9 +75,9 @@ module _ (s : List ℕ) (b : Bytes s) (w : ℕ) where
         let z = (found_inj (within_found s l p (p + 1) _ (length xss) f.0 f.1).2).1 in
         f.1 ∙ ap (found (length xss)) (sym z)
 
-    parts-end : (p + taking w xss ≡ q) × (q ≤ l)
+    parts_end : (p + taking w xss ≡ q) × (q ≤ l)
     unfolding count
-    parts-end =
+    parts_end =
         let inside = (within_found s l p (p + 1) _ (length xss) (p + 1) counted_at).0 in
         let f = (parts_lawful w).forth s l p xss q b (le_refl l) (omega arith) e in
         (sym f.next, f.inside)
@@ -90,7 +90,7 @@ module _ (s : List ℕ) (b : Bytes s) (w : ℕ) where
         let each = ap (repeat ((opaque w).parse s l) (length xss)) (sym z) ∙ f.2 in
         let n = length (get_or xss i []) in
         let begins : p + 1 + printed (take i xss) + w + n - n ≡ p + taking w (take i xss) + w = omega (arith, taking_is w (take i xss)) in
-        rw (counted_at, lt-ltb i (length xss) h, after-ends i (p + 1) xss q each h) (ap (λ (at : ℕ). Of at n) begins)
+        rw (counted_at, lt-ltb i (length xss) h, after_ends i (p + 1) xss q each h) (ap (λ (at : ℕ). Of at n) begins)
 
 -- ---- the table
 
@@ -115,8 +115,8 @@ module _ (kind : ℕ) (s : List ℕ) (b : Bytes s) (c : Certificates) (q : ℕ) 
   -- each where the fields before it end
   ends : (three.0 ≡ taking 2 c.authorizations) × (three.1 ≡ taking 2 c.authorizations + taking 1 c.certificates)
   ends =
-      let f = (parts-end s b 2 0 c.authorizations three.0 three.2).0 in
-      let g = (parts-end s b 1 three.0 c.certificates three.1 three.3).0 in
+      let f = (parts_end s b 2 0 c.authorizations three.0 three.2).0 in
+      let g = (parts_end s b 1 three.0 c.certificates three.1 three.3).0 in
       (omega arith, omega arith)
 
   -- a part found as bytes of the body fills them
@@ -139,12 +139,12 @@ module _ (kind : ℕ) (s : List ℕ) (b : Bytes s) (c : Certificates) (q : ℕ) 
   authorization_fills : (i : ℕ) → i < length c.authorizations → Fills s (authorization_part s i) (get_or c.authorizations i [])
   unfolding authorization_part part_listed
   authorization_fills i h =
-      let f = listed-is (count 1) (opaque 2) s (length s) 0 c.authorizations three.0 three.2 [] i h in
+      let f = listed_is (count 1) (opaque 2) s (length s) 0 c.authorizations three.0 three.2 [] i h in
       fills 2 f.0 f.1 _ _ f.3 (ap part_of f.2)
 
   authorization_past : (i : ℕ) → length c.authorizations ≤ i → authorization_part s i ≡ NoPart (OutsideSet 0)
   unfolding authorization_part part_listed
-  authorization_past i h = rw (listed-past (count 1) (opaque 2) s (length s) 0 c.authorizations three.0 three.2 i h)
+  authorization_past i h = rw (listed_past (count 1) (opaque 2) s (length s) 0 c.authorizations three.0 three.2 i h)
 
   certificates_counted : certificate_count s ≡ Is (length c.certificates) (taking 2 c.authorizations + 1)
   unfolding certificate_count
@@ -163,12 +163,12 @@ module _ (kind : ℕ) (s : List ℕ) (b : Bytes s) (c : Certificates) (q : ℕ) 
   certificate_fills : (i : ℕ) → i < length c.certificates → Fills s (certificate_part s i) (get_or c.certificates i [])
   unfolding certificate_part
   certificate_fills i h =
-      let f = listed-is (count 1) (opaque 1) s (length s) three.0 c.certificates three.1 three.3 [] i h in
+      let f = listed_is (count 1) (opaque 1) s (length s) three.0 c.certificates three.1 three.3 [] i h in
       fills 1 f.0 f.1 _ _ f.3 (rw (three.2, f.2))
 
   certificate_past : (i : ℕ) → length c.certificates ≤ i → certificate_part s i ≡ NoPart (OutsideSet 0)
   unfolding certificate_part
-  certificate_past i h = rw (three.2, listed-past (count 1) (opaque 1) s (length s) three.0 c.certificates three.1 three.3 i h)
+  certificate_past i h = rw (three.2, listed_past (count 1) (opaque 1) s (length s) three.0 c.certificates three.1 three.3 i h)
 
   signature_is : signature_part s ≡ Of (taking 2 c.authorizations + taking 1 c.certificates + 2) (length c.signature)
   unfolding signature_part
@@ -181,8 +181,8 @@ module _ (kind : ℕ) (s : List ℕ) (b : Bytes s) (c : Certificates) (q : ℕ) 
   unfolding signature_part
   signature_fills = fills 2 three.1 q _ _ three.4 (rw (three.2, three.3, three.4))
 
-  pub certificate-asked : CertificateAsked s c
-  certificate-asked =
+  pub certificate_asked : CertificateAsked s c
+  certificate_asked =
       record {
         authorizations_counted = authorizations_counted;
         authorization_is = authorization_is;

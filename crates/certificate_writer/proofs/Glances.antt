@@ -7,7 +7,7 @@ use lib.ListN.{length, get_or}
 use Rattle.ground_refusal.specs.declared.Refusal.TheVariants.{LeftOver}
 use Rattle.body_formats.specs.Format.{times, opaque}
 use Rattle.body_form_glance.specs.Lays.{Lays, Told}
-use Rattle.body_form_glance.proofs.Forms.{lays-pair, lays-view, lays-exact, lays-to, lays-count}
+use Rattle.body_form_glance.proofs.Forms.{lays_pair, lays_view, lays_exact, lays_to, lays_count}
 use Rattle.body_form_glance.proofs.Rows.{lays_list}
 use Rattle.certificate.specs.Certificate.{parts, named, unnamed, fields, certificate}
 
@@ -24,7 +24,7 @@ pub list_laid : (pool tape : List ℕ) (k w : ℕ) {r : ℕ} → k < length tape
     → Told (parts w) pool tape k (k + 1 + get_or tape k 0 * 2) r
 list_laid pool tape k w {r} h s g some =
     let them = g (r - 1) (omega arith) in
-    (_, lays-to refl (omega arith) (lays_list (opaque w) (lays-count refl h 1 (omega arith)) them.1))
+    (_, lays_to refl (omega arith) (lays_list (opaque w) (lays_count refl h 1 (omega arith)) them.1))
 
 -- a list of parts that begins at k has at most 255, and they stand on the tape
 abbrev pub Stands : List ℕ → ℕ → Type 0
@@ -35,4 +35,4 @@ pub certificate_laid : {pool tape : List ℕ} {k j a b c : ℕ} → 0 < a → 0 
     → Told (opaque 2) pool tape j (length tape) c → Told certificate pool tape 0 (length tape) (a + b + c)
 unfolding certificate fields
 certificate_laid ha hb hc ga gb gc h =
-    (_, lays-exact LeftOver (lays-view named unnamed refl (lays-to refl (omega arith) (lays-pair (ga ha).1 (lays-pair (gb hb).1 (gc hc).1)))))
+    (_, lays_exact LeftOver (lays_view named unnamed refl (lays_to refl (omega arith) (lays_pair (ga ha).1 (lays_pair (gb hb).1 (gc hc).1)))))

@@ -11,15 +11,15 @@ use Rattle.ground_refusal.specs.declared.Refusal.TheVariants.{ImpossibleDay}
 use Rattle.time_days.specs.Calendar.{day_number, has_day, day_of}
 use Rattle.time_days.specs.declared.DayAnswer.TheVariants.{Day, Refused as NoDay}
 use Rattle.time_days.proofs.Months.{length_within}
-use Rattle.time_days.proofs.Answers.{day-accepted, day_month_until}
+use Rattle.time_days.proofs.Answers.{day_accepted, day_month_until}
 use Rattle.body_formats.specs.Reading.{unless, is_fine}
 use Rattle.body_formats.specs.Format.{only, followed, count}
 use Rattle.configuration.specs.Configuration.{day_fault, date, clock}
 
 module _ (y m d : ℕ) where
-  pub day-fault : (at : ℕ) → day_fault (day_of y m d) at ≡ unless (has_day y m d) (ImpossibleDay at)
+  pub day_fault_lem : (at : ℕ) → day_fault (day_of y m d) at ≡ unless (has_day y m d) (ImpossibleDay at)
   unfolding day_of
-  day-fault at = go (has_day y m d)
+  day_fault_lem at = go (has_day y m d)
     where
       go : (t : Bool) → day_fault (cond t (Day (day_number y m d)) (NoDay (ImpossibleDay 0))) at ≡ unless t (ImpossibleDay at)
       go true = refl
@@ -29,7 +29,7 @@ module _ (y m d : ℕ) where
   pub day_fits : has_day y m d ≡ true → (y < 65536) × (m < 256) × (d < 256)
   unfolding day_of
   day_fits h =
-      let is = day-accepted y m d (day_number y m d) (rw h) in
+      let is = day_accepted y m d (day_number y m d) (rw h) in
       let until = day_month_until (day_number y m d) y m d is in
       let long = length_within y m in
       (omega (arith, is.month_until), omega (arith, is.month_until), omega (arith, is.day_until))
@@ -48,7 +48,7 @@ fine_test false r e = e
 pub date_not_over : (x : ℕ × (ℕ × ℕ)) → date.writable x ≡ true → date.too_large x ≡ false
 unfolding date only followed count
 date_not_over x r =
-    let f = day_fits x.0 x.1.0 x.1.1 (fine_test _ _ (ap is_fine (sym (day-fault x.0 x.1.0 x.1.1 0)) ∙ r)) in
+    let f = day_fits x.0 x.1.0 x.1.1 (fine_test _ _ (ap is_fine (sym (day_fault_lem x.0 x.1.0 x.1.1 0)) ∙ r)) in
     rw (lt-ltb x.0 65536 f.0, lt-ltb x.1.0 256 f.1, lt-ltb x.1.1 256 f.2)
 
 pub clock_not_over : (x : ℕ × (ℕ × ℕ)) → clock.writable x ≡ true → clock.too_large x ≡ false

@@ -39,17 +39,17 @@ module _ (s : List ℕ) (p n : ℕ) (fits : p + n ≤ length s) where
   long : length (take n (drop p s)) ≡ n
   long = length-take-le n (drop p s) (simp length-drop (omega arith))
 
-  pub port-empty : n < 1 → false ≡ is_port (take n (drop p s))
+  pub port_empty : n < 1 → false ≡ is_port (take n (drop p s))
   unfolding is_port
-  port-empty h = rw (long, lt-leb 1 n h)
+  port_empty h = rw (long, lt-leb 1 n h)
 
-  pub port-long : 5 < n → false ≡ is_port (take n (drop p s))
+  pub port_long : 5 < n → false ≡ is_port (take n (drop p s))
   unfolding is_port
-  port-long h = rw (long, le-leb 1 n (omega arith), lt-leb n 5 h)
+  port_long h = rw (long, le-leb 1 n (omega arith), lt-leb n 5 h)
 
-  pub port-start : (end : ℕ) → end ≡ p + n → 1 ≤ n → n ≤ 5 → is_port (take n (drop p s)) ≡ port_left 0 (part s p end)
+  pub port_start : (end : ℕ) → end ≡ p + n → 1 ≤ n → n ≤ 5 → is_port (take n (drop p s)) ≡ port_left 0 (part s p end)
   unfolding is_port
-  port-start end e h k = rw (long, le-leb 1 n h, le-leb n 5 k) (ap (port_left 0) (whole_part s p n end e))
+  port_start end e h k = rw (long, le-leb 1 n h, le-leb n 5 k) (ap (port_left 0) (whole_part s p n end e))
 
 worth_grows : (n : ℕ) (cs : List ℕ) → n ≤ port_worth n cs
 unfolding port_worth
@@ -65,26 +65,26 @@ too_much n cs h = rw (lt-leb (port_worth n cs) 65535 (omega (arith, worth_grows 
 
 -- a turn has come to the byte at k; those before it are worth n
 module _ (s : List ℕ) (k end n : ℕ) (all : Bool) (left : all ≡ port_left n (part s k end)) where
-  pub port-done : end ≤ k → n ≤ 65535 → true ≡ all
+  pub port_done : end ≤ k → n ≤ 65535 → true ≡ all
   unfolding every port_worth
-  port-done h m = sym (left ∙ rw (empty_part s k end h, le-leb n 65535 m))
+  port_done h m = sym (left ∙ rw (empty_part s k end h, le-leb n 65535 m))
 
   module _ (here : k < end) (there : end ≤ length s) where
-    pub port-low : get_or s k 0 < 0x30 → false ≡ all
+    pub port_low : get_or s k 0 < 0x30 → false ≡ all
     unfolding every
-    port-low h = sym (left ∙ rw (first_of_part s k end here there, lt-leb 0x30 (get_or s k 0) h))
+    port_low h = sym (left ∙ rw (first_of_part s k end here there, lt-leb 0x30 (get_or s k 0) h))
 
     module _ (h : 0x30 ≤ get_or s k 0) where
-      pub port-high : 0x39 < get_or s k 0 → false ≡ all
+      pub port_high : 0x39 < get_or s k 0 → false ≡ all
       unfolding every
-      port-high m = sym (left ∙ rw (first_of_part s k end here there, le-leb 0x30 (get_or s k 0) h, lt-leb (get_or s k 0) 0x39 m))
+      port_high m = sym (left ∙ rw (first_of_part s k end here there, le-leb 0x30 (get_or s k 0) h, lt-leb (get_or s k 0) 0x39 m))
 
-      pub port-next : get_or s k 0 ≤ 0x39 → all ≡ port_left (n * 10 + (get_or s k 0 - 0x30)) (part s (k + 1) end)
+      pub port_next : get_or s k 0 ≤ 0x39 → all ≡ port_left (n * 10 + (get_or s k 0 - 0x30)) (part s (k + 1) end)
       unfolding every port_worth
-      port-next m = left ∙ rw (first_of_part s k end here there, le-leb 0x30 (get_or s k 0) h, le-leb (get_or s k 0) 0x39 m)
+      port_next m = left ∙ rw (first_of_part s k end here there, le-leb 0x30 (get_or s k 0) h, le-leb (get_or s k 0) 0x39 m)
 
-      pub port-much : get_or s k 0 ≤ 0x39 → 65535 < n * 10 + (get_or s k 0 - 0x30) → false ≡ all
-      port-much m x = sym (port-next m ∙ too_much (n * 10 + (get_or s k 0 - 0x30)) (part s (k + 1) end) x)
+      pub port_much : get_or s k 0 ≤ 0x39 → 65535 < n * 10 + (get_or s k 0 - 0x30) → false ≡ all
+      port_much m x = sym (port_next m ∙ too_much (n * 10 + (get_or s k 0 - 0x30)) (part s (k + 1) end) x)
 
 -- ---- a name
 
@@ -94,31 +94,31 @@ module _ (s : List ℕ) (k end : ℕ) (all : Bool) (left : all ≡ name_goes_on 
   name_done h = sym (left ∙ rw (empty_part s k end h))
 
   module _ (here : k < end) (there : end ≤ length s) where
-    pub name-ends : get_or s k 0 ≡ colon → is_port (part s (k + 1) end) ≡ all
+    pub name_ends : get_or s k 0 ≡ colon → is_port (part s (k + 1) end) ≡ all
     unfolding name_goes_on
-    name-ends e = sym (left ∙ rw (first_of_part s k end here there, eq-eqb (get_or s k 0) colon e))
+    name_ends e = sym (left ∙ rw (first_of_part s k end here there, eq-eqb (get_or s k 0) colon e))
 
     module _ (e : get_or s k 0 ≡ colon → ⊥) where
-      pub name-fails : in_name (get_or s k 0) ≡ false → false ≡ all
+      pub name_fails : in_name (get_or s k 0) ≡ false → false ≡ all
       unfolding name_goes_on
-      name-fails h = sym (left ∙ rw (first_of_part s k end here there, h, ne_eqb (get_or s k 0) colon e))
+      name_fails h = sym (left ∙ rw (first_of_part s k end here there, h, ne_eqb (get_or s k 0) colon e))
 
-      pub name-next : in_name (get_or s k 0) ≡ true → all ≡ name_goes_on (part s (k + 1) end)
+      pub name_next : in_name (get_or s k 0) ≡ true → all ≡ name_goes_on (part s (k + 1) end)
       unfolding name_goes_on
-      name-next h = left ∙ rw (first_of_part s k end here there, h, ne_eqb (get_or s k 0) colon e)
+      name_next h = left ∙ rw (first_of_part s k end here there, h, ne_eqb (get_or s k 0) colon e)
 
 -- ---- a name and a port
 
 module _ (s : List ℕ) (p n : ℕ) (fits : p + n ≤ length s) where
-  pub host-empty : n < 1 → false ≡ host_and_port (take n (drop p s))
+  pub host_empty : n < 1 → false ≡ host_and_port (take n (drop p s))
   unfolding host_and_port
-  host-empty h = let z : n ≡ 0 = omega arith in rw z
+  host_empty h = let z : n ≡ 0 = omega arith in rw z
 
   module _ (h : 1 ≤ n) where
-    pub host-fails : in_name (get_or s p 0) ≡ false → false ≡ host_and_port (take n (drop p s))
+    pub host_fails : in_name (get_or s p 0) ≡ false → false ≡ host_and_port (take n (drop p s))
     unfolding host_and_port
-    host-fails e = sym (ap host_and_port (first_of s p n (n - 1) (omega arith) fits) ∙ rw e)
+    host_fails e = sym (ap host_and_port (first_of s p n (n - 1) (omega arith) fits) ∙ rw e)
 
-    pub host-named : in_name (get_or s p 0) ≡ true → name_goes_on (take (n - 1) (drop (p + 1) s)) ≡ host_and_port (take n (drop p s))
+    pub host_named : in_name (get_or s p 0) ≡ true → name_goes_on (take (n - 1) (drop (p + 1) s)) ≡ host_and_port (take n (drop p s))
     unfolding host_and_port
-    host-named e = sym (ap host_and_port (first_of s p n (n - 1) (omega arith) fits) ∙ rw e)
+    host_named e = sym (ap host_and_port (first_of s p n (n - 1) (omega arith) fits) ∙ rw e)

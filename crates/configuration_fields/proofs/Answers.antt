@@ -23,11 +23,11 @@ use Rattle.body_formats.proofs.Outcomes.{found_inj, and_then_found, need_found, 
 use Rattle.body_formats.proofs.Classes.{Bytes}
 use Rattle.body_formats.proofs.Elements.{followed_found}
 use Rattle.body_formats.proofs.Bits.{number_is_count, number_among_lem}
-use Rattle.body_formats.proofs.Readers.{number_found, number_refused, number_facts, list-no, list_all, step_found, step_refused}
+use Rattle.body_formats.proofs.Readers.{number_found, number_refused, number_facts, list_no, list_all, step_found, step_refused}
 use Rattle.body_formats.proofs.Readers as readers
 use Rattle.configuration_addresses.specs.Address.{length_fits, is_address}
 use Rattle.configuration.specs.Configuration.{plain, date, clock, address_fault, address_length, address, least}
-use Rattle.configuration.proofs.Clocks.{day-fault}
+use Rattle.configuration.proofs.Clocks.{day_fault_lem}
 use Rattle.body_asking.specs.Asking.{headed_part, nth_of}
 use Rattle.body_asking.proofs.Answers.{part_found, part_refused}
 use Rattle.body_asking.proofs.Answers as asking
@@ -42,19 +42,19 @@ use Rattle.configuration_fields.specs.Asked.{command_count, command_part, signat
 -- ---- one thing of several bytes
 
 module _ {A : Type 0} (F : Format A) (s : List ℕ) (l p : ℕ) where
-  ended-one : ended_all F 1 s l p ≡ step_of (F.parse s l p)
+  ended_one : ended_all F 1 s l p ≡ step_of (F.parse s l p)
   unfolding ended_all repeat
-  ended-one = go (F.parse s l p)
+  ended_one = go (F.parse s l p)
     where
       go : (x : Reading A) → step_of (and_then x (λ a q. and_then (found [] q) (λ (xs : List A) r. found (a ∷ xs) r))) ≡ step_of x
       go (found a q) = refl
       go (refused r) = refl
 
-  pub whole-no : (r : Refusal) → NoStep r ≡ ended_all F 1 s l p → NoPart r ≡ field_part p (F.parse s l p)
-  whole-no r e = rw (asking.step_refused (F.parse s l p) r (e ∙ ended-one))
+  pub whole_no : (r : Refusal) → NoStep r ≡ ended_all F 1 s l p → NoPart r ≡ field_part p (F.parse s l p)
+  whole_no r e = rw (asking.step_refused (F.parse s l p) r (e ∙ ended_one))
 
   pub whole_is : (end : ℕ) → At end ≡ ended_all F 1 s l p → Of p (end - p) ≡ field_part p (F.parse s l p)
-  whole_is end e = rw (asking.step_found (F.parse s l p) end (e ∙ ended-one)).1
+  whole_is end e = rw (asking.step_found (F.parse s l p) end (e ∙ ended_one)).1
 
 rest_ends : (s : List ℕ) (l p : ℕ) (xs : List ℕ) (q : ℕ) → rest.parse s l p ≡ found xs q → l ≡ q
 unfolding rest
@@ -64,7 +64,7 @@ rest_ends s l p xs q e = (found_inj e).1
 pub entry_onward : (h w : ℕ) (s : List ℕ) (l p end : ℕ) → At end ≡ ended_all (headed_part h w) 1 s l p → p ≤ end
 unfolding bytes length_of
 entry_onward h w s l p end e =
-    let x = asking.step_found ((headed_part h w).parse s l p) end (e ∙ ended-one (headed_part h w) s l p) in
+    let x = asking.step_found ((headed_part h w).parse s l p) end (e ∙ ended_one (headed_part h w) s l p) in
     let f = followed_found (bytes h) (opaque w) s l p x.0 end x.1 in
     let head = (found_inj (within_found s l p (p + h) _ x.0.0 f.0 f.1).2).1 in
     let part = counted_holds (length_of w) rest s l f.0 x.0.1 end f.2 in
@@ -73,28 +73,28 @@ entry_onward h w s l p end e =
 -- ---- the table
 
 module _ (s : List ℕ) (i : ℕ) where
-  pub command-no : (r : Refusal) → NoNumber r ≡ command_count s → NoPart r ≡ command_part s i
+  pub command_no : (r : Refusal) → NoNumber r ≡ command_count s → NoPart r ≡ command_part s i
   unfolding command_part command_count number_read
-  command-no r e = rw (number_refused ((count 1).parse s (length s) 0) r e)
+  command_no r e = rw (number_refused ((count 1).parse s (length s) 0) r e)
 
   module _ (n q : ℕ) (e : Is n q ≡ command_count s) where
-    pub command-none : {x : Step} → x ≡ step_of (nth_of (headed_part 1 2) n i s (length s) q) → (r : Refusal) → x ≡ NoStep r → NoPart r ≡ command_part s i
+    pub command_none : {x : Step} → x ≡ step_of (nth_of (headed_part 1 2) n i s (length s) q) → (r : Refusal) → x ≡ NoStep r → NoPart r ≡ command_part s i
     unfolding command_part command_count number_read
-    command-none f r g = rw (number_found ((count 1).parse s (length s) 0) n q e, asking.step_refused (nth_of (headed_part 1 2) n i s (length s) q) r (sym g ∙ f))
+    command_none f r g = rw (number_found ((count 1).parse s (length s) 0) n q e, asking.step_refused (nth_of (headed_part 1 2) n i s (length s) q) r (sym g ∙ f))
 
-    pub command-at : {x : Step} → x ≡ step_of (nth_of (headed_part 1 2) n i s (length s) q) → (p : ℕ) → x ≡ At p → field_part p ((headed_part 1 2).parse s (length s) p) ≡ command_part s i
+    pub command_at : {x : Step} → x ≡ step_of (nth_of (headed_part 1 2) n i s (length s) q) → (p : ℕ) → x ≡ At p → field_part p ((headed_part 1 2).parse s (length s) p) ≡ command_part s i
     unfolding command_part command_count number_read
-    command-at f p g = rw (number_found ((count 1).parse s (length s) 0) n q e, (asking.step_found (nth_of (headed_part 1 2) n i s (length s) q) p (sym g ∙ f)).1)
+    command_at f p g = rw (number_found ((count 1).parse s (length s) 0) n q e, (asking.step_found (nth_of (headed_part 1 2) n i s (length s) q) p (sym g ∙ f)).1)
 
 module _ (s : List ℕ) where
-  pub signature-no : (r : Refusal) → NoNumber r ≡ command_count s → NoPart r ≡ signature_part s
+  pub signature_no : (r : Refusal) → NoNumber r ≡ command_count s → NoPart r ≡ signature_part s
   unfolding signature_part command_count
-  signature-no r e = rw (step_refused (list_of (count 1) (headed_part 1 2)) s (length s) 0 r (list-no s (length s) 0 1 (headed_part 1 2) r e))
+  signature_no r e = rw (step_refused (list_of (count 1) (headed_part 1 2)) s (length s) 0 r (list_no s (length s) 0 1 (headed_part 1 2) r e))
 
   module _ (n q : ℕ) (e : Is n q ≡ command_count s) where
-    pub signature-past : (r : Refusal) → NoStep r ≡ ended_all (headed_part 1 2) n s (length s) q → NoPart r ≡ signature_part s
+    pub signature_past : (r : Refusal) → NoStep r ≡ ended_all (headed_part 1 2) n s (length s) q → NoPart r ≡ signature_part s
     unfolding signature_part command_count
-    signature-past r f = rw (step_refused (list_of (count 1) (headed_part 1 2)) s (length s) 0 r (f ∙ list_all s (length s) 0 1 (headed_part 1 2) n q e))
+    signature_past r f = rw (step_refused (list_of (count 1) (headed_part 1 2)) s (length s) 0 r (f ∙ list_all s (length s) 0 1 (headed_part 1 2) n q e))
 
     pub signature_is : (end : ℕ) → At end ≡ ended_all (headed_part 1 2) n s (length s) q → part_read 2 s (length s) end ≡ signature_part s
     unfolding signature_part command_count part_read
@@ -112,17 +112,17 @@ place_refused (found m q) r e = absurd (let z : ◌≡◌ {A = ℕ} 0 1 = cc in 
 
 -- what is read in a content, if there is one
 module _ {A : Type 0} (F : Format A) (tag k : ℕ) (s : List ℕ) (p : ℕ) where
-  pub in-command-no : (r : Refusal) → NoPlace r ≡ place_read (content_at tag s p) → refused r ≡ in_command F tag k s p
-  in-command-no r e = rw (place_refused (content_at tag s p) r e)
+  pub in_command_no : (r : Refusal) → NoPlace r ≡ place_read (content_at tag s p) → refused r ≡ in_command F tag k s p
+  in_command_no r e = rw (place_refused (content_at tag s p) r e)
 
-  pub in-command : (q l : ℕ) → In q l ≡ place_read (content_at tag s p) → F.parse s l (q + k) ≡ in_command F tag k s p
-  in-command q l e = rw (place_found (content_at tag s p) q l e)
+  pub in_command_lem : (q l : ℕ) → In q l ≡ place_read (content_at tag s p) → F.parse s l (q + k) ≡ in_command F tag k s p
+  in_command_lem q l e = rw (place_found (content_at tag s p) q l e)
 
 -- ---- numbers
 
 module _ (s : List ℕ) (b : Bytes s) where
-  pub among-read : (lo hi l p : ℕ) → number_among lo hi p (number_read 1 s l p) ≡ number_of ((among lo hi (number 1)).parse s l p)
-  among-read lo hi l p = ap (number_among lo hi p) (number_is_count 1 s l p b) ∙ number_among_lem lo hi (number 1) s l p
+  pub among_read : (lo hi l p : ℕ) → number_among lo hi p (number_read 1 s l p) ≡ number_of ((among lo hi (number 1)).parse s l p)
+  among_read lo hi l p = ap (number_among lo hi p) (number_is_count 1 s l p b) ∙ number_among_lem lo hi (number 1) s l p
 
   -- a number of bytes is not refused for its value
   pub number_in : (w tag k p : ℕ) → number_of (in_command (count w) tag k s p) ≡ number_of (in_command (number w) tag k s p)
@@ -140,24 +140,24 @@ module _ (s : List ℕ) (p : ℕ) where
   unfolding command_tag tag_at
   tag_is b h = number_is_count 1 s (length s) p b ∙ rw (lt-ltb p (length s) h)
 
-  pub tag-none : length s ≤ p → NoNumber (OutsideSet 0) ≡ command_tag s p
+  pub tag_none : length s ≤ p → NoNumber (OutsideSet 0) ≡ command_tag s p
   unfolding command_tag tag_at
-  tag-none h = rw (le-ltb p (length s) h)
+  tag_none h = rw (le-ltb p (length s) h)
 
   -- where a tag found ends
-  pub tag-found : (t q : ℕ) → tag_at s p ≡ found t q → ((number 1).parse s (length s) p ≡ found t q) × (q ≡ p + 1) × (p < length s)
+  pub tag_found : (t q : ℕ) → tag_at s p ≡ found t q → ((number 1).parse s (length s) p ≡ found t q) × (q ≡ p + 1) × (p < length s)
   unfolding tag_at
-  tag-found t q e =
+  tag_found t q e =
       let f = need_found (ltb p (length s)) (OutsideSet 0) _ t q e in
       (f.1, number_sized 1 s (length s) p t q f.1, ltb-true p (length s) f.0)
 
   -- the content's bytes lie three bytes after the tag's place
-  bytes-found : (cs : List ℕ) (l : ℕ) → bytes_at s p ≡ found cs l → (p + 3 ≤ l) × (l ≤ length s) × (length cs ≤ l) × (part_of (bytes_at s p) ≡ Of (p + 3) (l - (p + 3)))
+  bytes_found : (cs : List ℕ) (l : ℕ) → bytes_at s p ≡ found cs l → (p + 3 ≤ l) × (l ≤ length s) × (length cs ≤ l) × (part_of (bytes_at s p) ≡ Of (p + 3) (l - (p + 3)))
   unfolding bytes_at least_of rest
-  bytes-found cs l e =
+  bytes_found cs l e =
       let i = and_then_found (tag_at s p) _ cs l e in
       let h = counted_holds (least_of 2 (least i.0)) rest s (length s) i.1 cs l i.3 in
-      let at : h.at ≡ p + 3 = omega (arith, count_sized 2 s (length s) i.1 h.counts h.at h.told, (tag-found i.0 i.1 i.2).1) in
+      let at : h.at ≡ p + 3 = omega (arith, count_sized 2 s (length s) i.1 h.counts h.at h.told, (tag_found i.0 i.1 i.2).1) in
       let f = found_inj h.inner in
       let m = length-take-le (h.at + h.size - h.at) (drop h.at s) (simp length-drop (omega (arith, h.in_body_lem))) in (
         omega (arith, at, f.1),
@@ -166,30 +166,30 @@ module _ (s : List ℕ) (p : ℕ) where
         rw i.2 (h.part ∙ rw at (ap (Of (p + 3)) (let z : h.size ≡ l - (p + 3) = omega (arith, at, f.1) in z))),
       )
 
-  pub content-no : (r : Refusal) → NoNumber r ≡ command_tag s p → NoPart r ≡ command_content s p
+  pub content_no : (r : Refusal) → NoNumber r ≡ command_tag s p → NoPart r ≡ command_content s p
   unfolding command_tag command_content bytes_at
-  content-no r e = rw (number_refused (tag_at s p) r e)
+  content_no r e = rw (number_refused (tag_at s p) r e)
 
-  pub content-is : (t q m : ℕ) → Is t q ≡ command_tag s p → m ≡ least t → part_of ((counted (least_of 2 m) rest).parse s (length s) q) ≡ command_content s p
+  pub content_is : (t q m : ℕ) → Is t q ≡ command_tag s p → m ≡ least t → part_of ((counted (least_of 2 m) rest).parse s (length s) q) ≡ command_content s p
   unfolding command_tag command_content bytes_at
-  content-is t q m e z = rw (number_found (tag_at s p) t q e, z)
+  content_is t q m e z = rw (number_found (tag_at s p) t q e, z)
 
-  pub content-there : (a n : ℕ) → Of a n ≡ command_content s p → (cs : List ℕ) × (bytes_at s p ≡ found cs (a + n)) × (a ≡ p + 3)
+  pub content_there : (a n : ℕ) → Of a n ≡ command_content s p → (cs : List ℕ) × (bytes_at s p ≡ found cs (a + n)) × (a ≡ p + 3)
   unfolding command_content
-  content-there a n e =
-      let f = part_found (bytes_at s p) a n e (λ xs q g. (bytes-found xs q g).2) in
-      let z : Of a n ≡ Of (p + 3) (a + n - (p + 3)) = e ∙ (bytes-found f.0 (a + n) f.1).3 in
+  content_there a n e =
+      let f = part_found (bytes_at s p) a n e (λ xs q g. (bytes_found xs q g).2) in
+      let z : Of a n ≡ Of (p + 3) (a + n - (p + 3)) = e ∙ (bytes_found f.0 (a + n) f.1).3 in
       (f.0, f.1, cc)
 
-  pub content-in : (a n : ℕ) → Of a n ≡ command_content s p → a + n ≤ length s
-  content-in a n e =
-      let f = content-there a n e in
-      (bytes-found f.0 (a + n) f.1).1
+  pub content_in : (a n : ℕ) → Of a n ≡ command_content s p → a + n ≤ length s
+  content_in a n e =
+      let f = content_there a n e in
+      (bytes_found f.0 (a + n) f.1).1
 
   module _ (tag : ℕ) where
-    pub place-no : (r : Refusal) → NoNumber r ≡ command_tag s p → NoPlace r ≡ place_read (content_at tag s p)
+    pub place_no : (r : Refusal) → NoNumber r ≡ command_tag s p → NoPlace r ≡ place_read (content_at tag s p)
     unfolding command_tag content_at
-    place-no r e = rw (number_refused (tag_at s p) r e)
+    place_no r e = rw (number_refused (tag_at s p) r e)
 
     module _ (t q : ℕ) (e : Is t q ≡ command_tag s p) where
       pub place_other : (t ≡ tag → ⊥) → NoPlace (OutsideSet 0) ≡ place_read (content_at tag s p)
@@ -197,14 +197,14 @@ module _ (s : List ℕ) (p : ℕ) where
       place_other h = rw (number_found (tag_at s p) t q e, ne_eqb t tag h)
 
       module _ (same : t ≡ tag) where
-        pub place-bad : (r : Refusal) → NoPart r ≡ command_content s p → NoPlace r ≡ place_read (content_at tag s p)
+        pub place_bad : (r : Refusal) → NoPart r ≡ command_content s p → NoPlace r ≡ place_read (content_at tag s p)
         unfolding command_tag command_content content_at
-        place-bad r f = rw (number_found (tag_at s p) t q e, eq-eqb t tag same, part_refused (bytes_at s p) r f)
+        place_bad r f = rw (number_found (tag_at s p) t q e, eq-eqb t tag same, part_refused (bytes_at s p) r f)
 
         pub place_is : (a n : ℕ) → Of a n ≡ command_content s p → In a (a + n) ≡ place_read (content_at tag s p)
         unfolding command_tag content_at
         place_is a n f =
-            let g = content-there a n f in
+            let g = content_there a n f in
             rw (number_found (tag_at s p) t q e, eq-eqb t tag same, g.1) (ap (λ (z : ℕ). In z (a + n)) g.2)
 
     -- a content found lies in the body
@@ -214,7 +214,7 @@ module _ (s : List ℕ) (p : ℕ) where
         let i = and_then_found (tag_at s p) _ l q (place_found (content_at tag s p) q l e) in
         let n = need_found (eqb i.0 tag) (OutsideSet 0) _ l q i.3 in
         let j = and_then_found (bytes_at s p) _ l q n.1 in
-        let f = bytes-found j.0 j.1 j.2 in
+        let f = bytes_found j.0 j.1 j.2 in
         let g = found_inj j.3 in
         (sym g.1, omega (arith, g.0, g.1, f.0), omega (arith, g.0, f.1))
 
@@ -234,81 +234,81 @@ three_refused (refused t) r e = let a : t ≡ r = cc in ap refused a
 three_refused (found y q) r e = absurd (let z : ◌≡◌ {A = ℕ} 0 1 = cc in omega arith)
 
 module _ (s : List ℕ) (l p w : ℕ) where
-  pub three-no-first : (r : Refusal) → NoNumber r ≡ number_read w s l p → NoThree r ≡ three_of ((plain w).parse s l p)
+  pub three_no_first : (r : Refusal) → NoNumber r ≡ number_read w s l p → NoThree r ≡ three_of ((plain w).parse s l p)
   unfolding followed number_read
-  three-no-first r e = rw (number_refused ((count w).parse s l p) r e)
+  three_no_first r e = rw (number_refused ((count w).parse s l p) r e)
 
   module _ (x q : ℕ) (e : Is x q ≡ number_read w s l p) where
-    pub three-no-second : (r : Refusal) → NoNumber r ≡ number_read 1 s l q → NoThree r ≡ three_of ((plain w).parse s l p)
+    pub three_no_second : (r : Refusal) → NoNumber r ≡ number_read 1 s l q → NoThree r ≡ three_of ((plain w).parse s l p)
     unfolding followed number_read
-    three-no-second r f = rw (number_found ((count w).parse s l p) x q e, number_refused ((count 1).parse s l q) r f)
+    three_no_second r f = rw (number_found ((count w).parse s l p) x q e, number_refused ((count 1).parse s l q) r f)
 
     module _ (y t : ℕ) (f : Is y t ≡ number_read 1 s l q) where
-      pub three-no-third : (r : Refusal) → NoNumber r ≡ number_read 1 s l t → NoThree r ≡ three_of ((plain w).parse s l p)
+      pub three_no_third : (r : Refusal) → NoNumber r ≡ number_read 1 s l t → NoThree r ≡ three_of ((plain w).parse s l p)
       unfolding followed number_read
-      three-no-third r g = rw (number_found ((count w).parse s l p) x q e, number_found ((count 1).parse s l q) y t f, number_refused ((count 1).parse s l t) r g)
+      three_no_third r g = rw (number_found ((count w).parse s l p) x q e, number_found ((count 1).parse s l q) y t f, number_refused ((count 1).parse s l t) r g)
 
-      pub three-is : (z end : ℕ) → Is z end ≡ number_read 1 s l t → Are x y z end ≡ three_of ((plain w).parse s l p)
+      pub three_is : (z end : ℕ) → Is z end ≡ number_read 1 s l t → Are x y z end ≡ three_of ((plain w).parse s l p)
       unfolding followed number_read
-      three-is z end g = rw (number_found ((count w).parse s l p) x q e, number_found ((count 1).parse s l q) y t f, number_found ((count 1).parse s l t) z end g)
+      three_is z end g = rw (number_found ((count w).parse s l p) x q e, number_found ((count 1).parse s l q) y t f, number_found ((count 1).parse s l t) z end g)
 
 -- ---- 1: the clock
 
 module _ (s : List ℕ) (p : ℕ) where
-  pub date-no : (r : Refusal) → NoPlace r ≡ place_read (content_at 1 s p) → NoThree r ≡ clock_date s p
+  pub date_no : (r : Refusal) → NoPlace r ≡ place_read (content_at 1 s p) → NoThree r ≡ clock_date s p
   unfolding clock_date
-  date-no r e = rw (place_refused (content_at 1 s p) r e)
+  date_no r e = rw (place_refused (content_at 1 s p) r e)
 
-  pub clock-no : (r : Refusal) → NoPlace r ≡ place_read (content_at 1 s p) → NoThree r ≡ clock_time s p
+  pub clock_no : (r : Refusal) → NoPlace r ≡ place_read (content_at 1 s p) → NoThree r ≡ clock_time s p
   unfolding clock_time
-  clock-no r e = rw (place_refused (content_at 1 s p) r e)
+  clock_no r e = rw (place_refused (content_at 1 s p) r e)
 
   module _ (q l : ℕ) (e : In q l ≡ place_read (content_at 1 s p)) where
-    pub date-bad : (r : Refusal) → NoThree r ≡ three_of ((plain 2).parse s l q) → NoThree r ≡ clock_date s p
+    pub date_bad : (r : Refusal) → NoThree r ≡ three_of ((plain 2).parse s l q) → NoThree r ≡ clock_date s p
     unfolding clock_date date only
-    date-bad r f = rw (place_found (content_at 1 s p) q l e, add-zero q, three_refused ((plain 2).parse s l q) r f)
+    date_bad r f = rw (place_found (content_at 1 s p) q l e, add-zero q, three_refused ((plain 2).parse s l q) r f)
 
     module _ (x y z end : ℕ) (f : Are x y z end ≡ three_of ((plain 2).parse s l q)) where
-      pub date-impossible : has_day x y z ≡ false → NoThree (ImpossibleDay q) ≡ clock_date s p
+      pub date_impossible : has_day x y z ≡ false → NoThree (ImpossibleDay q) ≡ clock_date s p
       unfolding clock_date date only
-      date-impossible g = rw (place_found (content_at 1 s p) q l e, add-zero q, three_found ((plain 2).parse s l q) x y z end f, day-fault x y z q, g)
+      date_impossible g = rw (place_found (content_at 1 s p) q l e, add-zero q, three_found ((plain 2).parse s l q) x y z end f, day_fault_lem x y z q, g)
 
-      pub date-is : has_day x y z ≡ true → Are x y z end ≡ clock_date s p
+      pub date_is : has_day x y z ≡ true → Are x y z end ≡ clock_date s p
       unfolding clock_date date only
-      date-is g = rw (place_found (content_at 1 s p) q l e, add-zero q, three_found ((plain 2).parse s l q) x y z end f, day-fault x y z q, g)
+      date_is g = rw (place_found (content_at 1 s p) q l e, add-zero q, three_found ((plain 2).parse s l q) x y z end f, day_fault_lem x y z q, g)
 
-    pub clock-bad : (r : Refusal) → NoThree r ≡ three_of ((plain 1).parse s l (q + 4)) → NoThree r ≡ clock_time s p
+    pub clock_bad : (r : Refusal) → NoThree r ≡ three_of ((plain 1).parse s l (q + 4)) → NoThree r ≡ clock_time s p
     unfolding clock_time clock only
-    clock-bad r f = rw (place_found (content_at 1 s p) q l e, three_refused ((plain 1).parse s l (q + 4)) r f)
+    clock_bad r f = rw (place_found (content_at 1 s p) q l e, three_refused ((plain 1).parse s l (q + 4)) r f)
 
     module _ (x y z end : ℕ) (f : Are x y z end ≡ three_of ((plain 1).parse s l (q + 4))) where
-      pub clock-impossible : (leb x 23 && (leb y 59 && leb z 59)) ≡ false → NoThree (ImpossibleDay (q + 4)) ≡ clock_time s p
+      pub clock_impossible : (leb x 23 && (leb y 59 && leb z 59)) ≡ false → NoThree (ImpossibleDay (q + 4)) ≡ clock_time s p
       unfolding clock_time clock only
-      clock-impossible g = rw (place_found (content_at 1 s p) q l e, three_found ((plain 1).parse s l (q + 4)) x y z end f, g)
+      clock_impossible g = rw (place_found (content_at 1 s p) q l e, three_found ((plain 1).parse s l (q + 4)) x y z end f, g)
 
-      pub clock-is : (leb x 23 && (leb y 59 && leb z 59)) ≡ true → Are x y z end ≡ clock_time s p
+      pub clock_is : (leb x 23 && (leb y 59 && leb z 59)) ≡ true → Are x y z end ≡ clock_time s p
       unfolding clock_time clock only
-      clock-is g = rw (place_found (content_at 1 s p) q l e, three_found ((plain 1).parse s l (q + 4)) x y z end f, g)
+      clock_is g = rw (place_found (content_at 1 s p) q l e, three_found ((plain 1).parse s l (q + 4)) x y z end f, g)
 
 -- ---- 2: the code
 
 module _ (s : List ℕ) (p : ℕ) where
-  pub code-address-no : (r : Refusal) → NoPlace r ≡ place_read (content_at 2 s p) → NoPart r ≡ code_address s p
+  pub code_address_no : (r : Refusal) → NoPlace r ≡ place_read (content_at 2 s p) → NoPart r ≡ code_address s p
   unfolding code_address
-  code-address-no r e = rw (place_refused (content_at 2 s p) r e)
+  code_address_no r e = rw (place_refused (content_at 2 s p) r e)
 
-  pub code-address-is : (q l : ℕ) → In q l ≡ place_read (content_at 2 s p) → part_read 1 s l q ≡ code_address s p
+  pub code_address_is : (q l : ℕ) → In q l ≡ place_read (content_at 2 s p) → part_read 1 s l q ≡ code_address s p
   unfolding code_address part_read
-  code-address-is q l e = rw (place_found (content_at 2 s p) q l e) (ap (λ (t : ℕ). part_of ((opaque 1).parse s l t)) (sym (add-zero q)))
+  code_address_is q l e = rw (place_found (content_at 2 s p) q l e) (ap (λ (t : ℕ). part_of ((opaque 1).parse s l t)) (sym (add-zero q)))
 
-  pub code-no : (r : Refusal) → NoPlace r ≡ place_read (content_at 2 s p) → NoPlace r ≡ place_read (code_at s p)
+  pub code_no : (r : Refusal) → NoPlace r ≡ place_read (content_at 2 s p) → NoPlace r ≡ place_read (code_at s p)
   unfolding code_at
-  code-no r e = rw (place_refused (content_at 2 s p) r e)
+  code_no r e = rw (place_refused (content_at 2 s p) r e)
 
   module _ (q l : ℕ) (e : In q l ≡ place_read (content_at 2 s p)) where
-    pub code-bad : (r : Refusal) → NoPart r ≡ part_read 1 s l q → NoPlace r ≡ place_read (code_at s p)
+    pub code_bad : (r : Refusal) → NoPart r ≡ part_read 1 s l q → NoPlace r ≡ place_read (code_at s p)
     unfolding code_at
-    code-bad r f = rw (place_found (content_at 2 s p) q l e, readers.part_refused s l q 1 r f)
+    code_bad r f = rw (place_found (content_at 2 s p) q l e, readers.part_refused s l q 1 r f)
 
     pub code_is : (a n : ℕ) → Of a n ≡ part_read 1 s l q → In (a + n) l ≡ place_read (code_at s p)
     unfolding code_at
@@ -317,9 +317,9 @@ module _ (s : List ℕ) (p : ℕ) where
 -- ---- 4: the return address
 
 module _ (s : List ℕ) (b : Bytes s) (l p kind : ℕ) where
-  pub address-no : (r : Refusal) → NoPart r ≡ part_read 1 s l p → NoPart r ≡ part_of ((address kind).parse s l p)
+  pub address_no : (r : Refusal) → NoPart r ≡ part_read 1 s l p → NoPart r ≡ part_of ((address kind).parse s l p)
   unfolding address part_read counted length_of address_length rest
-  address-no r e = go ((count 1).parse s l p) e
+  address_no r e = go ((count 1).parse s l p) e
     where
       go : (x : Reading ℕ) → NoPart r ≡ part_of (and_then x (λ n q. within s l p (q + n % 256 ^ 1) (found (take (q + n % 256 ^ 1 - q) (drop q s)) (q + n % 256 ^ 1))))
           → NoPart r ≡ part_of (and_then x (λ n q. within s l p (q + n % 256) (judged (unless (length_fits kind n) (PastPart p)) ((only (address_fault kind) rest).parse s (q + n % 256) q))))
@@ -334,9 +334,9 @@ module _ (s : List ℕ) (b : Bytes s) (l p kind : ℕ) where
 
   module _ (a n : ℕ) (e : Of a n ≡ part_read 1 s l p) where
     -- the length counts the bytes
-    length-there : ((count 1).parse s l p ≡ found n a) × (n < 256) × (a + n ≤ length s) × (a + n ≤ l)
+    length_there : ((count 1).parse s l p ≡ found n a) × (n < 256) × (a + n ≤ length s) × (a + n ≤ l)
     unfolding counted length_of rest
-    length-there =
+    length_there =
         let f = readers.part_found s l p 1 a n e in
         let i = and_then_found ((count 1).parse s l p) _ f.0 (a + n) f.1 in
         let m = i.0 % 256 ^ 1 in
@@ -352,18 +352,18 @@ module _ (s : List ℕ) (b : Bytes s) (l p kind : ℕ) where
     filled : (address kind).parse s l p ≡ judged (unless (length_fits kind n) (PastPart p)) (judged (address_fault kind (take n (drop a s)) a) (found (take n (drop a s)) (a + n)))
     unfolding address counted address_length only rest
     filled =
-        let t = length-there in
+        let t = length_there in
         rw (t.0, mod-eq_of_lt t.1, le-leb (a + n) (length s) t.2, le-leb (a + n) l t.3, add-sub_cancel_left a n)
 
     long : length (take n (drop a s)) ≡ n
-    long = length-take-le n (drop a s) (simp length-drop (omega (arith, length-there.2)))
+    long = length-take-le n (drop a s) (simp length-drop (omega (arith, length_there.2)))
 
-    pub address-length : length_fits kind n ≡ false → NoPart (PastPart p) ≡ part_of ((address kind).parse s l p)
-    address-length f = rw (filled, f)
+    pub address_length_lem : length_fits kind n ≡ false → NoPart (PastPart p) ≡ part_of ((address kind).parse s l p)
+    address_length_lem f = rw (filled, f)
 
     module _ (fits : length_fits kind n ≡ true) where
-      pub address-bad : is_address kind (take n (drop a s)) ≡ false → NoPart (OutsideSet a) ≡ part_of ((address kind).parse s l p)
-      address-bad f = rw (filled, fits, long, fits, f)
+      pub address_bad : is_address kind (take n (drop a s)) ≡ false → NoPart (OutsideSet a) ≡ part_of ((address kind).parse s l p)
+      address_bad f = rw (filled, fits, long, fits, f)
 
       pub address_is : is_address kind (take n (drop a s)) ≡ true → Of a n ≡ part_of ((address kind).parse s l p)
       address_is f = rw (filled, fits, long, fits, f, long, add-sub_cancel a n)
@@ -388,17 +388,17 @@ address_fills s l p kind cs end e =
     }
 
 module _ (s : List ℕ) (l q : ℕ) where
-  pub kind-no : (r : Refusal) → NoNumber r ≡ number_of ((among 1 3 (number 1)).parse s l q) → NoPart r ≡ part_of (address_in s l q)
+  pub kind_no : (r : Refusal) → NoNumber r ≡ number_of ((among 1 3 (number 1)).parse s l q) → NoPart r ≡ part_of (address_in s l q)
   unfolding address_in
-  kind-no r e = rw (number_refused ((among 1 3 (number 1)).parse s l q) r e)
+  kind_no r e = rw (number_refused ((among 1 3 (number 1)).parse s l q) r e)
 
   pub kind_is : (kind p : ℕ) → Is kind p ≡ number_of ((among 1 3 (number 1)).parse s l q) → part_of ((address kind).parse s l p) ≡ part_of (address_in s l q)
   unfolding address_in
   kind_is kind p e = rw (number_found ((among 1 3 (number 1)).parse s l q) kind p e)
 
-  address-ends : (cs : List ℕ) (r : ℕ) → address_in s l q ≡ found cs r → (length cs ≤ r) × (r ≤ length s)
+  address_ends : (cs : List ℕ) (r : ℕ) → address_in s l q ≡ found cs r → (length cs ≤ r) × (r ≤ length s)
   unfolding address_in
-  address-ends cs r e =
+  address_ends cs r e =
       let i = and_then_found ((among 1 3 (number 1)).parse s l q) _ cs r e in
       let g = address_fills s l i.1 i.0 cs r i.3 in
       let n : length cs ≡ g.size = let z = g.is in cc in
@@ -406,89 +406,89 @@ module _ (s : List ℕ) (l q : ℕ) where
 
   -- ---- the terminals after it
 
-  pub after-address-no : (r : Refusal) → NoPart r ≡ part_of (address_in s l q) → NoPlace r ≡ place_read (terminals_in 4 s l q)
+  pub after_address_no : (r : Refusal) → NoPart r ≡ part_of (address_in s l q) → NoPlace r ≡ place_read (terminals_in 4 s l q)
   unfolding terminals_in
-  after-address-no r e = rw (part_refused (address_in s l q) r e)
+  after_address_no r e = rw (part_refused (address_in s l q) r e)
 
   module _ (a n : ℕ) (e : Of a n ≡ part_of (address_in s l q)) where
-    address-there : (cs : List ℕ) × (address_in s l q ≡ found cs (a + n))
-    address-there = part_found (address_in s l q) a n e (λ cs r f. (address-ends cs r f).0)
+    address_there : (cs : List ℕ) × (address_in s l q ≡ found cs (a + n))
+    address_there = part_found (address_in s l q) a n e (λ cs r f. (address_ends cs r f).0)
 
-    pub after-address-in : a + n ≤ length s
-    after-address-in = let f = address-there in (address-ends f.0 (a + n) f.1).1
+    pub after_address_in : a + n ≤ length s
+    after_address_in = let f = address_there in (address_ends f.0 (a + n) f.1).1
 
-    pub after-address : In (a + n) l ≡ place_read (terminals_in 4 s l q)
+    pub after_address : In (a + n) l ≡ place_read (terminals_in 4 s l q)
     unfolding terminals_in
-    after-address = rw address-there.1
+    after_address = rw address_there.1
 
-  pub after-parameters-no : (r : Refusal) → NoNumber r ≡ number_read 1 s l q → NoPlace r ≡ place_read (terminals_in 7 s l q)
+  pub after_parameters_no : (r : Refusal) → NoNumber r ≡ number_read 1 s l q → NoPlace r ≡ place_read (terminals_in 7 s l q)
   unfolding terminals_in number_read
-  after-parameters-no r e = rw (number_refused ((count 1).parse s l q) r e)
+  after_parameters_no r e = rw (number_refused ((count 1).parse s l q) r e)
 
-  pub after-parameters : (n at : ℕ) → Is n at ≡ number_read 1 s l q → In (at + n) l ≡ place_read (terminals_in 7 s l q)
+  pub after_parameters : (n at : ℕ) → Is n at ≡ number_read 1 s l q → In (at + n) l ≡ place_read (terminals_in 7 s l q)
   unfolding terminals_in number_read
-  after-parameters n at e = rw (number_found ((count 1).parse s l q) n at e)
+  after_parameters n at e = rw (number_found ((count 1).parse s l q) n at e)
 
   -- ---- after fields of a fixed size
 
-  pub after-mapping : (tag : ℕ) → tag ≡ 3 → In (q + 9) l ≡ place_read (terminals_in tag s l q)
+  pub after_mapping : (tag : ℕ) → tag ≡ 3 → In (q + 9) l ≡ place_read (terminals_in tag s l q)
   unfolding terminals_in
-  after-mapping tag e = rw e
+  after_mapping tag e = rw e
 
-  pub after-period : (tag : ℕ) → tag ≡ 5 → In (q + 4) l ≡ place_read (terminals_in tag s l q)
+  pub after_period : (tag : ℕ) → tag ≡ 5 → In (q + 4) l ≡ place_read (terminals_in tag s l q)
   unfolding terminals_in
-  after-period tag e = rw e
+  after_period tag e = rw e
 
-  pub after-volume : (tag : ℕ) → tag ≡ 6 → In (q + 1) l ≡ place_read (terminals_in tag s l q)
+  pub after_volume : (tag : ℕ) → tag ≡ 6 → In (q + 1) l ≡ place_read (terminals_in tag s l q)
   unfolding terminals_in
-  after-volume tag e = rw e
+  after_volume tag e = rw e
 
 -- ---- lists
 
 module _ (s : List ℕ) (l q w i : ℕ) where
-  pub list-none-told : (r : Refusal) → NoNumber r ≡ number_read 1 s l q → NoPlace r ≡ place_read (list_at w i s l q)
+  pub list_none_told : (r : Refusal) → NoNumber r ≡ number_read 1 s l q → NoPlace r ≡ place_read (list_at w i s l q)
   unfolding list_at number_read
-  list-none-told r e = rw (number_refused ((count 1).parse s l q) r e)
+  list_none_told r e = rw (number_refused ((count 1).parse s l q) r e)
 
   module _ (n at : ℕ) (e : Is n at ≡ number_read 1 s l q) where
-    pub list-past : n ≤ i → NoPlace (OutsideSet 0) ≡ place_read (list_at w i s l q)
+    pub list_past : n ≤ i → NoPlace (OutsideSet 0) ≡ place_read (list_at w i s l q)
     unfolding list_at number_read
-    list-past h = rw (number_found ((count 1).parse s l q) n at e, le-ltb i n h)
+    list_past h = rw (number_found ((count 1).parse s l q) n at e, le-ltb i n h)
 
-    pub list-is : i < n → In (at + w * i) l ≡ place_read (list_at w i s l q)
+    pub list_is : i < n → In (at + w * i) l ≡ place_read (list_at w i s l q)
     unfolding list_at number_read
-    list-is h = rw (number_found ((count 1).parse s l q) n at e, lt-ltb i n h)
+    list_is h = rw (number_found ((count 1).parse s l q) n at e, lt-ltb i n h)
 
     -- and no sum is too large
-    pub list-small : Bytes s → w ≤ resource_bytes → i < n → (w * i ≤ resource_bytes * 255) × (at ≤ length s)
-    list-small b h k =
+    pub list_small : Bytes s → w ≤ resource_bytes → i < n → (w * i ≤ resource_bytes * 255) × (at ≤ length s)
+    list_small b h k =
         let f = number_facts s l q 1 n at b e in
         let most : i ≤ 255 = omega (arith, f.2) in
         (mul-le-mul h most, f.0)
 
 module _ (s : List ℕ) (p : ℕ) where
-  pub return-no : (r : Refusal) → NoPlace r ≡ place_read (content_at 4 s p) → NoPart r ≡ return_address s p
+  pub return_no : (r : Refusal) → NoPlace r ≡ place_read (content_at 4 s p) → NoPart r ≡ return_address s p
   unfolding return_address
-  return-no r e = rw (place_refused (content_at 4 s p) r e)
+  return_no r e = rw (place_refused (content_at 4 s p) r e)
 
-  pub return-is : (q l : ℕ) → In q l ≡ place_read (content_at 4 s p) → part_of (address_in s l q) ≡ return_address s p
+  pub return_is : (q l : ℕ) → In q l ≡ place_read (content_at 4 s p) → part_of (address_in s l q) ≡ return_address s p
   unfolding return_address
-  return-is q l e = rw (place_found (content_at 4 s p) q l e)
+  return_is q l e = rw (place_found (content_at 4 s p) q l e)
 
 -- ---- 7: the parameters
 
 module _ (s : List ℕ) (p i : ℕ) where
-  pub parameters-no : (r : Refusal) → NoPlace r ≡ place_read (content_at 7 s p) → NoPlace r ≡ place_read (parameter_at s p i)
+  pub parameters_no : (r : Refusal) → NoPlace r ≡ place_read (content_at 7 s p) → NoPlace r ≡ place_read (parameter_at s p i)
   unfolding parameter_at
-  parameters-no r e = rw (place_refused (content_at 7 s p) r e)
+  parameters_no r e = rw (place_refused (content_at 7 s p) r e)
 
-  pub parameters-is : (q l : ℕ) → In q l ≡ place_read (content_at 7 s p) → place_read (list_at 1 i s l q) ≡ place_read (parameter_at s p i)
+  pub parameters_is : (q l : ℕ) → In q l ≡ place_read (content_at 7 s p) → place_read (list_at 1 i s l q) ≡ place_read (parameter_at s p i)
   unfolding parameter_at
-  parameters-is q l e = rw (place_found (content_at 7 s p) q l e)
+  parameters_is q l e = rw (place_found (content_at 7 s p) q l e)
 
-  pub parameter-no : (r : Refusal) → NoPlace r ≡ place_read (parameter_at s p i) → NoNumber r ≡ parameter s p i
+  pub parameter_no : (r : Refusal) → NoPlace r ≡ place_read (parameter_at s p i) → NoNumber r ≡ parameter s p i
   unfolding parameter
-  parameter-no r e = rw (place_refused (parameter_at s p i) r e)
+  parameter_no r e = rw (place_refused (parameter_at s p i) r e)
 
   pub parameter_is : Bytes s → (q l : ℕ) → In q l ≡ place_read (parameter_at s p i) → number_read 1 s l q ≡ parameter s p i
   unfolding parameter
@@ -497,40 +497,40 @@ module _ (s : List ℕ) (p i : ℕ) where
 -- ---- where the terminals begin
 
 module _ (s : List ℕ) (p : ℕ) where
-  pub terminals-no : (r : Refusal) → NoNumber r ≡ command_tag s p → NoPlace r ≡ place_read (terminals_at s p)
+  pub terminals_no : (r : Refusal) → NoNumber r ≡ command_tag s p → NoPlace r ≡ place_read (terminals_at s p)
   unfolding command_tag terminals_at
-  terminals-no r e = rw (number_refused (tag_at s p) r e)
+  terminals_no r e = rw (number_refused (tag_at s p) r e)
 
   module _ (tag t : ℕ) (e : Is tag t ≡ command_tag s p) where
-    pub terminals-low : tag < 3 → NoPlace (OutsideSet 0) ≡ place_read (terminals_at s p)
+    pub terminals_low : tag < 3 → NoPlace (OutsideSet 0) ≡ place_read (terminals_at s p)
     unfolding command_tag terminals_at
-    terminals-low h = rw (number_found (tag_at s p) tag t e, lt-leb 3 tag h)
+    terminals_low h = rw (number_found (tag_at s p) tag t e, lt-leb 3 tag h)
 
     module _ (h : 3 ≤ tag) where
-      pub terminals-high : 7 < tag → NoPlace (OutsideSet 0) ≡ place_read (terminals_at s p)
+      pub terminals_high : 7 < tag → NoPlace (OutsideSet 0) ≡ place_read (terminals_at s p)
       unfolding command_tag terminals_at
-      terminals-high k = rw (number_found (tag_at s p) tag t e, le-leb 3 tag h, lt-leb tag 7 k)
+      terminals_high k = rw (number_found (tag_at s p) tag t e, le-leb 3 tag h, lt-leb tag 7 k)
 
       module _ (k : tag ≤ 7) where
-        pub terminals-bad : (r : Refusal) → NoPlace r ≡ place_read (content_at tag s p) → NoPlace r ≡ place_read (terminals_at s p)
+        pub terminals_bad : (r : Refusal) → NoPlace r ≡ place_read (content_at tag s p) → NoPlace r ≡ place_read (terminals_at s p)
         unfolding command_tag terminals_at
-        terminals-bad r f = rw (number_found (tag_at s p) tag t e, le-leb 3 tag h, le-leb tag 7 k, place_refused (content_at tag s p) r f)
+        terminals_bad r f = rw (number_found (tag_at s p) tag t e, le-leb 3 tag h, le-leb tag 7 k, place_refused (content_at tag s p) r f)
 
-        pub terminals-is : (q l : ℕ) → In q l ≡ place_read (content_at tag s p) → place_read (terminals_in tag s l q) ≡ place_read (terminals_at s p)
+        pub terminals_is : (q l : ℕ) → In q l ≡ place_read (content_at tag s p) → place_read (terminals_in tag s l q) ≡ place_read (terminals_at s p)
         unfolding command_tag terminals_at
-        terminals-is q l f = rw (number_found (tag_at s p) tag t e, le-leb 3 tag h, le-leb tag 7 k, place_found (content_at tag s p) q l f)
+        terminals_is q l f = rw (number_found (tag_at s p) tag t e, le-leb 3 tag h, le-leb tag 7 k, place_found (content_at tag s p) q l f)
 
-  pub terminal-count-no : (r : Refusal) → NoPlace r ≡ place_read (terminals_at s p) → NoNumber r ≡ terminal_count s p
+  pub terminal_count_no : (r : Refusal) → NoPlace r ≡ place_read (terminals_at s p) → NoNumber r ≡ terminal_count s p
   unfolding terminal_count
-  terminal-count-no r e = rw (place_refused (terminals_at s p) r e)
+  terminal_count_no r e = rw (place_refused (terminals_at s p) r e)
 
-  pub terminal-count-is : (q l : ℕ) → In q l ≡ place_read (terminals_at s p) → number_read 1 s l q ≡ terminal_count s p
+  pub terminal_count_is : (q l : ℕ) → In q l ≡ place_read (terminals_at s p) → number_read 1 s l q ≡ terminal_count s p
   unfolding terminal_count number_read
-  terminal-count-is q l e = rw (place_found (terminals_at s p) q l e)
+  terminal_count_is q l e = rw (place_found (terminals_at s p) q l e)
 
-  pub terminal-no : (i : ℕ) (r : Refusal) → NoPlace r ≡ place_read (terminals_at s p) → NoPlace r ≡ place_read (terminal_at s p i)
+  pub terminal_no : (i : ℕ) (r : Refusal) → NoPlace r ≡ place_read (terminals_at s p) → NoPlace r ≡ place_read (terminal_at s p i)
   unfolding terminal_at
-  terminal-no i r e = rw (place_refused (terminals_at s p) r e)
+  terminal_no i r e = rw (place_refused (terminals_at s p) r e)
 
   pub terminal_is : (i q l : ℕ) → In q l ≡ place_read (terminals_at s p) → place_read (list_at resource_bytes i s l q) ≡ place_read (terminal_at s p i)
   unfolding terminal_at

@@ -28,13 +28,13 @@ use Rattle.body_formats.specs.Resource.{resource_pairs, resource_bytes, resource
 use Rattle.configuration.specs.Configuration.{configuration_kind, terminals, plain, date, clock, address_fault, address_length, address, Order, set_clock, set_code, tune, set_return, set_period, set_volume, query, other, order_of, Said, said, least, Command, command, Configuration, fields, configuration}
 use Rattle.configuration.proofs.Lawful.{said_filling, configuration_filling}
 use Rattle.body_asking.specs.Asking.{headed_part, nth_of}
-use Rattle.body_asking.proofs.Sizes.{Sized, count_sized, only_found, number_sized, number_inside, digits_sized, next, repeat-sized, nth-sized}
-use Rattle.body_asking.proofs.Entries.{all_same, nth-same, nth_past}
-use Rattle.body_asking.proofs.Parts.{counted_holds, part-holds, bytes-hold, digit-there, digit_past, depending_found}
+use Rattle.body_asking.proofs.Sizes.{Sized, count_sized, only_found, number_sized, number_inside, digits_sized, next, repeat_sized, nth_sized}
+use Rattle.body_asking.proofs.Entries.{all_same, nth_same, nth_past}
+use Rattle.body_asking.proofs.Parts.{counted_holds, part_holds, bytes_hold, digit_there, digit_past, depending_found}
 use Rattle.configuration_fields.specs.Asked.{command_count, command_part, signature_part, tag_at, bytes_at, command_tag, command_content, content_at, in_command, clock_date, clock_time, clock_year, clock_month, clock_day, clock_hour, clock_minute, clock_second, code_address, code_at, code_resource, code_digit, frequency, symbol_rate, mapping, return_kind, address_in, return_address, period, volume, parameter_count, list_at, parameter_at, parameter, terminals_in, terminals_at, terminal_count, terminal_at, terminal, terminal_digit}
 use Rattle.body_asking.specs.Agreement.{FillsAt}
 use Rattle.configuration_fields.specs.Agreement.{ResourceAsked, TerminalsAsked, ClockAsked, CodeAsked, TuneAsked, ReturnAsked, PeriodAsked, VolumeAsked, QueryAsked, OrderAsked, OthersAsked, CommandAsked, CommandsAsked, ConfigurationAsked}
-use Rattle.configuration_fields.proofs.Answers.{tag-found, content-there}
+use Rattle.configuration_fields.proofs.Answers.{tag_found, content_there}
 
 -- ---- fields of a fixed size
 
@@ -117,7 +117,7 @@ resource_asked s b l at ds q e part same digit each =
     record {
       part_is = same ∙ ap (Of at) z;
       bytes_are = digits_bytes s l at resource_pairs ds q e b;
-      digit_is = λ j h. each j ∙ digit-there resource s l at ds q e j h;
+      digit_is = λ j h. each j ∙ digit_there resource s l at ds q e j h;
       digit_past = λ j h. each j ∙ digit_past resource s l at ds q e j h;
     }
 
@@ -131,8 +131,8 @@ module _ (s : List ℕ) (b : Bytes s) (p l q : ℕ) (at : terminals_at s p ≡ f
       let z = count_sized 1 s l q (length ts) f.0 f.1 in
       (f.1 ∙ ap (found (length ts)) z, ap (repeat (resource.parse s l) (length ts)) (sym z) ∙ f.2)
 
-  resource-found : (i : ℕ) → i < length ts → resource.parse s l (q + 1 + resource_bytes * i) ≡ found (get_or ts i []) (q + 1 + resource_bytes * i + resource_bytes)
-  resource-found i h = nth-sized resource resource_bytes (digits_sized resource_pairs) s l [] (length ts) i (q + 1) ts end list.1 h
+  resource_found : (i : ℕ) → i < length ts → resource.parse s l (q + 1 + resource_bytes * i) ≡ found (get_or ts i []) (q + 1 + resource_bytes * i + resource_bytes)
+  resource_found i h = nth_sized resource resource_bytes (digits_sized resource_pairs) s l [] (length ts) i (q + 1) ts end list.1 h
 
   place : (i : ℕ) → i < length ts → terminal_at s p i ≡ found l (q + 1 + resource_bytes * i)
   unfolding terminal_at list_at
@@ -142,15 +142,15 @@ module _ (s : List ℕ) (b : Bytes s) (p l q : ℕ) (at : terminals_at s p ≡ f
   unfolding terminal_at list_at
   no_place i h = rw (at, list.0, le-ltb i (length ts) h)
 
-  terminals-asked : (begins : ℕ) → q + 1 ≡ begins → TerminalsAsked s p begins ts
+  terminals_asked : (begins : ℕ) → q + 1 ≡ begins → TerminalsAsked s p begins ts
   unfolding terminal_count terminal terminal_digit
-  terminals-asked begins z =
+  terminals_asked begins z =
       subst (λ (a : ℕ). TerminalsAsked s p a ts) z
       record {
         terminals_counted = rw (at, list.0);
         terminal_is = λ i h.
-            resource_asked s b l (q + 1 + resource_bytes * i) (get_or ts i []) _ (resource-found i h)
-            (terminal s p i) (rw (place i h, resource-found i h)) (terminal_digit s p i) (λ j. rw (place i h));
+            resource_asked s b l (q + 1 + resource_bytes * i) (get_or ts i []) _ (resource_found i h)
+            (terminal s p i) (rw (place i h, resource_found i h)) (terminal_digit s p i) (λ j. rw (place i h));
         terminal_past = λ i h. (rw (no_place i h), λ j. rw (no_place i h));
       }
 
@@ -164,32 +164,32 @@ other_order tag h =
 
 -- opaque bytes fill a content of any other tag
 module _ (s : List ℕ) (p q size : ℕ) (is : command_content s p ≡ Of (p + 3) size) (ends : p + 3 + size ≡ q) (inside : q ≤ length s) where
-  content-stands : (x : List ℕ) → (said other).parse s q (p + 3) ≡ found x q → FillsAt s (p + 3) (command_content s p) x
+  content_stands : (x : List ℕ) → (said other).parse s q (p + 3) ≡ found x q → FillsAt s (p + 3) (command_content s p) x
   unfolding said rest
-  content-stands x e =
+  content_stands x e =
       let z : size ≡ q - (p + 3) = omega arith in
       let bytes = ap (λ (m : ℕ). take m (drop (p + 3) s)) z ∙ (found_inj e).0 in
       let long = length-take-le size (drop (p + 3) s) (simp length-drop (omega arith)) in
       let n : size ≡ length x = sym long ∙ ap length bytes in
       record { is = is ∙ ap (Of (p + 3)) n; in_body_lem = omega (arith, n); bytes = ap (λ (m : ℕ). take m (drop (p + 3) s)) (sym n) ∙ bytes }
 
-  other-asked : (order : Order) → order ≡ other → (x : Said order) → (said order).parse s q (p + 3) ≡ found x q → OrderAsked order s p x
-  other-asked order e = subst (λ (o : Order). (x : Said o) → (said o).parse s q (p + 3) ≡ found x q → OrderAsked o s p x) (sym e) content-stands
+  other_asked : (order : Order) → order ≡ other → (x : Said order) → (said order).parse s q (p + 3) ≡ found x q → OrderAsked order s p x
+  other_asked order e = subst (λ (o : Order). (x : Said o) → (said o).parse s q (p + 3) ≡ found x q → OrderAsked o s p x) (sym e) content_stands
 
 -- a command whose content goes from p + 3 to q
 module _ (s : List ℕ) (b : Bytes s) (p q : ℕ) where
-  clock-asked : (x : Said set_clock) → content_at 1 s p ≡ found q (p + 3) → (said set_clock).parse s q (p + 3) ≡ found x q → ClockAsked s p x
+  clock_asked : (x : Said set_clock) → content_at 1 s p ≡ found q (p + 3) → (said set_clock).parse s q (p + 3) ≡ found x q → ClockAsked s p x
   unfolding said clock_year clock_month clock_day clock_hour clock_minute clock_second clock_date clock_time
-  clock-asked x c e =
+  clock_asked x c e =
       let f = next date clock 4 date_sized s q (p + 3) (p + 7) x q (omega arith) (exact_found PastPart (date ▷ clock) s q (p + 3) x q e).0 in
       let z : q ≡ p + 10 = omega (arith, clock_sized s q (p + 7) x.1 q f.1) in
       let d = asked date 1 0 s p q (p + 3) x.0 (p + 7) c (omega arith) f.0 in
       let t = asked clock 1 4 s p q (p + 7) x.1 (p + 10) c (omega arith) (f.1 ∙ ap (found x.1) z) in
       record { year_is = rw d; month_is = rw d; day_is = rw d; hour_is = rw t; minute_is = rw t; second_is = rw t }
 
-  code-asked : (x : Said set_code) → content_at 2 s p ≡ found q (p + 3) → (said set_code).parse s q (p + 3) ≡ found x q → CodeAsked s p x
+  code_asked : (x : Said set_code) → content_at 2 s p ≡ found q (p + 3) → (said set_code).parse s q (p + 3) ≡ found x q → CodeAsked s p x
   unfolding said code_address code_resource code_digit code_at
-  code-asked x c e =
+  code_asked x c e =
       let f = followed_found (opaque 1) resource s q (p + 3) x q (exact_found PastPart (opaque 1 ▷ resource) s q (p + 3) x q e).0 in
       let a = asked (opaque 1) 2 0 s p q (p + 3) x.0 f.0 c (omega arith) f.1 in
       let address = opaque_stands 1 s q (p + 3) x.0 f.0 f.1 (code_address s p) (rw a) (p + 4) (omega arith) in
@@ -200,9 +200,9 @@ module _ (s : List ℕ) (b : Bytes s) (p q : ℕ) where
             (resource_asked s b q f.0 x.1 q f.2 (code_resource s p) (rw (c, f.1, f.2)) (code_digit s p) (λ j. rw (c, f.1)));
       }
 
-  tune-asked : (x : Said tune) → tag_at s p ≡ found 3 (p + 1) → content_at 3 s p ≡ found q (p + 3) → (said tune).parse s q (p + 3) ≡ found x q → TuneAsked s p x
+  tune_asked : (x : Said tune) → tag_at s p ≡ found 3 (p + 1) → content_at 3 s p ≡ found q (p + 3) → (said tune).parse s q (p + 3) ≡ found x q → TuneAsked s p x
   unfolding said frequency symbol_rate mapping terminals_at terminals_in
-  tune-asked x t c e =
+  tune_asked x t c e =
       let f = next (number 4) _ 4 (number_sized 4) s q (p + 3) (p + 7) x q (omega arith) (exact_found PastPart _ s q (p + 3) x q e).0 in
       let g = next (number 4) _ 4 (number_sized 4) s q (p + 7) (p + 11) x.1 q (omega arith) f.1 in
       let h = next (among 0 5 (number 1)) terminals 1 (among_sized 0 5) s q (p + 11) (p + 3 + 9) x.1.1 q (omega arith) g.1 in
@@ -211,12 +211,12 @@ module _ (s : List ℕ) (b : Bytes s) (p q : ℕ) where
         frequency_is = rw (asked (number 4) 3 0 s p q (p + 3) x.0 (p + 7) c (omega arith) f.0);
         symbol_rate_is = rw (asked (number 4) 3 4 s p q (p + 7) x.1.0 (p + 11) c (omega arith) g.0);
         mapping_is = rw (asked (among 0 5 (number 1)) 3 8 s p q (p + 11) x.1.1.0 (p + 12) c (omega arith) (h.0 ∙ ap (found x.1.1.0) z));
-        terminals_are = terminals-asked s b p q (p + 3 + 9) (rw (t, c)) x.1.1.1 q h.1 (p + 13) (omega arith);
+        terminals_are = terminals_asked s b p q (p + 3 + 9) (rw (t, c)) x.1.1.1 q h.1 (p + 13) (omega arith);
       }
 
-  return-asked : (x : Said set_return) → tag_at s p ≡ found 4 (p + 1) → content_at 4 s p ≡ found q (p + 3) → (said set_return).parse s q (p + 3) ≡ found x q → ReturnAsked s p x
+  return_asked : (x : Said set_return) → tag_at s p ≡ found 4 (p + 1) → content_at 4 s p ≡ found q (p + 3) → (said set_return).parse s q (p + 3) ≡ found x q → ReturnAsked s p x
   unfolding said return_kind return_address address_in terminals_at terminals_in
-  return-asked x t c e =
+  return_asked x t c e =
       let f = depending_found (among 1 3 (number 1)) (λ kind. address kind ▷ terminals) s q (p + 3) x q (exact_found PastPart _ s q (p + 3) x q e).0 in
       let z : f.0 ≡ p + 4 = omega (arith, among_sized 1 3 s q (p + 3) x.0 f.0 f.1) in
       let g = followed_found (address x.0) terminals s q f.0 x.1 q f.2 in
@@ -224,62 +224,62 @@ module _ (s : List ℕ) (b : Bytes s) (p q : ℕ) where
       record {
         kind_is = rw (asked (among 1 3 (number 1)) 4 0 s p q (p + 3) x.0 (p + 4) c (omega arith) (f.1 ∙ ap (found x.0) z));
         address_stands = address.0;
-        terminals_are = terminals-asked s b p q g.0 (rw (t, c, f.1, g.1)) x.1.1 q g.2 (p + 6 + length x.1.0) (omega (arith, address.1));
+        terminals_are = terminals_asked s b p q g.0 (rw (t, c, f.1, g.1)) x.1.1 q g.2 (p + 6 + length x.1.0) (omega (arith, address.1));
       }
 
-  period-asked : (x : Said set_period) → tag_at s p ≡ found 5 (p + 1) → content_at 5 s p ≡ found q (p + 3) → (said set_period).parse s q (p + 3) ≡ found x q → PeriodAsked s p x
+  period_asked : (x : Said set_period) → tag_at s p ≡ found 5 (p + 1) → content_at 5 s p ≡ found q (p + 3) → (said set_period).parse s q (p + 3) ≡ found x q → PeriodAsked s p x
   unfolding said period terminals_at terminals_in
-  period-asked x t c e =
+  period_asked x t c e =
       let f = next (number 4) terminals 4 (number_sized 4) s q (p + 3) (p + 3 + 4) x q refl (exact_found PastPart _ s q (p + 3) x q e).0 in
       let z : p + 3 + 4 ≡ p + 7 = omega arith in
       record {
         period_is = rw (asked (number 4) 5 0 s p q (p + 3) x.0 (p + 7) c (omega arith) (f.0 ∙ ap (found x.0) z));
-        terminals_are = terminals-asked s b p q (p + 3 + 4) (rw (t, c)) x.1 q f.1 (p + 8) (omega arith);
+        terminals_are = terminals_asked s b p q (p + 3 + 4) (rw (t, c)) x.1 q f.1 (p + 8) (omega arith);
       }
 
-  volume-asked : (x : Said set_volume) → tag_at s p ≡ found 6 (p + 1) → content_at 6 s p ≡ found q (p + 3) → (said set_volume).parse s q (p + 3) ≡ found x q → VolumeAsked s p x
+  volume_asked : (x : Said set_volume) → tag_at s p ≡ found 6 (p + 1) → content_at 6 s p ≡ found q (p + 3) → (said set_volume).parse s q (p + 3) ≡ found x q → VolumeAsked s p x
   unfolding said volume terminals_at terminals_in
-  volume-asked x t c e =
+  volume_asked x t c e =
       let f = next (among 0 100 (number 1)) terminals 1 (among_sized 0 100) s q (p + 3) (p + 3 + 1) x q refl (exact_found PastPart _ s q (p + 3) x q e).0 in
       let z : p + 3 + 1 ≡ p + 4 = omega arith in
       record {
         volume_is = rw (asked (among 0 100 (number 1)) 6 0 s p q (p + 3) x.0 (p + 4) c (omega arith) (f.0 ∙ ap (found x.0) z));
-        terminals_are = terminals-asked s b p q (p + 3 + 1) (rw (t, c)) x.1 q f.1 (p + 5) (omega arith);
+        terminals_are = terminals_asked s b p q (p + 3 + 1) (rw (t, c)) x.1 q f.1 (p + 5) (omega arith);
       }
 
-  query-asked : (x : Said query) → tag_at s p ≡ found 7 (p + 1) → content_at 7 s p ≡ found q (p + 3) → (said query).parse s q (p + 3) ≡ found x q → QueryAsked s p x
+  query_asked : (x : Said query) → tag_at s p ≡ found 7 (p + 1) → content_at 7 s p ≡ found q (p + 3) → (said query).parse s q (p + 3) ≡ found x q → QueryAsked s p x
   unfolding said parameter_count parameter parameter_at list_at terminals_at terminals_in
-  query-asked x t c e =
+  query_asked x t c e =
       let ps = x.0 in
       let f = followed_found (list_of (count 1) (number 1)) terminals s q (p + 3) x q (exact_found PastPart _ s q (p + 3) x q e).0 in
       let g = list_found (count 1) (number 1) s q (p + 3) ps f.0 f.1 in
       let z : g.0 ≡ p + 4 = omega (arith, count_sized 1 s q (p + 3) (length ps) g.0 g.1) in
       let n = g.1 ∙ ap (found (length ps)) z in
       let each = ap (repeat ((number 1).parse s q) (length ps)) (sym z) ∙ g.2 in
-      let m : f.0 ≡ p + 4 + length ps = omega (arith, repeat-sized (number 1) 1 (number_sized 1) s q (length ps) (p + 4) ps f.0 each) in
+      let m : f.0 ≡ p + 4 + length ps = omega (arith, repeat_sized (number 1) 1 (number_sized 1) s q (length ps) (p + 4) ps f.0 each) in
       record {
         parameters_counted = rw (asked (count 1) 7 0 s p q (p + 3) (length ps) (p + 4) c (omega arith) n);
         parameter_is = λ i h.
-            rw (c, n, lt-ltb i (length ps) h, nth-sized (number 1) 1 (number_sized 1) s q 0 (length ps) i (p + 4) ps f.0 each h)
+            rw (c, n, lt-ltb i (length ps) h, nth_sized (number 1) 1 (number_sized 1) s q 0 (length ps) i (p + 4) ps f.0 each h)
             (let y : p + 4 + 1 * i + 1 ≡ p + 5 + i = omega arith in ap (Is (get_or ps i 0)) y);
         parameter_past = λ i h. rw (c, n, le-ltb i (length ps) h);
-        terminals_are = terminals-asked s b p q (p + 4 + length ps) (rw (t, c, n)) x.1 q (ap (terminals.parse s q) (sym m) ∙ f.2)
+        terminals_are = terminals_asked s b p q (p + 4 + length ps) (rw (t, c, n)) x.1 q (ap (terminals.parse s q) (sym m) ∙ f.2)
             (p + 5 + length ps) (omega arith);
       }
 
   -- tag by tag: 0, the standard's 1 to 7 in order, and all others
-  order-asked : (tag : ℕ) (x : Said (order_of tag)) → tag_at s p ≡ found tag (p + 1) → content_at tag s p ≡ found q (p + 3) → (said (order_of tag)).parse s q (p + 3) ≡ found x q
+  order_asked : (tag : ℕ) (x : Said (order_of tag)) → tag_at s p ≡ found tag (p + 1) → content_at tag s p ≡ found q (p + 3) → (said (order_of tag)).parse s q (p + 3) ≡ found x q
       → ((order : Order) → order ≡ other → (y : Said order) → (said order).parse s q (p + 3) ≡ found y q → OrderAsked order s p y) → OrderAsked (order_of tag) s p x
   unfolding order_of
-  order-asked zero x t c e o = o other refl x e
-  order-asked (suc zero) x t c e o = clock-asked x c e
-  order-asked (suc (suc zero)) x t c e o = code-asked x c e
-  order-asked (suc (suc (suc zero))) x t c e o = tune-asked x t c e
-  order-asked (suc (suc (suc (suc zero)))) x t c e o = return-asked x t c e
-  order-asked (suc (suc (suc (suc (suc zero))))) x t c e o = period-asked x t c e
-  order-asked (suc (suc (suc (suc (suc (suc zero)))))) x t c e o = volume-asked x t c e
-  order-asked (suc (suc (suc (suc (suc (suc (suc zero))))))) x t c e o = query-asked x t c e
-  order-asked (suc (suc (suc (suc (suc (suc (suc (suc tag)))))))) x t c e o =
+  order_asked zero x t c e o = o other refl x e
+  order_asked (suc zero) x t c e o = clock_asked x c e
+  order_asked (suc (suc zero)) x t c e o = code_asked x c e
+  order_asked (suc (suc (suc zero))) x t c e o = tune_asked x t c e
+  order_asked (suc (suc (suc (suc zero)))) x t c e o = return_asked x t c e
+  order_asked (suc (suc (suc (suc (suc zero))))) x t c e o = period_asked x t c e
+  order_asked (suc (suc (suc (suc (suc (suc zero)))))) x t c e o = volume_asked x t c e
+  order_asked (suc (suc (suc (suc (suc (suc (suc zero))))))) x t c e o = query_asked x t c e
+  order_asked (suc (suc (suc (suc (suc (suc (suc (suc tag)))))))) x t c e o =
       o _ (other_order (suc (suc (suc (suc (suc (suc (suc (suc tag)))))))) (omega arith)) x e
 
 not_among : (lo hi n : ℕ) → (lo ≤ n → n ≤ hi → ⊥) → (leb lo n && leb n hi) ≡ false
@@ -300,9 +300,9 @@ module _ (s : List ℕ) (p tag : ℕ) (here : tag_at s p ≡ found tag (p + 1)) 
   unfolding terminals_at
   no_terminals h = rw (here, not_among 3 7 tag h)
 
-  others-asked : OthersAsked s p tag
+  others_asked : OthersAsked s p tag
   unfolding clock_year clock_month clock_day clock_hour clock_minute clock_second clock_date clock_time code_address code_resource code_digit code_at frequency symbol_rate mapping return_kind return_address period volume parameter_count parameter parameter_at terminal_count terminal terminal_digit terminal_at
-  others-asked =
+  others_asked =
       record {
         no_date = λ h. let e = elsewhere 1 h in (rw e, rw e, rw e);
         no_time = λ h. let e = elsewhere 1 h in (rw e, rw e, rw e);
@@ -340,37 +340,37 @@ module _ (s : List ℕ) (b : Bytes s) (p : ℕ) (c : Command) (q : ℕ) (e : com
   unfolding command_content bytes_at
   holds =
       same_part (said (order_of c.0)) s _ (command_content s p) c.1 q (rw parts.0)
-      (part-holds (least_of 2 (least c.0)) (said (order_of c.0)) (said_filling (order_of c.0)) s b (length s) (p + 1) c.1 q parts.1)
+      (part_holds (least_of 2 (least c.0)) (said (order_of c.0)) (said_filling (order_of c.0)) s b (length s) (p + 1) c.1 q parts.1)
 
   begins : holds.at ≡ p + 3
-  begins = (content-there s p holds.at holds.size (sym holds.is)).2
+  begins = (content_there s p holds.at holds.size (sym holds.is)).2
 
   entered : content_at c.0 s p ≡ found q (p + 3)
   unfolding content_at bytes_at
   entered =
-      let g = bytes-hold (least_of 2 (least c.0)) (said (order_of c.0)) (said_filling (order_of c.0)) s b (length s) (p + 1) c.1 q parts.1 in
+      let g = bytes_hold (least_of 2 (least c.0)) (said (order_of c.0)) (said_filling (order_of c.0)) s b (length s) (p + 1) c.1 q parts.1 in
       rw (parts.0, eq-eqb c.0 c.0 refl, g.1)
 
-  command-asked : CommandAsked s p c q
+  command_asked : CommandAsked s p c q
   unfolding command_tag
-  command-asked =
+  command_asked =
       let is = holds.is ∙ ap (λ (a : ℕ). Of a holds.size) begins in
-      let o = other-asked s p q holds.size is (omega (arith, holds.ends, begins)) holds.in_body_lem in
+      let o = other_asked s p q holds.size is (omega (arith, holds.ends, begins)) holds.in_body_lem in
       record {
         tag_is = rw parts.0;
         content_holds = holds;
         content_begins = begins;
-        order_is = order-asked s b p q c.0 c.1 parts.0 entered (ap ((said (order_of c.0)).parse s q) (sym begins) ∙ holds.inner) o;
-        others = others-asked s p c.0 parts.0;
+        order_is = order_asked s b p q c.0 c.1 parts.0 entered (ap ((said (order_of c.0)).parse s q) (sym begins) ∙ holds.inner) o;
+        others = others_asked s p c.0 parts.0;
       }
 
   -- passed by its tag and its length, it ends there too
   passed : (y : List ℕ × List ℕ) × ((headed_part 1 2).parse s (length s) p ≡ found y q)
   unfolding followed bytes
   passed =
-      let g = bytes-hold (least_of 2 (least c.0)) (said (order_of c.0)) (said_filling (order_of c.0)) s b (length s) (p + 1) c.1 q parts.1 in
+      let g = bytes_hold (least_of 2 (least c.0)) (said (order_of c.0)) (said_filling (order_of c.0)) s b (length s) (p + 1) c.1 q parts.1 in
       let f = at_least 2 (least c.0) rest s (length s) (p + 1) g.0 q g.1 in
-      let h = (tag-found s p c.0 (p + 1) parts.0).2 in
+      let h = (tag_found s p c.0 (p + 1) parts.0).2 in
       ((take 1 (drop p s), g.0), rw (le-leb (p + 1) (length s) (omega (arith, h)), f))
 
 -- ---- the table
@@ -394,7 +394,7 @@ after (found a q) = q
 after (refused r) = 0
 
 -- the commands that a list was read as, from 1 to `end`
-module _ (s : List ℕ) (b : Bytes s) (cs : List Command) (end : ℕ) (counted-there : (count 1).parse s (length s) 0 ≡ found (length cs) 1)
+module _ (s : List ℕ) (b : Bytes s) (cs : List Command) (end : ℕ) (counted_there : (count 1).parse s (length s) 0 ≡ found (length cs) 1)
     (e : repeat (command.parse s (length s)) (length cs) 1 ≡ found cs end) where
   -- where the i-th one begins: past those before it, by their tags and lengths
   abbrev place_of : ℕ → ℕ
@@ -403,13 +403,13 @@ module _ (s : List ℕ) (b : Bytes s) (cs : List Command) (end : ℕ) (counted-t
   record Nth (d : Command) (i : ℕ) : Type 0 where
     pub ends : ℕ
     pub reads : command.parse s (length s) (place_of i) ≡ found (get_or cs i d) ends
-    pub next-begins : place_of (suc i) ≡ ends
+    pub next_begins : place_of (suc i) ≡ ends
     pub part_is : command_part s i ≡ Of (place_of i) (ends - place_of i)
 
-  nth-command : (d : Command) (i : ℕ) → i < length cs → Nth d i
+  nth_command : (d : Command) (i : ℕ) → i < length cs → Nth d i
   unfolding command_part nth_of repeat
-  nth-command d i h =
-      let n = nth-same command (headed_part 1 2) s (length s) (passed s b) d (length cs) i 1 cs end e h in
+  nth_command d i h =
+      let n = nth_same command (headed_part 1 2) s (length s) (passed s b) d (length cs) i 1 cs end e h in
       let past = rw (lt-ltb i (length cs) h) at n.3 in
       let one = passed s b n.1 (get_or cs i d) n.2 n.4 in
       let here : place_of i ≡ n.1 = ap after past in
@@ -417,29 +417,29 @@ module _ (s : List ℕ) (b : Bytes s) (cs : List Command) (end : ℕ) (counted-t
       record {
         ends = n.2;
         reads = rw here n.4;
-        next-begins = ap after more.1;
-        part_is = rw (counted-there, lt-ltb i (length cs) h, past, one.1);
+        next_begins = ap after more.1;
+        part_is = rw (counted_there, lt-ltb i (length cs) h, past, one.1);
       }
 
   none : Command
   unfolding order_of
   none = (0, [])
 
-  commands-asked : CommandsAsked s cs end
+  commands_asked : CommandsAsked s cs end
   unfolding command_part repeat
-  commands-asked =
+  commands_asked =
       record {
         place = place_of;
         begins = refl;
         ends = ap after (all_same command (headed_part 1 2) s (length s) (passed s b) (length cs) 1 cs end e).1;
         command_is = λ i h.
-            let n = nth-command none i h in
-            let c = command-asked s b (place_of i) (get_or cs i none) n.ends n.reads in
-            (n.ends - place_of i, n.part_is, omega (arith, n.next-begins, c.content_holds.ends, c.content_begins));
+            let n = nth_command none i h in
+            let c = command_asked s b (place_of i) (get_or cs i none) n.ends n.reads in
+            (n.ends - place_of i, n.part_is, omega (arith, n.next_begins, c.content_holds.ends, c.content_begins));
         command_fields = λ d i h.
-            let n = nth-command d i h in
-            subst (λ (q : ℕ). CommandAsked s (place_of i) (get_or cs i d) q) (sym n.next-begins) (command-asked s b (place_of i) (get_or cs i d) n.ends n.reads);
-        command_past = λ i h. rw (counted-there, nth_past (headed_part 1 2) (length cs) i s (length s) 1 h);
+            let n = nth_command d i h in
+            subst (λ (q : ℕ). CommandAsked s (place_of i) (get_or cs i d) q) (sym n.next_begins) (command_asked s b (place_of i) (get_or cs i d) n.ends n.reads);
+        command_past = λ i h. rw (counted_there, nth_past (headed_part 1 2) (length cs) i s (length s) 1 h);
       }
 
 module _ (s : List ℕ) (b : Bytes s) (x : List Command × List ℕ) (q : ℕ) (e : fields.parse s (length s) 0 ≡ found x q) where
@@ -458,13 +458,13 @@ module _ (s : List ℕ) (b : Bytes s) (x : List Command × List ℕ) (q : ℕ) (
   unfolding signature_part list_of
   signed = rw (commands.0, (all_same command (headed_part 1 2) s (length s) (passed s b) (length x.0) 1 x.0 two.0 commands.1).1)
 
-  table-fields : ConfigurationAsked s (record { commands = x.0; signature = x.1 })
+  table_fields : ConfigurationAsked s (record { commands = x.0; signature = x.1 })
   unfolding command_count number_read
-  table-fields =
+  table_fields =
       record {
         commands_counted = rw commands.0;
         end = two.0;
-        commands_are = commands-asked s b x.0 two.0 commands.0 commands.1;
+        commands_are = commands_asked s b x.0 two.0 commands.0 commands.1;
         signature_stands = (opaque_stands 2 s (length s) two.0 x.1 q two.2 (signature_part s) (signed ∙ ap part_of two.2) (two.0 + 2) refl).0;
       }
 
@@ -474,4 +474,4 @@ configuration_asked kind s b t q e =
     let a = trips.accepted configuration configuration_filling configuration_kind kind s b t q e in
     let x = exact_found LeftOver _ s (length s) 0 t q a.2 in
     let v = view_found _ _ fields s (length s) 0 t q x.0 in
-    subst (λ (y : Configuration). ConfigurationAsked s y) v.2 (table-fields s b v.0 q v.1)
+    subst (λ (y : Configuration). ConfigurationAsked s y) v.2 (table_fields s b v.0 q v.1)

@@ -43,9 +43,9 @@ part_at s l p a n b e =
     (i.2 ∙ ap (λ k. found k q) many ∙ ap (found n) start, omega (arith, low), omega (arith, low, g.0), omega (arith, low, g.1))
 
 module _ (kind : ℕ) (s : List ℕ) (l p : ℕ) where
-  pub address-no : (r : Refusal) → NoPart r ≡ part_read 1 s l p → (address kind).parse s l p ≡ refused r
+  pub address_no : (r : Refusal) → NoPart r ≡ part_read 1 s l p → (address kind).parse s l p ≡ refused r
   unfolding address counted address_length length_of rest
-  address-no r e = go ((count 1).parse s l p) (part_refused s l p 1 r e)
+  address_no r e = go ((count 1).parse s l p) (part_refused s l p 1 r e)
     where
       go : (y : Reading ℕ) → and_then y (λ n q. within s l p (q + n % 256) (rest.parse s (q + n % 256) q)) ≡ refused r
           → and_then y (λ n q. within s l p (q + n % 256) (judged (unless (length_fits kind n) (PastPart p)) ((only (address_fault kind) rest).parse s (q + n % 256) q))) ≡ refused r
@@ -53,25 +53,25 @@ module _ (kind : ℕ) (s : List ℕ) (l p : ℕ) where
       go (found n q) f = within_refused s l p (q + n % 256) _ _ r _ f
 
   module _ (b : Bytes s) (a n : ℕ) (e : Of a n ≡ part_read 1 s l p) where
-    address-judged : (address kind).parse s l p
+    address_judged : (address kind).parse s l p
         ≡ judged (unless (length_fits kind n) (PastPart p)) (judged (address_fault kind (take n (drop a s)) a) (found (take n (drop a s)) (a + n)))
     unfolding address counted address_length only rest
-    address-judged =
+    address_judged =
         let f = part_at s l p a n b e in
         rw (f.0, f.1, le-leb (a + n) (length s) f.2, le-leb (a + n) l f.3, add-sub_cancel_left a n)
 
     long : length (take n (drop a s)) ≡ n
     long = length-take-le n (drop a s) (simp length-drop (omega (arith, (part_at s l p a n b e).2)))
 
-    pub length-wrong : length_fits kind n ≡ false → (address kind).parse s l p ≡ refused (PastPart p)
-    length-wrong h = address-judged ∙ rw h
+    pub length_wrong : length_fits kind n ≡ false → (address kind).parse s l p ≡ refused (PastPart p)
+    length_wrong h = address_judged ∙ rw h
 
     module _ (fits : length_fits kind n ≡ true) where
-      pub address-wrong : is_address kind (take n (drop a s)) ≡ false → (address kind).parse s l p ≡ refused (OutsideSet a)
-      address-wrong h = address-judged ∙ rw (long, fits, h)
+      pub address_wrong : is_address kind (take n (drop a s)) ≡ false → (address kind).parse s l p ≡ refused (OutsideSet a)
+      address_wrong h = address_judged ∙ rw (long, fits, h)
 
-      address-found : is_address kind (take n (drop a s)) ≡ true → (address kind).parse s l p ≡ found (take n (drop a s)) (a + n)
-      address-found h = address-judged ∙ rw (long, fits, h)
+      address_found : is_address kind (take n (drop a s)) ≡ true → (address kind).parse s l p ≡ found (take n (drop a s)) (a + n)
+      address_found h = address_judged ∙ rw (long, fits, h)
 
       address_same : is_address kind (take n (drop a s)) ≡ true → (address kind).parse s l p ≡ and_then ((opaque 1).parse s l p) (λ cs q. found cs q)
       address_same h =
@@ -79,13 +79,13 @@ module _ (kind : ℕ) (s : List ℕ) (l p : ℕ) where
           let g = opaque_found s l p 1 f.0 (a + n) f.1 in
           let start : a + n - length f.0 ≡ a = omega (arith, f.2) in
           let bytes : take n (drop a s) ≡ f.0 = sym (ap₂ (λ m i. take m (drop i s)) f.2 start) ∙ g.3 in
-          address-found h ∙ ap (λ cs. found cs (a + n)) bytes ∙ sym (ap (λ y. and_then y (λ cs q. found cs q)) f.1)
+          address_found h ∙ ap (λ cs. found cs (a + n)) bytes ∙ sym (ap (λ y. and_then y (λ cs q. found cs q)) f.1)
 
       -- an address is walked as the opaque bytes that it is
-      pub address-walk : is_address kind (take n (drop a s)) ≡ true → {room : ℕ} {wet : Bool} {t : List ℕ} {r : Walk} {t' : List ℕ}
+      pub address_walk : is_address kind (take n (drop a s)) ≡ true → {room : ℕ} {wet : Bool} {t : List ℕ} {r : Walk} {t' : List ℕ}
           → Walked (opaque 1) s l (At p room) wet t r t' → Walked (address kind) s l (At p room) wet t r t'
       unfolding address counted address_length only length_of
-      address-walk h w =
+      address_walk h w =
           renamed {F = opaque 1} (λ cs. cs)
           (λ p' room' e'. subst (λ k. (address kind).parse s l k ≡ and_then ((opaque 1).parse s l k) (λ cs q. found cs q)) (let z : p ≡ p' = cc in z) (address_same h))
           (λ cs p q k f. refl) w

@@ -8,7 +8,7 @@ use Rattle.body_formats.specs.Reading.{found, Fault, unless}
 use Rattle.body_formats.specs.Format.{Format, only, count, followed, ◌▷◌}
 use Rattle.body_formats.proofs.Outcomes.{found_inj, and_then_found}
 use Rattle.body_formats.proofs.Leaves.{count_lawful}
-use Rattle.body_formats.proofs.Parts.{followed-lawful}
+use Rattle.body_formats.proofs.Parts.{followed_lawful}
 use Rattle.body_walk.specs.Walked.{walk_onward, walked, judged_from, Walked, Counted}
 use Rattle.body_walk.specs.declared.Walk.{Walk}
 use Rattle.body_walk.specs.declared.Walk.TheVariants.{At}
@@ -47,5 +47,5 @@ three_walk w test says {a} {b} {c} holds u v k h e =
     let third : z.1.1 ≡ c.n = sym (value_found k z.1.1 second.1 q second.2 second.3 second.4) in
     let same : test z.0 z.1.0 z.1.1 ≡ holds = ap (λ y. test y z.1.0 z.1.1) first.0 ∙ ap (λ y. test a.n y z.1.1) second.0 ∙ ap (test a.n b.n) third ∙ sym h in
     says z p ∙ ap (λ y. unless y (ImpossibleDay p)) same)
-    (pair (count_lawful w) (followed-lawful _ _ (count_lawful 1) (λ y. count_lawful 1)).formal u.past (pair (count_lawful 1) (count_lawful 1).formal v.past k.past))
+    (pair (count_lawful w) (followed_lawful _ _ (count_lawful 1) (λ y. count_lawful 1)).formal u.past (pair (count_lawful 1) (count_lawful 1).formal v.past k.past))
     e

@@ -7,18 +7,18 @@ use Rattle.time_days.specs.Calendar.{has_day}
 use Rattle.configuration.proofs.Clocks.{day_fits}
 
 module _ (y m d : ℕ) where
-  no-day-where : (has_day y m d ≡ true → ⊥) → false ≡ has_day y m d
-  no-day-where h = go (has_day y m d) refl
+  no_day_where : (has_day y m d ≡ true → ⊥) → false ≡ has_day y m d
+  no_day_where h = go (has_day y m d) refl
     where
       go : (t : Bool) → has_day y m d ≡ t → false ≡ t
       go true e = absurd (h e)
       go false e = refl
 
-  pub year-too-large : 65535 < y → false ≡ has_day y m d
-  year-too-large l = no-day-where (λ h. omega (arith, (day_fits y m d h).0))
+  pub year_too_large : 65535 < y → false ≡ has_day y m d
+  year_too_large l = no_day_where (λ h. omega (arith, (day_fits y m d h).0))
 
-  pub month-too-large : 255 < m → false ≡ has_day y m d
-  month-too-large l = no-day-where (λ h. omega (arith, (day_fits y m d h).1))
+  pub month_too_large : 255 < m → false ≡ has_day y m d
+  month_too_large l = no_day_where (λ h. omega (arith, (day_fits y m d h).1))
 
-  pub day-too-large : 255 < d → false ≡ has_day y m d
-  day-too-large l = no-day-where (λ h. omega (arith, (day_fits y m d h).2))
+  pub day_too_large : 255 < d → false ≡ has_day y m d
+  day_too_large l = no_day_where (λ h. omega (arith, (day_fits y m d h).2))

@@ -24,9 +24,9 @@ use Rattle.body_formats.proofs.Outcomes.{need_found}
 use Rattle.body_formats.proofs.Classes.{Bytes, Ok}
 use Rattle.body_formats.proofs.Elements.{exact_found, view_found, followed_found}
 use Rattle.body_formats.proofs.Laying.{table}
-use Rattle.body_formats.proofs.Identifiers.{identifier_lawful, identifier-takes, identifier-fits, identifier_bytes_lem}
+use Rattle.body_formats.proofs.Identifiers.{identifier_lawful, identifier_takes, identifier_fits, identifier_bytes_lem}
 use Rattle.body_extension.specs.Extension.{extension_of}
-use Rattle.body_extension.proofs.Bits.{checked, other-of-bytes}
+use Rattle.body_extension.proofs.Bits.{checked, other_of_bytes}
 use Rattle.content.specs.Content.{content_kind, Content, fields, content, reading_of, content_read}
 
 -- an accepted body begins with its identifier, which is checked
@@ -38,7 +38,7 @@ module _ (w : ℕ) (s : List ℕ) (b : Bytes s) where
       let x = exact_found LeftOver _ s (length s) 0 c q e in
       let v = view_found _ _ _ s (length s) 0 c q x.0 in
       let d = followed_found identifier _ s (length s) 0 v.0 q v.1 in
-      let f = identifier-fits s (length s) 0 v.0.0 d.0 d.1 in
+      let f = identifier_fits s (length s) 0 v.0.0 d.0 d.1 in
       let writable = (identifier_lawful.forth s (length s) 0 v.0.0 d.0 b (le_refl (length s)) zero-le d.1).ok.writable in (
         omega (arith, f.0, f.1),
         ap crc16_after_four (identifier_bytes_lem s (length s) 0 v.0.0 d.0 d.1 b) ∙ checked v.0.0 writable
@@ -53,24 +53,24 @@ module _ (w : ℕ) (c : Content) (o : Ok (content w) c) where
 
   first_bytes : take 18 ((content w).print c) ≡ identifier.print c.identifier
   unfolding content fields exact view followed
-  first_bytes = take_at (identifier.print c.identifier) _ 18 (sym (identifier-takes c.identifier writable))
+  first_bytes = take_at (identifier.print c.identifier) _ 18 (sym (identifier_takes c.identifier writable))
 
-  pub printed-identifier : (18 ≤ length ((content w).print c)) × (crc16_after_four (take 18 ((content w).print c)) ≡ extension_of c.identifier)
+  pub printed_identifier : (18 ≤ length ((content w).print c)) × (crc16_after_four (take 18 ((content w).print c)) ≡ extension_of c.identifier)
   unfolding content fields exact view followed
-  printed-identifier = (
-    simp length-append (omega (arith, identifier-takes c.identifier writable)),
+  printed_identifier = (
+    simp length-append (omega (arith, identifier_takes c.identifier writable)),
     ap crc16_after_four first_bytes ∙ checked c.identifier writable,
   )
 
   -- the CRC-16 of the 18 bytes, as it was before M-103, is never its extension
-  pub other-before : crc16_of (take 18 ((content w).print c)) ≡ extension_of c.identifier → ⊥
-  other-before e = other-of-bytes c.identifier writable (ap crc16_of (sym first_bytes) ∙ e)
+  pub other_before : crc16_of (take 18 ((content w).print c)) ≡ extension_of c.identifier → ⊥
+  other_before e = other_of_bytes c.identifier writable (ap crc16_of (sym first_bytes) ∙ e)
 
 module _ (w kind : ℕ) (s : List ℕ) where
   -- what else is wrong with a body comes before its extension
-  pub refused-before : (extension : ℕ) (r : Refusal) → NoStep r ≡ body_read (content w) content_kind kind s → NoStep r ≡ content_read w kind extension s
+  pub refused_before : (extension : ℕ) (r : Refusal) → NoStep r ≡ body_read (content w) content_kind kind s → NoStep r ≡ content_read w kind extension s
   unfolding body_read content_read reading_of
-  refused-before extension r e = go (reading (content w) content_kind kind s) e
+  refused_before extension r e = go (reading (content w) content_kind kind s) e
     where
       go : (x : Reading Content) → NoStep r ≡ step_of x
           → NoStep r ≡ step_of (and_then x (λ c q. need (eqb extension (extension_of c.identifier)) OtherChecksum (found c q)))
@@ -88,18 +88,18 @@ module _ (w kind : ℕ) (s : List ℕ) where
         let k = need_found (eqb kind content_kind) OtherKind _ c q accepted.1 in
         begins w s b c q (need_found (leb (length s) body_most) TooLarge _ c q k.1).1
 
-    pub identifier-there : 18 ≡ length (take 18 s)
-    identifier-there = sym (length-take-le 18 s identified.0)
+    pub identifier_there : 18 ≡ length (take 18 s)
+    identifier_there = sym (length-take-le 18 s identified.0)
 
     -- n is what the code works out of the first 18 bytes
     module _ (extension n : ℕ) (h : n ≡ crc16_after_four (take 18 s)) where
-      worked-out : n ≡ extension_of accepted.0.identifier
-      worked-out = h ∙ identified.1
+      worked_out : n ≡ extension_of accepted.0.identifier
+      worked_out = h ∙ identified.1
 
-      pub other-extension : (n ≡ extension → ⊥) → NoStep OtherChecksum ≡ content_read w kind extension s
+      pub other_extension : (n ≡ extension → ⊥) → NoStep OtherChecksum ≡ content_read w kind extension s
       unfolding content_read reading_of
-      other-extension k = rw (accepted.1, ne_eqb extension (extension_of accepted.0.identifier) (λ z. k (worked-out ∙ sym z)))
+      other_extension k = rw (accepted.1, ne_eqb extension (extension_of accepted.0.identifier) (λ z. k (worked_out ∙ sym z)))
 
-      pub same-extension : n ≡ extension → At q ≡ content_read w kind extension s
+      pub same_extension : n ≡ extension → At q ≡ content_read w kind extension s
       unfolding content_read reading_of
-      same-extension k = rw (accepted.1, eq-eqb extension (extension_of accepted.0.identifier) (sym k ∙ worked-out))
+      same_extension k = rw (accepted.1, eq-eqb extension (extension_of accepted.0.identifier) (sym k ∙ worked_out))

@@ -2,7 +2,7 @@
 use Prim.Native.Nat.{ℕ}
 use Rattle.body_formats.proofs.RoundTrips as trips
 use Rattle.content.specs.Content.{content_kind, content}
-use Rattle.content.proofs.Lawful.{content-filling}
+use Rattle.content.proofs.Lawful.{content_filling}
 
 pub content_trips : (w : ℕ) → trips.RoundTrips (content w) content_kind
-content_trips w = trips.round_trips (content w) content_kind (content-filling w)
+content_trips w = trips.round_trips (content w) content_kind (content_filling w)

@@ -17,7 +17,7 @@ use Rattle.body_formats.specs.Identifier.{identifier_year, identifier_month, ide
 use Rattle.body_formats.specs.Body.{reading, body_read}
 use Rattle.body_formats.specs.declared.Step.TheVariants.{At}
 use Rattle.body_formats.proofs.Leaves.{length_bytes_lem}
-use Rattle.body_formats.proofs.Identifiers.{identifier-takes}
+use Rattle.body_formats.proofs.Identifiers.{identifier_takes}
 use Rattle.content.specs.Content.{content_kind, Language, language_fields, language, auxiliaries, Content, fields, content}
 
 tested : (t : Bool) (r : Refusal) → is_fine (unless t r) ≡ true → t ≡ true
@@ -26,27 +26,27 @@ tested false r h = h
 
 module _ (w : ℕ) where
   -- its length, letters, character set, two more lengths and the auxiliary count
-  language-takes : (v : Language) → (language w).writable v ≡ true → 12 ≤ length ((language w).print v)
+  language_takes : (v : Language) → (language w).writable v ≡ true → 12 ≤ length ((language w).print v)
   unfolding language language_fields auxiliaries counted length_of exact view followed list_of only bytes reserved count rest
-  language-takes v r =
+  language_takes v r =
       let three = eqb-true (length v.letters) 3 (both _ _ (both _ _ r).0).0 in
       simp (length-append, length_bytes_lem) (omega (arith, three))
 
-  languages-take : (vs : List Language) → 1 ≤ length vs → every (language w).writable vs ≡ true → 12 ≤ length (print_all (language w).print vs)
+  languages_take : (vs : List Language) → 1 ≤ length vs → every (language w).writable vs ≡ true → 12 ≤ length (print_all (language w).print vs)
   unfolding print_all every
-  languages-take [] h r = absurd (omega arith)
-  languages-take (v ∷ vs) h r = simp length-append (omega (arith, language-takes v (both _ _ r).0))
+  languages_take [] h r = absurd (omega arith)
+  languages_take (v ∷ vs) h r = simp length-append (omega (arith, language_takes v (both _ _ r).0))
 
-  pub content-takes : (c : Content) → (content w).writable c ≡ true → 33 ≤ length ((content w).print c)
+  pub content_takes : (c : Content) → (content w).writable c ≡ true → 33 ≤ length ((content w).print c)
   unfolding content fields counted length_of exact view followed list_of only reserved count rest
-  content-takes c r =
+  content_takes c r =
       let n = length c.languages in
       let C = among 1 5 (reserved 4 0) in
       let parts = both (identifier.writable c.identifier) _ r in
       let languages = both (C.writable n) _ (both ((list_of C (language w)).writable c.languages) _ parts.1).0 in
       let some = (both (leb 1 n) _ (tested (leb 1 n && leb n 5) (OutsideSet 0) (both ((reserved 4 0).writable n) _ languages.0).1)).0 in
-      let eighteen = identifier-takes c.identifier parts.0 in
-      let twelve = languages-take c.languages (leb-true 1 n some) languages.1 in
+      let eighteen = identifier_takes c.identifier parts.0 in
+      let twelve = languages_take c.languages (leb-true 1 n some) languages.1 in
       simp (length-append, length_bytes_lem) (omega (arith, eighteen, twelve))
 
 -- zeros but for the day 1 March 1900, one language `aaa` with nothing in it, an empty signature: no auxiliary file, so that the width of its

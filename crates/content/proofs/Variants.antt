@@ -12,43 +12,43 @@ use Rattle.body_formats.proofs.Readers.{is_open}
 use Rattle.content_variant.specs.Variant.{width_of, by_width, opened}
 use Rattle.content_variant.specs.declared.Width.{Width}
 use Rattle.content_variant.specs.declared.Width.TheVariants.{Bytes, Refused}
-use Rattle.content_variant.proofs.Variant.{was-asked, opened-width, opened-place}
+use Rattle.content_variant.proofs.Variant.{was_asked, opened_width, opened_place}
 use Rattle.content.specs.Content.{content_kind, content, reading_of, content_read, variant_read, variant_laid, variant_tape}
-use Rattle.content.proofs.Places.{extended-place}
+use Rattle.content.proofs.Places.{extended_place}
 
 -- ---- what the code's tests make of a body: it is opened with a width, or refused
 
 module _ (kind v : ℕ) (s : List ℕ) where
   module _ (w : ℕ) (e : Bytes w ≡ opened kind v (length s)) where
-    pub is-opened : At 0 ≡ body.opened content_kind kind s
-    is-opened =
-        let asked = was-asked kind v (length s) w e in
+    pub is_opened : At 0 ≡ body.opened content_kind kind s
+    is_opened =
+        let asked = was_asked kind v (length s) w e in
         is_open content_kind kind s asked.0 asked.2
 
     pub read_wide : (extension : ℕ) → content_read w kind extension s ≡ variant_read kind v extension s
     unfolding variant_read
     read_wide extension = rw (← e)
 
-    pub laid-wide : (room : ℕ) → body.body_laid (content w) content_kind kind s room ≡ variant_laid kind v s room
+    pub laid_wide : (room : ℕ) → body.body_laid (content w) content_kind kind s room ≡ variant_laid kind v s room
     unfolding variant_laid
-    laid-wide room = rw (← e)
+    laid_wide room = rw (← e)
 
-    pub tape-wide : (tape : List ℕ) → body.laid_tape (content w) content_kind kind s tape ≡ variant_tape kind v s tape
+    pub tape_wide : (tape : List ℕ) → body.laid_tape (content w) content_kind kind s tape ≡ variant_tape kind v s tape
     unfolding variant_tape
-    tape-wide tape = rw (← e)
+    tape_wide tape = rw (← e)
 
   module _ (r : Refusal) (e : Refused r ≡ opened kind v (length s)) where
     pub read_no : (extension : ℕ) → NoStep r ≡ variant_read kind v extension s
     unfolding variant_read
     read_no extension = rw (← e)
 
-    pub laid-no : (room : ℕ) → NoStep r ≡ variant_laid kind v s room
+    pub laid_no : (room : ℕ) → NoStep r ≡ variant_laid kind v s room
     unfolding variant_laid
-    laid-no room = rw (← e)
+    laid_no room = rw (← e)
 
-    pub tape-no : (tape : List ℕ) → tape ≡ variant_tape kind v s tape
+    pub tape_no : (tape : List ℕ) → tape ≡ variant_tape kind v s tape
     unfolding variant_tape
-    tape-no tape = rw (← e)
+    tape_no tape = rw (← e)
 
 -- a variant that there is not leaves the tape, whatever the kind
 pub unnamed_tape : (kind v : ℕ) (s : List ℕ) (r : Refusal) → Refused r ≡ width_of v → (tape : List ℕ) → variant_tape kind v s tape ≡ tape
@@ -58,25 +58,25 @@ unnamed_tape kind v s r e tape = go (opened kind v (length s)) refl
     go : (x : Width) → opened kind v (length s) ≡ x → by_width x (λ w. body.laid_tape (content w) content_kind kind s tape) (λ u. tape) ≡ tape
     go (Refused u) k = refl
     go (Bytes w) k =
-        let named : Bytes w ≡ Refused r = (was-asked kind v (length s) w (sym k)).1 ∙ sym e in
+        let named : Bytes w ≡ Refused r = (was_asked kind v (length s) w (sym k)).1 ∙ sym e in
         absurd (let z : ◌≡◌ {A = ℕ} 0 1 = cc in omega arith)
 
 -- ---- a variant of w bytes answers what is said of w bytes, whatever the kind and the size
 
 module _ (v w : ℕ) (e : Bytes w ≡ width_of v) (kind : ℕ) (s : List ℕ) where
-  pub variant-reads : (extension : ℕ) → variant_read kind v extension s ≡ content_read w kind extension s
+  pub variant_reads : (extension : ℕ) → variant_read kind v extension s ≡ content_read w kind extension s
   unfolding variant_read content_read reading_of body.reading
-  variant-reads extension = opened-width kind v (length s) w e (λ u. content_read u kind extension s) NoStep (λ k. rw k) (λ k l. rw (k, l))
+  variant_reads extension = opened_width kind v (length s) w e (λ u. content_read u kind extension s) NoStep (λ k. rw k) (λ k l. rw (k, l))
 
-  pub variant-lays : (room : ℕ) → variant_laid kind v s room ≡ body.body_laid (content w) content_kind kind s room
+  pub variant_lays : (room : ℕ) → variant_laid kind v s room ≡ body.body_laid (content w) content_kind kind s room
   unfolding variant_laid body.body_laid body.laying body.reading
-  variant-lays room =
-      opened-width kind v (length s) w e (λ u. body.body_laid (content u) content_kind kind s room) NoStep (λ k. rw k) (λ k l. rw (k, l))
+  variant_lays room =
+      opened_width kind v (length s) w e (λ u. body.body_laid (content u) content_kind kind s room) NoStep (λ k. rw k) (λ k l. rw (k, l))
 
-  pub variant-tape : (tape : List ℕ) → variant_tape kind v s tape ≡ body.laid_tape (content w) content_kind kind s tape
+  pub variant_tape_lem : (tape : List ℕ) → variant_tape kind v s tape ≡ body.laid_tape (content w) content_kind kind s tape
   unfolding variant_tape body.laid_tape body.laying body.reading
-  variant-tape tape =
-      opened-width kind v (length s) w e (λ u. body.laid_tape (content u) content_kind kind s tape) (λ r. tape) (λ k. rw k) (λ k l. rw (k, l))
+  variant_tape_lem tape =
+      opened_width kind v (length s) w e (λ u. body.laid_tape (content u) content_kind kind s tape) (λ r. tape) (λ k. rw k) (λ k l. rw (k, l))
 
 -- ---- where its refusals stand
 
@@ -85,8 +85,8 @@ unfolding variant_read
 variant_place kind v extension s r e = go (opened kind v (length s)) refl e
   where
     go : (x : Width) → opened kind v (length s) ≡ x → by_width x (λ w. content_read w kind extension s) NoStep ≡ NoStep r → refusal_place r ≤ length s
-    go (Bytes w) k f = extended-place w kind extension s r f
+    go (Bytes w) k f = extended_place w kind extension s r f
     go (Refused t) k f =
         let same : t ≡ r = cc in
-        let first = opened-place kind v (length s) t (sym k) in
+        let first = opened_place kind v (length s) t (sym k) in
         omega (arith, ap refusal_place same, first)

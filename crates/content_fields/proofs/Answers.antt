@@ -15,7 +15,7 @@ use Rattle.body_formats.proofs.Classes as classes
 use Rattle.body_formats.proofs.Readers.{number_found, number_refused, opaque_found}
 use Rattle.body_asking.specs.Asking.{headed_part, nth_of}
 use Rattle.body_asking.proofs.Answers.{count_number, found_in, part_refused, part_found, step_refused, step_found}
-use Rattle.body_asking.proofs.Entries.{all-headless, nth-headless}
+use Rattle.body_asking.proofs.Entries.{all_headless, nth_headless}
 use Rattle.content_variant.specs.Variant.{width_of}
 use Rattle.content_variant.specs.declared.Width.TheVariants.{Bytes, Refused as NoWidth}
 use Rattle.content_fields.specs.Asked.{languages_counted, language_count, language_part, signature_part, text_in, agency_in, auxiliaries_in, text_part, agency_part, auxiliary_count, type_in, auxiliary_type, auxiliary_part, variant_type, variant_part}
@@ -24,34 +24,34 @@ use Rattle.content_fields.specs.Asked.{languages_counted, language_count, langua
 
 module _ (s : List ℕ) where
   module _ (r : Refusal) (e : NoNumber r ≡ language_count s) where
-    pub language-no : (i : ℕ) → NoPart r ≡ language_part s i
+    pub language_no : (i : ℕ) → NoPart r ≡ language_part s i
     unfolding language_count language_part
-    language-no i = rw (number_refused (languages_counted.parse s (length s) 18) r e)
+    language_no i = rw (number_refused (languages_counted.parse s (length s) 18) r e)
 
-    pub signature-no : NoPart r ≡ signature_part s
+    pub signature_no : NoPart r ≡ signature_part s
     unfolding language_count signature_part list_of
-    signature-no = rw (number_refused (languages_counted.parse s (length s) 18) r e)
+    signature_no = rw (number_refused (languages_counted.parse s (length s) 18) r e)
 
   module _ (n q : ℕ) (e : Is n q ≡ language_count s) where
-    counted-there : languages_counted.parse s (length s) 18 ≡ found n q
+    counted_there : languages_counted.parse s (length s) 18 ≡ found n q
     unfolding language_count
-    counted-there = number_found (languages_counted.parse s (length s) 18) n q e
+    counted_there = number_found (languages_counted.parse s (length s) 18) n q e
 
-    pub language-none : (i : ℕ) (r : Refusal) → NoStep r ≡ step_of (nth_of (headed_part 0 4) n i s (length s) q) → NoPart r ≡ language_part s i
+    pub language_none : (i : ℕ) (r : Refusal) → NoStep r ≡ step_of (nth_of (headed_part 0 4) n i s (length s) q) → NoPart r ≡ language_part s i
     unfolding language_part
-    language-none i r f = rw (counted-there, step_refused (nth_of (opaque 4) n i s (length s) q) r (f ∙ nth-headless 4 s n i q))
+    language_none i r f = rw (counted_there, step_refused (nth_of (opaque 4) n i s (length s) q) r (f ∙ nth_headless 4 s n i q))
 
-    pub language-is : (i p : ℕ) → At p ≡ step_of (nth_of (headed_part 0 4) n i s (length s) q) → part_read 4 s (length s) p ≡ language_part s i
+    pub language_is : (i p : ℕ) → At p ≡ step_of (nth_of (headed_part 0 4) n i s (length s) q) → part_read 4 s (length s) p ≡ language_part s i
     unfolding language_part part_read
-    language-is i p f = rw (counted-there, (step_found (nth_of (opaque 4) n i s (length s) q) p (f ∙ nth-headless 4 s n i q)).1)
+    language_is i p f = rw (counted_there, (step_found (nth_of (opaque 4) n i s (length s) q) p (f ∙ nth_headless 4 s n i q)).1)
 
-    pub signature-none : (r : Refusal) → NoStep r ≡ ended_all (headed_part 0 4) n s (length s) q → NoPart r ≡ signature_part s
+    pub signature_none : (r : Refusal) → NoStep r ≡ ended_all (headed_part 0 4) n s (length s) q → NoPart r ≡ signature_part s
     unfolding signature_part list_of ended_all
-    signature-none r f = rw (counted-there, step_refused (repeat ((opaque 4).parse s (length s)) n q) r (f ∙ all-headless 4 s n q))
+    signature_none r f = rw (counted_there, step_refused (repeat ((opaque 4).parse s (length s)) n q) r (f ∙ all_headless 4 s n q))
 
     pub signature_is : (p : ℕ) → At p ≡ ended_all (headed_part 0 4) n s (length s) q → part_read 2 s (length s) p ≡ signature_part s
     unfolding signature_part list_of ended_all part_read
-    signature_is p f = rw (counted-there, (step_found (repeat ((opaque 4).parse s (length s)) n q) p (f ∙ all-headless 4 s n q)).1)
+    signature_is p f = rw (counted_there, (step_found (repeat ((opaque 4).parse s (length s)) n q) p (f ∙ all_headless 4 s n q)).1)
 
 -- ---- a language: what was found in it shows that it lies in the body
 
@@ -63,38 +63,38 @@ module _ (s : List ℕ) (at n : ℕ) where
       let g = opaque_found s (at + n) (at + 4) 2 xs q f.1 in
       (f.0, g.0, g.1)
 
-  agency-in : (xs : List ℕ) (q : ℕ) → agency_in s at n ≡ found xs q → (at + n ≤ length s) × (length xs ≤ q) × (q ≤ length s)
+  agency_in_lem : (xs : List ℕ) (q : ℕ) → agency_in s at n ≡ found xs q → (at + n ≤ length s) × (length xs ≤ q) × (q ≤ length s)
   unfolding agency_in
-  agency-in xs q e =
+  agency_in_lem xs q e =
       let f = and_then_found (text_in s at n) _ xs q e in
       let g = opaque_found s (at + n) f.1 1 xs q f.3 in
       ((text_in_lem f.0 f.1 f.2).0, g.0, g.1)
 
-  count-in : (m q : ℕ) → auxiliaries_in s at n ≡ found m q → at + n ≤ length s
+  count_in_lem : (m q : ℕ) → auxiliaries_in s at n ≡ found m q → at + n ≤ length s
   unfolding auxiliaries_in
-  count-in m q e =
+  count_in_lem m q e =
       let f = and_then_found (agency_in s at n) _ m q e in
-      (agency-in f.0 f.1 f.2).0
+      (agency_in_lem f.0 f.1 f.2).0
 
   -- ---- the agency, after the text
 
-  pub agency-no : (r : Refusal) → NoPart r ≡ text_part s at n → NoPart r ≡ agency_part s at n
+  pub agency_no : (r : Refusal) → NoPart r ≡ text_part s at n → NoPart r ≡ agency_part s at n
   unfolding text_part agency_part agency_in
-  agency-no r e = rw (part_refused (text_in s at n) r e)
+  agency_no r e = rw (part_refused (text_in s at n) r e)
 
   module _ (a m : ℕ) (e : Of a m ≡ text_part s at n) where
-    text-there : (xs : List ℕ) × (text_in s at n ≡ found xs (a + m))
+    text_there : (xs : List ℕ) × (text_in s at n ≡ found xs (a + m))
     unfolding text_part
-    text-there = part_found (text_in s at n) a m e (λ xs q f. (text_in_lem xs q f).1)
+    text_there = part_found (text_in s at n) a m e (λ xs q f. (text_in_lem xs q f).1)
 
     pub after_text : (at + n ≤ length s) × (a + m ≤ length s)
     after_text =
-        let f = text_in_lem text-there.0 (a + m) text-there.1 in
+        let f = text_in_lem text_there.0 (a + m) text_there.1 in
         (f.0, f.2)
 
-    pub agency-is : part_read 1 s (at + n) (a + m) ≡ agency_part s at n
+    pub agency_is : part_read 1 s (at + n) (a + m) ≡ agency_part s at n
     unfolding agency_part agency_in part_read
-    agency-is = rw text-there.1
+    agency_is = rw text_there.1
 
   -- ---- the auxiliary count, after the agency
 
@@ -103,80 +103,80 @@ module _ (s : List ℕ) (at n : ℕ) where
   count_no r e = rw (part_refused (agency_in s at n) r e)
 
   module _ (a m : ℕ) (e : Of a m ≡ agency_part s at n) where
-    agency-there : (xs : List ℕ) × (agency_in s at n ≡ found xs (a + m))
+    agency_there : (xs : List ℕ) × (agency_in s at n ≡ found xs (a + m))
     unfolding agency_part
-    agency-there = part_found (agency_in s at n) a m e (λ xs q f. (agency-in xs q f).1)
+    agency_there = part_found (agency_in s at n) a m e (λ xs q f. (agency_in_lem xs q f).1)
 
-    pub after-agency : (at + n ≤ length s) × (a + m ≤ length s)
-    after-agency =
-        let f = agency-in agency-there.0 (a + m) agency-there.1 in
+    pub after_agency : (at + n ≤ length s) × (a + m ≤ length s)
+    after_agency =
+        let f = agency_in_lem agency_there.0 (a + m) agency_there.1 in
         (f.0, f.2)
 
-    pub count-is : number_of ((among 0 2 (reserved 4 0)).parse s (at + n) (a + m)) ≡ auxiliary_count s at n
+    pub count_is : number_of ((among 0 2 (reserved 4 0)).parse s (at + n) (a + m)) ≡ auxiliary_count s at n
     unfolding auxiliary_count auxiliaries_in
-    count-is = rw agency-there.1
+    count_is = rw agency_there.1
 
   -- ---- an auxiliary file, after those before it
 
-  pub type-no : (w i : ℕ) (r : Refusal) → NoNumber r ≡ auxiliary_count s at n → NoNumber r ≡ auxiliary_type w s at n i
+  pub type_no : (w i : ℕ) (r : Refusal) → NoNumber r ≡ auxiliary_count s at n → NoNumber r ≡ auxiliary_type w s at n i
   unfolding auxiliary_count auxiliary_type type_in
-  type-no w i r e = rw (number_refused (auxiliaries_in s at n) r e)
+  type_no w i r e = rw (number_refused (auxiliaries_in s at n) r e)
 
   module _ (m q : ℕ) (e : Is m q ≡ auxiliary_count s at n) where
-    files-there : auxiliaries_in s at n ≡ found m q
+    files_there : auxiliaries_in s at n ≡ found m q
     unfolding auxiliary_count
-    files-there = number_found (auxiliaries_in s at n) m q e
+    files_there = number_found (auxiliaries_in s at n) m q e
 
-    pub after-count : at + n ≤ length s
-    after-count = count-in m q files-there
+    pub after_count : at + n ≤ length s
+    after_count = count_in_lem m q files_there
 
-    pub type-none : (w i : ℕ) (r : Refusal) → NoStep r ≡ step_of (nth_of (headed_part 1 w) m i s (at + n) q) → NoNumber r ≡ auxiliary_type w s at n i
+    pub type_none : (w i : ℕ) (r : Refusal) → NoStep r ≡ step_of (nth_of (headed_part 1 w) m i s (at + n) q) → NoNumber r ≡ auxiliary_type w s at n i
     unfolding auxiliary_type type_in
-    type-none w i r f = rw (files-there, step_refused (nth_of (headed_part 1 w) m i s (at + n) q) r f)
+    type_none w i r f = rw (files_there, step_refused (nth_of (headed_part 1 w) m i s (at + n) q) r f)
 
     pub type_is : (w i p : ℕ) → classes.Bytes s → At p ≡ step_of (nth_of (headed_part 1 w) m i s (at + n) q) → number_read 1 s (at + n) p ≡ auxiliary_type w s at n i
     unfolding auxiliary_type type_in number_read
-    type_is w i p b f = rw (files-there, (step_found (nth_of (headed_part 1 w) m i s (at + n) q) p f).1) (count_number 1 s (at + n) p b)
+    type_is w i p b f = rw (files_there, (step_found (nth_of (headed_part 1 w) m i s (at + n) q) p f).1) (count_number 1 s (at + n) p b)
 
   -- its data, after its type
 
   module _ (w i : ℕ) where
-    pub file-no : (r : Refusal) → NoNumber r ≡ auxiliary_type w s at n i → NoPart r ≡ auxiliary_part w s at n i
+    pub file_no : (r : Refusal) → NoNumber r ≡ auxiliary_type w s at n i → NoPart r ≡ auxiliary_part w s at n i
     unfolding auxiliary_type auxiliary_part
-    file-no r e = rw (number_refused (type_in w s at n i) r e)
+    file_no r e = rw (number_refused (type_in w s at n i) r e)
 
     module _ (t q : ℕ) (e : Is t q ≡ auxiliary_type w s at n i) where
-      type-there : type_in w s at n i ≡ found t q
+      type_there : type_in w s at n i ≡ found t q
       unfolding auxiliary_type
-      type-there = number_found (type_in w s at n i) t q e
+      type_there = number_found (type_in w s at n i) t q e
 
-      pub after-type : at + n ≤ length s
+      pub after_type : at + n ≤ length s
       unfolding type_in
-      after-type =
-          let f = and_then_found (auxiliaries_in s at n) _ t q type-there in
-          count-in f.0 f.1 f.2
+      after_type =
+          let f = and_then_found (auxiliaries_in s at n) _ t q type_there in
+          count_in_lem f.0 f.1 f.2
 
-      pub file-is : part_read w s (at + n) q ≡ auxiliary_part w s at n i
+      pub file_is : part_read w s (at + n) q ≡ auxiliary_part w s at n i
       unfolding auxiliary_part part_read
-      file-is = rw type-there
+      file_is = rw type_there
 
 -- ---- an auxiliary file in a table of a variant
 
 module _ (v : ℕ) where
   module _ (w : ℕ) (e : Bytes w ≡ width_of v) (s : List ℕ) (at n i : ℕ) where
-    pub variant-type-is : auxiliary_type w s at n i ≡ variant_type v s at n i
+    pub variant_type_is : auxiliary_type w s at n i ≡ variant_type v s at n i
     unfolding variant_type
-    variant-type-is = rw (← e)
+    variant_type_is = rw (← e)
 
-    pub variant-part-is : auxiliary_part w s at n i ≡ variant_part v s at n i
+    pub variant_part_is : auxiliary_part w s at n i ≡ variant_part v s at n i
     unfolding variant_part
-    variant-part-is = rw (← e)
+    variant_part_is = rw (← e)
 
   module _ (r : Refusal) (e : NoWidth r ≡ width_of v) (s : List ℕ) (at n i : ℕ) where
-    pub variant-type-no : NoNumber r ≡ variant_type v s at n i
+    pub variant_type_no : NoNumber r ≡ variant_type v s at n i
     unfolding variant_type
-    variant-type-no = rw (← e)
+    variant_type_no = rw (← e)
 
-    pub variant-part-no : NoPart r ≡ variant_part v s at n i
+    pub variant_part_no : NoPart r ≡ variant_part v s at n i
     unfolding variant_part
-    variant-part-no = rw (← e)
+    variant_part_no = rw (← e)

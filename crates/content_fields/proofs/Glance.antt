@@ -14,17 +14,17 @@ use Rattle.body_formats.specs.Answers.{step_of, number_of, part_of, number_among
 use Rattle.body_formats.specs.declared.Step.TheVariants.{At}
 use Rattle.body_formats.specs.declared.Number.TheVariants.{Is}
 use Rattle.body_formats.proofs.Classes as classes
-use Rattle.body_formats.proofs.Bits.{reserved-is, number_among_lem}
+use Rattle.body_formats.proofs.Bits.{reserved_is, number_among_lem}
 use Rattle.body_formats.proofs.Readers.{number_is, all_done, all_go}
 use Rattle.body_numbers.proofs.Numbers.{number_one}
 use Rattle.body_asking.specs.Asking.{headed_part, nth_of}
 use Rattle.body_asking.proofs.Answers.{needed, part_there}
-use Rattle.body_asking.proofs.Entries.{nth-there, entry_at}
+use Rattle.body_asking.proofs.Entries.{nth_there, entry_at}
 use Rattle.content_variant.specs.Variant.{width_of}
 use Rattle.content_variant.specs.declared.Width.TheVariants.{Bytes, Refused as NoWidth}
 use Rattle.content_fields.specs.Asked.{text_in, text_part, auxiliary_type, auxiliary_part}
 use Rattle.content_fields.specs.Glance.{CountAt, FileAt}
-use Rattle.content_fields.proofs.Answers.{agency-is, count-is, type_is, file-is}
+use Rattle.content_fields.proofs.Answers.{agency_is, count_is, type_is, file_is}
 
 -- ---- widths
 
@@ -40,8 +40,8 @@ width_least v w e = go (eqb v 24) (eqb v 32) e
 -- ---- a file: its type, and a part after its length of w bytes
 
 module _ (s : List ℕ) (b : classes.Bytes s) (l : ℕ) (inside : l ≤ length s) where
-  pub file-ends : (p w m q : ℕ) → m ≡ number_at s (p + 1) w → q ≡ p + 1 + w → q + m ≤ l → At (q + m) ≡ ended (headed_part 1 w) s l p
-  file-ends p w m q e f h =
+  pub file_ends : (p w m q : ℕ) → m ≡ number_at s (p + 1) w → q ≡ p + 1 + w → q + m ≤ l → At (q + m) ≡ ended (headed_part 1 w) s l p
+  file_ends p w m q e f h =
       let type = number_is s l p 1 (omega arith) (omega arith) (number_at s p 1) (p + 1) refl refl in
       entry_at s l p 1 w (number_at s p 1) (p + 1) type q m (part_there s b l inside (p + 1) w m q e f h)
 
@@ -55,31 +55,31 @@ module _ (s : List ℕ) (b : classes.Bytes s) (at n : ℕ) (inside : at + n ≤ 
       let t = at + 6 + m in
       let text = part_there s b (at + n) inside (at + 4) 2 m (at + 6) e (omega arith) (omega arith)
       ∙ ap part_of (needed _ _ _ (le-leb (at + n) (length s) inside)) in
-      let agency = part_there s b (at + n) inside t 1 k (t + 1) (number_one s t 1 k refl h) refl (omega arith) ∙ agency-is s at n (at + 6) m text in
-      record { inside = inside; lies = i; is = count-is s at n (t + 1) k agency }
+      let agency = part_there s b (at + n) inside t 1 k (t + 1) (number_one s t 1 k refl h) refl (omega arith) ∙ agency_is s at n (at + 6) m text in
+      record { inside = inside; lies = i; is = count_is s at n (t + 1) k agency }
 
 -- the count stands in the low bits of the byte v
 module _ (s : List ℕ) (l p v : ℕ) (inside : l ≤ length s) (lies : p < l) (e : v ≡ get_or s p 0) (low : 240 ≤ v) (high : v ≤ 242) where
   counted : Is (v - 240) (p + 1) ≡ number_of ((among 0 2 (reserved 4 0)).parse s l p)
   counted =
       let told = number_is s l p 1 (omega arith) (omega arith) v (p + 1) (number_one s p 1 v refl e) refl in
-      let bits = reserved-is s l p 4 0 v (p + 1) told (let z : v / 16 ≡ 15 = omega arith in z) v (p + 1) told in
+      let bits = reserved_is s l p 4 0 v (p + 1) told (let z : v / 16 ≡ 15 = omega arith in z) v (p + 1) told in
       let same : v - 240 ≡ v % 16 = omega arith in
       rw same (rw (le-leb 0 (v % 16) (omega arith), le-leb (v % 16) 2 (omega arith)) at (ap (number_among 0 2 p) bits) ∙ number_among_lem 0 2 (reserved 4 0) s l p)
 
 -- ---- the i-th file of m, of which the first begins at p
 
 module _ {A : Type 0} (F : Format A) (m i : ℕ) (s : List ℕ) (l p : ℕ) (there : i < m) where
-  pub first-file : i ≡ 0 → At p ≡ step_of (nth_of F m i s l p)
-  first-file z = all_done F s l p i z ∙ nth-there F m i s l p there
+  pub first_file : i ≡ 0 → At p ≡ step_of (nth_of F m i s l p)
+  first_file z = all_done F s l p i z ∙ nth_there F m i s l p there
 
-  pub second-file : (q : ℕ) → i ≡ 1 → At q ≡ ended F s l p → At q ≡ step_of (nth_of F m i s l p)
-  second-file q z e = all_done F s l q (i - 1) (omega arith) ∙ sym (all_go F s l p i q (omega arith) e) ∙ nth-there F m i s l p there
+  pub second_file : (q : ℕ) → i ≡ 1 → At q ≡ ended F s l p → At q ≡ step_of (nth_of F m i s l p)
+  second_file q z e = all_done F s l q (i - 1) (omega arith) ∙ sym (all_go F s l p i q (omega arith) e) ∙ nth_there F m i s l p there
 
 module _ (w : ℕ) (s : List ℕ) (b : classes.Bytes s) (at n i : ℕ) where
-  pub file-there : (q v r : ℕ) → CountAt s at n q → v ≡ get_or s q 0 → 240 ≤ v → v ≤ 242
+  pub file_there : (q v r : ℕ) → CountAt s at n q → v ≡ get_or s q 0 → 240 ≤ v → v ≤ 242
       → (r < at + n) × (At r ≡ step_of (nth_of (headed_part 1 w) (v - 240) i s (at + n) (q + 1))) → FileAt w s at n i r
-  file-there q v r c e low high f =
+  file_there q v r c e low high f =
       record {
         inside = c.inside;
         lies = f.0;
@@ -94,4 +94,4 @@ module _ (w : ℕ) (s : List ℕ) (b : classes.Bytes s) (at n i : ℕ) where
       number_is s (at + n) r 1 low (omega (arith, f.lies)) v (r + 1) (number_one s r 1 v refl e) refl ∙ f.is
 
   pub part_at : (r : ℕ) → FileAt w s at n i r → part_read w s (at + n) (r + 1) ≡ auxiliary_part w s at n i
-  part_at r f = file-is s at n w i (get_or s r 0) (r + 1) (type_at r (get_or s r 0) f refl)
+  part_at r f = file_is s at n w i (get_or s r 0) (r + 1) (type_at r (get_or s r 0) f refl)

@@ -17,31 +17,31 @@ use Rattle.content_variant.specs.declared.Width.TheVariants.{Bytes, Refused}
 -- ---- the width
 
 module _ (v : ℕ) where
-  pub width-24 : v ≡ 24 → Bytes 3 ≡ width_of v
+  pub width_24 : v ≡ 24 → Bytes 3 ≡ width_of v
   unfolding width_of
-  width-24 e = rw (eq-eqb v 24 e)
+  width_24 e = rw (eq-eqb v 24 e)
 
-  pub width-32 : v ≡ 32 → Bytes 4 ≡ width_of v
+  pub width_32 : v ≡ 32 → Bytes 4 ≡ width_of v
   unfolding width_of
-  width-32 e = rw e
+  width_32 e = rw e
 
-  pub no-width : (v ≡ 24 → ⊥) → (v ≡ 32 → ⊥) → Refused (OutsideSet 0) ≡ width_of v
+  pub no_width : (v ≡ 24 → ⊥) → (v ≡ 32 → ⊥) → Refused (OutsideSet 0) ≡ width_of v
   unfolding width_of
-  no-width a b = rw (ne_eqb v 24 a, ne_eqb v 32 b)
+  no_width a b = rw (ne_eqb v 24 a, ne_eqb v 32 b)
 
   -- a width is 3 or 4 bytes
-  pub width-most : (w : ℕ) → Bytes w ≡ width_of v → w ≤ 4
+  pub width_most : (w : ℕ) → Bytes w ≡ width_of v → w ≤ 4
   unfolding width_of
-  width-most w e = go (eqb v 24) (eqb v 32) e
+  width_most w e = go (eqb v 24) (eqb v 32) e
     where
       go : (a b : Bool) → Bytes w ≡ (if a then Bytes 3 else if b then Bytes 4 else Refused (OutsideSet 0)) → w ≤ 4
       go true b f = let z : w ≡ 3 = cc in omega arith
       go false true f = let z : w ≡ 4 = cc in omega arith
       go false false f = absurd (let z : ◌≡◌ {A = ℕ} 0 1 = cc in omega arith)
 
-  pub width-place : (r : Refusal) → Refused r ≡ width_of v → refusal_place r ≡ 0
+  pub width_place : (r : Refusal) → Refused r ≡ width_of v → refusal_place r ≡ 0
   unfolding width_of
-  width-place r e = go (eqb v 24) (eqb v 32) e
+  width_place r e = go (eqb v 24) (eqb v 32) e
     where
       go : (a b : Bool) → Refused r ≡ (if a then Bytes 3 else if b then Bytes 4 else Refused (OutsideSet 0)) → refusal_place r ≡ 0
       go true b f = absurd (let z : ◌≡◌ {A = ℕ} 0 1 = cc in omega arith)
@@ -56,9 +56,9 @@ module _ (kind v n : ℕ) where
   other_kind h = rw (ne_eqb kind content_kind h)
 
   module _ (e : kind ≡ content_kind) where
-    pub short-enough : n ≤ body_most → width_of v ≡ opened kind v n
+    pub short_enough : n ≤ body_most → width_of v ≡ opened kind v n
     unfolding opened
-    short-enough h = rw (eq-eqb kind content_kind e, le-leb n body_most h) (go (width_of v))
+    short_enough h = rw (eq-eqb kind content_kind e, le-leb n body_most h) (go (width_of v))
       where
         go : (x : Width) → x ≡ by_width x Bytes Refused
         go (Bytes w) = refl
@@ -74,9 +74,9 @@ module _ (kind v n : ℕ) where
 
   -- what was asked of an opened body
   module _ (w : ℕ) (e : Bytes w ≡ opened kind v n) where
-    pub was-asked : (kind ≡ content_kind) × (Bytes w ≡ width_of v) × (n ≤ body_most)
+    pub was_asked : (kind ≡ content_kind) × (Bytes w ≡ width_of v) × (n ≤ body_most)
     unfolding opened
-    was-asked = go (eqb kind content_kind) refl (width_of v) (leb n body_most) refl e
+    was_asked = go (eqb kind content_kind) refl (width_of v) (leb n body_most) refl e
       where
         go : (a : Bool) → eqb kind content_kind ≡ a → (x : Width) → (b : Bool) → leb n body_most ≡ b
             → Bytes w ≡ (if a then by_width x (λ u. if b then Bytes u else Refused TooLarge) Refused else Refused OtherKind)
@@ -86,15 +86,15 @@ module _ (kind v n : ℕ) where
         go true k (Refused r) b l f = absurd (let z : ◌≡◌ {A = ℕ} 0 1 = cc in omega arith)
         go false k x b l f = absurd (let z : ◌≡◌ {A = ℕ} 0 1 = cc in omega arith)
 
-    pub opened-most : w ≤ 4
-    opened-most = width-most v w was-asked.1
+    pub opened_most : w ≤ 4
+    opened_most = width_most v w was_asked.1
 
   -- what answers for a wrong kind and for a body that is too long as an opened body's refusals are answered, answers for the variant's width
   module _ (w : ℕ) (e : Bytes w ≡ width_of v) {A : Type 0} (wide : ℕ → A) (refuse : Refusal → A) where
-    pub opened-width : (eqb kind content_kind ≡ false → refuse OtherKind ≡ wide w) → (eqb kind content_kind ≡ true → leb n body_most ≡ false → refuse TooLarge ≡ wide w)
+    pub opened_width : (eqb kind content_kind ≡ false → refuse OtherKind ≡ wide w) → (eqb kind content_kind ≡ true → leb n body_most ≡ false → refuse TooLarge ≡ wide w)
         → by_width (opened kind v n) wide refuse ≡ wide w
     unfolding opened
-    opened-width other large = rw (← e) (go (eqb kind content_kind) (leb n body_most) other large)
+    opened_width other large = rw (← e) (go (eqb kind content_kind) (leb n body_most) other large)
       where
         go : (a b : Bool) → (a ≡ false → refuse OtherKind ≡ wide w) → (a ≡ true → b ≡ false → refuse TooLarge ≡ wide w)
             → by_width (if a then (if b then Bytes w else Refused TooLarge) else Refused OtherKind) wide refuse ≡ wide w
@@ -102,13 +102,13 @@ module _ (kind v n : ℕ) where
         go true false f g = g refl refl
         go false b f g = f refl
 
-  pub opened-place : (r : Refusal) → Refused r ≡ opened kind v n → refusal_place r ≡ 0
+  pub opened_place : (r : Refusal) → Refused r ≡ opened kind v n → refusal_place r ≡ 0
   unfolding opened
-  opened-place r e = go (eqb kind content_kind) (width_of v) refl (leb n body_most) e
+  opened_place r e = go (eqb kind content_kind) (width_of v) refl (leb n body_most) e
     where
       go : (a : Bool) (x : Width) → width_of v ≡ x → (b : Bool)
           → Refused r ≡ (if a then by_width x (λ u. if b then Bytes u else Refused TooLarge) Refused else Refused OtherKind) → refusal_place r ≡ 0
       go true (Bytes u) k true f = absurd (let z : ◌≡◌ {A = ℕ} 0 1 = cc in omega arith)
       go true (Bytes u) k false f = let z : r ≡ TooLarge = cc in ap refusal_place z
-      go true (Refused t) k b f = width-place v r (f ∙ sym k)
+      go true (Refused t) k b f = width_place v r (f ∙ sym k)
       go false x k b f = let z : r ≡ OtherKind = cc in ap refusal_place z

@@ -13,22 +13,22 @@ use Rattle.body_formats.specs.Answers.{step_of}
 use Rattle.body_formats.specs.Body.{measured, writing, body_written, output_written}
 use Rattle.body_formats.specs.declared.Step.TheVariants.{At, Refused as NoStep}
 use Rattle.body_pen.specs.Penned.{step_fitting}
-use Rattle.body_pen.proofs.Writers.{write-refused}
+use Rattle.body_pen.proofs.Writers.{write_refused}
 use Rattle.body_extension.specs.Extension.{extension_of}
 use Rattle.content.specs.Content.{Content, content}
 use Rattle.content.proofs.RoundTrips.{content_trips}
-use Rattle.content.proofs.Extension.{printed-identifier}
+use Rattle.content.proofs.Extension.{printed_identifier}
 use Rattle.content_writer.specs.Written.{written_of, content_written}
 use Rattle.content_writer.specs.declared.Written.TheVariants.{Of, Refused}
 
 -- one law over the width of an auxiliary file's length
 module _ (w : ℕ) where
   -- a refusal is the same whether or not an extension is told, and writes no byte
-  pub refused-kept : (pool tape out : List ℕ) (e : Refusal) → step_fitting (length out) (measured (content w) pool tape) ≡ NoStep e
+  pub refused_kept : (pool tape out : List ℕ) (e : Refusal) → step_fitting (length out) (measured (content w) pool tape) ≡ NoStep e
       → (Refused e ≡ content_written w pool tape (length out)) × (out ≡ output_written (content w) pool tape out)
   unfolding body_written content_written
-  refused-kept pool tape out e f =
-      let z = write-refused (content w) pool tape out e f in
+  refused_kept pool tape out e f =
+      let z = write_refused (content w) pool tape out e f in
       (go (writing (content w) pool tape (length out)) z.0, z.1)
     where
       go : (y : Reading Content) → NoStep e ≡ step_of y → Refused e ≡ written_of y
@@ -45,7 +45,7 @@ module _ (w : ℕ) where
         go (refused u) g = absurd (let z : ◌≡◌ {A = ℕ} 0 1 = cc in omega arith)
 
     identified : (18 ≤ length ((content w).print value.0)) × (crc16_after_four (take 18 ((content w).print value.0)) ≡ extension_of value.0.identifier)
-    identified = printed-identifier w value.0 ((content_trips w).written_reads_back pool tape (length out) value.0 size value.1).2
+    identified = printed_identifier w value.0 ((content_trips w).written_reads_back pool tape (length out) value.0 size value.1).2
 
     module _ (now : List ℕ) (left : now ≡ output_written (content w) pool tape out) where
       begins : now ≡ (content w).print value.0 ++ drop (length ((content w).print value.0)) out
@@ -55,15 +55,15 @@ module _ (w : ℕ) where
       first : take 18 now ≡ take 18 ((content w).print value.0)
       first = ap (take 18) begins ∙ take-append-le 18 ((content w).print value.0) (drop (length ((content w).print value.0)) out) identified.0
 
-      pub identifier-fits : 18 ≤ length now
-      identifier-fits =
+      pub identifier_fits : 18 ≤ length now
+      identifier_fits =
           let long = ap length begins ∙ length-append ((content w).print value.0) (drop (length ((content w).print value.0)) out) in
           omega (arith, long, identified.0)
 
-      pub first-there : (k : ℕ) → k ≤ 18 → k ≡ length (take k now)
-      first-there k h = sym (length-take-le k now (omega (arith, identifier-fits)))
+      pub first_there : (k : ℕ) → k ≤ 18 → k ≡ length (take k now)
+      first_there k h = sym (length-take-le k now (omega (arith, identifier_fits)))
 
       -- n is what the code works out of the first 18 bytes
-      pub with-extension : (n : ℕ) → n ≡ crc16_after_four (take 18 now) → Of size n ≡ content_written w pool tape (length out)
+      pub with_extension : (n : ℕ) → n ≡ crc16_after_four (take 18 now) → Of size n ≡ content_written w pool tape (length out)
       unfolding content_written
-      with-extension n h = rw value.1 (ap (Of size) (h ∙ ap crc16_after_four first ∙ identified.1))
+      with_extension n h = rw value.1 (ap (Of size) (h ∙ ap crc16_after_four first ∙ identified.1))

@@ -13,27 +13,27 @@ use Rattle.content_writer.specs.declared.Written.TheVariants.{Refused}
 
 module _ (v : ℕ) where
   module _ (w : ℕ) (e : Bytes w ≡ width_of v) where
-    pub measured-wide : (pool tape : List ℕ) → measured (content w) pool tape ≡ variant_measured v pool tape
+    pub measured_wide : (pool tape : List ℕ) → measured (content w) pool tape ≡ variant_measured v pool tape
     unfolding variant_measured
-    measured-wide pool tape = rw (← e)
+    measured_wide pool tape = rw (← e)
 
-    pub written-wide : (pool tape : List ℕ) (room : ℕ) → content_written w pool tape room ≡ variant_written v pool tape room
+    pub written_wide : (pool tape : List ℕ) (room : ℕ) → content_written w pool tape room ≡ variant_written v pool tape room
     unfolding variant_written
-    written-wide pool tape room = rw (← e)
+    written_wide pool tape room = rw (← e)
 
-    pub output-wide : (pool tape out : List ℕ) → output_written (content w) pool tape out ≡ variant_output v pool tape out
+    pub output_wide : (pool tape out : List ℕ) → output_written (content w) pool tape out ≡ variant_output v pool tape out
     unfolding variant_output
-    output-wide pool tape out = rw (← e)
+    output_wide pool tape out = rw (← e)
 
   module _ (r : Refusal) (e : NoWidth r ≡ width_of v) where
-    pub measured-no : (pool tape : List ℕ) → NoStep r ≡ variant_measured v pool tape
+    pub measured_no : (pool tape : List ℕ) → NoStep r ≡ variant_measured v pool tape
     unfolding variant_measured
-    measured-no pool tape = rw (← e)
+    measured_no pool tape = rw (← e)
 
-    pub written-no : (pool tape : List ℕ) (room : ℕ) → Refused r ≡ variant_written v pool tape room
+    pub written_no : (pool tape : List ℕ) (room : ℕ) → Refused r ≡ variant_written v pool tape room
     unfolding variant_written
-    written-no pool tape room = rw (← e)
+    written_no pool tape room = rw (← e)
 
-    pub output-no : (pool tape out : List ℕ) → out ≡ variant_output v pool tape out
+    pub output_no : (pool tape out : List ℕ) → out ≡ variant_output v pool tape out
     unfolding variant_output
-    output-no pool tape out = rw (← e)
+    output_no pool tape out = rw (← e)

@@ -12,7 +12,7 @@ use Rattle.crc_register.specs.Register.{bits_of, bytes_bits, crc}
 use Rattle.crc_register.specs.Lanes.{Lanes}
 use Rattle.crc_register.proofs.Bits.{length_bits}
 use Rattle.crc_register.proofs.Laws.{crc_append, crc_whole, bytes_append}
-use Rattle.crc_register.proofs.Lanes.{lanes_start, lanes-near, lanes-far, two_words}
+use Rattle.crc_register.proofs.Lanes.{lanes_start, lanes_near, lanes_far, two_words}
 use Rattle.crc.specs.Lanes.{Read, apart, close, joined}
 use Rattle.crc.proofs.Walk.{Walk, walk_start, walk_more}
 
@@ -55,7 +55,7 @@ far_turn {p} {s} {xs} {i} {q0} {q2} v d e a b hd he ea eb =
     record {
       lanes =
           subst (λ x. Lanes 32 p s 64 x q2 (bit_xor b a)) all
-          (lanes-far v.lanes (bits_of 32 d ++ bits_of 32 e) l (bit_xor b a) (two_words 32 p q0 d e 64 a b ea eb));
+          (lanes_far v.lanes (bits_of 32 d ++ bits_of 32 e) l (bit_xor b a) (two_words 32 p q0 d e 64 a b ea eb));
     }
 
 -- ---- they come together
@@ -70,14 +70,14 @@ near_turn {p} {s} {xs} {i} {q0} {q1} {q2} (apart v h) d a hd ea =
     let more : crc 32 p s (bits_to xs (i + 4) ++ replicate 32 false) ≡ bit_xor (crc 32 p a (replicate 32 false)) q2 =
     ap (λ x. crc 32 p s (x ++ replicate 32 false)) (sym (word_more xs i d hd))
     ∙ ap (crc 32 p s) (append_assoc (bits_to xs i) (bits_of 32 d) (replicate 32 false))
-    ∙ lanes-near v (bits_of 32 d ++ replicate 32 false) (simp (length-append, length_bits, length-replicate))
+    ∙ lanes_near v (bits_of 32 d ++ replicate 32 false) (simp (length-append, length_bits, length-replicate))
     ∙ ap (bit_xor q2)
     (crc_append 32 p q0 (bits_of 32 d) (replicate 32 false) ∙ ap (λ r. crc 32 p r (replicate 32 false)) (crc_whole 32 p q0 d ∙ sym ea))
     ∙ xor_comm q2 (crc 32 p a (replicate 32 false)) in
     close (record { fits = v.fits; is = more }) (omega arith)
 near_turn {p} {s} {xs} {i} {q0} {q1} {q2} (close v h) d a hd ea =
     joined
-    (ap (bit_xor q1) (ea ∙ sym (crc_whole 32 p q0 d)) ∙ sym (lanes-near v (bits_of 32 d) (length_bits 32 d)) ∙ ap (crc 32 p s) (word_more xs i d hd))
+    (ap (bit_xor q1) (ea ∙ sym (crc_whole 32 p q0 d)) ∙ sym (lanes_near v (bits_of 32 d) (length_bits 32 d)) ∙ ap (crc 32 p s) (word_more xs i d hd))
 near_turn {p} {s} {xs} {i} {q0} {q1} {q2} (joined v) d a hd ea =
     let e : i + 4 - i ≡ 4 = omega arith in
     let w : Walk 32 p s xs i q0 = record { is = v } in

@@ -84,16 +84,16 @@ plus_same xs ys h e =
 -- ---- a burst, for the polynomial of q and its lowest term
 
 module _ (q : List Bool) where
-  length-p : length (q ++ true ∷ []) ≡ suc (length q)
-  length-p = length-append q (true ∷ []) ∙ add-one (length q)
+  length_p : length (q ++ true ∷ []) ≡ suc (length q)
+  length_p = length-append q (true ∷ []) ∙ add-one (length q)
 
   -- two registers that come to one were one
-  run-inj : (u v c : List Bool) → length u ≡ suc (length q) → length v ≡ suc (length q)
+  run_inj : (u v c : List Bool) → length u ≡ suc (length q) → length v ≡ suc (length q)
       → run (q ++ true ∷ []) u c ≡ run (q ++ true ∷ []) v c → u ≡ v
-  run-inj u v c hu hv e =
+  run_inj u v c hu hv e =
       let p : List Bool = q ++ true ∷ [] in
-      let lu : length u ≡ length p = hu ∙ sym length-p in
-      let lv : length v ≡ length p = hv ∙ sym length-p in
+      let lu : length u ≡ length p = hu ∙ sym length_p in
+      let lv : length v ≡ length p = hv ∙ sym length_p in
       plus_back u v (suc (length q)) hu hv
       (run_back q (plus u v) (length c) (length_plus u v (hu ∙ sym hv) ∙ hv)
       (ap (run p (plus u v)) (sym (plus_self c)) ∙ run_plus p u v c c lu lv refl
@@ -107,16 +107,16 @@ module _ (q : List Bool) where
       let n : ℕ = length ys in
       let k : ℕ = suc (length q) - n in
       let d : List Bool = plus xs ys in
-      let lr : length r ≡ length p = hr ∙ sym length-p in
+      let lr : length r ≡ length p = hr ∙ sym length_p in
       let ld : length d ≡ n = length_plus xs ys h in
       let whole : n + k ≡ suc (length q) = omega arith in
       let empty : replicate (length p) false ≡ plus r r = sym (plus_self r ∙ ap (λ (m : ℕ). replicate m false) lr) in
-      let zero-sum : run p (replicate (length p) false) d ≡ replicate (suc (length q)) false =
+      let zero_sum : run p (replicate (length p) false) d ≡ replicate (suc (length q)) false =
       ap (λ (l : List Bool). run p l d) empty ∙ run_plus p r r xs ys lr lr h
       ∙ ap (plus (run p r xs)) (sym e) ∙ plus_self (run p r xs) ∙ ap (λ (m : ℕ). replicate m false) (length_run p r xs lr ∙ hr) in
       let high : run p (d ++ replicate k false) (replicate n false) ≡ replicate (suc (length q)) false =
-      enter p d (replicate n false) k (ld ∙ sym (length-replicate n false)) (length-p ∙ sym whole ∙ ap (λ (m : ℕ). m + k) (sym (length-replicate n false)))
-      ∙ ap (run p (replicate (length p) false)) (plus_comm d (replicate n false) ∙ plus_zeros n d ld) ∙ zero-sum in
+      enter p d (replicate n false) k (ld ∙ sym (length-replicate n false)) (length_p ∙ sym whole ∙ ap (λ (m : ℕ). m + k) (sym (length-replicate n false)))
+      ∙ ap (run p (replicate (length p) false)) (plus_comm d (replicate n false) ∙ plus_zeros n d ld) ∙ zero_sum in
       let all : d ++ replicate k false ≡ replicate n false ++ replicate k false =
       run_back q (d ++ replicate k false) n (simp (length-append, length-replicate) (omega arith)) high
       ∙ ap (λ (m : ℕ). replicate m false) (sym whole) ∙ sym (replicate-append-replicate n k false) in
@@ -137,7 +137,7 @@ bits_inj n x y hx hy e = sym (value_bits n x ∙ mod-eq_of_lt hx) ∙ ap value e
 pub crc_start : (w p a b : ℕ) (c : List Bool) → 0 < w → odd p ≡ true → a < 2 ^ w → b < 2 ^ w → crc w p a c ≡ crc w p b c → a ≡ b
 crc_start zero p a b c pos o ha hb e = absurd (omega arith)
 crc_start (suc k) p a b c pos o ha hb e =
-    bits_inj (suc k) a b ha hb (run-inj q (bits_of (suc k) a) (bits_of (suc k) b) c (wide a) (wide b) (as-run a ∙ ap (bits_of (suc k)) e ∙ sym (as-run b)))
+    bits_inj (suc k) a b ha hb (run_inj q (bits_of (suc k) a) (bits_of (suc k) b) c (wide a) (wide b) (as_run a ∙ ap (bits_of (suc k)) e ∙ sym (as_run b)))
   where
     q : List Bool
     q = bits_of k (p / 2 ^ 1)
@@ -145,8 +145,8 @@ crc_start (suc k) p a b c pos o ha hb e =
     wide : (x : ℕ) → length (bits_of (suc k) x) ≡ suc (length q)
     wide x = length_bits (suc k) x ∙ sym (ap suc (length_bits k (p / 2 ^ 1)))
 
-    as-run : (x : ℕ) → run (q ++ true ∷ []) (bits_of (suc k) x) c ≡ bits_of (suc k) (crc (suc k) p x c)
-    as-run x = ap (λ (l : List Bool). run l (bits_of (suc k) x) c) (sym (low_bit k p o)) ∙ sym (crc_bits (suc k) p x c)
+    as_run : (x : ℕ) → run (q ++ true ∷ []) (bits_of (suc k) x) c ≡ bits_of (suc k) (crc (suc k) p x c)
+    as_run x = ap (λ (l : List Bool). run l (bits_of (suc k) x) c) (sym (low_bit k p o)) ∙ sym (crc_bits (suc k) p x c)
 
 -- strings that differ within w bits have different checks
 pub crc_burst : (w p s : ℕ) (a xs ys c : List Bool) → 0 < w → odd p ≡ true → length xs ≡ length ys → length xs ≤ w
@@ -154,7 +154,7 @@ pub crc_burst : (w p s : ℕ) (a xs ys c : List Bool) → 0 < w → odd p ≡ tr
 crc_burst zero p s a xs ys c pos o h le e = absurd (omega arith)
 crc_burst (suc k) p s a xs ys c pos o h le e =
     run_short q (run P r a) xs ys lr h (omega (arith, length_bits k (p / 2 ^ 1)))
-    (run-inj q (run P (run P r a) xs) (run P (run P r a) ys) c (more xs) (more ys) (sym (twice xs) ∙ both ∙ twice ys))
+    (run_inj q (run P (run P r a) xs) (run P (run P r a) ys) c (more xs) (more ys) (sym (twice xs) ∙ both ∙ twice ys))
   where
     q : List Bool
     q = bits_of k (p / 2 ^ 1)
@@ -166,22 +166,22 @@ crc_burst (suc k) p s a xs ys c pos o h le e =
     r = bits_of (suc k) s
 
     width : length P ≡ suc k
-    width = length-p q ∙ ap suc (length_bits k (p / 2 ^ 1))
+    width = length_p q ∙ ap suc (length_bits k (p / 2 ^ 1))
 
     lr : length (run P r a) ≡ suc (length q)
     lr = length_run P r a (length_bits (suc k) s ∙ sym width) ∙ length_bits (suc k) s ∙ sym (ap suc (length_bits k (p / 2 ^ 1)))
 
     more : (zs : List Bool) → length (run P (run P r a) zs) ≡ suc (length q)
-    more zs = length_run P (run P r a) zs (lr ∙ sym (length-p q)) ∙ lr
+    more zs = length_run P (run P r a) zs (lr ∙ sym (length_p q)) ∙ lr
 
     twice : (zs : List Bool) → run P r (a ++ (zs ++ c)) ≡ run P (run P (run P r a) zs) c
     twice zs = run_append P r a (zs ++ c) ∙ run_append P (run P r a) zs c
 
-    as-run : (zs : List Bool) → run P r zs ≡ bits_of (suc k) (crc (suc k) p s zs)
-    as-run zs = ap (λ (x : List Bool). run x r zs) (sym (low_bit k p o)) ∙ sym (crc_bits (suc k) p s zs)
+    as_run : (zs : List Bool) → run P r zs ≡ bits_of (suc k) (crc (suc k) p s zs)
+    as_run zs = ap (λ (x : List Bool). run x r zs) (sym (low_bit k p o)) ∙ sym (crc_bits (suc k) p s zs)
 
     both : run P r (a ++ (xs ++ c)) ≡ run P r (a ++ (ys ++ c))
-    both = as-run (a ++ (xs ++ c)) ∙ ap (bits_of (suc k)) e ∙ sym (as-run (a ++ (ys ++ c)))
+    both = as_run (a ++ (xs ++ c)) ∙ ap (bits_of (suc k)) e ∙ sym (as_run (a ++ (ys ++ c)))
 
 -- ---- over bytes
 

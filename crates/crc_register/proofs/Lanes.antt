@@ -39,8 +39,8 @@ lanes_start {w} {p} {s} {n} = record { fits = pow_pos w; is = sym (xor_zero_r (c
 
 module _ {w p s n : ℕ} {xs : List Bool} {q0 q1 : ℕ} (v : Lanes w p s n xs q0 q1) (block : List Bool) (long : length block ≡ n) where
   -- a near turn: the register of all that is read
-  pub lanes-near : crc w p s (xs ++ block) ≡ bit_xor q1 (crc w p q0 block)
-  lanes-near =
+  pub lanes_near : crc w p s (xs ++ block) ≡ bit_xor q1 (crc w p q0 block)
+  lanes_near =
       let z : ℕ = crc w p q0 (replicate n false) in
       let b : ℕ = crc w p 0 block in
       crc_apart w p s xs block
@@ -50,13 +50,13 @@ module _ {w p s n : ℕ} {xs : List Bool} {q0 q1 : ℕ} (v : Lanes w p s n xs q0
       ∙ ap (bit_xor q1) (sym (crc_apart w p q0 [] block ∙ ap (λ m. bit_xor (crc w p q0 (replicate m false)) b) long))
 
   -- a far turn: the lanes change places, and the new one has the block, n bits later
-  pub lanes-far : (new : ℕ) → new ≡ crc w p q0 (block ++ replicate n false) → Lanes w p s n (xs ++ block) q1 new
-  lanes-far new e =
+  pub lanes_far : (new : ℕ) → new ≡ crc w p q0 (block ++ replicate n false) → Lanes w p s n (xs ++ block) q1 new
+  lanes_far new e =
       record {
         fits = rw e (crc_lt w p q0 (block ++ replicate n false));
         is =
             crc_append w p s (xs ++ block) (replicate n false)
-            ∙ ap (λ r. crc w p r (replicate n false)) lanes-near
+            ∙ ap (λ r. crc w p r (replicate n false)) lanes_near
             ∙ zeros_plus w p q1 (crc w p q0 block) n
             ∙ ap (bit_xor (crc w p q1 (replicate n false))) (sym (e ∙ crc_append w p q0 block (replicate n false)));
       }

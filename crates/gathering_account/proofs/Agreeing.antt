@@ -40,13 +40,13 @@ abbrev pub Alike : Section → Section → Type 0
 Alike s t = s.number ≡ t.number → s.contents ≡ t.contents
 
 module _ (s t : Section) where
-  contradicts-not : contradicts s t ≡ false → Alike s t
+  contradicts_not : contradicts s t ≡ false → Alike s t
   unfolding contradicts
-  contradicts-not e n = same_is _ _ (met (same_bytes s.contents t.contents) refl (rw (eq-eqb _ _ n) at e))
+  contradicts_not e n = same_is _ _ (met (same_bytes s.contents t.contents) refl (rw (eq-eqb _ _ n) at e))
 
-  alike-contradicts : Alike s t → contradicts s t ≡ false
+  alike_contradicts : Alike s t → contradicts s t ≡ false
   unfolding contradicts
-  alike-contradicts f = go (eqb s.number t.number) refl
+  alike_contradicts f = go (eqb s.number t.number) refl
     where
       go : (b : Bool) → eqb s.number t.number ≡ b → b && not (same_bytes s.contents t.contents) ≡ false
       go true e = rw (f (eqb-true _ _ e), same_refl t.contents)
@@ -71,12 +71,12 @@ unfolding differs
 differs_not s [] e = λ t i. absurd (Memᴰ.not-nil i)
 differs_not s (u ∷ S) e =
     let n = neither (contradicts s u) (differs s S) e in
-    all_cons (Alike s) u S (contradicts-not s u n.0) (differs_not s S n.1)
+    all_cons (Alike s) u S (contradicts_not s u n.0) (differs_not s S n.1)
 
 pub alike_differs : (s : Section) (S : List Section) → ((t : Section) → In t S → Alike s t) → differs s S ≡ false
 unfolding differs
 alike_differs s [] f = refl
-alike_differs s (t ∷ S) f = rw (alike-contradicts s t (f t (In.head refl))) (alike_differs s S (λ u i. f u (In.tail i)))
+alike_differs s (t ∷ S) f = rw (alike_contradicts s t (f t (In.head refl))) (alike_differs s S (λ u i. f u (In.tail i)))
 
 -- ---- agreeing
 

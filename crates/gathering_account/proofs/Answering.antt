@@ -19,7 +19,7 @@ use Rattle.gathering_feed.specs.declared.Answer.TheVariants.{Taken, HeldAlready,
 use Rattle.gathering_feed.specs.declared.Fed.{Fed}
 use Rattle.gathering_verdict.specs.declared.Verdict.{Verdict}
 use Rattle.gathering_verdict.specs.declared.Verdict.TheVariants.{Refuse, Begin}
-use Rattle.gathering_verdict.proofs.Verdicts.{verdict-bad, verdict-good, Decided, old, other, short, begun, spoiled, new, again, clash, decided}
+use Rattle.gathering_verdict.proofs.Verdicts.{verdict_bad, verdict_good, Decided, old, other, short, begun, spoiled, new, again, clash, decided}
 use Rattle.gathering_feed.proofs.Steps.{feeds}
 use Rattle.gathering_account.specs.Account.{heard, Section, Account, idle, table, account_after, account, Agree, Present}
 use Rattle.gathering_account.specs.Answering.{present, differs, agreeing, answer_of_table, answer_of_first, answer_of_good, answer_of_read, answer_to, answers_to}
@@ -28,66 +28,66 @@ use Rattle.gathering_account.specs.Gathers.{Box, fresh_box, ByteStrings, feed, b
 use Rattle.gathering_account.proofs.Agreeing.{present_is, is_present, differs_not, alike_differs, agreeing_is, agree_agreeing}
 use Rattle.gathering_account.proofs.Keeping.{Kept, kept_agree}
 use Rattle.gathering_account.proofs.Hearing.{ReadAs, as_good, as_bad, read_as}
-use Rattle.gathering_account.proofs.Standing.{Fixed, Stands, fresh_stands, calm_stands, spoiled_stands, never, stands_possible, fresh_begins, fixed-agrees, fixed-begins, fixed-not-short}
-use Rattle.gathering_account.proofs.Feeds.{feed-stands, fresh_run}
+use Rattle.gathering_account.proofs.Standing.{Fixed, Stands, fresh_stands, calm_stands, spoiled_stands, never, stands_possible, fresh_begins, fixed_agrees, fixed_begins, fixed_not_short}
+use Rattle.gathering_account.proofs.Feeds.{feed_stands, fresh_run}
 
 -- ---- what leads to each answer of the account
 
 module _ (S : List Section) (s : Section) where
-  answer-spoiled : agreeing S ≡ false → answer_of_table S s ≡ Refused Contradiction
+  answer_spoiled : agreeing S ≡ false → answer_of_table S s ≡ Refused Contradiction
   unfolding answer_of_table
-  answer-spoiled a = simp (a, or-true)
+  answer_spoiled a = simp (a, or-true)
 
-  answer-clash : differs s S ≡ true → answer_of_table S s ≡ Refused Contradiction
+  answer_clash : differs s S ≡ true → answer_of_table S s ≡ Refused Contradiction
   unfolding answer_of_table
-  answer-clash d = rw d
+  answer_clash d = rw d
 
   module _ (d : differs s S ≡ false) (a : agreeing S ≡ true) where
-    answer-again : present s.number S ≡ true → answer_of_table S s ≡ HeldAlready
+    answer_again : present s.number S ≡ true → answer_of_table S s ≡ HeldAlready
     unfolding answer_of_table
-    answer-again p = rw (d, a, p)
+    answer_again p = rw (d, a, p)
 
-    answer-new : present s.number S ≡ false → answer_of_table S s ≡ Taken
+    answer_new : present s.number S ≡ false → answer_of_table S s ≡ Taken
     unfolding answer_of_table
-    answer-new p = rw (d, a, p)
+    answer_new p = rw (d, a, p)
 
 module _ (room : ℕ → Bool) (h : Heading) (p : List ℕ) where
   -- a section that begins its table
-  answer-begins : (a : Account) → begins_after a h ≡ true → answer_of_good room a h p ≡ answer_of_first room h
+  answer_begins : (a : Account) → begins_after a h ≡ true → answer_of_good room a h p ≡ answer_of_first room h
   unfolding answer_of_good begins_after
-  answer-begins idle b = refl
-  answer-begins (table t S) b = rw b
+  answer_begins idle b = refl
+  answer_begins (table t S) b = rw b
 
-  answer-short : room h.last ≡ false → answer_of_first room h ≡ Refused StoreTooShort
+  answer_short : room h.last ≡ false → answer_of_first room h ≡ Refused StoreTooShort
   unfolding answer_of_first
-  answer-short r = rw r
+  answer_short r = rw r
 
-  answer-first : room h.last ≡ true → answer_of_first room h ≡ Taken
+  answer_first : room h.last ≡ true → answer_of_first room h ≡ Taken
   unfolding answer_of_first
-  answer-first r = rw r
+  answer_first r = rw r
 
   module _ (t : Heading) (S : List Section) (b : is_newer t h ≡ false) where
-    answer-other : same_table t h ≡ false → answer_of_good room (table t S) h p ≡ Refused OtherHeading
+    answer_other : same_table t h ≡ false → answer_of_good room (table t S) h p ≡ Refused OtherHeading
     unfolding answer_of_good
-    answer-other e = rw (b, e)
+    answer_other e = rw (b, e)
 
-    answer-same : same_table t h ≡ true → answer_of_good room (table t S) h p ≡ answer_of_table S (record { number = h.number; contents = p })
+    answer_same : same_table t h ≡ true → answer_of_good room (table t S) h p ≡ answer_of_table S (record { number = h.number; contents = p })
     unfolding answer_of_good
-    answer-same e = rw (b, e)
+    answer_same e = rw (b, e)
 
 module _ (room : ℕ → Bool) (a : Account) (s : List ℕ) where
-  answer-bad : (r : Refusal) → read_section s ≡ NotGood r → answer_to room a s ≡ Refused r
+  answer_bad : (r : Refusal) → read_section s ≡ NotGood r → answer_to room a s ≡ Refused r
   unfolding answer_to answer_of_read
-  answer-bad r e = rw e
+  answer_bad r e = rw e
 
   module _ (h : Heading) (n : ℕ) (e : read_section s ≡ Good h n) where
-    answer-old : h.current ≡ false → answer_to room a s ≡ Refused NotCurrent
+    answer_old : h.current ≡ false → answer_to room a s ≡ Refused NotCurrent
     unfolding answer_to answer_of_read
-    answer-old c = rw (e, c)
+    answer_old c = rw (e, c)
 
-    answer-good : h.current ≡ true → answer_to room a s ≡ answer_of_good room a h (payload_of s)
+    answer_good : h.current ≡ true → answer_to room a s ≡ answer_of_good room a h (payload_of s)
     unfolding answer_to answer_of_read
-    answer-good c = rw (e, c)
+    answer_good c = rw (e, c)
 
 -- ---- a section more, by what a box that is not spoiled holds
 
@@ -98,7 +98,7 @@ module _ {g : Gathering} {store : List ℕ} {S : List Section} (kept : Kept g st
   unheld : get_or g.held s.number 0 ≡ 0 → answer_of_table S s ≡ Taken
   unfolding Present
   unheld z =
-      answer-new S s (alike_differs s S (λ t i n. absurd (absent t i (sym n)))) agreed
+      answer_new S s (alike_differs s S (λ t i n. absurd (absent t i (sym n)))) agreed
       (sym (refuted (present s.number S) (λ e. let x = present_is s.number S e in absent x.0 x.1 x.2)))
     where
       absent : (t : Section) → In t S → t.number ≡ s.number → ⊥
@@ -107,12 +107,12 @@ module _ {g : Gathering} {store : List ℕ} {S : List Section} (kept : Kept g st
   module _ (held : get_or g.held s.number 0 ≡ 0 → ⊥) where
     held_same : held_payload g store s.number ≡ s.contents → answer_of_table S s ≡ HeldAlready
     held_same q =
-        answer-again S s (alike_differs s S (λ t i n. sym q ∙ ap (held_payload g store) n ∙ kept.stored t i)) agreed
+        answer_again S s (alike_differs s S (λ t i n. sym q ∙ ap (held_payload g store) n ∙ kept.stored t i)) agreed
         (is_present s.number S (kept.only s.number held))
 
-    held-differing : (held_payload g store s.number ≡ s.contents → ⊥) → answer_of_table S s ≡ Refused Contradiction
+    held_differing : (held_payload g store s.number ≡ s.contents → ⊥) → answer_of_table S s ≡ Refused Contradiction
     unfolding Present
-    held-differing q = answer-clash S s (go (differs s S) refl)
+    held_differing q = answer_clash S s (go (differs s S) refl)
       where
         go : (b : Bool) → differs s S ≡ b → differs s S ≡ true
         go true e = e
@@ -131,123 +131,123 @@ module _ (bytes : ℕ) (box : Box) (s : List ℕ) (h : Heading) (n : ℕ) (e : r
 
   -- it begins its table
   module _ (a : Account) (b : begins_after a h ≡ true) (c : h.current ≡ true) (l : length box.store ≡ bytes) where
-    begins-tells : answer_to (has_room bytes) a s ≡ answer_of_first (has_room bytes) h
-    begins-tells = answer-good (has_room bytes) a s h n e c ∙ answer-begins (has_room bytes) h (payload_of s) a b
+    begins_tells : answer_to (has_room bytes) a s ≡ answer_of_first (has_room bytes) h
+    begins_tells = answer_good (has_room bytes) a s h n e c ∙ answer_begins (has_room bytes) h (payload_of s) a b
 
-    short-tells : has_room (length box.store) h.last ≡ false → Tells a (Refuse StoreTooShort)
+    short_tells : has_room (length box.store) h.last ≡ false → Tells a (Refuse StoreTooShort)
     unfolding answer_by
-    short-tells r = begins-tells ∙ answer-short (has_room bytes) h (payload_of s) (rw l at r)
+    short_tells r = begins_tells ∙ answer_short (has_room bytes) h (payload_of s) (rw l at r)
 
-    first-tells : has_room (length box.store) h.last ≡ true → Tells a (Begin h)
+    first_tells : has_room (length box.store) h.last ≡ true → Tells a (Begin h)
     unfolding answer_by
-    first-tells r = begins-tells ∙ answer-first (has_room bytes) h (payload_of s) (rw l at r)
+    first_tells r = begins_tells ∙ answer_first (has_room bytes) h (payload_of s) (rw l at r)
 
   -- nothing begun
   module _ (z : box.state ≡ fresh_state) (l : length box.store ≡ bytes) where
     first : begins box.state h ≡ true
     first = rw z (fresh_begins h)
 
-    idle-begins : begins_after idle h ≡ true
+    idle_begins : begins_after idle h ≡ true
     unfolding begins_after
-    idle-begins = refl
+    idle_begins = refl
 
-    fresh-tells : (v : Verdict) → Ways v → Tells idle v
+    fresh_tells : (v : Verdict) → Ways v → Tells idle v
     unfolding answer_by
-    fresh-tells v (old c) = answer-old (has_room bytes) idle s h n e c
-    fresh-tells v (other c b a) = never (begins box.state h) first b
-    fresh-tells v (short c k r) = short-tells idle idle-begins c l r
-    fresh-tells v (begun c b r) = first-tells idle idle-begins c l r
-    fresh-tells v (spoiled c b a r x) = never (begins box.state h) first b
-    fresh-tells v (new x u) = never (begins box.state h) first x.further
-    fresh-tells v (again x u q) = never (begins box.state h) first x.further
-    fresh-tells v (clash x u q) = never (begins box.state h) first x.further
+    fresh_tells v (old c) = answer_old (has_room bytes) idle s h n e c
+    fresh_tells v (other c b a) = never (begins box.state h) first b
+    fresh_tells v (short c k r) = short_tells idle idle_begins c l r
+    fresh_tells v (begun c b r) = first_tells idle idle_begins c l r
+    fresh_tells v (spoiled c b a r x) = never (begins box.state h) first b
+    fresh_tells v (new x u) = never (begins box.state h) first x.further
+    fresh_tells v (again x u q) = never (begins box.state h) first x.further
+    fresh_tells v (clash x u q) = never (begins box.state h) first x.further
 
   -- a table is fixed
   module _ (t : Heading) (S : List Section) (x : Fixed box.state bytes t) (l : length box.store ≡ bytes) where
     abbrev section : Section
     section = record { number = h.number; contents = payload_of s }
 
-    newer-begins : begins box.state h ≡ true → begins_after (table t S) h ≡ true
+    newer_begins : begins box.state h ≡ true → begins_after (table t S) h ≡ true
     unfolding begins_after
-    newer-begins b = sym (fixed-begins x h) ∙ b
+    newer_begins b = sym (fixed_begins x h) ∙ b
 
-    old-tells : h.current ≡ false → Tells (table t S) (Refuse NotCurrent)
+    old_tells : h.current ≡ false → Tells (table t S) (Refuse NotCurrent)
     unfolding answer_by
-    old-tells = answer-old (has_room bytes) (table t S) s h n e
+    old_tells = answer_old (has_room bytes) (table t S) s h n e
 
-    other-tells : h.current ≡ true → begins box.state h ≡ false → agrees box.state h ≡ false → Tells (table t S) (Refuse OtherHeading)
+    other_tells : h.current ≡ true → begins box.state h ≡ false → agrees box.state h ≡ false → Tells (table t S) (Refuse OtherHeading)
     unfolding answer_by
-    other-tells c b a =
-        answer-good (has_room bytes) (table t S) s h n e c
-        ∙ answer-other (has_room bytes) h (payload_of s) t S (sym (fixed-begins x h) ∙ b) (sym (fixed-agrees x h) ∙ a)
+    other_tells c b a =
+        answer_good (has_room bytes) (table t S) s h n e c
+        ∙ answer_other (has_room bytes) h (payload_of s) t S (sym (fixed_begins x h) ∙ b) (sym (fixed_agrees x h) ∙ a)
 
     -- 10 is of a newer table
-    shut-tells : h.current ≡ true → begins box.state h || agrees box.state h ≡ true → has_room (length box.store) h.last ≡ false
+    shut_tells : h.current ≡ true → begins box.state h || agrees box.state h ≡ true → has_room (length box.store) h.last ≡ false
         → Tells (table t S) (Refuse StoreTooShort)
-    shut-tells c k r = go (begins box.state h) refl k
+    shut_tells c k r = go (begins box.state h) refl k
       where
         go : (b : Bool) → begins box.state h ≡ b → b || agrees box.state h ≡ true → Tells (table t S) (Refuse StoreTooShort)
-        go true b k = short-tells (table t S) (newer-begins b) c l r
-        go false b k = fixed-not-short x h box.store l k r
+        go true b k = short_tells (table t S) (newer_begins b) c l r
+        go false b k = fixed_not_short x h box.store l k r
 
-    same-tells : h.current ≡ true → begins box.state h ≡ false → agrees box.state h ≡ true
+    same_tells : h.current ≡ true → begins box.state h ≡ false → agrees box.state h ≡ true
         → answer_to (has_room bytes) (table t S) s ≡ answer_of_table S section
-    same-tells c b a =
-        answer-good (has_room bytes) (table t S) s h n e c
-        ∙ answer-same (has_room bytes) h (payload_of s) t S (sym (fixed-begins x h) ∙ b) (sym (fixed-agrees x h) ∙ a)
+    same_tells c b a =
+        answer_good (has_room bytes) (table t S) s h n e c
+        ∙ answer_same (has_room bytes) h (payload_of s) t S (sym (fixed_begins x h) ∙ b) (sym (fixed_agrees x h) ∙ a)
 
-    calm-tells : box.state.spoiled ≡ 0 → Kept box.state box.store S → (v : Verdict) → Ways v → Tells (table t S) v
+    calm_tells : box.state.spoiled ≡ 0 → Kept box.state box.store S → (v : Verdict) → Ways v → Tells (table t S) v
     unfolding answer_by
-    calm-tells z k v (old c) = old-tells c
-    calm-tells z k v (other c b a) = other-tells c b a
-    calm-tells z k v (short c b r) = shut-tells c b r
-    calm-tells z k v (begun c b r) = first-tells (table t S) (newer-begins b) c l r
-    calm-tells z k v (spoiled c b a r y) = absurd (y z)
-    calm-tells z k v (new y u) = same-tells y.current y.further y.agreed ∙ unheld k section u
-    calm-tells z k v (again y u q) = same-tells y.current y.further y.agreed ∙ held_same k section u q
-    calm-tells z k v (clash y u q) = same-tells y.current y.further y.agreed ∙ held-differing k section u q
+    calm_tells z k v (old c) = old_tells c
+    calm_tells z k v (other c b a) = other_tells c b a
+    calm_tells z k v (short c b r) = shut_tells c b r
+    calm_tells z k v (begun c b r) = first_tells (table t S) (newer_begins b) c l r
+    calm_tells z k v (spoiled c b a r y) = absurd (y z)
+    calm_tells z k v (new y u) = same_tells y.current y.further y.agreed ∙ unheld k section u
+    calm_tells z k v (again y u q) = same_tells y.current y.further y.agreed ∙ held_same k section u q
+    calm_tells z k v (clash y u q) = same_tells y.current y.further y.agreed ∙ held_differing k section u q
 
-    spoiled-tells : (box.state.spoiled ≡ 0 → ⊥) → (Agree S → ⊥) → (v : Verdict) → Ways v → Tells (table t S) v
+    spoiled_tells : (box.state.spoiled ≡ 0 → ⊥) → (Agree S → ⊥) → (v : Verdict) → Ways v → Tells (table t S) v
     unfolding answer_by
-    spoiled-tells z k v (old c) = old-tells c
-    spoiled-tells z k v (other c b a) = other-tells c b a
-    spoiled-tells z k v (short c b r) = shut-tells c b r
-    spoiled-tells z k v (begun c b r) = first-tells (table t S) (newer-begins b) c l r
-    spoiled-tells z k v (spoiled c b a r y) = same-tells c b a ∙ answer-spoiled S section (sym (refuted (agreeing S) (λ i. k (agreeing_is S i))))
-    spoiled-tells z k v (new y u) = absurd (z y.calm)
-    spoiled-tells z k v (again y u q) = absurd (z y.calm)
-    spoiled-tells z k v (clash y u q) = absurd (z y.calm)
+    spoiled_tells z k v (old c) = old_tells c
+    spoiled_tells z k v (other c b a) = other_tells c b a
+    spoiled_tells z k v (short c b r) = shut_tells c b r
+    spoiled_tells z k v (begun c b r) = first_tells (table t S) (newer_begins b) c l r
+    spoiled_tells z k v (spoiled c b a r y) = same_tells c b a ∙ answer_spoiled S section (sym (refuted (agreeing S) (λ i. k (agreeing_is S i))))
+    spoiled_tells z k v (new y u) = absurd (z y.calm)
+    spoiled_tells z k v (again y u q) = absurd (z y.calm)
+    spoiled_tells z k v (clash y u q) = absurd (z y.calm)
 
 -- ---- any byte string, and any list of them
 
 module _ (bytes : ℕ) (box : Box) (s : List ℕ) where
-  answer-by : (v : Verdict) → verdict_of box.state box.store s ≡ v → fed_answer box s ≡ answer_by v
-  answer-by v e = sym (ap (λ (f : Fed). f.answer) (feeds box.state box.store s v e).0)
+  answer_by_lem : (v : Verdict) → verdict_of box.state box.store s ≡ v → fed_answer box s ≡ answer_by v
+  answer_by_lem v e = sym (ap (λ (f : Fed). f.answer) (feeds box.state box.store s v e).0)
 
-  good-tells : {a : Account} → Stands bytes box a → (h : Heading) (n : ℕ) → read_section s ≡ Good h n
+  good_tells : {a : Account} → Stands bytes box a → (h : Heading) (n : ℕ) → read_section s ≡ Good h n
       → (v : Verdict) → Decided box.state box.store h (payload_of s) v → answer_to (has_room bytes) a s ≡ answer_by v
-  good-tells (fresh_stands z l) h n e = fresh-tells bytes box s h n e z l
-  good-tells (calm_stands {t} {S} x l z k) h n e = calm-tells bytes box s h n e t S x l z k
-  good-tells (spoiled_stands {t} {S} x l z k o) h n e = spoiled-tells bytes box s h n e t S x l z k
+  good_tells (fresh_stands z l) h n e = fresh_tells bytes box s h n e z l
+  good_tells (calm_stands {t} {S} x l z k) h n e = calm_tells bytes box s h n e t S x l z k
+  good_tells (spoiled_stands {t} {S} x l z k o) h n e = spoiled_tells bytes box s h n e t S x l z k
 
-  pub stands-answers : {a : Account} → Stands bytes box a → fed_answer box s ≡ answer_to (has_room bytes) a s
+  pub stands_answers : {a : Account} → Stands bytes box a → fed_answer box s ≡ answer_to (has_room bytes) a s
   unfolding answer_by
-  stands-answers {a} st = go (read_as s)
+  stands_answers {a} st = go (read_as s)
     where
       go : ReadAs s → fed_answer box s ≡ answer_to (has_room bytes) a s
       go (as_good h n e) =
-          answer-by _ (verdict-good box.state box.store s (stands_possible st) h n e)
-          ∙ sym (good-tells st h n e _ (decided box.state box.store h (payload_of s)))
-      go (as_bad r e) = answer-by (Refuse r) (verdict-bad box.state box.store s (stands_possible st) r e) ∙ sym (answer-bad (has_room bytes) a s r e)
+          answer_by_lem _ (verdict_good box.state box.store s (stands_possible st) h n e)
+          ∙ sym (good_tells st h n e _ (decided box.state box.store h (payload_of s)))
+      go (as_bad r e) = answer_by_lem (Refuse r) (verdict_bad box.state box.store s (stands_possible st) r e) ∙ sym (answer_bad (has_room bytes) a s r e)
 
 all_answer : (bytes : ℕ) (fed : List (List ℕ)) → ByteStrings fed → (box : Box) (a : Account) → Stands bytes box a
     → answers_of box fed ≡ answers_to (has_room bytes) a fed
 unfolding answers_of answers_to ByteStrings
 all_answer bytes [] are_bytes box a st = refl
 all_answer bytes (s ∷ fed) are_bytes box a st =
-    ap₂ ◌∷◌ (stands-answers bytes box s st)
+    ap₂ ◌∷◌ (stands_answers bytes box s st)
     (all_answer bytes fed (λ r i. are_bytes r (In.tail i)) (feed box s) (account_after (has_room bytes) a (heard s))
-    (feed-stands bytes box s (are_bytes s (In.head refl)) st))
+    (feed_stands bytes box s (are_bytes s (In.head refl)) st))
 
 -- ---- the theorems: an account is the whole meaning of a run of feeds
 
@@ -257,11 +257,11 @@ module _ (store : List ℕ) (fed : List (List ℕ)) (are_bytes : ByteStrings fed
   run_possible = stands_possible (fresh_run store fed are_bytes)
 
   -- the next feed
-  pub feed-answers : (s : List ℕ)
+  pub feed_answers : (s : List ℕ)
       → fed_answer (box_after (fresh_box store) fed) s ≡ answer_to (has_room (length store)) (account (has_room (length store)) idle fed) s
-  feed-answers s = stands-answers (length store) (box_after (fresh_box store) fed) s (fresh_run store fed are_bytes)
+  feed_answers s = stands_answers (length store) (box_after (fresh_box store) fed) s (fresh_run store fed are_bytes)
 
   -- all of them
-  pub run-answers : answers_of (fresh_box store) fed ≡ answers_to (has_room (length store)) idle fed
+  pub run_answers : answers_of (fresh_box store) fed ≡ answers_to (has_room (length store)) idle fed
   unfolding fresh_box
-  run-answers = all_answer (length store) fed are_bytes (fresh_box store) idle (fresh_stands refl refl)
+  run_answers = all_answer (length store) fed are_bytes (fresh_box store) idle (fresh_stands refl refl)

@@ -14,21 +14,21 @@ use Rattle.ground_refusal.specs.declared.Refusal.TheVariants.{Contradiction, Mis
 use Rattle.ground_choices.proofs.Tests.{both, refuted}
 use Rattle.gathering_state.specs.State.{has_room}
 use Rattle.gathering_state.proofs.State.{counts_right}
-use Rattle.gathering_hand_out.specs.Handing.{body_held as joinedBody, complete_of}
+use Rattle.gathering_hand_out.specs.Handing.{body_held as joined_body, complete_of}
 use Rattle.gathering_hand_out.specs.declared.Completeness.TheVariants.{Complete as AllThere, Refused as NotAllThere}
 use Rattle.gathering_hand_out.specs.declared.Handed.TheVariants.{Body}
 use Rattle.gathering_pack.specs.declared.Packed.{Packed}
-use Rattle.gathering_pack.proofs.Packing.{packs-refused, packs-complete, packs_counted, packs_long}
+use Rattle.gathering_pack.proofs.Packing.{packs_refused, packs_complete, packs_counted, packs_long}
 use Rattle.gathering_account.specs.Account.{heard, Section, Account, idle, table, account_after, account, Present, Covered, Complete, body_of}
 use Rattle.gathering_account.specs.Answering.{present, agreeing}
 use Rattle.gathering_account.specs.Gathers.{Box, fresh_box, feed, box_after}
 use Rattle.gathering_account.specs.Calls.{packed_answer, pack, Packs, PacksNothing, PackAnswers, none_to_pack, differing, lacking, packed, Call, feeding, handing_out, packing, ByteCalls, box_after_call, box_after_calls, covering, is_complete, account_after_call, account_of_calls, Serves}
 use Rattle.gathering_account.proofs.Agreeing.{present_is, is_present, agreeing_is, agree_agreeing}
 use Rattle.gathering_account.proofs.Standing.{Stands, fresh_stands, stands_possible, stands_store, stands_few}
-use Rattle.gathering_account.proofs.Feeds.{feed-stands}
+use Rattle.gathering_account.proofs.Feeds.{feed_stands}
 use Rattle.gathering_account.proofs.Finding.{Finds, finds_nothing, finds_differing, finds_missing, finds_whole, finds}
 use Rattle.gathering_account.proofs.Handing.{answers_by}
-use Rattle.gathering_account.proofs.Answering.{stands-answers}
+use Rattle.gathering_account.proofs.Answering.{stands_answers}
 use Rattle.gathering_account.proofs.Demand3.{fixes}
 
 -- ---- the test of completeness
@@ -68,23 +68,23 @@ is_complete_lem (table h S) c = rw (is_covering (h.last + 1) S (λ k l. c.0 k (o
 -- ---- packing, by what a box finds
 
 module _ (box : Box) where
-  packs-nothing : (r : Refusal) → complete_of box.state (length box.store) ≡ NotAllThere r → PacksNothing box r
+  packs_nothing : (r : Refusal) → complete_of box.state (length box.store) ≡ NotAllThere r → PacksNothing box r
   unfolding pack
-  packs-nothing r e = let p = packs-refused box.state box.store r e in record { answers = sym (ap (λ (x : Packed). x.answer) p.0); leaves = rw (← p.0, ← p.1) }
+  packs_nothing r e = let p = packs_refused box.state box.store r e in record { answers = sym (ap (λ (x : Packed). x.answer) p.0); leaves = rw (← p.0, ← p.1) }
 
   module _ (few : length box.state.held ≤ 256) where
-    packs-all : (body : List ℕ) → complete_of box.state (length box.store) ≡ AllThere → joinedBody box.state box.store ≡ body → Packs box body
+    packs_all : (body : List ℕ) → complete_of box.state (length box.store) ≡ AllThere → joined_body box.state box.store ≡ body → Packs box body
     unfolding pack fresh_box
-    packs-all body e b =
-        let p = packs-complete box.state box.store e in
+    packs_all body e b =
+        let p = packs_complete box.state box.store e in
         let told : packed_answer box ≡ Body (length body) = sym (ap (λ (x : Packed). x.answer) p.0) ∙ ap (λ (l : List ℕ). Body (length l)) b in
         record { answers = told; leaves = rw (← b, ← p.0, ← p.1); counted = packs_counted box.state box.store few (length body) told }
 
-    packs-by : {a : Account} → Finds box.state box.store a → PackAnswers box a
-    packs-by (finds_nothing e) = none_to_pack (packs-nothing (Missing 0) e)
-    packs-by (finds_differing d e) = differing d (packs-nothing Contradiction e)
-    packs-by (finds_missing k a s e) = lacking k a s (packs-nothing (Missing k) e)
-    packs-by (finds_whole {t} {S} c e b) = packed c (packs-all (body_of (table t S)) e b)
+    packs_by : {a : Account} → Finds box.state box.store a → PackAnswers box a
+    packs_by (finds_nothing e) = none_to_pack (packs_nothing (Missing 0) e)
+    packs_by (finds_differing d e) = differing d (packs_nothing Contradiction e)
+    packs_by (finds_missing k a s e) = lacking k a s (packs_nothing (Missing k) e)
+    packs_by (finds_whole {t} {S} c e b) = packed c (packs_all (body_of (table t S)) e b)
 
 -- ---- what the answers say of a body
 
@@ -92,50 +92,50 @@ module _ {box : Box} where
   no_body : {A : Type 0} {r : Refusal} → PacksNothing box r → (n : ℕ) → packed_answer box ≡ Body n → A
   no_body e n f = let z : ◌≡◌ {A = ℕ} 0 1 = cc in absurd (omega arith)
 
-  only-complete : {a : Account} → PackAnswers box a → (n : ℕ) → packed_answer box ≡ Body n → Complete a
-  only-complete (none_to_pack e) n b = no_body e n b
-  only-complete (differing d e) n b = no_body e n b
-  only-complete (lacking k a m e) n b = no_body e n b
-  only-complete (packed c e) n b = c
+  only_complete : {a : Account} → PackAnswers box a → (n : ℕ) → packed_answer box ≡ Body n → Complete a
+  only_complete (none_to_pack e) n b = no_body e n b
+  only_complete (differing d e) n b = no_body e n b
+  only_complete (lacking k a m e) n b = no_body e n b
+  only_complete (packed c e) n b = c
 
-  when-complete : {a : Account} → PackAnswers box a → Complete a → Packs box (body_of a)
+  when_complete : {a : Account} → PackAnswers box a → Complete a → Packs box (body_of a)
   unfolding Complete Covered
-  when-complete (none_to_pack e) c = absurd c
-  when-complete (differing d e) c = absurd (d c.1)
-  when-complete (lacking k a m e) c = absurd (m.missing (c.0 k m.of_table))
-  when-complete (packed c e) d = e
+  when_complete (none_to_pack e) c = absurd c
+  when_complete (differing d e) c = absurd (d c.1)
+  when_complete (lacking k a m e) c = absurd (m.missing (c.0 k m.of_table))
+  when_complete (packed c e) d = e
 
 -- ---- each call keeps what a box stands for
 
 module _ (bytes : ℕ) (box : Box) where
-  abbrev packed-account : Account → Account
-  packed-account a = account_after_call (has_room bytes) a packing
+  abbrev packed_account : Account → Account
+  packed_account a = account_after_call (has_room bytes) a packing
 
   -- a whole table's box is fresh, and its store as long as it was
-  packs-fresh : {a : Account} → Stands bytes box a → Complete a → Packs box (body_of a) → Stands bytes (pack box) (packed-account a)
+  packs_fresh : {a : Account} → Stands bytes box a → Complete a → Packs box (body_of a) → Stands bytes (pack box) (packed_account a)
   unfolding account_after_call pack fresh_box
-  packs-fresh {a} st c p =
+  packs_fresh {a} st c p =
       rw (is_complete_lem a c)
       (fresh_stands (ap (λ (b : Box). b.state) p.leaves) (packs_long box.state box.store (stands_few st) ∙ stands_store st))
 
   -- any other box stays
-  packs-still : {a : Account} → Stands bytes box a → (Complete a → ⊥) → {r : Refusal} → PacksNothing box r → Stands bytes (pack box) (packed-account a)
+  packs_still : {a : Account} → Stands bytes box a → (Complete a → ⊥) → {r : Refusal} → PacksNothing box r → Stands bytes (pack box) (packed_account a)
   unfolding account_after_call
-  packs-still {a} st c p = rw (p.leaves, ← (refuted (is_complete a) (λ e. c (complete_is a e)))) st
+  packs_still {a} st c p = rw (p.leaves, ← (refuted (is_complete a) (λ e. c (complete_is a e)))) st
 
-  packed-stands : {a : Account} → Stands bytes box a → PackAnswers box a → Stands bytes (pack box) (packed-account a)
+  packed_stands : {a : Account} → Stands bytes box a → PackAnswers box a → Stands bytes (pack box) (packed_account a)
   unfolding Complete Covered
-  packed-stands st (none_to_pack e) = packs-still st (λ c. c) e
-  packed-stands st (differing d e) = packs-still st (λ c. d c.1) e
-  packed-stands st (lacking k x m e) = packs-still st (λ c. m.missing (c.0 k m.of_table)) e
-  packed-stands st (packed c e) = packs-fresh st c e
+  packed_stands st (none_to_pack e) = packs_still st (λ c. c) e
+  packed_stands st (differing d e) = packs_still st (λ c. d c.1) e
+  packed_stands st (lacking k x m e) = packs_still st (λ c. m.missing (c.0 k m.of_table)) e
+  packed_stands st (packed c e) = packs_fresh st c e
 
-  call-stands : {a : Account} (c : Call) → ((s : List ℕ) → feeding s ≡ c → AreBytes s) → Stands bytes box a
+  call_stands : {a : Account} (c : Call) → ((s : List ℕ) → feeding s ≡ c → AreBytes s) → Stands bytes box a
       → Stands bytes (box_after_call box c) (account_after_call (has_room bytes) a c)
   unfolding box_after_call account_after_call
-  call-stands (feeding s) are_bytes st = feed-stands bytes box s (are_bytes s refl) st
-  call-stands (handing_out out) are_bytes st = st
-  call-stands packing are_bytes st = packed-stands st (packs-by box (stands_few st) (finds bytes box st))
+  call_stands (feeding s) are_bytes st = feed_stands bytes box s (are_bytes s refl) st
+  call_stands (handing_out out) are_bytes st = st
+  call_stands packing are_bytes st = packed_stands st (packs_by box (stands_few st) (finds bytes box st))
 
 calls_stand : (bytes : ℕ) (calls : List Call) → ByteCalls calls → (box : Box) (a : Account) → Stands bytes box a
     → Stands bytes (box_after_calls box calls) (account_of_calls (has_room bytes) a calls)
@@ -143,7 +143,7 @@ unfolding box_after_calls account_of_calls ByteCalls
 calls_stand bytes [] are_bytes box a st = st
 calls_stand bytes (c ∷ calls) are_bytes box a st =
     calls_stand bytes calls (λ s i. are_bytes s (Memᴰ.tail i)) (box_after_call box c) (account_after_call (has_room bytes) a c)
-    (call-stands bytes box c (λ s e. are_bytes s (Memᴰ.head e)) st)
+    (call_stands bytes box c (λ s e. are_bytes s (Memᴰ.head e)) st)
 
 -- ---- the theorem
 
@@ -151,16 +151,16 @@ calls_stand bytes (c ∷ calls) are_bytes box a st =
 serves : (bytes : ℕ) (box : Box) {a : Account} → Stands bytes box a → Serves (has_room bytes) a box
 serves bytes box st =
     let found = finds bytes box st in
-    let packs = packs-by box (stands_few st) found in
+    let packs = packs_by box (stands_few st) found in
     let possible = stands_possible st in
     record {
       fixed = fixes st;
       possible = possible;
       counts = counts_right box.state possible;
-      feeds = λ s. stands-answers bytes box s st;
+      feeds = λ s. stands_answers bytes box s st;
       hands_out = λ out. answers_by box out found;
       packs = packs;
-      packs_exactly = (λ p. only-complete packs p.0 p.1, λ c. (_, (when-complete packs c).answers));
+      packs_exactly = (λ p. only_complete packs p.0 p.1, λ c. (_, (when_complete packs c).answers));
     }
 
 pub calls_serve : (store : List ℕ) (calls : List Call) → ByteCalls calls

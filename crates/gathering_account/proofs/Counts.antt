@@ -14,16 +14,16 @@ use Rattle.section_reader.proofs.RoundTrip.{good_printed}
 use Rattle.gathering_state.specs.State.{lengths, possible_of, CountsRight, opened, with_section, spoiled_state}
 use Rattle.gathering_state.specs.declared.Gathering.{Gathering}
 use Rattle.gathering_state.proofs.Lists.{held_all}
-use Rattle.gathering_state.proofs.State.{Begun, possible-begun, begun-possible, opened_table, section-begun, spoiled_begun, counts_right}
+use Rattle.gathering_state.proofs.State.{Begun, possible_begun, begun_possible, opened_table, section_begun, spoiled_begun, counts_right}
 use Rattle.gathering_verdict.specs.Deciding.{verdict_of}
 use Rattle.gathering_feed.specs.Feeding.{answer_by, state_by, fed_of}
 use Rattle.gathering_verdict.specs.declared.Verdict.{Verdict}
 use Rattle.gathering_verdict.specs.declared.Verdict.TheVariants.{Refuse, Repeat, Contradict, Begin, Take}
 use Rattle.gathering_feed.specs.declared.Answer.TheVariants.{Taken}
-use Rattle.gathering_verdict.proofs.Verdicts.{Heard, agrees-is, further-begun, verdict-bad, verdict-good, Decided, old, other, short, begun, spoiled, new, again, clash, decided}
+use Rattle.gathering_verdict.proofs.Verdicts.{Heard, agrees_is, further_begun, verdict_bad, verdict_good, Decided, old, other, short, begun, spoiled, new, again, clash, decided}
 use Rattle.gathering_hand_out.specs.Handing.{body_held, handed_of}
 use Rattle.gathering_hand_out.specs.declared.Handed.TheVariants.{Body}
-use Rattle.gathering_hand_out.proofs.Handing.{in-store-length, whole-in-store, handed-whole}
+use Rattle.gathering_hand_out.proofs.Handing.{in_store_length, whole_in_store, handed_whole}
 use Rattle.gathering_account.specs.Gathers.{Box, ByteStrings, feed, box_after}
 use Rattle.gathering_account.proofs.Hearing.{as_good, as_bad, ReadAs, read_as, feed_by}
 use Rattle.gathering_account.proofs.Standing.{opened_long, opened_held, formed_kind}
@@ -37,40 +37,40 @@ pub record Sound (g : Gathering) : Type 0 where
 
 spoiled_sound : (g : Gathering) → Begun g → length g.held ≡ 256 → Sound (spoiled_state g)
 unfolding spoiled_state
-spoiled_sound g b l = record { possible = begun-possible (spoiled_state g) (spoiled_begun g b); long = l }
+spoiled_sound g b l = record { possible = begun_possible (spoiled_state g) (spoiled_begun g b); long = l }
 
 section_sound : (g : Gathering) (k n : ℕ) → Begun (with_section g k n) → length g.held ≡ 256 → Sound (with_section g k n)
 unfolding with_section
-section_sound g k n b l = record { possible = begun-possible (with_section g k n) b; long = length-set g.held k (n + 1) ∙ l }
+section_sound g k n b l = record { possible = begun_possible (with_section g k n) b; long = length-set g.held k (n + 1) ∙ l }
 
 module _ (g : Gathering) (store s : List ℕ) (are_bytes : AreBytes s) (sound : Sound g) (h : Heading) (n : ℕ) (e : read_section s ≡ Good h n) where
   formed : WellFormed h
   formed = (good_printed s h n are_bytes e).formed
 
-  p-short : length (payload_of s) ≤ 4084
-  p-short = let i = good_printed s h n are_bytes e in omega arith
+  p_short : length (payload_of s) ≤ 4084
+  p_short = let i = good_printed s h n are_bytes e in omega arith
 
-  heard-begun : Heard g store h → Begun g
-  heard-begun d = possible-begun g sound.possible (further-begun g h d.further)
+  heard_begun : Heard g store h → Begun g
+  heard_begun d = possible_begun g sound.possible (further_begun g h d.further)
 
   -- by the ways out for a good section
-  good-sound : {v : Verdict} → Decided g store h (payload_of s) v → Sound (state_by g (payload_of s) v)
+  good_sound : {v : Verdict} → Decided g store h (payload_of s) v → Sound (state_by g (payload_of s) v)
   unfolding state_by opened
-  good-sound (old c) = sound
-  good-sound (other c b a) = sound
-  good-sound (short c b r) = sound
-  good-sound (spoiled c b a r x) = sound
-  good-sound (again d u q) = sound
-  good-sound (clash d u q) = spoiled_sound g (heard-begun d) sound.long
-  good-sound (begun c b r) =
+  good_sound (old c) = sound
+  good_sound (other c b a) = sound
+  good_sound (short c b r) = sound
+  good_sound (spoiled c b a r x) = sound
+  good_sound (again d u q) = sound
+  good_sound (clash d u q) = spoiled_sound g (heard_begun d) sound.long
+  good_sound (begun c b r) =
       let w = formed in
       let first = opened_table h (formed_kind h w) w.version_high in
-      let most = section-begun (opened h) h.number first (opened_long h) (omega arith) w.number_high (opened_held h h.number) (length (payload_of s)) p-short in
+      let most = section_begun (opened h) h.number first (opened_long h) (omega arith) w.number_high (opened_held h h.number) (length (payload_of s)) p_short in
       section_sound (opened h) h.number (length (payload_of s)) most (opened_long h)
-  good-sound (new d u) =
+  good_sound (new d u) =
       let w = formed in
-      let last = (agrees-is g h d.agreed).last in
-      let most = section-begun g h.number (heard-begun d).of_table sound.long (omega arith) (omega arith) u (length (payload_of s)) p-short in
+      let last = (agrees_is g h d.agreed).last in
+      let most = section_begun g h.number (heard_begun d).of_table sound.long (omega arith) (omega arith) u (length (payload_of s)) p_short in
       section_sound g h.number (length (payload_of s)) most sound.long
 
 feed_sound : (box : Box) (s : List ℕ) → AreBytes s → Sound box.state → Sound (feed box s).state
@@ -79,9 +79,9 @@ feed_sound box s are_bytes sound = go (read_as s)
   where
     go : ReadAs s → Sound (feed box s).state
     go (as_good h n e) =
-        rw (feed_by box s _ (verdict-good box.state box.store s sound.possible h n e))
-        (good-sound box.state box.store s are_bytes sound h n e (decided box.state box.store h (payload_of s)))
-    go (as_bad r e) = rw (feed_by box s (Refuse r) (verdict-bad box.state box.store s sound.possible r e)) sound
+        rw (feed_by box s _ (verdict_good box.state box.store s sound.possible h n e))
+        (good_sound box.state box.store s are_bytes sound h n e (decided box.state box.store h (payload_of s)))
+    go (as_bad r e) = rw (feed_by box s (Refuse r) (verdict_bad box.state box.store s sound.possible r e)) sound
 
 run_sound : (box : Box) (fed : List (List ℕ)) → ByteStrings fed → Sound box.state → Sound (box_after box fed).state
 unfolding box_after ByteStrings
@@ -118,11 +118,11 @@ pub whole_counts : (g : Gathering) (store out : List ℕ) (n : ℕ) → length g
     → (g.missing ≡ 0) × (g.bytes ≡ n)
 unfolding body_held lengths
 whole_counts g store out n long low e =
-    let handed = handed-whole g store out n e in
+    let handed = handed_whole g store out n e in
     let whole = handed.0 in
-    let o = (possible-begun g whole.possible whole.begun).of_table in
+    let o = (possible_begun g whole.possible whole.begun).of_table in
     let few = length-take (g.last + 1) g.held in
     let all = held_all (lengths g) whole.full in
-    let sum = in-store-length (lengths g) store (whole-in-store g store (omega arith) whole) in
+    let sum = in_store_length (lengths g) store (whole_in_store g store (omega arith) whole) in
     let m = o.missing in
     (omega arith, o.bytes ∙ sym sum ∙ sym handed.1)

@@ -10,11 +10,11 @@ use Rattle.section_cutter.specs.Cutting.{parts_joined, section_count, cut_headin
 use Rattle.section_reader.specs.declared.Heading.{Heading}
 use Rattle.section_cutter.proofs.Counting.{count_some}
 use Rattle.section_reader.proofs.RoundTrip.{reads_back}
-use Rattle.section_cutter.proofs.Sections.{cut-good, cut_joined}
+use Rattle.section_cutter.proofs.Sections.{cut_good, cut_joined}
 use Rattle.gathering_state.specs.State.{has_room}
 use Rattle.gathering_account.specs.Gathers.{fresh_box, ByteStrings, box_after, HandsOut}
 use Rattle.gathering_account.specs.Arrival.{heading_at, CutInto, sections_of, Arrives}
-use Rattle.gathering_account.proofs.Hearing.{heard-good}
+use Rattle.gathering_account.proofs.Hearing.{heard_good}
 use Rattle.gathering_account.proofs.Whole.{arrives_whole}
 
 -- ---- payloads printed with one heading
@@ -44,16 +44,16 @@ module _ (h : Heading) (payloads : List (List ℕ)) (w : WellFormed h) (short : 
         last_high = w.last_high;
       }
 
-  pub printed-cut : CutInto h (sections_of h payloads)
+  pub printed_cut : CutInto h (sections_of h payloads)
   unfolding CutInto sections_of heading_at
-  printed-cut k l =
-      heard-good (printed (heading_at h k) (get_or payloads k [])) (heading_at h k) _
+  printed_cut k l =
+      heard_good (printed (heading_at h k) (get_or payloads k [])) (heading_at h k) _
       (reads_back (heading_at h k) (get_or payloads k []) (formed k l) (short k)).reads refl
 
   module _ (numbers : length payloads ≡ h.last + 1) where
-    printed-joined : parts_joined (sections_of h payloads) (h.last + 1) ≡ flatten payloads
+    printed_joined : parts_joined (sections_of h payloads) (h.last + 1) ≡ flatten payloads
     unfolding sections_of
-    printed-joined =
+    printed_joined =
         rw (← numbers)
         (joined_take (sections_of h payloads) payloads
         (λ k l. (reads_back (heading_at h k) (get_or payloads k []) (formed k (omega arith)) (short k)).carries)
@@ -62,7 +62,7 @@ module _ (h : Heading) (payloads : List (List ℕ)) (w : WellFormed h) (short : 
     pub printed_arrives : (store : List ℕ) (fed : List (List ℕ)) → ByteStrings fed → Arrives (has_room (length store)) h (sections_of h payloads) fed
         → (out : List ℕ) → length (flatten payloads) ≤ length out → HandsOut (box_after (fresh_box store) fed) out (flatten payloads)
     printed_arrives store fed are_bytes x out l =
-        rw (← printed-joined) (arrives_whole store fed are_bytes h (sections_of h payloads) printed-cut x out (rw printed-joined l))
+        rw (← printed_joined) (arrives_whole store fed are_bytes h (sections_of h payloads) printed_cut x out (rw printed_joined l))
 
 -- ---- our cutter
 
@@ -73,19 +73,19 @@ module _ (body : List ℕ) (kind extension version : ℕ) (allowed : Allowed kin
   askable : (number : ℕ) → number < section_count (length body) → Askable (length body) kind extension version number
   askable number within = record { allowed = allowed; some = some; most = most; within = within }
 
-  pub cut-count : h.last + 1 ≡ section_count (length body)
+  pub cut_count : h.last + 1 ≡ section_count (length body)
   unfolding cut_heading
-  cut-count = let a = count_some (length body) some in omega arith
+  cut_count = let a = count_some (length body) some in omega arith
 
-  pub cutter-cut : CutInto h (section_of body kind extension version)
+  pub cutter_cut : CutInto h (section_of body kind extension version)
   unfolding CutInto cut_heading heading_at
-  cutter-cut number l =
-      let c = cut-count in
-      heard-good (section_of body kind extension version number) (heading_at h number) _
-      (cut-good body kind extension version number (askable number (omega arith))).reads refl
+  cutter_cut number l =
+      let c = cut_count in
+      heard_good (section_of body kind extension version number) (heading_at h number) _
+      (cut_good body kind extension version number (askable number (omega arith))).reads refl
 
   pub cut_arrives : (store : List ℕ) (fed : List (List ℕ)) → ByteStrings fed → Arrives (has_room (length store)) h (section_of body kind extension version) fed
       → (out : List ℕ) → length body ≤ length out → HandsOut (box_after (fresh_box store) fed) out body
   cut_arrives store fed are_bytes a out l =
-      let j : parts_joined (section_of body kind extension version) (h.last + 1) ≡ body = rw cut-count (cut_joined body kind extension version allowed some most) in
-      rw (← j) (arrives_whole store fed are_bytes h (section_of body kind extension version) cutter-cut a out (rw j l))
+      let j : parts_joined (section_of body kind extension version) (h.last + 1) ≡ body = rw cut_count (cut_joined body kind extension version allowed some most) in
+      rw (← j) (arrives_whole store fed are_bytes h (section_of body kind extension version) cutter_cut a out (rw j l))

@@ -21,27 +21,27 @@ module _ {box : Box} {out : List ℕ} where
   no_body : {A : Type 0} {r : Refusal} → Refuses box out r → (n : ℕ) → handing box out ≡ Body n → A
   no_body e n f = let z : ◌≡◌ {A = ℕ} 0 1 = cc in absurd (omega arith)
 
-  only-complete : {a : Account} → Answers box out a → (n : ℕ) → handing box out ≡ Body n → Complete a
-  only-complete (nothing_begun_lem e) n b = no_body e n b
-  only-complete (two_differ d e) n b = no_body e n b
-  only-complete (one_missing k a m e) n b = no_body e n b
-  only-complete (too_small c l e) n b = no_body e n b
-  only-complete (handed_out c l e) n b = c
+  only_complete : {a : Account} → Answers box out a → (n : ℕ) → handing box out ≡ Body n → Complete a
+  only_complete (nothing_begun_lem e) n b = no_body e n b
+  only_complete (two_differ d e) n b = no_body e n b
+  only_complete (one_missing k a m e) n b = no_body e n b
+  only_complete (too_small c l e) n b = no_body e n b
+  only_complete (handed_out c l e) n b = c
 
-  when-complete : {a : Account} → Answers box out a → Complete a → length (body_of a) ≤ length out → HandsOut box out (body_of a)
+  when_complete : {a : Account} → Answers box out a → Complete a → length (body_of a) ≤ length out → HandsOut box out (body_of a)
   unfolding Complete Covered
-  when-complete (nothing_begun_lem e) c l = absurd c
-  when-complete (two_differ d e) c l = absurd (d c.1)
-  when-complete (one_missing k a m e) c l = absurd (m.missing (c.0 k m.of_table))
-  when-complete (too_small c m e) d l = absurd (omega arith)
-  when-complete (handed_out c m e) d l = e
+  when_complete (nothing_begun_lem e) c l = absurd c
+  when_complete (two_differ d e) c l = absurd (d c.1)
+  when_complete (one_missing k a m e) c l = absurd (m.missing (c.0 k m.of_table))
+  when_complete (too_small c m e) d l = absurd (omega arith)
+  when_complete (handed_out c m e) d l = e
 
-  what-body : {a : Account} → Answers box out a → (n : ℕ) → handing box out ≡ Body n → HandsOut box out (body_of a)
-  what-body (nothing_begun_lem e) n b = no_body e n b
-  what-body (two_differ d e) n b = no_body e n b
-  what-body (one_missing k a m e) n b = no_body e n b
-  what-body (too_small c l e) n b = no_body e n b
-  what-body (handed_out c l e) n b = e
+  what_body : {a : Account} → Answers box out a → (n : ℕ) → handing box out ≡ Body n → HandsOut box out (body_of a)
+  what_body (nothing_begun_lem e) n b = no_body e n b
+  what_body (two_differ d e) n b = no_body e n b
+  what_body (one_missing k a m e) n b = no_body e n b
+  what_body (too_small c l e) n b = no_body e n b
+  what_body (handed_out c l e) n b = e
 
 pub fixes : {bytes : ℕ} {box : Box} {a : Account} → Stands bytes box a → Fixes a box.state
 unfolding Fixes
@@ -53,14 +53,14 @@ fixes (spoiled_stands x l z k o) = (x.same.kind, x.same.extension, x.same.versio
 
 module _ (store : List ℕ) (fed : List (List ℕ)) (are_bytes : ByteStrings fed) (out : List ℕ) where
   -- every answer of handing out after a run, refusals too
-  pub handing-answers : Answers (box_after (fresh_box store) fed) out (account (has_room (length store)) idle fed)
-  handing-answers = answers_by (box_after (fresh_box store) fed) out (finds (length store) (box_after (fresh_box store) fed) (fresh_run store fed are_bytes))
+  pub handing_answers : Answers (box_after (fresh_box store) fed) out (account (has_room (length store)) idle fed)
+  handing_answers = answers_by (box_after (fresh_box store) fed) out (finds (length store) (box_after (fresh_box store) fed) (fresh_run store fed are_bytes))
 
   pub demand_3 : Gathers (account (has_room (length store)) idle fed) (box_after (fresh_box store) fed) out
   demand_3 =
       record {
         fixed = fixes (fresh_run store fed are_bytes);
-        only_when = only-complete handing-answers;
-        when = when-complete handing-answers;
-        body_is = what-body handing-answers;
+        only_when = only_complete handing_answers;
+        when = when_complete handing_answers;
+        body_is = what_body handing_answers;
       }

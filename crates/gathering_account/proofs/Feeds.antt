@@ -13,25 +13,25 @@ use Rattle.section_reader.specs.Section.{payload_of, read_section, WellFormed}
 use Rattle.section_reader.specs.declared.Heading.{Heading}
 use Rattle.section_reader.specs.declared.Sectioned.TheVariants.{Good}
 use Rattle.ground_placing.specs.Placed.{placed}
-use Rattle.ground_placing.proofs.Placing.{placed-length}
+use Rattle.ground_placing.proofs.Placing.{placed_length}
 use Rattle.section_reader.proofs.RoundTrip.{good_printed}
 use Rattle.gathering_state.specs.State.{fresh_state, place, has_room, opened, with_section}
 use Rattle.gathering_state.specs.declared.Gathering.{Gathering}
-use Rattle.gathering_state.proofs.State.{place_within, OfTable, opened_table, section-begun}
+use Rattle.gathering_state.proofs.State.{place_within, OfTable, opened_table, section_begun}
 use Rattle.gathering_verdict.specs.Deciding.{agrees, begins, verdict_of}
 use Rattle.gathering_feed.specs.Feeding.{state_by, store_by}
 use Rattle.gathering_verdict.specs.declared.Verdict.{Verdict}
 use Rattle.gathering_verdict.specs.declared.Verdict.TheVariants.{Refuse, Repeat, Contradict, Begin, Take}
-use Rattle.gathering_verdict.proofs.Verdicts.{SameHeading, verdict-bad, verdict-good, Decided, old, other, short, begun, spoiled, new, again, clash, decided}
+use Rattle.gathering_verdict.proofs.Verdicts.{SameHeading, verdict_bad, verdict_good, Decided, old, other, short, begun, spoiled, new, again, clash, decided}
 use Rattle.gathering_account.specs.Account.{heard, Section, Account, idle, table, account_after, account, Agree}
 use Rattle.gathering_account.specs.Latest.{begins_after}
 use Rattle.gathering_account.specs.Answering.{agreeing, undisputed}
 use Rattle.gathering_account.specs.Gathers.{Box, fresh_box, ByteStrings, feed, box_after}
 use Rattle.gathering_account.proofs.Agreeing.{agreeing_is, agree_agreeing}
-use Rattle.gathering_account.proofs.Undisputed.{undisputed-more, undisputed-clash}
-use Rattle.gathering_account.proofs.Keeping.{Kept, kept_agree, agree_front, kept_again, kept-clash, kept_more, kept_none}
-use Rattle.gathering_account.proofs.Hearing.{ReadAs, as_good, as_bad, read_as, heard-bad, heard-old, heard-good, counted-nothing, counted-first, counted_none, counted_same, counted-other, feed_by}
-use Rattle.gathering_account.proofs.Standing.{Fixed, Stands, fresh_stands, calm_stands, spoiled_stands, never, stands_possible, kept_spoiled, fresh_begins, opened_calm, opened_long, opened_held, fixed_spoiled, spoiled_marked, fixed-agrees, fixed-begins, fixed-heading, fixed-not-short, formed_kind}
+use Rattle.gathering_account.proofs.Undisputed.{undisputed_more, undisputed_clash}
+use Rattle.gathering_account.proofs.Keeping.{Kept, kept_agree, agree_front, kept_again, kept_clash, kept_more, kept_none}
+use Rattle.gathering_account.proofs.Hearing.{ReadAs, as_good, as_bad, read_as, heard_bad, heard_old, heard_good, counted_nothing, counted_first, counted_none, counted_same, counted_other, feed_by}
+use Rattle.gathering_account.proofs.Standing.{Fixed, Stands, fresh_stands, calm_stands, spoiled_stands, never, stands_possible, kept_spoiled, fresh_begins, opened_calm, opened_long, opened_held, fixed_spoiled, spoiled_marked, fixed_agrees, fixed_begins, fixed_heading_lem, fixed_not_short, formed_kind}
 
 -- ---- a good section
 
@@ -48,8 +48,8 @@ module _ (bytes : ℕ) (box : Box) (s : List ℕ) (are_bytes : AreBytes s) (h : 
   formed : WellFormed h
   formed = (good_printed s h n are_bytes e).formed
 
-  p-short : length p ≤ 4084
-  p-short = let i = good_printed s h n are_bytes e in omega arith
+  p_short : length p ≤ 4084
+  p_short = let i = good_printed s h n are_bytes e in omega arith
 
   -- it is taken into the state b: that of its table opened, as the first, or the box's, as a further one
   takes : (b : Gathering) (t : Heading) (S : List Section) → OfTable b → length b.held ≡ 256 → Kept b box.store S → b.spoiled ≡ 0
@@ -60,7 +60,7 @@ module _ (bytes : ℕ) (box : Box) (s : List ℕ) (are_bytes : AreBytes s) (h : 
   unfolding with_section
   takes b t S of_table m kept calm same last roomy long unheld fed =
       let w = formed in
-      let l = p-short in
+      let l = p_short in
       let to = same.last in
       let within = place_within (length box.store) h.last h.number roomy w.number_high in
       rw fed
@@ -70,9 +70,9 @@ module _ (bytes : ℕ) (box : Box) (s : List ℕ) (are_bytes : AreBytes s) (h : 
         roomy = rw (← last, ← long) roomy;
         last_high = rw (← last) w.last_high;
         long = length-set b.held h.number (length p + 1) ∙ m;
-        begun = section-begun b h.number of_table m (omega arith) (omega arith) unheld (length p) l;
+        begun = section_begun b h.number of_table m (omega arith) (omega arith) unheld (length p) l;
       })
-      (placed-length box.store (place h.number) p (omega arith) ∙ long)
+      (placed_length box.store (place h.number) p (omega arith) ∙ long)
       calm
       (kept_more b box.store S kept h.number p unheld (omega arith) of_table.short within l))
 
@@ -87,7 +87,7 @@ module _ (bytes : ℕ) (box : Box) (s : List ℕ) (are_bytes : AreBytes s) (h : 
 
   starts : (a : Account) → begins_after a h ≡ true → h.current ≡ true → length box.store ≡ bytes → has_room (length box.store) h.last ≡ true
       → verdict_of g box.store s ≡ Begin h → Stands bytes (feed box s) (account_after (has_room bytes) a (heard s))
-  starts a b c l r f = rw (heard-good s h n e c, counted-first (has_room bytes) h p (rw l at r) a b) (takes_first l r f)
+  starts a b c l r f = rw (heard_good s h n e c, counted_first (has_room bytes) h p (rw l at r) a b) (takes_first l r f)
 
   -- the feed changes nothing, nor does what is heard
   still : (a : Account) → Stands bytes box a → (r : Refusal) → verdict_of g box.store s ≡ Refuse r → (a' : Account) → a' ≡ a → Stands bytes (feed box s) a'
@@ -95,43 +95,43 @@ module _ (bytes : ℕ) (box : Box) (s : List ℕ) (are_bytes : AreBytes s) (h : 
   still a st r v a' q = let i : feed box s ≡ box = feed_by box s (Refuse r) v in rw (i, q) st
 
   unheard : (a : Account) → h.current ≡ false → account_after (has_room bytes) a (heard s) ≡ a
-  unheard a c = ap (account_after (has_room bytes) a) (heard-old s h n e c) ∙ counted-nothing (has_room bytes) a
+  unheard a c = ap (account_after (has_room bytes) a) (heard_old s h n e c) ∙ counted_nothing (has_room bytes) a
 
   -- where it would begin its table and there is no room, all stays
   unroomed : (a : Account) → begins_after a h ≡ true → h.current ≡ true → length box.store ≡ bytes → has_room (length box.store) h.last ≡ false
       → account_after (has_room bytes) a (heard s) ≡ a
-  unroomed a b c l r = ap (account_after (has_room bytes) a) (heard-good s h n e c) ∙ counted_none (has_room bytes) h p (rw l at r) a b
+  unroomed a b c l r = ap (account_after (has_room bytes) a) (heard_good s h n e c) ∙ counted_none (has_room bytes) h p (rw l at r) a b
 
   -- nothing begun: it begins, unless there is no room
   module _ (z : g ≡ fresh_state) (l : length box.store ≡ bytes) where
     first : begins g h ≡ true
     first = rw z (fresh_begins h)
 
-    idle-begins : begins_after idle h ≡ true
+    idle_begins : begins_after idle h ≡ true
     unfolding begins_after
-    idle-begins = refl
+    idle_begins = refl
 
-    good-fresh : (v : Verdict) → verdict_of g box.store s ≡ v → Decided g box.store h p v → Stands bytes (feed box s) (account_after (has_room bytes) idle (heard s))
-    good-fresh v f (old c) = still idle (fresh_stands z l) _ f _ (unheard idle c)
-    good-fresh v f (other c b a) = never (begins g h) first b
-    good-fresh v f (short c k r) = still idle (fresh_stands z l) _ f _ (unroomed idle idle-begins c l r)
-    good-fresh v f (begun c b r) = starts idle idle-begins c l r f
-    good-fresh v f (spoiled c b a r x) = never (begins g h) first b
-    good-fresh v f (new x u) = never (begins g h) first x.further
-    good-fresh v f (again x u q) = never (begins g h) first x.further
-    good-fresh v f (clash x u q) = never (begins g h) first x.further
+    good_fresh : (v : Verdict) → verdict_of g box.store s ≡ v → Decided g box.store h p v → Stands bytes (feed box s) (account_after (has_room bytes) idle (heard s))
+    good_fresh v f (old c) = still idle (fresh_stands z l) _ f _ (unheard idle c)
+    good_fresh v f (other c b a) = never (begins g h) first b
+    good_fresh v f (short c k r) = still idle (fresh_stands z l) _ f _ (unroomed idle idle_begins c l r)
+    good_fresh v f (begun c b r) = starts idle idle_begins c l r f
+    good_fresh v f (spoiled c b a r x) = never (begins g h) first b
+    good_fresh v f (new x u) = never (begins g h) first x.further
+    good_fresh v f (again x u q) = never (begins g h) first x.further
+    good_fresh v f (clash x u q) = never (begins g h) first x.further
 
   -- a table is fixed
   module _ (t : Heading) (S : List Section) (x : Fixed g bytes t) (l : length box.store ≡ bytes) where
-    newer-begins : begins g h ≡ true → begins_after (table t S) h ≡ true
+    newer_begins : begins g h ≡ true → begins_after (table t S) h ≡ true
     unfolding begins_after
-    newer-begins b = sym (fixed-begins x h) ∙ b
+    newer_begins b = sym (fixed_begins x h) ∙ b
 
     counts : h.current ≡ true → agrees g h ≡ true → account_after (has_room bytes) (table t S) (heard s) ≡ table t (S ++ section ∷ [])
-    counts c a = rw (heard-good s h n e c) (counted_same (has_room bytes) h p t S (sym (fixed-agrees x h) ∙ a))
+    counts c a = rw (heard_good s h n e c) (counted_same (has_room bytes) h p t S (sym (fixed_agrees x h) ∙ a))
 
     passes : h.current ≡ true → begins g h ≡ false → agrees g h ≡ false → account_after (has_room bytes) (table t S) (heard s) ≡ table t S
-    passes c b a = rw (heard-good s h n e c) (counted-other (has_room bytes) h p t S (sym (fixed-begins x h) ∙ b) (sym (fixed-agrees x h) ∙ a))
+    passes c b a = rw (heard_good s h n e c) (counted_other (has_room bytes) h p t S (sym (fixed_begins x h) ∙ b) (sym (fixed_agrees x h) ∙ a))
 
     -- 10 is of a newer table
     shuts : h.current ≡ true → begins g h || agrees g h ≡ true → has_room (length box.store) h.last ≡ false
@@ -139,8 +139,8 @@ module _ (bytes : ℕ) (box : Box) (s : List ℕ) (are_bytes : AreBytes s) (h : 
     shuts c k r = go (begins g h) refl k
       where
         go : (b : Bool) → begins g h ≡ b → b || agrees g h ≡ true → account_after (has_room bytes) (table t S) (heard s) ≡ table t S
-        go true b k = unroomed (table t S) (newer-begins b) c l r
-        go false b k = fixed-not-short x h box.store l k r
+        go true b k = unroomed (table t S) (newer_begins b) c l r
+        go false b k = fixed_not_short x h box.store l k r
 
     good-calm : g.spoiled ≡ 0 → Kept g box.store S → (v : Verdict) → verdict_of g box.store s ≡ v → Decided g box.store h p v
         → Stands bytes (feed box s) (account_after (has_room bytes) (table t S) (heard s))
@@ -148,53 +148,53 @@ module _ (bytes : ℕ) (box : Box) (s : List ℕ) (are_bytes : AreBytes s) (h : 
     good-calm z k v f (old c) = still (table t S) (calm_stands x l z k) _ f _ (unheard (table t S) c)
     good-calm z k v f (other c b a) = still (table t S) (calm_stands x l z k) _ f _ (passes c b a)
     good-calm z k v f (short c b r) = still (table t S) (calm_stands x l z k) _ f _ (shuts c b r)
-    good-calm z k v f (begun c b r) = starts (table t S) (newer-begins b) c l r f
+    good-calm z k v f (begun c b r) = starts (table t S) (newer_begins b) c l r f
     good-calm z k v f (spoiled c b a r y) = absurd (y z)
     good-calm z k v f (new y u) =
-        let a = fixed-heading x h y.agreed in
+        let a = fixed_heading_lem x h y.agreed in
         rw (counts y.current y.agreed)
         (takes g t S x.begun.of_table x.long k z x.same (sym a.last ∙ x.same.last) y.roomy l u (feed_by box s (Take h) f))
     good-calm z k v f (again y u q) =
         rw (counts y.current y.agreed, feed_by box s Repeat f) (calm_stands x l z (kept_again g box.store S k section u q))
     good-calm z k v f (clash y u q) =
-        let no = kept-clash g box.store S k section u q in
+        let no = kept_clash g box.store S k section u q in
         let clashes : agreeing (S ++ section ∷ []) ≡ false = sym (refuted (agreeing (S ++ section ∷ [])) (λ e. no (agreeing_is _ e))) in
-        let front = undisputed-clash S section (agree_agreeing S (kept_agree k)) clashes in
+        let front = undisputed_clash S section (agree_agreeing S (kept_agree k)) clashes in
         rw (counts y.current y.agreed, feed_by box s Contradict f)
         (spoiled_stands (fixed_spoiled g bytes t x) l (spoiled_marked g) no (rw front (kept_spoiled k)))
 
-    good-spoiled : (g.spoiled ≡ 0 → ⊥) → (Agree S → ⊥) → Kept g box.store (undisputed S) → (v : Verdict) → verdict_of g box.store s ≡ v → Decided g box.store h p v
+    good_spoiled : (g.spoiled ≡ 0 → ⊥) → (Agree S → ⊥) → Kept g box.store (undisputed S) → (v : Verdict) → verdict_of g box.store s ≡ v → Decided g box.store h p v
         → Stands bytes (feed box s) (account_after (has_room bytes) (table t S) (heard s))
-    good-spoiled z k o v f (old c) = still (table t S) (spoiled_stands x l z k o) _ f _ (unheard (table t S) c)
-    good-spoiled z k o v f (other c b a) = still (table t S) (spoiled_stands x l z k o) _ f _ (passes c b a)
-    good-spoiled z k o v f (short c b r) = still (table t S) (spoiled_stands x l z k o) _ f _ (shuts c b r)
-    good-spoiled z k o v f (begun c b r) = starts (table t S) (newer-begins b) c l r f
-    good-spoiled z k o v f (spoiled c b a r y) =
-        let same = undisputed-more S section (sym (refuted (agreeing S) (λ e. k (agreeing_is S e)))) in
+    good_spoiled z k o v f (old c) = still (table t S) (spoiled_stands x l z k o) _ f _ (unheard (table t S) c)
+    good_spoiled z k o v f (other c b a) = still (table t S) (spoiled_stands x l z k o) _ f _ (passes c b a)
+    good_spoiled z k o v f (short c b r) = still (table t S) (spoiled_stands x l z k o) _ f _ (shuts c b r)
+    good_spoiled z k o v f (begun c b r) = starts (table t S) (newer_begins b) c l r f
+    good_spoiled z k o v f (spoiled c b a r y) =
+        let same = undisputed_more S section (sym (refuted (agreeing S) (λ e. k (agreeing_is S e)))) in
         still (table t (S ++ section ∷ [])) (spoiled_stands x l z (λ i. k (agree_front S (section ∷ []) i)) (rw same o)) _ f _ (counts c a)
-    good-spoiled z k o v f (new y u) = absurd (z y.calm)
-    good-spoiled z k o v f (again y u q) = absurd (z y.calm)
-    good-spoiled z k o v f (clash y u q) = absurd (z y.calm)
+    good_spoiled z k o v f (new y u) = absurd (z y.calm)
+    good_spoiled z k o v f (again y u q) = absurd (z y.calm)
+    good_spoiled z k o v f (clash y u q) = absurd (z y.calm)
 
 -- ---- any byte string, and any list of them
 
 module _ (bytes : ℕ) (box : Box) (s : List ℕ) (are_bytes : AreBytes s) where
-  feed-good : {a : Account} → Stands bytes box a → (h : Heading) (n : ℕ) → read_section s ≡ Good h n
+  feed_good : {a : Account} → Stands bytes box a → (h : Heading) (n : ℕ) → read_section s ≡ Good h n
       → (v : Verdict) → verdict_of box.state box.store s ≡ v → Decided box.state box.store h (payload_of s) v
       → Stands bytes (feed box s) (account_after (has_room bytes) a (heard s))
-  feed-good (fresh_stands z l) h n e = good-fresh bytes box s are_bytes h n e z l
-  feed-good (calm_stands {t} {S} x l z k) h n e = good-calm bytes box s are_bytes h n e t S x l z k
-  feed-good (spoiled_stands {t} {S} x l z k o) h n e = good-spoiled bytes box s are_bytes h n e t S x l z k o
+  feed_good (fresh_stands z l) h n e = good_fresh bytes box s are_bytes h n e z l
+  feed_good (calm_stands {t} {S} x l z k) h n e = good-calm bytes box s are_bytes h n e t S x l z k
+  feed_good (spoiled_stands {t} {S} x l z k o) h n e = good_spoiled bytes box s are_bytes h n e t S x l z k o
 
-  pub feed-stands : {a : Account} → Stands bytes box a → Stands bytes (feed box s) (account_after (has_room bytes) a (heard s))
+  pub feed_stands : {a : Account} → Stands bytes box a → Stands bytes (feed box s) (account_after (has_room bytes) a (heard s))
   unfolding state_by store_by
-  feed-stands {a} st = go (read_as s)
+  feed_stands {a} st = go (read_as s)
     where
       go : ReadAs s → Stands bytes (feed box s) (account_after (has_room bytes) a (heard s))
       go (as_good h n e) =
-          feed-good st h n e _ (verdict-good box.state box.store s (stands_possible st) h n e) (decided box.state box.store h (payload_of s))
+          feed_good st h n e _ (verdict_good box.state box.store s (stands_possible st) h n e) (decided box.state box.store h (payload_of s))
       go (as_bad r e) =
-          rw (heard-bad s r e, counted-nothing (has_room bytes) a, feed_by box s (Refuse r) (verdict-bad box.state box.store s (stands_possible st) r e)) st
+          rw (heard_bad s r e, counted_nothing (has_room bytes) a, feed_by box s (Refuse r) (verdict_bad box.state box.store s (stands_possible st) r e)) st
 
 pub run_stands : (bytes : ℕ) (fed : List (List ℕ)) → ByteStrings fed → (box : Box) (a : Account) → Stands bytes box a
     → Stands bytes (box_after box fed) (account (has_room bytes) a fed)
@@ -202,7 +202,7 @@ unfolding box_after account ByteStrings
 run_stands bytes [] are_bytes box a st = st
 run_stands bytes (s ∷ fed) are_bytes box a st =
     run_stands bytes fed (λ r i. are_bytes r (Memᴰ.tail i)) (feed box s) (account_after (has_room bytes) a (heard s))
-    (feed-stands bytes box s (are_bytes s (Memᴰ.head refl)) st)
+    (feed_stands bytes box s (are_bytes s (Memᴰ.head refl)) st)
 
 -- a run of feeds, from a fresh state
 pub fresh_run : (store : List ℕ) (fed : List (List ℕ)) → ByteStrings fed

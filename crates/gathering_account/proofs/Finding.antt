@@ -14,15 +14,15 @@ use Rattle.gathering_state.specs.Lists.{smallest_missing, part}
 use Rattle.gathering_state.specs.State.{place, has_room, lengths, held_payload}
 use Rattle.gathering_state.specs.declared.Gathering.{Gathering}
 use Rattle.gathering_state.proofs.Lists.{missing_before}
-use Rattle.gathering_state.proofs.State.{begun-possible, begun-some, fresh_possible}
-use Rattle.gathering_hand_out.specs.Handing.{body_held as joinedBody, complete_of}
+use Rattle.gathering_state.proofs.State.{begun_possible, begun_some, fresh_possible}
+use Rattle.gathering_hand_out.specs.Handing.{body_held as joined_body, complete_of}
 use Rattle.gathering_hand_out.specs.declared.Completeness.TheVariants.{Complete as AllThere, Refused as NotAllThere}
-use Rattle.gathering_hand_out.proofs.Handing.{missing-some, Whole, complete-fresh, complete-spoiled, complete-calm, whole-complete}
+use Rattle.gathering_hand_out.proofs.Handing.{missing_some, Whole, complete_fresh, complete_spoiled, complete-calm, whole_complete}
 use Rattle.gathering_account.specs.Account.{Section, Account, idle, table, Agree, Present, Covered, Complete, contents_of, in_order, body_of}
 use Rattle.gathering_account.specs.Gathers.{Box, SmallestMissing}
 use Rattle.gathering_account.proofs.Keeping.{Kept, kept_agree}
 use Rattle.gathering_account.proofs.Standing.{Fixed, Stands, fresh_stands, calm_stands, spoiled_stands, fresh_none}
-use Rattle.gathering_account.proofs.Joining.{contents_are, joined-order}
+use Rattle.gathering_account.proofs.Joining.{contents_are, joined_order}
 
 pub data Finds (g : Gathering) (store : List ℕ) : Account → Type 0 where
   finds_nothing : complete_of g (length store) ≡ NotAllThere (Missing 0) → Finds g store idle
@@ -30,7 +30,7 @@ pub data Finds (g : Gathering) (store : List ℕ) : Account → Type 0 where
   finds_missing : {t : Heading} {S : List Section} (k : ℕ) → Agree S → SmallestMissing k t.last S
       → complete_of g (length store) ≡ NotAllThere (Missing k) → Finds g store (table t S)
   finds_whole : {t : Heading} {S : List Section} → Complete (table t S) → complete_of g (length store) ≡ AllThere
-      → joinedBody g store ≡ body_of (table t S) → Finds g store (table t S)
+      → joined_body g store ≡ body_of (table t S) → Finds g store (table t S)
 
 -- the smallest missing number is missing
 missing_here : (s : List ℕ) → smallest_missing s < length s → get_or s (smallest_missing s) 0 ≡ 0
@@ -68,23 +68,23 @@ module _ (g : Gathering) (store : List ℕ) (t : Heading) (S : List Section) (x 
   covered m k l = let a = long in present k (omega arith) (omega arith)
 
   -- the joined payloads
-  payload-is : (k : ℕ) → k < length (lengths g) → Present k S → part store (place k) (get_or (lengths g) k 0 - 1) ≡ contents_of k S
+  payload_is : (k : ℕ) → k < length (lengths g) → Present k S → part store (place k) (get_or (lengths g) k 0 - 1) ≡ contents_of k S
   unfolding held_payload
-  payload-is k l s =
+  payload_is k l s =
       rw (at k l) (sym (contents_are k (held_payload g store k) S (λ s i e. sym (kept.stored s i) ∙ ap (held_payload g store) e) s))
 
-  body_is : Covered t.last S → joinedBody g store ≡ body_of (table t S)
-  unfolding joinedBody body_of Covered
+  body_is : Covered t.last S → joined_body g store ≡ body_of (table t S)
+  unfolding joined_body body_of Covered
   body_is c =
       let a = long in
-      joined-order place store S (lengths g) (λ k l. payload-is k l (c k (omega arith))) ∙ ap (λ (n : ℕ). in_order n S) long
+      joined_order place store S (lengths g) (λ k l. payload_is k l (c k (omega arith))) ∙ ap (λ (n : ℕ). in_order n S) long
 
   whole : length (lengths g) ≤ smallest_missing (lengths g) → Whole g (length store)
-  whole m = record { possible = begun-possible g x.begun; begun = begun-some g x.begun; roomy = roomy; calm = calm; full = m }
+  whole m = record { possible = begun_possible g x.begun; begun = begun_some g x.begun; roomy = roomy; calm = calm; full = m }
 
-  calm-finds : (b : Bool) → ltb (smallest_missing (lengths g)) (length (lengths g)) ≡ b → Finds g store (table t S)
+  calm_finds : (b : Bool) → ltb (smallest_missing (lengths g)) (length (lengths g)) ≡ b → Finds g store (table t S)
   unfolding Complete
-  calm-finds true e =
+  calm_finds true e =
       let a = long in
       let k = smallest_missing (lengths g) in
       let l = ltb-true (smallest_missing (lengths g)) (length (lengths g)) e in
@@ -94,19 +94,19 @@ module _ (g : Gathering) (store : List ℕ) (t : Heading) (S : List Section) (x 
         smallest = λ j i. present j (omega arith) i;
       } in
       finds_missing k (kept_agree kept) s
-      (complete-calm g (length store) (begun-possible g x.begun) (begun-some g x.begun) roomy calm ∙ sym (missing-some (lengths g) k refl l))
-  calm-finds false e =
+      (complete-calm g (length store) (begun_possible g x.begun) (begun_some g x.begun) roomy calm ∙ sym (missing_some (lengths g) k refl l))
+  calm_finds false e =
       let m = ltb-false (smallest_missing (lengths g)) (length (lengths g)) e in
       let c = covered m in
-      finds_whole (c, kept_agree kept) (whole-complete g (length store) (whole m)) (body_is c)
+      finds_whole (c, kept_agree kept) (whole_complete g (length store) (whole m)) (body_is c)
 
 -- ---- any box
 
 pub finds : (bytes : ℕ) (box : Box) {a : Account} → Stands bytes box a → Finds box.state box.store a
-finds bytes box (fresh_stands z l) = finds_nothing (complete-fresh box.state (length box.store) (rw z fresh_possible) (rw z fresh_none))
+finds bytes box (fresh_stands z l) = finds_nothing (complete_fresh box.state (length box.store) (rw z fresh_possible) (rw z fresh_none))
 finds bytes box (calm_stands {t} {S} x l z k) =
-    calm-finds box.state box.store t S (rw l x) z k (ltb (smallest_missing (lengths box.state)) (length (lengths box.state))) refl
+    calm_finds box.state box.store t S (rw l x) z k (ltb (smallest_missing (lengths box.state)) (length (lengths box.state))) refl
 finds bytes box (spoiled_stands {t} {S} x l z k o) =
     let b = x.begun in
     finds_differing k
-    (complete-spoiled box.state (length box.store) (begun-possible box.state b) (begun-some box.state b) (rw (x.same.last, l) x.roomy) z)
+    (complete_spoiled box.state (length box.store) (begun_possible box.state b) (begun_some box.state b) (rw (x.same.last, l) x.roomy) z)

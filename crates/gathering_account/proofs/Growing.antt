@@ -12,11 +12,11 @@ use Rattle.std.specs.Prelude.{if◌then◌else◌}
 use Rattle.section_reader.specs.Section.{payload_of}
 use Rattle.section_reader.specs.declared.Heading.{Heading}
 use Rattle.gathering_tables.specs.Tables.{same_table, is_newer}
-use Rattle.gathering_tables.proofs.Tables.{same-not-newer}
+use Rattle.gathering_tables.proofs.Tables.{same_not_newer}
 use Rattle.gathering_account.specs.Account.{Heard, nothing, good_current, heard, Section, Account, idle, table, begun, account_after, account, Present}
 use Rattle.gathering_account.specs.Latest.{begins_after}
 use Rattle.gathering_account.specs.Arrival.{heading_at, CutInto}
-use Rattle.gathering_account.proofs.Hearing.{counted-nothing, counted_none, counted_same, counted-other}
+use Rattle.gathering_account.proofs.Hearing.{counted_nothing, counted_none, counted_same, counted_other}
 use Rattle.gathering_account.proofs.Keeping.{present_front, present_last, all_more}
 use Rattle.gathering_account.proofs.Standing.{never}
 
@@ -52,7 +52,7 @@ account_none room [] f = refl
 account_none room (s ∷ fed) f = go (heard_is s) ∙ account_none room fed (λ t i. f t (In.tail i))
   where
     go : HeardIs s → account room (account_after room idle (heard s)) fed ≡ account room idle fed
-    go (hears_nothing e) = rw (e, counted-nothing room idle)
+    go (hears_nothing e) = rw (e, counted_nothing room idle)
     go (hears h p e) = rw (e, counted_none room h p (f s (In.head refl) h p e) idle refl)
 
 -- ---- room
@@ -98,22 +98,22 @@ module _ (h : Heading) where
   unfolding same_table heading_at
   same_first first i = refl
 
-  newer-first : (first : ℕ) (i : Heading) → is_newer (heading_at h first) i ≡ is_newer h i
+  newer_first : (first : ℕ) (i : Heading) → is_newer (heading_at h first) i ≡ is_newer h i
   unfolding is_newer heading_at
-  newer-first first i = refl
+  newer_first first i = refl
 
   pub begins_first : (first : ℕ) (a : Account) → begins_after a (heading_at h first) ≡ begins_after a h
   unfolding begins_after is_newer heading_at
   begins_first first idle = refl
   begins_first first (table t S) = refl
 
-  same-own : (k : ℕ) → same_table h (heading_at h k) ≡ true
+  same_own : (k : ℕ) → same_table h (heading_at h k) ≡ true
   unfolding same_table heading_at
-  same-own k = simp (eq-eqb h.kind h.kind refl, eq-eqb h.extension h.extension refl, eq-eqb h.version h.version refl, eq-eqb h.last h.last refl)
+  same_own k = simp (eq-eqb h.kind h.kind refl, eq-eqb h.extension h.extension refl, eq-eqb h.version h.version refl, eq-eqb h.last h.last refl)
 
   -- none of the table's own sections is ahead of it
-  pub own-not-newer : (k : ℕ) → is_newer h (heading_at h k) ≡ false
-  own-not-newer k = same-not-newer h (heading_at h k) (same-own k)
+  pub own_not_newer : (k : ℕ) → is_newer h (heading_at h k) ≡ false
+  own_not_newer k = same_not_newer h (heading_at h k) (same_own k)
 
   number_at : (k : ℕ) → (heading_at h k).number ≡ k
   unfolding heading_at
@@ -177,8 +177,8 @@ module _ (room : ℕ → Bool) (h : Heading) (sections : ℕ → List ℕ) (cut 
   stays s behind S i p e f = rw e (go (is_newer h i) refl)
     where
       go : (b : Bool) → is_newer h i ≡ b → account_after room (table t S) (good_current i p) ≡ table t S
-      go true b = counted_none room i p (behind i p e b) (table t S) (newer-first h first i ∙ b)
-      go false b = counted-other room i p t S (newer-first h first i ∙ b) (same_first h first i ∙ f)
+      go true b = counted_none room i p (behind i p e b) (table t S) (newer_first h first i ∙ b)
+      go false b = counted_other room i p t S (newer_first h first i ∙ b) (same_first h first i ∙ f)
 
   pub grows : (fed : List (List ℕ)) → ((s : List ℕ) → In s fed → OneOf s) → ((s : List ℕ) → In s fed → Behind s)
       → (S : List Section) → Ours sections S → Grown room t h.last sections S fed
@@ -189,13 +189,13 @@ module _ (room : ℕ → Bool) (h : Heading) (sections : ℕ → List ℕ) (cut 
     where
       go : HeardIs s → ((U : List Section) → Ours sections U → Grown room t h.last sections U fed) → Grown room t h.last sections S (s ∷ fed)
       go (hears_nothing e) next =
-          after s fed S S (rw (e, counted-nothing room (table t S))) (λ k p. p) (λ k l q. silent s _ _ e (own s k l (sym q))) (next S o)
+          after s fed S S (rw (e, counted_nothing room (table t S))) (λ k p. p) (λ k l q. silent s _ _ e (own s k l (sym q))) (next S o)
       go (hears i p e) next = by (same_table h i) refl
         where
           by : (b : Bool) → same_table h i ≡ b → Grown room t h.last sections S (s ∷ fed)
           by false f =
               after s fed S S (rw (stays s (behind s (In.head refl)) S i p e f)) (λ k p. p)
-              (λ k l q. never (same_table h i) (ap (same_table h) (heard_same s _ _ _ _ e (own s k l (sym q))).0 ∙ same-own h k) f) (next S o)
+              (λ k l q. never (same_table h i) (ap (same_table h) (heard_same s _ _ _ _ e (own s k l (sym q))).0 ∙ same_own h k) f) (next S o)
           by true f =
               let x : Section = record { number = i.number; contents = p } in
               let k = one s (In.head refl) i p e f in

@@ -13,7 +13,7 @@ use Rattle.gathering_feed.specs.Feeding.{state_by, store_by}
 use Rattle.gathering_verdict.specs.declared.Verdict.{Verdict}
 use Rattle.gathering_feed.proofs.Steps.{feeds}
 use Rattle.gathering_tables.specs.Tables.{same_table, is_newer}
-use Rattle.gathering_tables.proofs.Tables.{same-not-newer}
+use Rattle.gathering_tables.proofs.Tables.{same_not_newer}
 use Rattle.gathering_account.specs.Account.{nothing, good_current, heard_as, heard, Section, Account, idle, table, begun, account_after}
 use Rattle.gathering_account.specs.Latest.{begins_after}
 use Rattle.gathering_account.specs.Gathers.{Box, feed}
@@ -33,25 +33,25 @@ read_as s = go (read_section s) refl
     go (Refused r) e = as_bad r e
 
 module _ (s : List ℕ) where
-  pub heard-bad : (r : Refusal) → read_section s ≡ Refused r → heard s ≡ nothing
+  pub heard_bad : (r : Refusal) → read_section s ≡ Refused r → heard s ≡ nothing
   unfolding heard heard_as
-  heard-bad r e = rw e
+  heard_bad r e = rw e
 
   module _ (h : Heading) (n : ℕ) (e : read_section s ≡ Good h n) where
-    pub heard-old : h.current ≡ false → heard s ≡ nothing
+    pub heard_old : h.current ≡ false → heard s ≡ nothing
     unfolding heard heard_as
-    heard-old c = rw (e, c)
+    heard_old c = rw (e, c)
 
-    pub heard-good : h.current ≡ true → heard s ≡ good_current h (payload_of s)
+    pub heard_good : h.current ≡ true → heard s ≡ good_current h (payload_of s)
     unfolding heard heard_as
-    heard-good c = rw (e, c)
+    heard_good c = rw (e, c)
 
 -- ---- counted
 
 module _ (room : ℕ → Bool) where
-  pub counted-nothing : (a : Account) → account_after room a nothing ≡ a
+  pub counted_nothing : (a : Account) → account_after room a nothing ≡ a
   unfolding account_after
-  counted-nothing a = refl
+  counted_nothing a = refl
 
   module _ (h : Heading) (p : List ℕ) where
     -- a section that begins its table
@@ -60,31 +60,31 @@ module _ (room : ℕ → Bool) where
       unfolding begun
       begun_first a = rw r
 
-      pub counted-first : (a : Account) → begins_after a h ≡ true
+      pub counted_first : (a : Account) → begins_after a h ≡ true
           → account_after room a (good_current h p) ≡ table h (record { number = h.number; contents = p } ∷ [])
       unfolding account_after begins_after
-      counted-first idle b = begun_first idle
-      counted-first (table t S) b = rw b (begun_first (table t S))
+      counted_first idle b = begun_first idle
+      counted_first (table t S) b = rw b (begun_first (table t S))
 
     -- one that finds no room for it
     module _ (r : room h.last ≡ false) where
-      begun-none : (a : Account) → begun room a h p ≡ a
+      begun_none : (a : Account) → begun room a h p ≡ a
       unfolding begun
-      begun-none a = rw r
+      begun_none a = rw r
 
       pub counted_none : (a : Account) → begins_after a h ≡ true → account_after room a (good_current h p) ≡ a
       unfolding account_after begins_after
-      counted_none idle b = begun-none idle
-      counted_none (table t S) b = rw b (begun-none (table t S))
+      counted_none idle b = begun_none idle
+      counted_none (table t S) b = rw b (begun_none (table t S))
 
     module _ (t : Heading) (S : List Section) where
       pub counted_same : same_table t h ≡ true → account_after room (table t S) (good_current h p) ≡ table t (S ++ record { number = h.number; contents = p } ∷ [])
       unfolding account_after
-      counted_same k = rw (same-not-newer t h k, k)
+      counted_same k = rw (same_not_newer t h k, k)
 
-      pub counted-other : is_newer t h ≡ false → same_table t h ≡ false → account_after room (table t S) (good_current h p) ≡ table t S
+      pub counted_other : is_newer t h ≡ false → same_table t h ≡ false → account_after room (table t S) (good_current h p) ≡ table t S
       unfolding account_after
-      counted-other n k = rw (n, k)
+      counted_other n k = rw (n, k)
 
 -- ---- fed
 

@@ -16,7 +16,7 @@ use Rattle.gathering_state.specs.State.{place, held_payload, with_section}
 use Rattle.gathering_state.specs.declared.Gathering.{Gathering}
 use Rattle.gathering_state.proofs.Lists.{greatest_at}
 use Rattle.gathering_account.specs.Account.{Section, Agree, Present}
-use Rattle.gathering_account.proofs.Taking.{held_new, held-other}
+use Rattle.gathering_account.proofs.Taking.{held_new, held_other}
 
 pub record Kept (g : Gathering) (store : List ℕ) (S : List Section) : Type 0 where
   -- the number of each is held,
@@ -65,9 +65,9 @@ module _ (g : Gathering) (store : List ℕ) (S : List Section) (kept : Kept g st
       }
 
   -- it is held already, with other contents
-  pub kept-clash : (get_or g.held s.number 0 ≡ 0 → ⊥) → (held_payload g store s.number ≡ s.contents → ⊥) → Agree (S ++ s ∷ []) → ⊥
+  pub kept_clash : (get_or g.held s.number 0 ≡ 0 → ⊥) → (held_payload g store s.number ≡ s.contents → ⊥) → Agree (S ++ s ∷ []) → ⊥
   unfolding Agree Present
-  kept-clash held other agree =
+  kept_clash held other agree =
       let x = kept.only s.number held in
       let e = agree x.0 s (Memᴰ.append_left (s ∷ []) x.1) (Memᴰ.append_right S (In.head refl)) x.2 in
       other (ap (held_payload g store) (sym x.2) ∙ kept.stored x.0 x.1 ∙ e)
@@ -92,28 +92,28 @@ module _ (g : Gathering) (store : List ℕ) (S : List Section) (kept : Kept g st
   unfolding with_section
   held_is = get_or-set_same g.held k (length p + 1) 0 listed
 
-  held-beside : (j : ℕ) → (j ≡ k → ⊥) → get_or g'.held j 0 ≡ get_or g.held j 0
+  held_beside : (j : ℕ) → (j ≡ k → ⊥) → get_or g'.held j 0 ≡ get_or g.held j 0
   unfolding with_section
-  held-beside j ne = get_or-set_other g.held k j (length p + 1) 0 ne
+  held_beside j ne = get_or-set_other g.held k j (length p + 1) 0 ne
 
-  held-still : (t : Section) → In t S → get_or g'.held t.number 0 ≡ 0 → ⊥
-  held-still t i e = kept.held t i (sym (held-beside t.number (other t i)) ∙ e)
+  held_still : (t : Section) → In t S → get_or g'.held t.number 0 ≡ 0 → ⊥
+  held_still t i e = kept.held t i (sym (held_beside t.number (other t i)) ∙ e)
 
-  stored-still : (t : Section) → In t S → held_payload g' store' t.number ≡ t.contents
-  stored-still t i =
+  stored_still : (t : Section) → In t S → held_payload g' store' t.number ≡ t.contents
+  stored_still t i =
       let m = greatest_at g.held t.number in
-      held-other g store k p within short t.number (other t i) (omega arith) ∙ kept.stored t i
+      held_other g store k p within short t.number (other t i) (omega arith) ∙ kept.stored t i
 
-  only-these : (j : ℕ) → (b : Bool) → eqb j k ≡ b → (get_or g'.held j 0 ≡ 0 → ⊥) → Present j (S ++ s ∷ [])
-  only-these j true e n = present_last S s j (sym (eqb-true j k e))
-  only-these j false e n = present_front j S (s ∷ []) (kept.only j (λ z. n (held-beside j (eqb-false j k e) ∙ z)))
+  only_these : (j : ℕ) → (b : Bool) → eqb j k ≡ b → (get_or g'.held j 0 ≡ 0 → ⊥) → Present j (S ++ s ∷ [])
+  only_these j true e n = present_last S s j (sym (eqb-true j k e))
+  only_these j false e n = present_front j S (s ∷ []) (kept.only j (λ z. n (held_beside j (eqb-false j k e) ∙ z)))
 
   pub kept_more : Kept g' store' (S ++ s ∷ [])
   kept_more =
       record {
-        held = all_more (λ (t : Section). get_or g'.held t.number 0 ≡ 0 → ⊥) S s held-still (λ e. let l = held_is in omega arith);
-        stored = all_more (λ (t : Section). held_payload g' store' t.number ≡ t.contents) S s stored-still (held_new g store k p within short listed);
-        only = λ j n. only-these j (eqb j k) refl n;
+        held = all_more (λ (t : Section). get_or g'.held t.number 0 ≡ 0 → ⊥) S s held_still (λ e. let l = held_is in omega arith);
+        stored = all_more (λ (t : Section). held_payload g' store' t.number ≡ t.contents) S s stored_still (held_new g store k p within short listed);
+        only = λ j n. only_these j (eqb j k) refl n;
       }
 
 -- nothing is kept where nothing is held

@@ -7,10 +7,10 @@ use mathlib.Core.List.{List, [], ◌∷◌, ◌++◌, append-nil, append_assoc, 
 use Rattle.ground_choices.proofs.Tests.{refuted}
 use Rattle.section_reader.specs.declared.Heading.{Heading}
 use Rattle.gathering_tables.specs.Tables.{same_table, is_newer}
-use Rattle.gathering_tables.proofs.Tables.{same-not-newer}
+use Rattle.gathering_tables.proofs.Tables.{same_not_newer}
 use Rattle.gathering_account.specs.Account.{good_current, heard, Section, Account, idle, table, account_after, account}
 use Rattle.gathering_account.specs.Latest.{begins_after, section_of_table, sections_of_table, Latest, none_begun, begun_with, NoneNewer}
-use Rattle.gathering_account.proofs.Hearing.{counted-nothing, counted-first, counted_none, counted_same, counted-other}
+use Rattle.gathering_account.proofs.Hearing.{counted_nothing, counted_first, counted_none, counted_same, counted_other}
 use Rattle.gathering_account.proofs.Keeping.{all_more}
 use Rattle.gathering_account.proofs.Standing.{never}
 use Rattle.gathering_account.proofs.Growing.{HeardIs, hears_nothing, hears, heard_is, silent, heard_same, account_append}
@@ -24,16 +24,16 @@ sections_append t (x ∷ xs) ys =
 
 -- what a section is to t's table
 module _ (t h : Heading) (p : List ℕ) where
-  pub own-section : same_table t h ≡ true → section_of_table t (good_current h p) ≡ record { number = h.number; contents = p } ∷ []
+  pub own_section : same_table t h ≡ true → section_of_table t (good_current h p) ≡ record { number = h.number; contents = p } ∷ []
   unfolding section_of_table
-  own-section e = rw e
+  own_section e = rw e
 
-  pub no-section : same_table t h ≡ false → section_of_table t (good_current h p) ≡ []
+  pub no_section : same_table t h ≡ false → section_of_table t (good_current h p) ≡ []
   unfolding section_of_table
-  no-section e = rw e
+  no_section e = rw e
 
-  pub newer-other : is_newer t h ≡ true → same_table t h ≡ false
-  newer-other n = sym (refuted (same_table t h) (λ e. never (is_newer t h) n (same-not-newer t h e)))
+  pub newer_other : is_newer t h ≡ true → same_table t h ≡ false
+  newer_other n = sym (refuted (same_table t h) (λ e. never (is_newer t h) n (same_not_newer t h e)))
 
 module _ (room : ℕ → Bool) (done : List (List ℕ)) (s : List ℕ) where
   -- it finds no room
@@ -44,22 +44,22 @@ module _ (room : ℕ → Bool) (done : List (List ℕ)) (s : List ℕ) where
   begins : (a : Account) → a ≡ account room idle done → (h : Heading) (p : List ℕ) → heard s ≡ good_current h p → room h.last ≡ true → begins_after a h ≡ true
       → Latest room (done ++ s ∷ []) (account_after room a (heard s))
   unfolding sections_of_table
-  begins a q h p e r b = rw (e, counted-first room h p r a b) (begun_with done [] s refl h p e r (rw q at b) (λ x i. absurd (Memᴰ.not-nil i)))
+  begins a q h p e r b = rw (e, counted_first room h p r a b) (begun_with done [] s refl h p e r (rw q at b) (λ x i. absurd (Memᴰ.not-nil i)))
 
   -- after none that found room
   module _ (q : idle ≡ account room idle done) (none : (r : List ℕ) → In r done → Unroomed r) where
-    still-none : Unroomed s → account_after room idle (heard s) ≡ idle → Latest room (done ++ s ∷ []) (account_after room idle (heard s))
-    still-none f e = rw e (none_begun (all_more Unroomed done s none f))
+    still_none : Unroomed s → account_after room idle (heard s) ≡ idle → Latest room (done ++ s ∷ []) (account_after room idle (heard s))
+    still_none f e = rw e (none_begun (all_more Unroomed done s none f))
 
     after_none : HeardIs s → Latest room (done ++ s ∷ []) (account_after room idle (heard s))
     unfolding begins_after
-    after_none (hears_nothing e) = still-none (λ h p f. silent s h p e f) (ap (account_after room idle) e ∙ counted-nothing room idle)
+    after_none (hears_nothing e) = still_none (λ h p f. silent s h p e f) (ap (account_after room idle) e ∙ counted_nothing room idle)
     after_none (hears h p e) = go (room h.last) refl
       where
         go : (b : Bool) → room h.last ≡ b → Latest room (done ++ s ∷ []) (account_after room idle (heard s))
         go true r = begins idle q h p e r refl
         go false r =
-            still-none (λ i p' f. ap (λ (j : Heading). room j.last) (heard_same s _ _ _ _ f e).0 ∙ r)
+            still_none (λ i p' f. ap (λ (j : Heading). room j.last) (heard_same s _ _ _ _ f e).0 ∙ r)
             (ap (account_after room idle) e ∙ counted_none room h p r idle refl)
 
   -- after one that began a table
@@ -91,7 +91,7 @@ module _ (room : ℕ → Bool) (done : List (List ℕ)) (s : List ℕ) where
       after_one : table t S ≡ account room idle done → HeardIs s → Latest room (done ++ s ∷ []) (account_after room (table t S) (heard s))
       unfolding begins_after section_of_table
       after_one q (hears_nothing f) =
-          unmoved (ap (section_of_table t) f) (λ h x g. silent s h x f g) (ap (account_after room (table t S)) f ∙ counted-nothing room (table t S))
+          unmoved (ap (section_of_table t) f) (λ h x g. silent s h x f g) (ap (account_after room (table t S)) f ∙ counted_nothing room (table t S))
       after_one q (hears h x f) = go (is_newer t h) refl (room h.last) refl (same_table t h) refl
         where
           heading : (i : Heading) (y : List ℕ) → heard s ≡ good_current i y → i ≡ h
@@ -101,17 +101,17 @@ module _ (room : ℕ → Bool) (done : List (List ℕ)) (s : List ℕ) where
               → Latest room (done ++ s ∷ []) (account_after room (table t S) (heard s))
           go true n true m same k = begins (table t S) q h x f m n
           go true n false m same k =
-              unmoved (ap (section_of_table t) f ∙ no-section t h x (newer-other t h x n))
+              unmoved (ap (section_of_table t) f ∙ no_section t h x (newer_other t h x n))
               (λ i y g z. ap (λ (j : Heading). room j.last) (heading i y g) ∙ m)
               (ap (account_after room (table t S)) f ∙ counted_none room h x m (table t S) n)
           go false n has m true k =
-              further _ (ap (section_of_table t) f ∙ own-section t h x k)
+              further _ (ap (section_of_table t) f ∙ own_section t h x k)
               (λ i y g z. never (is_newer t h) (ap (is_newer t) (sym (heading i y g)) ∙ z) n)
               (ap (account_after room (table t S)) f ∙ counted_same room h x t S k)
           go false n has m false k =
-              unmoved (ap (section_of_table t) f ∙ no-section t h x k)
+              unmoved (ap (section_of_table t) f ∙ no_section t h x k)
               (λ i y g z. never (is_newer t h) (ap (is_newer t) (sym (heading i y g)) ∙ z) n)
-              (ap (account_after room (table t S)) f ∙ counted-other room h x t S n k)
+              (ap (account_after room (table t S)) f ∙ counted_other room h x t S n k)
 
 module _ (room : ℕ → Bool) where
   step : (done : List (List ℕ)) (s : List ℕ) (a : Account) → a ≡ account room idle done → Latest room done a
@@ -142,6 +142,6 @@ module _ (room : ℕ → Bool) where
       go : (a : Account) → Latest room before a → begins_after a h ≡ true → a ≡ idle
       go a (none_begun f) b = refl
       go a (begun_with front rest r cut t q f roomy first behind) b =
-          let r-in : In r fed = rw (is, cut) (Memᴰ.append_left (s ∷ after) (Memᴰ.append_right front (Memᴰ.head refl))) in
-          let s-in : In s fed = rw is (Memᴰ.append_right before (Memᴰ.head refl)) in
-          never (is_newer t h) b (none r s r-in s-in t h q p f e)
+          let r_in : In r fed = rw (is, cut) (Memᴰ.append_left (s ∷ after) (Memᴰ.append_right front (Memᴰ.head refl))) in
+          let s_in : In s fed = rw is (Memᴰ.append_right before (Memᴰ.head refl)) in
+          never (is_newer t h) b (none r s r_in s_in t h q p f e)

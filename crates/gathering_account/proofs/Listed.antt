@@ -22,8 +22,8 @@ use Rattle.gathering_account.specs.Account.{good_current, heard, account}
 use Rattle.gathering_account.specs.Latest.{begins_after}
 use Rattle.gathering_account.specs.Arrival.{CutInto, Arrives, sections_listed}
 use Rattle.gathering_account.proofs.Standing.{never}
-use Rattle.gathering_account.proofs.Growing.{heard_same, own-not-newer}
-use Rattle.gathering_account.proofs.Cuts.{cut-count, cutter-cut, cut_arrives}
+use Rattle.gathering_account.proofs.Growing.{heard_same, own_not_newer}
+use Rattle.gathering_account.proofs.Cuts.{cut_count, cutter_cut, cut_arrives}
 use Rattle.gathering_account.proofs.Bytes.{part_bytes, printed_bytes}
 
 module _ (sections : ℕ → List ℕ) where
@@ -35,10 +35,10 @@ module _ (sections : ℕ → List ℕ) where
       let e : suc k + i ≡ k + suc i = omega arith in
       In.tail (rw e at (listed_in (suc k) n i (omega arith)))
 
-  listed-only : (k n : ℕ) (s : List ℕ) → In s (sections_listed sections k n) → (i : ℕ) × (i < k + n) × (s ≡ sections i)
+  listed_only : (k n : ℕ) (s : List ℕ) → In s (sections_listed sections k n) → (i : ℕ) × (i < k + n) × (s ≡ sections i)
   unfolding sections_listed
-  listed-only k zero s i = absurd (Memᴰ.not-nil i)
-  listed-only k (suc n) s i = go (Memᴰ.cases_cons i) (λ j. listed-only (suc k) n s j)
+  listed_only k zero s i = absurd (Memᴰ.not-nil i)
+  listed_only k (suc n) s i = go (Memᴰ.cases_cons i) (λ j. listed_only (suc k) n s j)
     where
       go : (s ≡ sections k) ⊎ In s (sections_listed sections (suc k) n) → (In s (sections_listed sections (suc k) n) → (i : ℕ) × (i < suc k + n) × (s ≡ sections i))
           → (i : ℕ) × (i < k + suc n) × (s ≡ sections i)
@@ -49,12 +49,12 @@ module _ (sections : ℕ → List ℕ) where
   own_behind : (h : Heading) → CutInto h sections → (k : ℕ) → k ≤ h.last → (s : List ℕ) → s ≡ sections k
       → (i : Heading) (p : List ℕ) → heard s ≡ good_current i p → is_newer h i ≡ false
   unfolding CutInto
-  own_behind h cut k l s q i p e = ap (is_newer h) (heard_same s _ _ _ _ e (ap heard q ∙ cut k l)).0 ∙ own-not-newer h k
+  own_behind h cut k l s q i p e = ap (is_newer h) (heard_same s _ _ _ _ e (ap heard q ∙ cut k l)).0 ∙ own_not_newer h k
 
-  pub listed-arrives : (room : ℕ → Bool) (h : Heading) → CutInto h sections → room h.last ≡ true
+  pub listed_arrives : (room : ℕ → Bool) (h : Heading) → CutInto h sections → room h.last ≡ true
       → Arrives room h sections (sections_listed sections 0 (h.last + 1))
   unfolding sections_listed begins_after account
-  listed-arrives room h cut r =
+  listed_arrives room h cut r =
       record {
         roomy = r;
         before = [];
@@ -64,8 +64,8 @@ module _ (sections : ℕ → List ℕ) where
         fed_is = rw (add-one h.last);
         begins = refl;
         all = λ k l. rw (zero-add k, add-one h.last) at (listed_in 0 (h.last + 1) k (omega arith));
-        no_stranger = λ s i t p e f. let o = listed-only 1 h.last s i in (o.0, omega arith, o.2);
-        none_ahead = λ s i t p e f. let o = listed-only 1 h.last s i in never (is_newer h t) f (own_behind h cut o.0 (omega arith) s o.2 t p e);
+        no_stranger = λ s i t p e f. let o = listed_only 1 h.last s i in (o.0, omega arith, o.2);
+        none_ahead = λ s i t p e f. let o = listed_only 1 h.last s i in never (is_newer h t) f (own_behind h cut o.0 (omega arith) s o.2 t p e);
       }
 
 -- what our cutter cuts, fed section by section to a fresh state with room in the store, comes back
@@ -98,6 +98,6 @@ module _ (body : List ℕ) (kind extension version : ℕ) (bytes : AreBytes body
   unfolding ByteStrings
   comes_back store room out l =
       cut_arrives body kind extension version allowed some most store (sections_listed (section_of body kind extension version) 0 (section_count (length body)))
-      (λ s i. let o = listed-only (section_of body kind extension version) 0 (section_count (length body)) s i in rw o.2 (section_bytes o.0 (omega arith)))
-      (rw (cut-count body kind extension version allowed some most) at (listed-arrives (section_of body kind extension version) (has_room (length store)) h
-      (cutter-cut body kind extension version allowed some most) room)) out l
+      (λ s i. let o = listed_only (section_of body kind extension version) 0 (section_count (length body)) s i in rw o.2 (section_bytes o.0 (omega arith)))
+      (rw (cut_count body kind extension version allowed some most) at (listed_arrives (section_of body kind extension version) (has_room (length store)) h
+      (cutter_cut body kind extension version allowed some most) room)) out l

@@ -6,7 +6,7 @@ use native.Mathlib.Omega.{arith}
 use lib.ListN.{length, take, drop, length-take, length-drop, take-append-drop}
 use lib.Seq.{drop-drop, take-append-le, drop-append-le, take-append_seam, drop_at}
 use Rattle.ground_placing.specs.Placed.{placed}
-use Rattle.ground_placing.proofs.Placing.{placed-back}
+use Rattle.ground_placing.proofs.Placing.{placed_back}
 use Rattle.gathering_state.specs.Lists.{part}
 
 front_part : (a x : List ℕ) (i n : ℕ) → i + n ≤ length a → part (a ++ x) i n ≡ part a i n
@@ -23,9 +23,9 @@ module _ (d : List ℕ) (at : ℕ) (s : List ℕ) (h : at + length s ≤ length 
       let l : length (take at d) ≡ at = simp length-take (omega arith) in
       rw (append_assoc, drop_at (take at d) (s ++ drop (at + length s) d) at l) (take-append_seam s (drop (at + length s) d))
 
-  pub part-before : (i n : ℕ) → i + n ≤ at → part (placed d at s) i n ≡ part d i n
+  pub part_before : (i n : ℕ) → i + n ≤ at → part (placed d at s) i n ≡ part d i n
   unfolding placed
-  part-before i n f =
+  part_before i n f =
       let l : i + n ≤ length (take at d) = simp length-take (omega arith) in
       rw append_assoc
       (front_part (take at d) (s ++ drop (at + length s) d) i n l ∙ sym (front_part (take at d) (drop at d) i n l) ∙ rw (take-append-drop at d))
@@ -35,4 +35,4 @@ module _ (d : List ℕ) (at : ℕ) (s : List ℕ) (h : at + length s ≤ length 
   part_after_lem i n f =
       let k = i - (at + length s) in
       let m : i ≡ at + length s + (i - (at + length s)) = omega arith in
-      ap (take n) (rw m (sym (drop-drop k (at + length s) (placed d at s)) ∙ ap (drop k) (placed-back d at s h) ∙ drop-drop k (at + length s) d))
+      ap (take n) (rw m (sym (drop-drop k (at + length s) (placed d at s)) ∙ ap (drop k) (placed_back d at s h) ∙ drop-drop k (at + length s) d))

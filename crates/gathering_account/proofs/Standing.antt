@@ -12,10 +12,10 @@ use Rattle.section_reader.specs.declared.Heading.{Heading}
 use Rattle.gathering_state.specs.State.{fresh_state, possible_of, nothing_begun, has_room, opened, held_payload, spoiled_state}
 use Rattle.gathering_state.specs.declared.Gathering.{Gathering}
 use Rattle.gathering_state.proofs.Lists.{zeros_at}
-use Rattle.gathering_state.proofs.State.{Begun, begun_kind, begun-possible, fresh_possible, spoiled_begun}
+use Rattle.gathering_state.proofs.State.{Begun, begun_kind, begun_possible, fresh_possible, spoiled_begun}
 use Rattle.gathering_tables.specs.Tables.{same_table, is_newer}
 use Rattle.gathering_verdict.specs.Deciding.{agrees, begins}
-use Rattle.gathering_verdict.proofs.Verdicts.{SameHeading, agrees-is, begins_none, begins_newer}
+use Rattle.gathering_verdict.proofs.Verdicts.{SameHeading, agrees_is, begins_none, begins_newer}
 use Rattle.gathering_account.specs.Account.{Section, Account, idle, table, Agree}
 use Rattle.gathering_account.specs.Answering.{undisputed}
 use Rattle.gathering_account.specs.Gathers.{Box}
@@ -85,20 +85,20 @@ spoiled_marked g e = omega arith
 
 -- a state of t's table agrees with the headings of this table, which has found room, and begins with those of a newer one
 module _ {g : Gathering} {bytes : ℕ} {t : Heading} (x : Fixed g bytes t) (h : Heading) where
-  pub fixed-agrees : agrees g h ≡ same_table t h
+  pub fixed_agrees : agrees g h ≡ same_table t h
   unfolding agrees same_table
-  fixed-agrees = let s = x.same in rw (s.kind, s.extension, s.version, s.last)
+  fixed_agrees = let s = x.same in rw (s.kind, s.extension, s.version, s.last)
 
-  pub fixed-begins : begins g h ≡ is_newer t h
+  pub fixed_begins : begins g h ≡ is_newer t h
   unfolding is_newer
-  fixed-begins = let s = x.same in begins_newer g h (begun_kind g x.begun) ∙ rw (s.kind, s.extension, s.version)
+  fixed_begins = let s = x.same in begins_newer g h (begun_kind g x.begun) ∙ rw (s.kind, s.extension, s.version)
 
-  pub fixed-heading : agrees g h ≡ true → SameHeading g h
-  fixed-heading = agrees-is g h
+  pub fixed_heading_lem : agrees g h ≡ true → SameHeading g h
+  fixed_heading_lem = agrees_is g h
 
   -- so 10 can't be
-  pub fixed-not-short : {A : Type 0} (store : List ℕ) → length store ≡ bytes → agrees g h ≡ true → has_room (length store) h.last ≡ false → A
-  fixed-not-short store l a r = never (has_room bytes t.last) x.roomy (rw (l, ← (fixed-heading a).last, x.same.last) at r)
+  pub fixed_not_short : {A : Type 0} (store : List ℕ) → length store ≡ bytes → agrees g h ≡ true → has_room (length store) h.last ≡ false → A
+  fixed_not_short store l a r = never (has_room bytes t.last) x.roomy (rw (l, ← (fixed_heading_lem a).last, x.same.last) at r)
 
 pub formed_kind : (h : Heading) → WellFormed h → is_kind h.kind ≡ true
 unfolding is_kind
@@ -109,8 +109,8 @@ formed_kind h w = rw (le-leb 0xFB h.kind w.kind_low, le-leb h.kind 0xFE w.kind_h
 -- "A state is possible if it is exactly the fresh one, or" begun
 pub stands_possible : {bytes : ℕ} {box : Box} {a : Account} → Stands bytes box a → possible_of box.state ≡ true
 stands_possible (fresh_stands z l) = rw z fresh_possible
-stands_possible {box = box} (calm_stands x l z k) = begun-possible box.state x.begun
-stands_possible {box = box} (spoiled_stands x l z k o) = begun-possible box.state x.begun
+stands_possible {box = box} (calm_stands x l z k) = begun_possible box.state x.begun
+stands_possible {box = box} (spoiled_stands x l z k o) = begun_possible box.state x.begun
 
 pub stands_store : {bytes : ℕ} {box : Box} {a : Account} → Stands bytes box a → length box.store ≡ bytes
 stands_store (fresh_stands z l) = l

@@ -71,14 +71,14 @@ unfolding agreeing
 agree_none = refl
 
 module _ (S : List Section) where
-  pub undisputed-all : agreeing S ≡ true → undisputed S ≡ S
+  pub undisputed_all : agreeing S ≡ true → undisputed S ≡ S
   unfolding undisputed
-  undisputed-all a = calm_all [] S a
+  undisputed_all a = calm_all [] S a
 
-  pub undisputed-more : (s : Section) → agreeing S ≡ false → undisputed (S ++ s ∷ []) ≡ undisputed S
+  pub undisputed_more : (s : Section) → agreeing S ≡ false → undisputed (S ++ s ∷ []) ≡ undisputed S
   unfolding undisputed
-  undisputed-more s a = calm_stops [] S (s ∷ []) agree_none a
+  undisputed_more s a = calm_stops [] S (s ∷ []) agree_none a
 
-  pub undisputed-clash : (s : Section) → agreeing S ≡ true → agreeing (S ++ s ∷ []) ≡ false → undisputed (S ++ s ∷ []) ≡ S
+  pub undisputed_clash : (s : Section) → agreeing S ≡ true → agreeing (S ++ s ∷ []) ≡ false → undisputed (S ++ s ∷ []) ≡ S
   unfolding undisputed
-  undisputed-clash s b a = calm_last [] S s b a
+  undisputed_clash s b a = calm_last [] S s b a

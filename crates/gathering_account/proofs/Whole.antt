@@ -16,7 +16,7 @@ use Rattle.gathering_account.specs.Account.{heard, Section, idle, table, account
 use Rattle.gathering_account.specs.Gathers.{fresh_box, ByteStrings, box_after, HandsOut}
 use Rattle.gathering_account.specs.Latest.{begins_after}
 use Rattle.gathering_account.specs.Arrival.{heading_at, CutInto, Arrives, ArrivesFirst}
-use Rattle.gathering_account.proofs.Hearing.{counted-first}
+use Rattle.gathering_account.proofs.Hearing.{counted_first}
 use Rattle.gathering_account.proofs.Standing.{never}
 use Rattle.gathering_account.proofs.Keeping.{present_last}
 use Rattle.gathering_account.proofs.Joining.{contents_are}
@@ -42,15 +42,15 @@ module _ (room : ℕ → Bool) (h : Heading) (sections : ℕ → List ℕ) (cut 
   begins =
       let a = account room idle x.before in
       rw (cut x.first x.of_table)
-      (counted-first room (heading_at h x.first) (payload_of (sections x.first)) x.roomy a (begins_first h x.first a ∙ x.begins))
+      (counted_first room (heading_at h x.first) (payload_of (sections x.first)) x.roomy a (begins_first h x.first a ∙ x.begins))
 
   grown : Grown room t h.last sections (begun ∷ []) x.after
   unfolding Ours
   grown = grows room h sections cut x.first x.after x.no_stranger x.none_ahead (begun ∷ []) (λ s i. rw (Memᴰ.eq_of_singleton i))
 
-  account-is : account room idle fed ≡ table t grown.now
+  account_is : account room idle fed ≡ table t grown.now
   unfolding account
-  account-is =
+  account_is =
       ap (account room idle) x.fed_is
       ∙ account_append room idle x.before (sections x.first ∷ x.after)
       ∙ rw begins grown.is
@@ -66,12 +66,12 @@ module _ (room : ℕ → Bool) (h : Heading) (sections : ℕ → List ℕ) (cut 
 
   complete : Complete (account room idle fed)
   unfolding Complete Covered Agree Ours heading_at
-  complete = rw account-is (present, λ r s i j e. grown.ours r i ∙ ap (λ (k : ℕ). payload_of (sections k)) e ∙ sym (grown.ours s j))
+  complete = rw account_is (present, λ r s i j e. grown.ours r i ∙ ap (λ (k : ℕ). payload_of (sections k)) e ∙ sym (grown.ours s j))
 
   body_is : body_of (account room idle fed) ≡ parts_joined sections (h.last + 1)
   unfolding body_of heading_at Ours
   body_is =
-      rw account-is
+      rw account_is
       (order_joined grown.now sections (h.last + 1)
       (λ k l. contents_are k (payload_of (sections k)) grown.now (λ s i e. grown.ours s i ∙ ap (λ (j : ℕ). payload_of (sections j)) e) (present k (omega arith))))
 
@@ -90,9 +90,9 @@ module _ (room : ℕ → Bool) (h : Heading) (sections : ℕ → List ℕ) (cut 
       go (inl i) = never (room h.last) x.roomy (x.none_first (sections k) i _ _ (cut k l))
       go (inr i) = i
 
-  pub first-arrives : Arrives room h sections fed
+  pub first_arrives : Arrives room h sections fed
   unfolding begins_after
-  first-arrives =
+  first_arrives =
       record {
         roomy = x.roomy;
         before = x.before;

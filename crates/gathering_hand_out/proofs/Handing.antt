@@ -16,7 +16,7 @@ use Rattle.gathering_state.specs.State.{numbers_of, state_of, possible_of, nothi
 use Rattle.gathering_state.specs.declared.Gathering.{Gathering}
 use Rattle.gathering_state.specs.declared.Numbers.{Numbers}
 use Rattle.gathering_state.proofs.Lists.{greatest_at, greatest_take, total_most}
-use Rattle.gathering_state.proofs.State.{parts_make, place_within, possible-short}
+use Rattle.gathering_state.proofs.State.{parts_make, place_within, possible_short}
 use Rattle.ground_choices.proofs.Tests.{past}
 use Rattle.gathering_hand_out.specs.Handing.{joined, body_held, missing_of, complete_of, handed_if_room, handed_by, handed_of, out_by, out_after, InStore}
 use Rattle.gathering_hand_out.specs.declared.Completeness.{Completeness}
@@ -28,9 +28,9 @@ use Rattle.gathering_hand_out.proofs.Joining.{joined_length, joined_most}
 -- ---- is all of a table there?
 
 module _ (ls : List ℕ) (k : ℕ) (e : k ≡ smallest_missing ls) where
-  pub missing-some : k < length ls → NotComplete (Missing k) ≡ missing_of ls
+  pub missing_some : k < length ls → NotComplete (Missing k) ≡ missing_of ls
   unfolding missing_of
-  missing-some h = simp (← e, lt-ltb k (length ls) h)
+  missing_some h = simp (← e, lt-ltb k (length ls) h)
 
   pub missing_none : length ls ≤ k → Complete ≡ missing_of ls
   unfolding missing_of
@@ -50,43 +50,43 @@ pub record Whole (g : Gathering) (bytes : ℕ) : Type 0 where
   pub full : length (lengths g) ≤ smallest_missing (lengths g)
 
 module _ (g : Gathering) (bytes : ℕ) where
-  pub complete-impossible : possible_of g ≡ false → complete_of g bytes ≡ NotComplete ImpossibleState
+  pub complete_impossible : possible_of g ≡ false → complete_of g bytes ≡ NotComplete ImpossibleState
   unfolding complete_of
-  complete-impossible p = simp p
+  complete_impossible p = simp p
 
   module _ (p : possible_of g ≡ true) where
-    pub complete-fresh : nothing_begun g ≡ true → complete_of g bytes ≡ NotComplete (Missing 0)
+    pub complete_fresh : nothing_begun g ≡ true → complete_of g bytes ≡ NotComplete (Missing 0)
     unfolding complete_of
-    complete-fresh b = simp (p, b)
+    complete_fresh b = simp (p, b)
 
     module _ (b : nothing_begun g ≡ false) where
-      pub complete-short : has_room bytes g.last ≡ false → complete_of g bytes ≡ NotComplete StoreTooShort
+      pub complete_short : has_room bytes g.last ≡ false → complete_of g bytes ≡ NotComplete StoreTooShort
       unfolding complete_of
-      complete-short r = simp (p, b, r)
+      complete_short r = simp (p, b, r)
 
       module _ (r : has_room bytes g.last ≡ true) where
-        pub complete-spoiled : (g.spoiled ≡ 0 → ⊥) → complete_of g bytes ≡ NotComplete Contradiction
+        pub complete_spoiled : (g.spoiled ≡ 0 → ⊥) → complete_of g bytes ≡ NotComplete Contradiction
         unfolding complete_of
-        complete-spoiled s = simp (p, b, r, ne_eqb _ _ s)
+        complete_spoiled s = simp (p, b, r, ne_eqb _ _ s)
 
         pub complete-calm : g.spoiled ≡ 0 → complete_of g bytes ≡ missing_of (lengths g)
         unfolding complete_of
         complete-calm s = simp (p, b, r, eq-eqb _ _ s)
 
-  pub whole-complete : Whole g bytes → complete_of g bytes ≡ Complete
-  whole-complete w = complete-calm w.possible w.begun w.roomy w.calm ∙ sym (missing_none (lengths g) _ refl w.full)
+  pub whole_complete : Whole g bytes → complete_of g bytes ≡ Complete
+  whole_complete w = complete-calm w.possible w.begun w.roomy w.calm ∙ sym (missing_none (lengths g) _ refl w.full)
 
-  refused-not-complete : (r : Refusal) → NotComplete r ≡ Complete → ⊥
-  refused-not-complete r e = let z : ◌≡◌ {A = ℕ} 0 1 = cc in omega arith
+  refused_not_complete : (r : Refusal) → NotComplete r ≡ Complete → ⊥
+  refused_not_complete r e = let z : ◌≡◌ {A = ℕ} 0 1 = cc in omega arith
 
-  pub complete-whole : complete_of g bytes ≡ Complete → Whole g bytes
+  pub complete_whole : complete_of g bytes ≡ Complete → Whole g bytes
   unfolding complete_of missing_of
-  complete-whole e =
-      let a = past (not (possible_of g)) _ _ _ (refused-not-complete _) e in
-      let b = past (nothing_begun g) _ _ _ (refused-not-complete _) a.1 in
-      let c = past (not (has_room bytes g.last)) _ _ _ (refused-not-complete _) b.1 in
-      let d = past (not (eqb g.spoiled 0)) _ _ _ (refused-not-complete _) c.1 in
-      let f = past (ltb (smallest_missing (lengths g)) (length (lengths g))) _ _ _ (refused-not-complete _) d.1 in
+  complete_whole e =
+      let a = past (not (possible_of g)) _ _ _ (refused_not_complete _) e in
+      let b = past (nothing_begun g) _ _ _ (refused_not_complete _) a.1 in
+      let c = past (not (has_room bytes g.last)) _ _ _ (refused_not_complete _) b.1 in
+      let d = past (not (eqb g.spoiled 0)) _ _ _ (refused_not_complete _) c.1 in
+      let f = past (ltb (smallest_missing (lengths g)) (length (lengths g))) _ _ _ (refused_not_complete _) d.1 in
       record {
         possible = not-false _ a.0;
         begun = b.0;
@@ -98,20 +98,20 @@ module _ (g : Gathering) (bytes : ℕ) where
 -- ---- the payloads of a whole table lie in the store
 
 module _ (held store : List ℕ) (i : InStore held store) where
-  pub in-store-at : (k : ℕ) → k < length held → place k + (get_or held k 0 - 1) ≤ length store
-  in-store-at k h = let w = i.within k h in let a = greatest_at held k in let s = i.short in omega arith
+  pub in_store_at : (k : ℕ) → k < length held → place k + (get_or held k 0 - 1) ≤ length store
+  in_store_at k h = let w = i.within k h in let a = greatest_at held k in let s = i.short in omega arith
 
-  pub in-store-length : length (joined place 0 held store) ≡ total held
-  in-store-length = joined_length place store 0 held (λ k h. rw (zero-add k) (in-store-at k h))
+  pub in_store_length : length (joined place 0 held store) ≡ total held
+  in_store_length = joined_length place store 0 held (λ k h. rw (zero-add k) (in_store_at k h))
 
 module _ (g : Gathering) (store : List ℕ) (l : length g.held ≤ 256) (w : Whole g (length store)) where
-  pub whole-in-store : InStore (lengths g) store
+  pub whole_in_store : InStore (lengths g) store
   unfolding lengths
-  whole-in-store =
+  whole_in_store =
       let m = length-take (g.last + 1) g.held in
       record {
         few = omega arith;
-        short = let a = greatest_take (g.last + 1) g.held in let b = possible-short g w.possible in omega arith;
+        short = let a = greatest_take (g.last + 1) g.held in let b = possible_short g w.possible in omega arith;
         within = λ k h. place_within (length store) g.last k w.roomy (omega arith);
       }
 
@@ -121,7 +121,7 @@ unfolding body_held lengths
 body_most_lem g store l p =
     let few = length-take (g.last + 1) g.held in
     let taken = greatest_take (g.last + 1) g.held in
-    let short = possible-short g p in
+    let short = possible_short g p in
     let long = joined_most place store 0 (lengths g) in
     let most = total_most (lengths g) (omega arith) in
     omega arith
@@ -129,21 +129,21 @@ body_most_lem g store l p =
 -- ---- the answer and the output
 
 module _ (n room : ℕ) where
-  pub fitting-small : room < n → Refused OutputTooSmall ≡ handed_if_room n room
+  pub fitting_small : room < n → Refused OutputTooSmall ≡ handed_if_room n room
   unfolding handed_if_room
-  fitting-small r = simp (lt-ltb room n r)
+  fitting_small r = simp (lt-ltb room n r)
 
-  pub fitting-body : n ≤ room → Body n ≡ handed_if_room n room
+  pub fitting_body : n ≤ room → Body n ≡ handed_if_room n room
   unfolding handed_if_room
-  fitting-body r = simp (le-ltb room n r)
+  fitting_body r = simp (le-ltb room n r)
 
-  refused-no-body : (r : Refusal) (m : ℕ) → Refused r ≡ Body m → ⊥
-  refused-no-body r m e = let z : ◌≡◌ {A = ℕ} 0 1 = cc in omega arith
+  refused_no_body : (r : Refusal) (m : ℕ) → Refused r ≡ Body m → ⊥
+  refused_no_body r m e = let z : ◌≡◌ {A = ℕ} 0 1 = cc in omega arith
 
-  pub fitting-is : (m : ℕ) → handed_if_room n room ≡ Body m → (m ≡ n) × (m ≤ room)
+  pub fitting_is : (m : ℕ) → handed_if_room n room ≡ Body m → (m ≡ n) × (m ≤ room)
   unfolding handed_if_room
-  fitting-is m e =
-      let b = past (ltb room n) _ _ _ (refused-no-body _ m) e in
+  fitting_is m e =
+      let b = past (ltb room n) _ _ _ (refused_no_body _ m) e in
       let c : m ≡ n = (let f = b.1 in cc) in
       let d = ltb-false room n b.0 in
       (c, omega arith)
@@ -153,40 +153,40 @@ module _ (held store out : List ℕ) (i : InStore held store) (n : ℕ) (e : n �
   abbrev body : List ℕ
   body = joined place 0 held store
 
-  body-long : length body ≡ n
-  body-long = in-store-length held store i ∙ sym e
+  body_long : length body ≡ n
+  body_long = in_store_length held store i ∙ sym e
 
   pub held_small : length out < n → (Refused OutputTooSmall ≡ handed_if_room (length body) (length out)) × (out ≡ out_by body out (Refused OutputTooSmall))
   unfolding out_by
-  held_small r = (rw body-long (fitting-small n (length out) r), refl)
+  held_small r = (rw body_long (fitting_small n (length out) r), refl)
 
-  pub held-body : n ≤ length out → (out' : List ℕ) → out' ≡ placed out 0 body
+  pub held_body : n ≤ length out → (out' : List ℕ) → out' ≡ placed out 0 body
       → (Body n ≡ handed_if_room (length body) (length out)) × (out' ≡ out_by body out (Body n))
   unfolding out_by
-  held-body r out' q = (rw body-long (fitting-body n (length out) r), q)
+  held_body r out' q = (rw body_long (fitting_body n (length out) r), q)
 
 module _ (g : Gathering) (store out : List ℕ) where
-  pub hands-refused : (r : Refusal) → complete_of g (length store) ≡ NotComplete r → (Refused r ≡ handed_of g store out) × (out ≡ out_after g store out)
+  pub hands_refused : (r : Refusal) → complete_of g (length store) ≡ NotComplete r → (Refused r ≡ handed_of g store out) × (out ≡ out_after g store out)
   unfolding handed_of handed_by out_after out_by
-  hands-refused r e = (rw e, rw e)
+  hands_refused r e = (rw e, rw e)
 
-  pub hands-complete : complete_of g (length store) ≡ Complete → (r : Handed) → r ≡ handed_if_room (length (body_held g store)) (length out)
+  pub hands_complete : complete_of g (length store) ≡ Complete → (r : Handed) → r ≡ handed_if_room (length (body_held g store)) (length out)
       → (out' : List ℕ) → out' ≡ out_by (body_held g store) out r → (r ≡ handed_of g store out) × (out' ≡ out_after g store out)
   unfolding handed_of handed_by out_after
-  hands-complete e r f out' q = (rw e f, rw e (q ∙ ap (out_by (body_held g store) out) f))
+  hands_complete e r f out' q = (rw e f, rw e (q ∙ ap (out_by (body_held g store) out) f))
 
   -- a whole table whose body has room is handed out
-  pub whole-handed : Whole g (length store) → length (body_held g store) ≤ length out
+  pub whole_handed : Whole g (length store) → length (body_held g store) ≤ length out
       → (Body (length (body_held g store)) ≡ handed_of g store out) × (placed out 0 (body_held g store) ≡ out_after g store out)
   unfolding out_by
-  whole-handed w r = hands-complete (whole-complete g (length store) w) _ (fitting-body _ _ r) _ refl
+  whole_handed w r = hands_complete (whole_complete g (length store) w) _ (fitting_body _ _ r) _ refl
 
   -- whatever is handed out is that
-  pub handed-whole : (n : ℕ) → handed_of g store out ≡ Body n → Whole g (length store) × (n ≡ length (body_held g store)) × (n ≤ length out)
+  pub handed_whole : (n : ℕ) → handed_of g store out ≡ Body n → Whole g (length store) × (n ≡ length (body_held g store)) × (n ≤ length out)
   unfolding handed_of handed_by
-  handed-whole n e = go (complete_of g (length store)) refl e
+  handed_whole n e = go (complete_of g (length store)) refl e
     where
       go : (c : Completeness) → complete_of g (length store) ≡ c → handed_by c (length (body_held g store)) (length out) ≡ Body n
           → Whole g (length store) × (n ≡ length (body_held g store)) × (n ≤ length out)
       go (NotComplete r) f e = let z : ◌≡◌ {A = ℕ} 0 1 = cc in absurd (omega arith)
-      go Complete f e = let a = fitting-is (length (body_held g store)) (length out) n e in (complete-whole g (length store) f, a.0, a.1)
+      go Complete f e = let a = fitting_is (length (body_held g store)) (length out) n e in (complete_whole g (length store) f, a.0, a.1)

@@ -8,9 +8,9 @@ use native.Mathlib.Omega.{arith}
 use lib.ListN.{length, get_or, take, drop, length-take, length-append, drop_of_length-le}
 use lib.Seq.{drop-cons}
 use Rattle.ground_placing.specs.Placed.{placed}
-use Rattle.ground_placing.proofs.Placing.{placed-length, placed-next}
+use Rattle.ground_placing.proofs.Placing.{placed_length, placed_next}
 use Rattle.gathering_state.specs.Lists.{total, part}
-use Rattle.gathering_state.proofs.Lists.{total-step, length_part, part_between}
+use Rattle.gathering_state.proofs.Lists.{total_step, length_part, part_between}
 use Rattle.gathering_hand_out.specs.Handing.{joined}
 
 module _ (at : ℕ → ℕ) (store : List ℕ) where
@@ -46,18 +46,18 @@ module _ (at : ℕ → ℕ) (store : List ℕ) where
     pub within : k ≤ length held
     pub left : total held ≡ o + total (drop k held)
     pub sent : List ℕ
-    pub sent-long : length sent ≡ o
+    pub sent_long : length sent ≡ o
     pub sent_is : sent ++ joined at k (drop k held) store ≡ joined at 0 held store
     pub laid : out ≡ placed out₀ 0 sent
     pub long : length out ≡ length out₀
 
-  pub join-start : (held out : List ℕ) → Joining held out 0 0 out
+  pub join_start : (held out : List ℕ) → Joining held out 0 0 out
   unfolding placed
-  join-start held out = record { within = omega arith; left = omega arith; sent = []; sent-long = refl; sent_is = refl; laid = refl; long = refl }
+  join_start held out = record { within = omega arith; left = omega arith; sent = []; sent_long = refl; sent_is = refl; laid = refl; long = refl }
 
   module _ (held out₀ : List ℕ) (k o : ℕ) (out : List ℕ) (j : Joining held out₀ k o out) where
-    pub join-room : k < length held → total held ≤ length out₀ → o + (get_or held k 0 - 1) ≤ length out
-    join-room h t = let a = total-step held k h in let b = j.left in let d = j.long in omega arith
+    pub join_room : k < length held → total held ≤ length out₀ → o + (get_or held k 0 - 1) ≤ length out
+    join_room h t = let a = total_step held k h in let b = j.left in let d = j.long in omega arith
 
     pub join_step : k < length held → total held ≤ length out₀
         → (n : ℕ) → n ≡ get_or held k 0 - 1 → (a : ℕ) → a ≡ at k → a + n ≤ length store
@@ -65,31 +65,31 @@ module _ (at : ℕ → ℕ) (store : List ℕ) where
     join_step h t n e a p f out' q =
         record {
           within = omega arith;
-          left = let s = total-step held k h in let l = j.left in omega arith;
+          left = let s = total_step held k h in let l = j.left in omega arith;
           sent = j.sent ++ payload;
-          sent-long = length-append j.sent payload ∙ rw (j.sent-long, payload-long);
+          sent_long = length-append j.sent payload ∙ rw (j.sent_long, payload_long);
           sent_is = rw (append_assoc, e, ← joined_step k held k h) j.sent_is;
-          laid = out-is ∙ rw j.laid (placed-next out₀ 0 j.sent sent-room payload o sent-end);
-          long = ap length out-is ∙ placed-length out o payload payload-room ∙ j.long;
+          laid = out_is ∙ rw j.laid (placed_next out₀ 0 j.sent sent_room payload o sent_end);
+          long = ap length out_is ∙ placed_length out o payload payload_room ∙ j.long;
         }
       where
         payload : List ℕ
         payload = part store (at k) n
 
-        payload-long : length payload ≡ n
-        payload-long = length_part store (at k) n (rw p at f)
+        payload_long : length payload ≡ n
+        payload_long = length_part store (at k) n (rw p at f)
 
-        payload-room : o + length payload ≤ length out
-        payload-room = rw (payload-long, e) (join-room h t)
+        payload_room : o + length payload ≤ length out
+        payload_room = rw (payload_long, e) (join_room h t)
 
-        sent-room : 0 + length j.sent ≤ length out₀
-        sent-room = let l = j.left in let m = j.sent-long in omega arith
+        sent_room : 0 + length j.sent ≤ length out₀
+        sent_room = let l = j.left in let m = j.sent_long in omega arith
 
-        sent-end : o ≡ 0 + length j.sent
-        sent-end = let m = j.sent-long in omega arith
+        sent_end : o ≡ 0 + length j.sent
+        sent_end = let m = j.sent_long in omega arith
 
-        out-is : out' ≡ placed out o payload
-        out-is = q ∙ rw (part_between store a n, p)
+        out_is : out' ≡ placed out o payload
+        out_is = q ∙ rw (part_between store a n, p)
 
-    pub join-end : length held ≤ k → out ≡ placed out₀ 0 (joined at 0 held store)
-    join-end h = j.laid ∙ ap (placed out₀ 0) (sym (append-nil j.sent) ∙ rw (joined_end k held k h) at j.sent_is)
+    pub join_end : length held ≤ k → out ≡ placed out₀ 0 (joined at 0 held store)
+    join_end h = j.laid ∙ ap (placed out₀ 0) (sym (append-nil j.sent) ∙ rw (joined_end k held k h) at j.sent_is)

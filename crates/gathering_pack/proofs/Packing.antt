@@ -7,20 +7,20 @@ use native.Mathlib.Omega.{arith}
 use lib.ListN.{length, get_or, take, drop}
 use Rattle.ground_refusal.specs.declared.Refusal.{Refusal}
 use Rattle.ground_placing.specs.Placed.{placed}
-use Rattle.ground_placing.proofs.Placing.{placed-back, placed-length}
+use Rattle.ground_placing.proofs.Placing.{placed_back, placed_length}
 use Rattle.ground_moving.proofs.Moving.{alike_later}
 use Rattle.gathering_state.specs.Lists.{total}
 use Rattle.gathering_state.specs.State.{fresh_state, possible_of, place, lengths}
 use Rattle.gathering_state.specs.declared.Gathering.{Gathering}
-use Rattle.gathering_state.proofs.Lists.{greatest_at, total_most, total-end}
-use Rattle.gathering_state.proofs.State.{place_apart, possible-begun, fresh_possible}
+use Rattle.gathering_state.proofs.Lists.{greatest_at, total_most, total_end}
+use Rattle.gathering_state.proofs.State.{place_apart, possible_begun, fresh_possible}
 use Rattle.gathering_hand_out.specs.Handing.{joined, body_held, complete_of, handed_by, handed_of, out_by, out_after, InStore}
 use Rattle.gathering_hand_out.specs.declared.Completeness.{Completeness}
 use Rattle.gathering_hand_out.specs.declared.Completeness.TheVariants.{Complete, Refused as NotComplete}
 use Rattle.gathering_hand_out.specs.declared.Handed.{Handed}
 use Rattle.gathering_hand_out.specs.declared.Handed.TheVariants.{Body, Refused}
-use Rattle.gathering_hand_out.proofs.Joining.{Joining, join-start, join_step, join-end}
-use Rattle.gathering_hand_out.proofs.Handing.{Whole, whole-complete, complete-whole, whole-in-store, in-store-at, in-store-length, fitting-body}
+use Rattle.gathering_hand_out.proofs.Joining.{Joining, join_start, join_step, join_end}
+use Rattle.gathering_hand_out.proofs.Handing.{Whole, whole_complete, complete_whole, whole_in_store, in_store_at, in_store_length, fitting_body}
 use Rattle.gathering_pack.specs.Packing.{packed_by, packed_of, state_by, packing_of, store_packed}
 
 -- ---- payloads moved together
@@ -40,13 +40,13 @@ pub record Together (held store : List ℕ) (k o : ℕ) (d : List ℕ) : Type 0 
   pub below : o ≤ place k
 
 pub together_start : (held store : List ℕ) → Together held store 0 0 store
-together_start held store = record { joining = join-start place store held store; below = omega arith }
+together_start held store = record { joining = join_start place store held store; below = omega arith }
 
 module _ (held store : List ℕ) (i : InStore held store) (k o : ℕ) (d : List ℕ) (t : Together held store k o d) where
   -- number k's payload goes no further back than it stands, and lies in the store
-  pub together-fits : k < length held → (n : ℕ) → n ≡ get_or held k 0 - 1 → (a : ℕ) → a ≡ place k → (o ≤ a) × (a + n ≤ length d)
-  together-fits h n e a p =
-      let room = in-store-at held store i k h in
+  pub together_fits : k < length held → (n : ℕ) → n ≡ get_or held k 0 - 1 → (a : ℕ) → a ≡ place k → (o ≤ a) × (a + n ≤ length d)
+  together_fits h n e a p =
+      let room = in_store_at held store i k h in
       let below = t.below in
       let long = t.joining.long in
       (omega arith, omega arith)
@@ -56,19 +56,19 @@ module _ (held store : List ℕ) (i : InStore held store) (k o : ℕ) (d : List 
   past =
       let j = t.joining in
       let fits = in_store_fits held store i in
-      let long = j.sent-long in
+      let long = j.sent_long in
       let left = j.left in
       let end : 0 + length j.sent ≡ o = omega arith in
-      rw j.laid (rw end at (placed-back store 0 j.sent (omega arith)))
+      rw j.laid (rw end at (placed_back store 0 j.sent (omega arith)))
 
   -- so number k's payload, which is read next, is
   unread : drop (place k) d ≡ drop (place k) store
   unread = alike_later d store o (place k) t.below past
 
-  pub together-step : k < length held → (n : ℕ) → n ≡ get_or held k 0 - 1 → (a : ℕ) → a ≡ place k → (d' : List ℕ) → d' ≡ placed d o (take n (drop a d))
+  pub together_step : k < length held → (n : ℕ) → n ≡ get_or held k 0 - 1 → (a : ℕ) → a ≡ place k → (d' : List ℕ) → d' ≡ placed d o (take n (drop a d))
       → Together held store (k + 1) (o + n) d'
-  together-step h n e a p d' q =
-      let room = in-store-at held store i k h in
+  together_step h n e a p d' q =
+      let room = in_store_at held store i k h in
       let short = greatest_at held k in
       let few = i.short in
       let next = place_apart k (k + 1) (omega arith) in
@@ -81,54 +81,54 @@ module _ (held store : List ℕ) (i : InStore held store) (k o : ℕ) (d : List 
       read : take n (drop a d) ≡ take (a + n - a) (drop a store)
       read = let z : a + n - a ≡ n = omega arith in rw (z, p) (ap (take n) unread)
 
-  pub together-end : length held ≤ k → (o ≡ total held) × (d ≡ placed store 0 (joined place 0 held store))
-  together-end h =
-      let none = total-end held k h in
+  pub together_end : length held ≤ k → (o ≡ total held) × (d ≡ placed store 0 (joined place 0 held store))
+  together_end h =
+      let none = total_end held k h in
       let left = t.joining.left in
-      (omega arith, join-end place store held store k o d t.joining h)
+      (omega arith, join_end place store held store k o d t.joining h)
 
 -- ---- the answer, the state and the store
 
 module _ (g : Gathering) (store : List ℕ) where
-  pub answers-refused : (r : Refusal) → complete_of g (length store) ≡ NotComplete r → (Refused r ≡ packed_of g store) × (store ≡ store_packed g store)
+  pub answers_refused : (r : Refusal) → complete_of g (length store) ≡ NotComplete r → (Refused r ≡ packed_of g store) × (store ≡ store_packed g store)
   unfolding store_packed packed_of packed_by out_by
-  answers-refused r e = (rw e, rw e)
+  answers_refused r e = (rw e, rw e)
 
-  answers-complete : complete_of g (length store) ≡ Complete
+  answers_complete : complete_of g (length store) ≡ Complete
       → (Body (length (body_held g store)) ≡ packed_of g store) × (placed store 0 (body_held g store) ≡ store_packed g store)
   unfolding store_packed packed_of packed_by out_by
-  answers-complete e = (rw e, rw e)
+  answers_complete e = (rw e, rw e)
 
   -- the state follows from the answer
-  pub state-refused : (r : Refusal) → Refused r ≡ packed_of g store → record { answer = Refused r; state = g } ≡ packing_of g store
+  pub state_refused : (r : Refusal) → Refused r ≡ packed_of g store → record { answer = Refused r; state = g } ≡ packing_of g store
   unfolding packing_of state_by
-  state-refused r e = rw (← e)
+  state_refused r e = rw (← e)
 
-  pub state-packed : (n : ℕ) → Body n ≡ packed_of g store → (f : Gathering) → f ≡ fresh_state → record { answer = Body n; state = f } ≡ packing_of g store
+  pub state_packed : (n : ℕ) → Body n ≡ packed_of g store → (f : Gathering) → f ≡ fresh_state → record { answer = Body n; state = f } ≡ packing_of g store
   unfolding packing_of state_by
-  state-packed n e f q = rw (← e, q)
+  state_packed n e f q = rw (← e, q)
 
-  pub packs-refused : (r : Refusal) → complete_of g (length store) ≡ NotComplete r
+  pub packs_refused : (r : Refusal) → complete_of g (length store) ≡ NotComplete r
       → (record { answer = Refused r; state = g } ≡ packing_of g store) × (store ≡ store_packed g store)
-  packs-refused r e = let a = answers-refused r e in (state-refused r a.0, a.1)
+  packs_refused r e = let a = answers_refused r e in (state_refused r a.0, a.1)
 
-  pub packs-complete : complete_of g (length store) ≡ Complete
+  pub packs_complete : complete_of g (length store) ≡ Complete
       → (record { answer = Body (length (body_held g store)); state = fresh_state } ≡ packing_of g store) × (placed store 0 (body_held g store) ≡ store_packed g store)
-  packs-complete e = let a = answers-complete e in (state-packed _ a.0 fresh_state refl, a.1)
+  packs_complete e = let a = answers_complete e in (state_packed _ a.0 fresh_state refl, a.1)
 
   -- whatever is packed is the body of a whole table
-  pub packed-whole : (n : ℕ) → (packing_of g store).answer ≡ Body n → Whole g (length store) × (n ≡ length (body_held g store))
+  pub packed_whole : (n : ℕ) → (packing_of g store).answer ≡ Body n → Whole g (length store) × (n ≡ length (body_held g store))
   unfolding packing_of packed_of packed_by
-  packed-whole n e = go (complete_of g (length store)) refl e
+  packed_whole n e = go (complete_of g (length store)) refl e
     where
       go : (c : Completeness) → complete_of g (length store) ≡ c → packed_by c (length (body_held g store)) ≡ Body n → Whole g (length store) × (n ≡ length (body_held g store))
       go (NotComplete r) f e = let z : ◌≡◌ {A = ℕ} 0 1 = cc in absurd (omega arith)
-      go Complete f e = (complete-whole g (length store) f, cc)
+      go Complete f e = (complete_whole g (length store) f, cc)
 
   -- and leaves a fresh state
-  pub packed-fresh : (n : ℕ) → (packing_of g store).answer ≡ Body n → (packing_of g store).state ≡ fresh_state
+  pub packed_fresh : (n : ℕ) → (packing_of g store).answer ≡ Body n → (packing_of g store).state ≡ fresh_state
   unfolding packing_of state_by
-  packed-fresh n e = go (packed_of g store) e
+  packed_fresh n e = go (packed_of g store) e
     where
       go : (h : Handed) → h ≡ Body n → state_by g h ≡ fresh_state
       go (Refused r) e = let z : ◌≡◌ {A = ℕ} 0 1 = cc in absurd (omega arith)
@@ -145,34 +145,34 @@ module _ (g : Gathering) (store : List ℕ) where
 
   module _ (l : length g.held ≤ 256) where
     -- the payloads of a whole table lie in the store
-    pub packs-in-store : complete_of g (length store) ≡ Complete → InStore (lengths g) store
-    packs-in-store e = whole-in-store g store l (complete-whole g (length store) e)
+    pub packs_in_store : complete_of g (length store) ≡ Complete → InStore (lengths g) store
+    packs_in_store e = whole_in_store g store l (complete_whole g (length store) e)
 
-    body-long : complete_of g (length store) ≡ Complete → length (body_held g store) ≡ total (lengths g)
+    body_long : complete_of g (length store) ≡ Complete → length (body_held g store) ≡ total (lengths g)
     unfolding body_held
-    body-long e = in-store-length (lengths g) store (packs-in-store e)
+    body_long e = in_store_length (lengths g) store (packs_in_store e)
 
-    pub answers-body : complete_of g (length store) ≡ Complete → (n : ℕ) → n ≡ total (lengths g) → (d : List ℕ) → d ≡ placed store 0 (body_held g store)
+    pub answers_body : complete_of g (length store) ≡ Complete → (n : ℕ) → n ≡ total (lengths g) → (d : List ℕ) → d ≡ placed store 0 (body_held g store)
         → (Body n ≡ packed_of g store) × (d ≡ store_packed g store)
-    answers-body e n t d q = let p = answers-complete e in (rw (t, ← body-long e) p.0, q ∙ p.1)
+    answers_body e n t d q = let p = answers_complete e in (rw (t, ← body_long e) p.0, q ∙ p.1)
 
     -- "The total of held bytes before equals the body length after"
     pub packs_counted : (n : ℕ) → (packing_of g store).answer ≡ Body n → g.bytes ≡ n
     packs_counted n e =
-        let whole = packed-whole n e in
-        let begun = possible-begun g whole.0.possible whole.0.begun in
-        begun.of_table.bytes ∙ sym (body-long (whole-complete g (length store) whole.0)) ∙ sym whole.1
+        let whole = packed_whole n e in
+        let begun = possible_begun g whole.0.possible whole.0.begun in
+        begun.of_table.bytes ∙ sym (body_long (whole_complete g (length store) whole.0)) ∙ sym whole.1
 
     -- the store is as long as it was
     pub packs_long : length (store_packed g store) ≡ length store
     packs_long = go (complete_of g (length store)) refl
       where
         go : (c : Completeness) → complete_of g (length store) ≡ c → length (store_packed g store) ≡ length store
-        go (NotComplete r) e = ap length (sym (packs-refused r e).1)
+        go (NotComplete r) e = ap length (sym (packs_refused r e).1)
         go Complete e =
-            let fits = in_store_fits (lengths g) store (packs-in-store e) in
-            let long = body-long e in
-            ap length (sym (packs-complete e).1) ∙ placed-length store 0 (body_held g store) (omega arith)
+            let fits = in_store_fits (lengths g) store (packs_in_store e) in
+            let long = body_long e in
+            ap length (sym (packs_complete e).1) ∙ placed_length store 0 (body_held g store) (omega arith)
 
     -- packing answers as handing out into the store itself would, and leaves the store as that would leave its output
     pub packs_as_handing : ((packing_of g store).answer ≡ handed_of g store store) × (store_packed g store ≡ out_after g store store)
@@ -182,6 +182,6 @@ module _ (g : Gathering) (store : List ℕ) where
         go : (c : Completeness) → complete_of g (length store) ≡ c → packed_by c (length (body_held g store)) ≡ handed_by c (length (body_held g store)) (length store)
         go (NotComplete r) e = refl
         go Complete e =
-            let fits = in_store_fits (lengths g) store (packs-in-store e) in
-            let long = body-long e in
-            fitting-body _ _ (omega arith)
+            let fits = in_store_fits (lengths g) store (packs_in_store e) in
+            let long = body_long e in
+            fitting_body _ _ (omega arith)

@@ -13,13 +13,13 @@ use Rattle.gathering_state.specs.Lists.{greatest, smallest_missing, total, held_
 -- ---- the greatest
 
 module _ (s : List ℕ) (i : ℕ) where
-  pub greatest-step : i < length s → greatest (drop i s) ≡ max (get_or s i 0) (greatest (drop (i + 1) s))
+  pub greatest_step : i < length s → greatest (drop i s) ≡ max (get_or s i 0) (greatest (drop (i + 1) s))
   unfolding greatest
-  greatest-step h = rw (add-one, drop-cons s i 0 h)
+  greatest_step h = rw (add-one, drop-cons s i 0 h)
 
-  pub greatest-end : length s ≤ i → greatest (drop i s) ≡ 0
+  pub greatest_end : length s ≤ i → greatest (drop i s) ≡ 0
   unfolding greatest
-  greatest-end h = rw (drop_of_length-le s h)
+  greatest_end h = rw (drop_of_length-le s h)
 
 -- the greatest of a list is that of its two parts' greatest
 pub greatest_parts : (n : ℕ) (s : List ℕ) → greatest s ≡ max (greatest (take n s)) (greatest (drop n s))
@@ -65,17 +65,17 @@ zeros_at (suc n) (suc i) = zeros_at n i
 -- ---- the smallest missing number
 
 module _ (s : List ℕ) (k : ℕ) (e : smallest_missing s ≡ k + smallest_missing (drop k s)) where
-  pub missing-end : length s ≤ k → k ≡ smallest_missing s
+  pub missing_end : length s ≤ k → k ≡ smallest_missing s
   unfolding smallest_missing
-  missing-end h = rw (e, drop_of_length-le s h, add-zero)
+  missing_end h = rw (e, drop_of_length-le s h, add-zero)
 
-  pub missing-stop : k < length s → get_or s k 0 ≡ 0 → k ≡ smallest_missing s
+  pub missing_stop : k < length s → get_or s k 0 ≡ 0 → k ≡ smallest_missing s
   unfolding smallest_missing
-  missing-stop h t = rw (e, drop-cons s k 0 h, eq-eqb (get_or s k 0) 0 t, add-zero)
+  missing_stop h t = rw (e, drop-cons s k 0 h, eq-eqb (get_or s k 0) 0 t, add-zero)
 
-  pub missing-step : k < length s → (get_or s k 0 ≡ 0 → ⊥) → smallest_missing s ≡ (k + 1) + smallest_missing (drop (k + 1) s)
+  pub missing_step : k < length s → (get_or s k 0 ≡ 0 → ⊥) → smallest_missing s ≡ (k + 1) + smallest_missing (drop (k + 1) s)
   unfolding smallest_missing
-  missing-step h t = e ∙ rw (drop-cons s k 0 h, ne_eqb (get_or s k 0) 0 t, add-one) (omega arith)
+  missing_step h t = e ∙ rw (drop-cons s k 0 h, ne_eqb (get_or s k 0) 0 t, add-one) (omega arith)
 
 -- every number is held: none is missing
 pub missing_none : (s : List ℕ) → ((i : ℕ) → i < length s → get_or s i 0 ≡ 0 → ⊥) → smallest_missing s ≡ length s
@@ -94,13 +94,13 @@ missing_before (suc n ∷ ns) (suc i) h e = let l = rw (ne_eqb (suc n) 0 (λ z. 
 -- ---- the total
 
 module _ (s : List ℕ) (i : ℕ) where
-  pub total-step : i < length s → total (drop i s) ≡ (get_or s i 0 - 1) + total (drop (i + 1) s)
+  pub total_step : i < length s → total (drop i s) ≡ (get_or s i 0 - 1) + total (drop (i + 1) s)
   unfolding total
-  total-step h = rw (add-one, drop-cons s i 0 h)
+  total_step h = rw (add-one, drop-cons s i 0 h)
 
-  pub total-end : length s ≤ i → total (drop i s) ≡ 0
+  pub total_end : length s ≤ i → total (drop i s) ≡ 0
   unfolding total
-  total-end h = rw (drop_of_length-le s h)
+  total_end h = rw (drop_of_length-le s h)
 
 -- so many payloads of at most 4,084 bytes
 pub total_most : (s : List ℕ) → greatest s ≤ 4084 + 1 → total s ≤ length s * 4084
@@ -129,15 +129,15 @@ held_cons zero ns = omega arith
 held_cons (suc n) ns = rw (ne_eqb (suc n) 0 (λ z. omega arith)) (omega arith)
 
 module _ (s : List ℕ) (i : ℕ) where
-  pub held-step : i < length s → held_count (drop i s) ≡ min (get_or s i 0) 1 + held_count (drop (i + 1) s)
-  held-step h = rw (add-one, drop-cons s i 0 h) (held_cons (get_or s i 0) (drop (suc i) s))
+  pub held_step : i < length s → held_count (drop i s) ≡ min (get_or s i 0) 1 + held_count (drop (i + 1) s)
+  held_step h = rw (add-one, drop-cons s i 0 h) (held_cons (get_or s i 0) (drop (suc i) s))
 
-  pub held-end : length s ≤ i → held_count (drop i s) ≡ 0
+  pub held_end : length s ≤ i → held_count (drop i s) ≡ 0
   unfolding held_count
-  held-end h = rw (drop_of_length-le s h)
+  held_end h = rw (drop_of_length-le s h)
 
 pub held_most : (s : List ℕ) → held_count s ≤ length s
-held_most [] = let a = held-end [] 0 (omega arith) in omega arith
+held_most [] = let a = held_end [] 0 (omega arith) in omega arith
 held_most (n ∷ ns) = let a = held_most ns in let b = held_cons n ns in omega arith
 
 -- one number more
@@ -152,13 +152,13 @@ held_set (x ∷ xs) (suc k) n l e =
 
 pub held_none : (s : List ℕ) → greatest s ≡ 0 → held_count s ≡ 0
 unfolding greatest
-held_none [] e = held-end [] 0 (omega arith)
+held_none [] e = held_end [] 0 (omega arith)
 held_none (n ∷ ns) e = let a = held_none ns (omega arith) in let b = held_cons n ns in omega arith
 
 -- where none is missing, all are held
 pub held_all : (s : List ℕ) → length s ≤ smallest_missing s → held_count s ≡ length s
 unfolding smallest_missing
-held_all [] l = held-end [] 0 (omega arith)
+held_all [] l = held_end [] 0 (omega arith)
 held_all (zero ∷ ns) l = omega arith
 held_all (suc n ∷ ns) l =
     let m = rw (ne_eqb (suc n) 0 (λ z. omega arith)) at l in

@@ -47,9 +47,9 @@ pub record Fresh (g : Gathering) : Type 0 where
   pub bytes : g.bytes ≡ 0
 
 module _ (g : Gathering) where
-  pub fresh-fields : is_fresh g ≡ true → Fresh g
+  pub fresh_fields : is_fresh g ≡ true → Fresh g
   unfolding is_fresh
-  fresh-fields e =
+  fresh_fields e =
       let b = both _ (eqb g.bytes 0) e in
       let m = both _ (eqb g.missing 0) b.0 in
       let h = both _ (eqb (greatest g.held) 0) m.0 in
@@ -74,8 +74,8 @@ module _ (g : Gathering) where
   unfolding is_fresh
   fresh-but k x v n s h m = simp (eq-eqb _ _ k, eq-eqb _ _ x, eq-eqb _ _ v, eq-eqb _ _ n, eq-eqb _ _ s, eq-eqb _ _ h, eq-eqb _ _ m)
 
-  pub not-fresh : (Fresh g → ⊥) → false ≡ is_fresh g
-  not-fresh f = refuted (is_fresh g) (λ e. f (fresh-fields e))
+  pub not_fresh : (Fresh g → ⊥) → false ≡ is_fresh g
+  not_fresh f = refuted (is_fresh g) (λ e. f (fresh_fields e))
 
 -- states are equal by their fields
 same_state : (g f : Gathering) → g.bytes ≡ f.bytes → g.missing ≡ f.missing → g.extension ≡ f.extension → g.kind ≡ f.kind → g.version ≡ f.version
@@ -87,7 +87,7 @@ same_state g f y m a b c d e h =
 pub fresh_is : (g : Gathering) → length g.held ≡ 256 → is_fresh g ≡ true → g ≡ fresh_state
 unfolding fresh_state
 fresh_is g l e =
-    let f = fresh-fields g e in
+    let f = fresh_fields g e in
     same_state g fresh_state f.bytes f.missing f.extension f.kind f.version f.last f.spoiled
     (greatest_zeros g.held f.none ∙ ap (λ (n : ℕ). replicate n 0) l)
 
@@ -112,9 +112,9 @@ pub record Begun (g : Gathering) : Type 0 where
   pub some : 0 < greatest g.held
 
 module _ (g : Gathering) where
-  pub begun-fields : is_begun g ≡ true → Begun g
+  pub begun_fields : is_begun g ≡ true → Begun g
   unfolding is_begun
-  begun-fields e =
+  begun_fields e =
       let y = both _ (eqb g.bytes (total (lengths g))) e in
       let m = both _ (eqb g.missing (g.last + 1 - held_count (lengths g))) y.0 in
       let f = both _ (leb (greatest g.held) 4085) m.0 in
@@ -137,18 +137,18 @@ module _ (g : Gathering) where
       }
 
   -- all of it but the bytes, which are tested last
-  pub begun-but : is_kind g.kind ≡ true → g.version ≤ 31 → g.spoiled ≤ 1 → 0 < greatest g.held → greatest (drop (g.last + 1) g.held) ≡ 0
+  pub begun_but : is_kind g.kind ≡ true → g.version ≤ 31 → g.spoiled ≤ 1 → 0 < greatest g.held → greatest (drop (g.last + 1) g.held) ≡ 0
       → greatest g.held ≤ 4085 → g.missing ≡ g.last + 1 - held_count (lengths g) → eqb g.bytes (total (lengths g)) ≡ is_begun g
   unfolding is_begun
-  begun-but k v d b a f m = simp (k, le-leb _ _ v, le-leb _ _ d, lt-ltb _ _ b, eq-eqb _ _ a, le-leb _ _ f, eq-eqb _ _ m)
+  begun_but k v d b a f m = simp (k, le-leb _ _ v, le-leb _ _ d, lt-ltb _ _ b, eq-eqb _ _ a, le-leb _ _ f, eq-eqb _ _ m)
 
-  pub begun-test : Begun g → true ≡ is_begun g
-  begun-test b =
+  pub begun_test : Begun g → true ≡ is_begun g
+  begun_test b =
       let o = b.of_table in
-      sym (eq-eqb _ _ o.bytes) ∙ begun-but o.kind o.version o.spoiled b.some o.above o.short o.missing
+      sym (eq-eqb _ _ o.bytes) ∙ begun_but o.kind o.version o.spoiled b.some o.above o.short o.missing
 
-  pub not-begun : (Begun g → ⊥) → false ≡ is_begun g
-  not-begun f = refuted (is_begun g) (λ e. f (begun-fields e))
+  pub not_begun : (Begun g → ⊥) → false ≡ is_begun g
+  not_begun f = refuted (is_begun g) (λ e. f (begun_fields e))
 
 -- what the pass over the lengths found of a state
 pub record Seen (g : Gathering) (most held bytes above : ℕ) : Type 0 where
@@ -171,15 +171,15 @@ module _ (g : Gathering) {most held bytes above : ℕ} (v : Surveyed g.held (g.l
       record { whole = omega arith; beyond = sym a; count = sym h; few = omega arith; sum = sym v.bytes_is }
 
   -- a test that fails is one that a begun state meets
-  pub not-begun-seen : (Seen g most held bytes above → Begun g → ⊥) → false ≡ is_begun g
-  not-begun-seen f = not-begun g (f seen)
+  pub not_begun_seen : (Seen g most held bytes above → Begun g → ⊥) → false ≡ is_begun g
+  not_begun_seen f = not_begun g (f seen)
 
   -- where none fails, the bytes decide
-  pub begun-seen : is_kind g.kind ≡ true → g.version ≤ 31 → g.spoiled ≤ 1 → above ≡ 0 → 0 < most → most ≤ 4085 → g.missing + held ≡ g.last + 1
+  pub begun_seen : is_kind g.kind ≡ true → g.version ≤ 31 → g.spoiled ≤ 1 → above ≡ 0 → 0 < most → most ≤ 4085 → g.missing + held ≡ g.last + 1
       → eqb g.bytes bytes ≡ is_begun g
-  begun-seen k v d a b f m =
+  begun_seen k v d a b f m =
       let s = seen in
-      ap (eqb g.bytes) (sym s.sum) ∙ begun-but g k v d (omega arith) (omega arith) (omega arith) (omega arith)
+      ap (eqb g.bytes) (sym s.sum) ∙ begun_but g k v d (omega arith) (omega arith) (omega arith) (omega arith)
 
 -- ---- possible states
 
@@ -190,40 +190,40 @@ zero_no_kind k e f = false≢true (rw e at f)
 module _ (g : Gathering) where
   pub possible-none : g.kind ≡ 0 → possible_of g ≡ is_fresh g
   unfolding possible_of
-  possible-none k = rw (← not-begun g (λ b. zero_no_kind g.kind k b.of_table.kind)) (or_false (is_fresh g))
+  possible-none k = rw (← not_begun g (λ b. zero_no_kind g.kind k b.of_table.kind)) (or_false (is_fresh g))
     where
       or_false : (b : Bool) → b || false ≡ b
       or_false true = refl
       or_false false = refl
 
-  pub possible-some : (g.kind ≡ 0 → ⊥) → possible_of g ≡ is_begun g
+  pub possible_some : (g.kind ≡ 0 → ⊥) → possible_of g ≡ is_begun g
   unfolding possible_of
-  possible-some k = rw (← not-fresh g (λ f. k f.kind))
+  possible_some k = rw (← not_fresh g (λ f. k f.kind))
 
-  pub possible-fresh : possible_of g ≡ true → nothing_begun g ≡ true → Fresh g
+  pub possible_fresh : possible_of g ≡ true → nothing_begun g ≡ true → Fresh g
   unfolding nothing_begun
-  possible-fresh p k = fresh-fields g (sym (possible-none (eqb-true _ _ k)) ∙ p)
+  possible_fresh p k = fresh_fields g (sym (possible-none (eqb-true _ _ k)) ∙ p)
 
-  pub possible-begun : possible_of g ≡ true → nothing_begun g ≡ false → Begun g
+  pub possible_begun : possible_of g ≡ true → nothing_begun g ≡ false → Begun g
   unfolding nothing_begun
-  possible-begun p k = begun-fields g (sym (possible-some (eqb-false _ _ k)) ∙ p)
+  possible_begun p k = begun_fields g (sym (possible_some (eqb-false _ _ k)) ∙ p)
 
-  pub possible-short : possible_of g ≡ true → greatest g.held ≤ 4085
-  possible-short p = go (nothing_begun g) refl
+  pub possible_short : possible_of g ≡ true → greatest g.held ≤ 4085
+  possible_short p = go (nothing_begun g) refl
     where
       go : (b : Bool) → nothing_begun g ≡ b → greatest g.held ≤ 4085
-      go true k = let f = possible-fresh p k in omega arith
-      go false k = (possible-begun p k).of_table.short
+      go true k = let f = possible_fresh p k in omega arith
+      go false k = (possible_begun p k).of_table.short
 
   pub begun_kind : Begun g → g.kind ≡ 0 → ⊥
   begun_kind b e = zero_no_kind g.kind e b.of_table.kind
 
-  pub begun-some : Begun g → nothing_begun g ≡ false
+  pub begun_some : Begun g → nothing_begun g ≡ false
   unfolding nothing_begun
-  begun-some b = ne_eqb g.kind 0 (begun_kind b)
+  begun_some b = ne_eqb g.kind 0 (begun_kind b)
 
-  pub begun-possible : Begun g → possible_of g ≡ true
-  begun-possible b = possible-some (begun_kind b) ∙ sym (begun-test g b)
+  pub begun_possible : Begun g → possible_of g ≡ true
+  begun_possible b = possible_some (begun_kind b) ∙ sym (begun_test g b)
 
 pub fresh_possible : possible_of fresh_state ≡ true
 unfolding fresh_state
@@ -238,12 +238,12 @@ counts_right g p = go (nothing_begun g) refl
   where
     go : (b : Bool) → nothing_begun g ≡ b → CountsRight g
     go true k =
-        let f = possible-fresh g p k in
+        let f = possible_fresh g p k in
         let low = greatest_take (g.last + 1) g.held in
         let n = f.none in
         let t = total_none (take (g.last + 1) g.held) (omega arith) in
         record { missing = rw k f.missing; bytes = f.bytes ∙ sym t }
-    go false k = let o = (possible-begun g p k).of_table in record { missing = rw k o.missing; bytes = o.bytes }
+    go false k = let o = (possible_begun g p k).of_table in record { missing = rw k o.missing; bytes = o.bytes }
 
 -- a table's first section leaves as many missing as its last number says, and its own bytes are held
 pub first_counts : (h : Heading) (n : ℕ) → let g = with_section (opened h) h.number n in (g.missing ≡ h.last) × (g.bytes ≡ n)
@@ -272,9 +272,9 @@ module _ (g : Gathering) (k : ℕ) (o : OfTable g) (long : length g.held ≡ 256
   unheld = get_or-take (g.last + 1) g.held k 0 (omega arith) ∙ new
 
   -- it is among the missing, and there is room to count its bytes
-  pub unheld-counts : (1 ≤ g.missing) × (g.bytes ≤ 1045504)
+  pub unheld_counts : (1 ≤ g.missing) × (g.bytes ≤ 1045504)
   unfolding lengths
-  unheld-counts =
+  unheld_counts =
       let f = held_fewer (take (g.last + 1) g.held) k listed unheld in
       let l = length-take (g.last + 1) g.held in
       let m = greatest_take (g.last + 1) g.held in
@@ -285,9 +285,9 @@ module _ (g : Gathering) (k : ℕ) (o : OfTable g) (long : length g.held ≡ 256
       (omega arith, omega arith)
 
   -- and once it is taken, the state is begun
-  pub section-begun : (n : ℕ) → n ≤ 4084 → Begun (with_section g k n)
+  pub section_begun : (n : ℕ) → n ≤ 4084 → Begun (with_section g k n)
   unfolding with_section lengths
-  section-begun n most =
+  section_begun n most =
       let at = get_or-set_same g.held k (n + 1) 0 (omega arith) in
       let some = greatest_at (set g.held k (n + 1)) k in
       let first = take-set-lt (g.last + 1) g.held k (n + 1) (omega arith) in

@@ -23,18 +23,18 @@ module _ (held new : ℕ) (h : held ≤ 31) (n : new ≤ 31) where
   unfolding steps_ahead
   steps_up l = omega arith
 
-  pub steps-round : new < held → steps_ahead held new ≡ 32 - (held - new)
+  pub steps_round : new < held → steps_ahead held new ≡ 32 - (held - new)
   unfolding steps_ahead
-  steps-round l = omega arith
+  steps_round l = omega arith
 
   -- from the held version so many steps on comes the new one
-  pub steps-lead : (held + steps_ahead held new) % 32 ≡ new
+  pub steps_lead : (held + steps_ahead held new) % 32 ≡ new
   unfolding steps_ahead
-  steps-lead = omega arith
+  steps_lead = omega arith
 
-  pub steps-none : steps_ahead held new ≡ 0 → held ≡ new
+  pub steps_none : steps_ahead held new ≡ 0 → held ≡ new
   unfolding steps_ahead
-  steps-none e = omega arith
+  steps_none e = omega arith
 
 -- ---- one table
 
@@ -45,9 +45,9 @@ pub record SameTable (held new : Heading) : Type 0 where
   pub last : held.last ≡ new.last
 
 module _ (held new : Heading) where
-  pub same-fields : same_table held new ≡ true → SameTable held new
+  pub same_fields : same_table held new ≡ true → SameTable held new
   unfolding same_table
-  same-fields e =
+  same_fields e =
       let l = both _ (eqb held.last new.last) e in
       let v = both _ (eqb held.version new.version) l.0 in
       let x = both (eqb held.kind new.kind) (eqb held.extension new.extension) v.0 in
@@ -58,7 +58,7 @@ module _ (held new : Heading) where
   same_test s = simp (eq-eqb _ _ s.kind, eq-eqb _ _ s.extension, eq-eqb _ _ s.version, eq-eqb _ _ s.last)
 
   pub same_not : (SameTable held new → ⊥) → false ≡ same_table held new
-  same_not f = refuted (same_table held new) (λ e. f (same-fields e))
+  same_not f = refuted (same_table held new) (λ e. f (same_fields e))
 
 -- ---- a newer table
 
@@ -72,27 +72,27 @@ module _ (held new : Heading) where
   abbrev steps : ℕ
   steps = steps_ahead held.version new.version
 
-  newer-fields : is_newer held new ≡ true → Newer held new
+  newer_fields : is_newer held new ≡ true → Newer held new
   unfolding is_newer
-  newer-fields e =
+  newer_fields e =
       let f = both _ (leb steps 15) e in
       let s = both _ (leb 1 steps) f.0 in
       let x = both (eqb held.kind new.kind) (eqb held.extension new.extension) s.0 in
       record { kind = eqb-true _ _ x.0; extension = eqb-true _ _ x.1; some = leb-true _ _ s.1; few = leb-true _ _ f.1 }
 
-  pub newer-not : (Newer held new → ⊥) → false ≡ is_newer held new
-  newer-not f = refuted (is_newer held new) (λ e. f (newer-fields e))
+  pub newer_not : (Newer held new → ⊥) → false ≡ is_newer held new
+  newer_not f = refuted (is_newer held new) (λ e. f (newer_fields e))
 
   -- of the same kind and extension, at least one step ahead, it is newer if the steps are few
-  pub newer-few : held.kind ≡ new.kind → held.extension ≡ new.extension → (n : ℕ) → n ≡ steps → 1 ≤ n → leb n 15 ≡ is_newer held new
+  pub newer_few : held.kind ≡ new.kind → held.extension ≡ new.extension → (n : ℕ) → n ≡ steps → 1 ≤ n → leb n 15 ≡ is_newer held new
   unfolding is_newer
-  newer-few a b n e l = sym (rw (eq-eqb _ _ a, eq-eqb _ _ b, ← e, le-leb 1 n l))
+  newer_few a b n e l = sym (rw (eq-eqb _ _ a, eq-eqb _ _ b, ← e, le-leb 1 n l))
 
   -- a table is not newer than itself
-  pub same-not-newer : same_table held new ≡ true → is_newer held new ≡ false
-  same-not-newer e =
-      sym (newer-not (λ n.
-      let z = ap (steps_ahead held.version) (sym (same-fields held new e).version) ∙ steps_same held.version in
+  pub same_not_newer : same_table held new ≡ true → is_newer held new ≡ false
+  same_not_newer e =
+      sym (newer_not (λ n.
+      let z = ap (steps_ahead held.version) (sym (same_fields held new e).version) ∙ steps_same held.version in
       let s = n.some in
       omega arith))
 
@@ -101,11 +101,11 @@ module _ (held new : Heading) where
   abbrev Neither : Type 0
   Neither = is_other held new ≡ not (is_newer held new || same_table held new)
 
-  by-steps : (one few zero far equal : Bool) → leb 1 steps ≡ one → leb steps 15 ≡ few → eqb steps 0 ≡ zero → leb 16 steps ≡ far
+  by_steps : (one few zero far equal : Bool) → leb 1 steps ≡ one → leb steps 15 ≡ few → eqb steps 0 ≡ zero → leb 16 steps ≡ far
       → eqb held.version new.version ≡ equal
       → ((k x l : Bool) → not k || not x || zero && not l || far ≡ not (k && x && one && few || k && x && equal && l)) → Neither
   unfolding is_other is_newer same_table
-  by-steps one few zero far equal a b c d e f =
+  by_steps one few zero far equal a b c d e f =
       rw (a, b, c, d, e) (f (eqb held.kind new.kind) (eqb held.extension new.extension) (eqb held.last new.last))
 
   module _ (h : held.version ≤ 31) (n : new.version ≤ 31) where
@@ -114,8 +114,8 @@ module _ (held new : Heading) where
 
     none_ahead : steps ≡ 0 → Neither
     none_ahead z =
-        by-steps false true true false true (lt-leb 1 steps (omega arith)) (le-leb steps 15 (omega arith)) (eq-eqb _ _ z) (lt-leb 16 steps (omega arith))
-        (eq-eqb _ _ (steps-none _ _ h n z)) same
+        by_steps false true true false true (lt-leb 1 steps (omega arith)) (le-leb steps 15 (omega arith)) (eq-eqb _ _ z) (lt-leb 16 steps (omega arith))
+        (eq-eqb _ _ (steps_none _ _ h n z)) same
       where
         same : (k x l : Bool) → not k || not x || true && not l || false ≡ not (k && x && false && true || k && x && true && l)
         same true true true = refl
@@ -123,9 +123,9 @@ module _ (held new : Heading) where
         same true false l = refl
         same false x l = refl
 
-    some-ahead : 1 ≤ steps → steps ≤ 15 → Neither
-    some-ahead o f =
-        by-steps true true false false false (le-leb 1 steps o) (le-leb steps 15 f) (ne_eqb steps 0 (omega arith)) (lt-leb 16 steps (omega arith))
+    some_ahead : 1 ≤ steps → steps ≤ 15 → Neither
+    some_ahead o f =
+        by_steps true true false false false (le-leb 1 steps o) (le-leb steps 15 f) (ne_eqb steps 0 (omega arith)) (lt-leb 16 steps (omega arith))
         (differ (omega arith)) same
       where
         same : (k x l : Bool) → not k || not x || false && not l || false ≡ not (k && x && true && true || k && x && false && l)
@@ -133,9 +133,9 @@ module _ (held new : Heading) where
         same true false l = refl
         same false x l = refl
 
-    far-ahead : 16 ≤ steps → Neither
-    far-ahead f =
-        by-steps true false false true false (le-leb 1 steps (omega arith)) (lt-leb steps 15 (omega arith)) (ne_eqb steps 0 (omega arith)) (le-leb 16 steps f)
+    far_ahead : 16 ≤ steps → Neither
+    far_ahead f =
+        by_steps true false false true false (le-leb 1 steps (omega arith)) (lt-leb steps 15 (omega arith)) (ne_eqb steps 0 (omega arith)) (le-leb 16 steps f)
         (differ (omega arith)) same
       where
         same : (k x l : Bool) → not k || not x || false && not l || true ≡ not (k && x && true && false || k && x && false && l)
@@ -144,10 +144,10 @@ module _ (held new : Heading) where
         same false x l = refl
 
     -- "another kind or extension, [..] 0 steps with another last number, [..] 16 to 31 steps": what is neither newer nor the same
-    pub other-exactly : Neither
-    other-exactly = go (eqb steps 0) refl (leb 16 steps) refl
+    pub other_exactly : Neither
+    other_exactly = go (eqb steps 0) refl (leb 16 steps) refl
       where
         go : (zero : Bool) → eqb steps 0 ≡ zero → (far : Bool) → leb 16 steps ≡ far → Neither
         go true z far f = none_ahead (eqb-true _ _ z)
-        go false z true f = far-ahead (leb-true _ _ f)
-        go false z false f = let a = eqb-false steps 0 z in let b = leb-false 16 steps f in some-ahead (omega arith) (omega arith)
+        go false z true f = far_ahead (leb-true _ _ f)
+        go false z false f = let a = eqb-false steps 0 z in let b = leb-false 16 steps f in some_ahead (omega arith) (omega arith)

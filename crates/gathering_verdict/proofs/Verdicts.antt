@@ -15,13 +15,13 @@ use Rattle.section_reader.specs.Section.{heading_of, payload_of, read_section}
 use Rattle.section_reader.specs.declared.Heading.{Heading}
 use Rattle.section_reader.specs.declared.Sectioned.{Sectioned}
 use Rattle.section_reader.specs.declared.Sectioned.TheVariants.{Good, Refused as NotGood}
-use Rattle.section_reader.proofs.Accepting.{accepted, accepted-length, accepted-short}
+use Rattle.section_reader.proofs.Accepting.{accepted, accepted_length, accepted_short}
 use Rattle.gathering_state.specs.State.{possible_of, nothing_begun, place, has_room, held_payload}
 use Rattle.gathering_state.specs.declared.Gathering.{Gathering}
 use Rattle.gathering_state.proofs.Lists.{part_between}
-use Rattle.gathering_state.proofs.State.{Begun, possible-begun}
+use Rattle.gathering_state.proofs.State.{Begun, possible_begun}
 use Rattle.gathering_tables.specs.Tables.{is_newer}
-use Rattle.gathering_tables.proofs.Tables.{SameTable, same-fields}
+use Rattle.gathering_tables.proofs.Tables.{SameTable, same_fields}
 use Rattle.gathering_verdict.specs.Deciding.{fixed_heading, agrees, begins, number_verdict, good_verdict, section_verdict, verdict_of}
 use Rattle.gathering_verdict.specs.declared.Verdict.{Verdict}
 use Rattle.gathering_verdict.specs.declared.Verdict.TheVariants.{Refuse, Repeat, Contradict, Begin, Take}
@@ -33,9 +33,9 @@ abbrev pub SameHeading : Gathering → Heading → Type 0
 SameHeading g h = SameTable (fixed_heading g) h
 
 module _ (g : Gathering) (h : Heading) where
-  pub agrees-is : agrees g h ≡ true → SameHeading g h
+  pub agrees_is : agrees g h ≡ true → SameHeading g h
   unfolding agrees
-  agrees-is e = same-fields (fixed_heading g) h e
+  agrees_is e = same_fields (fixed_heading g) h e
 
   -- nothing begun: every section begins
   pub begins_none : g.kind ≡ 0 → true ≡ begins g h
@@ -48,9 +48,9 @@ module _ (g : Gathering) (h : Heading) where
   begins_newer k = rw (ne_eqb g.kind 0 k)
 
   -- what does not begin finds a table begun
-  pub further-begun : begins g h ≡ false → nothing_begun g ≡ false
+  pub further_begun : begins g h ≡ false → nothing_begun g ≡ false
   unfolding begins
-  further-begun e = go (nothing_begun g) refl
+  further_begun e = go (nothing_begun g) refl
     where
       go : (b : Bool) → nothing_begun g ≡ b → b ≡ false
       go true k = absurd (false≢true (sym e ∙ rw k))
@@ -79,18 +79,18 @@ pub record Past (g : Gathering) (store : List ℕ) (h : Heading) : Type 0 where
   pub roomy : not (has_room (length store) h.last) ≡ false
 
 module _ (g : Gathering) (store : List ℕ) (h : Heading) (payload : List ℕ) where
-  pub number-new : get_or g.held h.number 0 ≡ 0 → number_verdict g store h payload ≡ Take h
+  pub number_new : get_or g.held h.number 0 ≡ 0 → number_verdict g store h payload ≡ Take h
   unfolding number_verdict
-  number-new e = rw (eq-eqb _ _ e)
+  number_new e = rw (eq-eqb _ _ e)
 
   module _ (e : get_or g.held h.number 0 ≡ 0 → ⊥) where
     pub number_same : same_bytes (held_payload g store h.number) payload ≡ true → number_verdict g store h payload ≡ Repeat
     unfolding number_verdict
     number_same t = rw (ne_eqb _ _ e, t)
 
-    pub number-other : same_bytes (held_payload g store h.number) payload ≡ false → number_verdict g store h payload ≡ Contradict
+    pub number_other : same_bytes (held_payload g store h.number) payload ≡ false → number_verdict g store h payload ≡ Contradict
     unfolding number_verdict
-    number-other t = rw (ne_eqb _ _ e, t)
+    number_other t = rw (ne_eqb _ _ e, t)
 
   -- by the tests, in their order
   pub good_old : not h.current ≡ true → good_verdict g store h payload ≡ Refuse NotCurrent
@@ -98,9 +98,9 @@ module _ (g : Gathering) (store : List ℕ) (h : Heading) (payload : List ℕ) w
   good_old c = rw c
 
   module _ (c : not h.current ≡ false) where
-    pub good-other : not (begins g h || agrees g h) ≡ true → good_verdict g store h payload ≡ Refuse OtherHeading
+    pub good_other : not (begins g h || agrees g h) ≡ true → good_verdict g store h payload ≡ Refuse OtherHeading
     unfolding good_verdict
-    good-other a = rw (c, a)
+    good_other a = rw (c, a)
 
     pub good_short : not (begins g h || agrees g h) ≡ false → not (has_room (length store) h.last) ≡ true
         → good_verdict g store h payload ≡ Refuse StoreTooShort
@@ -113,27 +113,27 @@ module _ (g : Gathering) (store : List ℕ) (h : Heading) (payload : List ℕ) w
     good_begins b = rw (p.current, p.known, p.roomy, b)
 
     module _ (b : begins g h ≡ false) where
-      pub good-spoiled : (g.spoiled ≡ 0 → ⊥) → good_verdict g store h payload ≡ Refuse Contradiction
+      pub good_spoiled : (g.spoiled ≡ 0 → ⊥) → good_verdict g store h payload ≡ Refuse Contradiction
       unfolding good_verdict
-      good-spoiled s = rw (p.current, p.known, p.roomy, b, ne_eqb _ _ s)
+      good_spoiled s = rw (p.current, p.known, p.roomy, b, ne_eqb _ _ s)
 
-      pub good-further : g.spoiled ≡ 0 → good_verdict g store h payload ≡ number_verdict g store h payload
+      pub good_further : g.spoiled ≡ 0 → good_verdict g store h payload ≡ number_verdict g store h payload
       unfolding good_verdict
-      good-further s = rw (p.current, p.known, p.roomy, b, eq-eqb _ _ s)
+      good_further s = rw (p.current, p.known, p.roomy, b, eq-eqb _ _ s)
 
 module _ (g : Gathering) (store s : List ℕ) where
-  pub verdict-impossible : possible_of g ≡ false → verdict_of g store s ≡ Refuse ImpossibleState
+  pub verdict_impossible : possible_of g ≡ false → verdict_of g store s ≡ Refuse ImpossibleState
   unfolding verdict_of
-  verdict-impossible p = rw p
+  verdict_impossible p = rw p
 
   module _ (p : possible_of g ≡ true) where
-    pub verdict-bad : (r : Refusal) → read_section s ≡ NotGood r → verdict_of g store s ≡ Refuse r
+    pub verdict_bad : (r : Refusal) → read_section s ≡ NotGood r → verdict_of g store s ≡ Refuse r
     unfolding verdict_of section_verdict
-    verdict-bad r e = rw (p, e)
+    verdict_bad r e = rw (p, e)
 
-    pub verdict-good : (h : Heading) (n : ℕ) → read_section s ≡ Good h n → verdict_of g store s ≡ good_verdict g store h (payload_of s)
+    pub verdict_good : (h : Heading) (n : ℕ) → read_section s ≡ Good h n → verdict_of g store s ≡ good_verdict g store h (payload_of s)
     unfolding verdict_of section_verdict
-    verdict-good h n e = rw (p, e)
+    verdict_good h n e = rw (p, e)
 
 -- what feeding has to know of a good section
 pub record Sized (s : List ℕ) (h : Heading) (n : ℕ) : Type 0 where
@@ -146,7 +146,7 @@ pub sized : (s : List ℕ) (h : Heading) (n : ℕ) → read_section s ≡ Good h
 unfolding heading_of
 sized s h n e =
     let a = accepted s h n e in
-    record { long = accepted-length s h n a; short = accepted-short s h n a; numbered = rw a.heading a.ordered; versioned = rw a.heading (omega arith) }
+    record { long = accepted_length s h n a; short = accepted_short s h n a; numbered = rw a.heading a.ordered; versioned = rw a.heading (omega arith) }
 
 -- the part of it that is handed on is its payload
 pub payload_part : (s : List ℕ) (h : Heading) (n : ℕ) → Sized s h n → take (8 + n - 8) (drop 8 s) ≡ payload_of s
@@ -168,32 +168,32 @@ pub data Decided (g : Gathering) (store : List ℕ) (h : Heading) (payload : Lis
   clash : Heard g store h → (get_or g.held h.number 0 ≡ 0 → ⊥) → (held_payload g store h.number ≡ payload → ⊥) → Decided g store h payload Contradict
 
 module _ (g : Gathering) (store : List ℕ) (h : Heading) (payload : List ℕ) where
-  decided-number : Heard g store h → (n : Bool) → eqb (get_or g.held h.number 0) 0 ≡ n → (b : Bool) → same_bytes (held_payload g store h.number) payload ≡ b
+  decided_number : Heard g store h → (n : Bool) → eqb (get_or g.held h.number 0) 0 ≡ n → (b : Bool) → same_bytes (held_payload g store h.number) payload ≡ b
       → Decided g store h payload (number_verdict g store h payload)
-  decided-number d true e b f = let z = eqb-true _ _ e in rw (number-new g store h payload z) (new d z)
-  decided-number d false e true f = let z = eqb-false _ _ e in rw (number_same g store h payload z f) (again d z (same_is _ _ f))
-  decided-number d false e false f = let z = eqb-false _ _ e in rw (number-other g store h payload z f) (clash d z (λ q. false≢true (sym f ∙ rw q (same_refl payload))))
+  decided_number d true e b f = let z = eqb-true _ _ e in rw (number_new g store h payload z) (new d z)
+  decided_number d false e true f = let z = eqb-false _ _ e in rw (number_same g store h payload z f) (again d z (same_is _ _ f))
+  decided_number d false e false f = let z = eqb-false _ _ e in rw (number_other g store h payload z f) (clash d z (λ q. false≢true (sym f ∙ rw q (same_refl payload))))
 
-  decided-by : (c : Bool) → h.current ≡ c → (b : Bool) → begins g h ≡ b → (a : Bool) → agrees g h ≡ a → (r : Bool) → has_room (length store) h.last ≡ r
+  decided_by : (c : Bool) → h.current ≡ c → (b : Bool) → begins g h ≡ b → (a : Bool) → agrees g h ≡ a → (r : Bool) → has_room (length store) h.last ≡ r
       → (s : Bool) → eqb g.spoiled 0 ≡ s → Decided g store h payload (good_verdict g store h payload)
-  decided-by false c b o a p r q s x = rw (good_old g store h payload (rw c)) (old c)
-  decided-by true c false o false p r q s x = rw (good-other g store h payload (rw c) (rw (o, p))) (other c o p)
-  decided-by true c true o a p false q s x = rw (good_short g store h payload (rw c) (rw o) (rw q)) (short c (rw o) q)
-  decided-by true c true o a p true q s x =
+  decided_by false c b o a p r q s x = rw (good_old g store h payload (rw c)) (old c)
+  decided_by true c false o false p r q s x = rw (good_other g store h payload (rw c) (rw (o, p))) (other c o p)
+  decided_by true c true o a p false q s x = rw (good_short g store h payload (rw c) (rw o) (rw q)) (short c (rw o) q)
+  decided_by true c true o a p true q s x =
       rw (good_begins g store h payload (record { current = rw c; known = rw o; roomy = rw q }) o) (begun c o q)
-  decided-by true c false o true p false q s x = rw (good_short g store h payload (rw c) (rw (o, p)) (rw q)) (short c (rw (o, p)) q)
-  decided-by true c false o true p true q false x =
+  decided_by true c false o true p false q s x = rw (good_short g store h payload (rw c) (rw (o, p)) (rw q)) (short c (rw (o, p)) q)
+  decided_by true c false o true p true q false x =
       let z = eqb-false _ _ x in
-      rw (good-spoiled g store h payload (record { current = rw c; known = rw (o, p); roomy = rw q }) o z) (spoiled c o p q z)
-  decided-by true c false o true p true q true x =
+      rw (good_spoiled g store h payload (record { current = rw c; known = rw (o, p); roomy = rw q }) o z) (spoiled c o p q z)
+  decided_by true c false o true p true q true x =
       let z = eqb-true _ _ x in
       let d : Heard g store h = record { current = c; further = o; agreed = p; roomy = q; calm = z } in
-      rw (good-further g store h payload (record { current = rw c; known = rw (o, p); roomy = rw q }) o z)
-      (decided-number d (eqb (get_or g.held h.number 0) 0) refl (same_bytes (held_payload g store h.number) payload) refl)
+      rw (good_further g store h payload (record { current = rw c; known = rw (o, p); roomy = rw q }) o z)
+      (decided_number d (eqb (get_or g.held h.number 0) 0) refl (same_bytes (held_payload g store h.number) payload) refl)
 
   pub decided : Decided g store h payload (good_verdict g store h payload)
   decided =
-      decided-by h.current refl (begins g h) refl (agrees g h) refl (has_room (length store) h.last) refl (eqb g.spoiled 0) refl
+      decided_by h.current refl (begins g h) refl (agrees g h) refl (has_room (length store) h.last) refl (eqb g.spoiled 0) refl
 
 -- a verdict by which a section with the heading h is taken, as the first of its table or as a further one
 pub data TakenBy (h : Heading) (v : Verdict) : Type 0 where
@@ -214,44 +214,44 @@ pub record TakeIs (g : Gathering) (store s : List ℕ) (h : Heading) (v : Verdic
   pub further : v ≡ Take h → Further g h
 
 module _ (g : Gathering) (store s : List ℕ) (h : Heading) where
-  not-refused : {A : Type 0} (r : Refusal) → TakenBy h (Refuse r) → A
-  not-refused r (as_first e) = let z : ◌≡◌ {A = ℕ} 0 1 = cc in absurd (omega arith)
-  not-refused r (as_further e) = let z : ◌≡◌ {A = ℕ} 0 1 = cc in absurd (omega arith)
+  not_refused : {A : Type 0} (r : Refusal) → TakenBy h (Refuse r) → A
+  not_refused r (as_first e) = let z : ◌≡◌ {A = ℕ} 0 1 = cc in absurd (omega arith)
+  not_refused r (as_further e) = let z : ◌≡◌ {A = ℕ} 0 1 = cc in absurd (omega arith)
 
   module _ (p : possible_of g ≡ true) where
-    heard-further : (i : Heading) (n : ℕ) → read_section s ≡ Good i n → Heard g store i → get_or g.held i.number 0 ≡ 0 → Further g i
-    heard-further i n r d z =
+    heard_further : (i : Heading) (n : ℕ) → read_section s ≡ Good i n → Heard g store i → get_or g.held i.number 0 ≡ 0 → Further g i
+    heard_further i n r d z =
         let q = sized s i n r in
-        let a = agrees-is g i d.agreed in
+        let a = agrees_is g i d.agreed in
         let last = a.last in
-        record { begun = possible-begun g p (further-begun g i d.further); within = omega arith; new = z }
+        record { begun = possible_begun g p (further_begun g i d.further); within = omega arith; new = z }
 
-    take-good : (i : Heading) (n : ℕ) → read_section s ≡ Good i n → {v : Verdict} → Decided g store i (payload_of s) v → TakenBy h v → TakeIs g store s h v
-    take-good i n r (begun c b q) (as_first e) =
+    take_good : (i : Heading) (n : ℕ) → read_section s ≡ Good i n → {v : Verdict} → Decided g store i (payload_of s) v → TakenBy h v → TakeIs g store s h v
+    take_good i n r (begun c b q) (as_first e) =
         let same : i ≡ h = cc in
         rw (← same) (record { length_of = n; reads = r; roomy = q; further = λ t. let z : ◌≡◌ {A = ℕ} 0 1 = cc in absurd (omega arith) })
-    take-good i n r (new d z) (as_further e) =
+    take_good i n r (new d z) (as_further e) =
         let same : i ≡ h = cc in
-        rw (← same) (record { length_of = n; reads = r; roomy = d.roomy; further = λ t. heard-further i n r d z })
-    take-good i n r (begun c b q) (as_further e) = let z : ◌≡◌ {A = ℕ} 0 1 = cc in absurd (omega arith)
-    take-good i n r (new d z) (as_first e) = let z : ◌≡◌ {A = ℕ} 0 1 = cc in absurd (omega arith)
-    take-good i n r (old c) t = not-refused NotCurrent t
-    take-good i n r (other c b a) t = not-refused OtherHeading t
-    take-good i n r (short c b q) t = not-refused StoreTooShort t
-    take-good i n r (spoiled c b a q z) t = not-refused Contradiction t
-    take-good i n r (again d z q) (as_first e) = let z : ◌≡◌ {A = ℕ} 0 1 = cc in absurd (omega arith)
-    take-good i n r (again d z q) (as_further e) = let z : ◌≡◌ {A = ℕ} 0 1 = cc in absurd (omega arith)
-    take-good i n r (clash d z q) (as_first e) = let z : ◌≡◌ {A = ℕ} 0 1 = cc in absurd (omega arith)
-    take-good i n r (clash d z q) (as_further e) = let z : ◌≡◌ {A = ℕ} 0 1 = cc in absurd (omega arith)
+        rw (← same) (record { length_of = n; reads = r; roomy = d.roomy; further = λ t. heard_further i n r d z })
+    take_good i n r (begun c b q) (as_further e) = let z : ◌≡◌ {A = ℕ} 0 1 = cc in absurd (omega arith)
+    take_good i n r (new d z) (as_first e) = let z : ◌≡◌ {A = ℕ} 0 1 = cc in absurd (omega arith)
+    take_good i n r (old c) t = not_refused NotCurrent t
+    take_good i n r (other c b a) t = not_refused OtherHeading t
+    take_good i n r (short c b q) t = not_refused StoreTooShort t
+    take_good i n r (spoiled c b a q z) t = not_refused Contradiction t
+    take_good i n r (again d z q) (as_first e) = let z : ◌≡◌ {A = ℕ} 0 1 = cc in absurd (omega arith)
+    take_good i n r (again d z q) (as_further e) = let z : ◌≡◌ {A = ℕ} 0 1 = cc in absurd (omega arith)
+    take_good i n r (clash d z q) (as_first e) = let z : ◌≡◌ {A = ℕ} 0 1 = cc in absurd (omega arith)
+    take_good i n r (clash d z q) (as_further e) = let z : ◌≡◌ {A = ℕ} 0 1 = cc in absurd (omega arith)
 
-    take-read : (a : Sectioned) → read_section s ≡ a → TakenBy h (verdict_of g store s) → TakeIs g store s h (verdict_of g store s)
-    take-read (NotGood r) f t = not-refused r (rw (verdict-bad g store s p r f) at t)
-    take-read (Good i n) f t =
-        rw (verdict-good g store s p i n f) (take-good i n f (decided g store i (payload_of s)) (rw (verdict-good g store s p i n f) at t))
+    take_read : (a : Sectioned) → read_section s ≡ a → TakenBy h (verdict_of g store s) → TakeIs g store s h (verdict_of g store s)
+    take_read (NotGood r) f t = not_refused r (rw (verdict_bad g store s p r f) at t)
+    take_read (Good i n) f t =
+        rw (verdict_good g store s p i n f) (take_good i n f (decided g store i (payload_of s)) (rw (verdict_good g store s p i n f) at t))
 
-  pub take-is : TakenBy h (verdict_of g store s) → TakeIs g store s h (verdict_of g store s)
-  take-is t = go (possible_of g) refl
+  pub take_is : TakenBy h (verdict_of g store s) → TakeIs g store s h (verdict_of g store s)
+  take_is t = go (possible_of g) refl
     where
       go : (b : Bool) → possible_of g ≡ b → TakeIs g store s h (verdict_of g store s)
-      go true p = take-read p (read_section s) refl t
-      go false p = not-refused ImpossibleState (rw (verdict-impossible g store s p) at t)
+      go true p = take_read p (read_section s) refl t
+      go false p = not_refused ImpossibleState (rw (verdict_impossible g store s p) at t)

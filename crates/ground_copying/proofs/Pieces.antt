@@ -6,7 +6,7 @@ use native.Mathlib.Omega.{arith}
 use lib.ListN.{length, take, drop, length-append, length-drop}
 use lib.Seq.{length-take-le, take-append-le, take-take, take-add, drop-drop, take_all, drop-length}
 use Rattle.ground_placing.specs.Placed.{placed}
-use Rattle.ground_placing.proofs.Placing.{placed-next, placed-back, placed-length, placed_start, placed_whole}
+use Rattle.ground_placing.proofs.Placing.{placed_next, placed_back, placed_length, placed_start, placed_whole}
 
 -- a piece that fills its array is the array
 held_is : (d s : List ℕ) → length d ≡ length s → placed d 0 s ≡ s
@@ -28,7 +28,7 @@ over d at s t room h =
         let z : at + length s + (length t - length s) ≡ at + length t = omega arith in
         ap (λ n. drop n (take at d ++ s ++ drop (at + length s) d)) (sym z)
         ∙ sym (drop-drop (length t - length s) (at + length s) (take at d ++ s ++ drop (at + length s) d))
-        ∙ ap (drop (length t - length s)) (placed-back d at s room)
+        ∙ ap (drop (length t - length s)) (placed_back d at s room)
         ∙ drop-drop (length t - length s) (at + length s) d
         ∙ ap (λ n. drop n d) z
 
@@ -43,11 +43,11 @@ piece d at s i j m room h k l =
     let z : j + (i - j) ≡ i = omega arith in
     let first : placed d at (take i s) ≡ placed (placed d at (take j s)) (at + j) t =
     ap (placed d at) (ap (λ n. take n s) (sym z) ∙ take-add j (i - j) s)
-    ∙ sym (placed-next d at (take j s) (omega arith) t (at + j) (ap (λ n. at + n) (sym lj))) in
-    let ln : length (placed d at (take j s)) ≡ length d = placed-length d at (take j s) (omega arith) in
+    ∙ sym (placed_next d at (take j s) (omega arith) t (at + j) (ap (λ n. at + n) (sym lj))) in
+    let ln : length (placed d at (take j s)) ≡ length d = placed_length d at (take j s) (omega arith) in
     ap (λ x. placed x (at + j) (take m (drop j s))) first
     ∙ over (placed d at (take j s)) (at + j) t (take m (drop j s)) (omega arith) (omega arith)
-    ∙ placed-next d at (take j s) (omega arith) (take m (drop j s)) (at + j) (ap (λ n. at + n) (sym lj))
+    ∙ placed_next d at (take j s) (omega arith) (take m (drop j s)) (at + j) (ap (λ n. at + n) (sym lj))
     ∙ ap (placed d at) (sym (take-add j m s))
 
 -- a piece of k bytes that went through an array of its own

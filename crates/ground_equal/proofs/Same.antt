@@ -41,8 +41,8 @@ none_differ d x y = go (eqb d 0) refl (eqb x y) refl
         let r = and_le_r d (bit_xor x y) in
         (omega arith, omega arith)
 
-    xor-none : bit_xor x y ≡ 0 → x ≡ y
-    xor-none e =
+    xor_none : bit_xor x y ≡ 0 → x ≡ y
+    xor_none e =
         let s = xor_add_and x y in
         let l = and_le_l x y in
         let r = and_le_r x y in
@@ -51,7 +51,7 @@ none_differ d x y = go (eqb d 0) refl (eqb x y) refl
     go : (p : Bool) → eqb d 0 ≡ p → (q : Bool) → eqb x y ≡ q → eqb (bit_or d (bit_xor x y)) 0 ≡ p && q
     go true e true f =
         eq-eqb _ _ (ap₂ bit_or (eqb-true d 0 e) (ap (bit_xor x) (sym (eqb-true x y f)) ∙ xor_self x) ∙ or_zero_l 0)
-    go true e false f = ne_eqb _ _ (λ z. false≢true (sym f ∙ eq-eqb x y (xor-none (or_none z).1)))
+    go true e false f = ne_eqb _ _ (λ z. false≢true (sym f ∙ eq-eqb x y (xor_none (or_none z).1)))
     go false e q f = ne_eqb _ _ (λ z. false≢true (sym e ∙ eq-eqb d 0 (or_none z).0))
 
 module _ (a b : List ℕ) (i : ℕ) (l : length a ≡ length b) (d : ℕ) (e : same_bytes a b ≡ eqb d 0 && same_bytes (drop i a) (drop i b)) where

@@ -6,7 +6,7 @@ use native.Mathlib.Omega.{arith}
 use lib.ListN.{length, take, drop, length-drop, take-append-drop}
 use lib.Seq.{length-take-le, take-add, drop-drop}
 use Rattle.ground_placing.specs.Placed.{placed}
-use Rattle.ground_placing.proofs.Placing.{placed_start, placed_none, placed-back, placed-next, placed-length}
+use Rattle.ground_placing.proofs.Placing.{placed_start, placed_none, placed_back, placed_next, placed_length}
 
 -- the n bytes that are moved
 abbrev pub moved : List ℕ → ℕ → ℕ → List ℕ
@@ -55,7 +55,7 @@ module _ (d : List ℕ) (from to n : ℕ) (front : to ≤ from) (room : from + n
     past =
         let w = m.within in
         let long = moved_long d from i (omega arith) in
-        rw m.stands (rw long at (placed-back d to (moved d from i) (omega arith)))
+        rw m.stands (rw long at (placed_back d to (moved d from i) (omega arith)))
 
     -- so is what is read next: it lies there, since the bytes move towards the front
     unread : (k : ℕ) → moved d' (from + i) k ≡ take k (drop i (drop from d))
@@ -72,13 +72,13 @@ module _ (d : List ℕ) (from to n : ℕ) (front : to ≤ from) (room : from + n
         let now : out ≡ placed d to (moved d from (n - (left - k))) =
         e ∙ ap (placed d' (to + i)) (unread k)
         ∙ ap (λ (x : List ℕ). placed x (to + i) next) m.stands
-        ∙ placed-next d to (moved d from i) (omega arith) next (to + i) (ap (λ (l : ℕ). to + l) (sym first))
+        ∙ placed_next d to (moved d from i) (omega arith) next (to + i) (ap (λ (l : ℕ). to + l) (sym first))
         ∙ ap (placed d to) (sym (take-add i k (drop from d)) ∙ ap (moved d from) more) in
-        record { within = omega arith; stands = now; long = ap length now ∙ placed-length d to (moved d from (n - (left - k))) (omega arith) }
+        record { within = omega arith; stands = now; long = ap length now ∙ placed_length d to (moved d from (n - (left - k))) (omega arith) }
 
     -- the bytes that are left
-    pub move-end : (out : List ℕ) → out ≡ placed d' (to + i) (moved d' (from + i) left) → (out ≡ placed d to (moved d from n)) × (length out ≡ length d)
-    move-end out e =
+    pub move_end : (out : List ℕ) → out ≡ placed d' (to + i) (moved d' (from + i) left) → (out ≡ placed d to (moved d from n)) × (length out ≡ length d)
+    move_end out e =
         let last = move_step left (omega arith) out e in
         let all : n - (left - left) ≡ n = omega arith in
         (last.stands ∙ ap (λ (l : ℕ). placed d to (moved d from l)) all, last.long)

@@ -11,15 +11,15 @@ module _ (low n high : ℕ) where
   pub within : low ≤ n → n ≤ high → (leb low n && leb n high) ≡ true
   within h h' = rw (le-leb low n h, le-leb n high h')
 
-  pub not-from : n < low → (leb low n && leb n high) ≡ false
-  not-from h = rw (lt-leb low n h)
+  pub not_from : n < low → (leb low n && leb n high) ≡ false
+  not_from h = rw (lt-leb low n h)
 
   pub from_then : low ≤ n → (leb low n && leb n high) ≡ leb n high
   from_then h = rw (le-leb low n h)
 
-  pub within-known : (leb low n && leb n high) ≡ true → (low ≤ n) × (n ≤ high)
-  within-known e = let t = both (leb low n) (leb n high) e in (leb-true low n t.0, leb-true n high t.1)
+  pub within_known : (leb low n && leb n high) ≡ true → (low ≤ n) × (n ≤ high)
+  within_known e = let t = both (leb low n) (leb n high) e in (leb-true low n t.0, leb-true n high t.1)
 
 -- a digit lies between '0' and '9'
 pub digit_within : (c : ℕ) → is_digit c ≡ true → (0x30 ≤ c) × (c ≤ 0x39)
-digit_within c e = within-known 0x30 c 0x39 e
+digit_within c e = within_known 0x30 c 0x39 e

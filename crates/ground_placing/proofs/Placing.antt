@@ -29,9 +29,9 @@ module _ (d : List ℕ) (at : ℕ) (s : List ℕ) (i : ℕ) (d' : List ℕ) (e :
   unfolding copying
   copy_step room h = rw (e, add-one) (paste-suc d at s i 0 (omega arith) h)
 
-  pub copy-end : i ≤ length s → length s ≤ i → d' ≡ placed d at s
+  pub copy_end : i ≤ length s → length s ≤ i → d' ≡ placed d at s
   unfolding copying placed
-  copy-end h h' = rw (e, le_antisymm h h', take-length)
+  copy_end h h' = rw (e, le_antisymm h h', take-length)
 
 -- ---- one part after another
 
@@ -39,31 +39,31 @@ module _ (d : List ℕ) (at : ℕ) (s : List ℕ) (room : at + length s ≤ leng
   front : length (take at d ++ s) ≡ at + length s
   front = length-append (take at d) s ∙ ap (λ (n : ℕ). n + length s) (length-take-le at d (omega arith))
 
-  pub placed-front : take (at + length s) (placed d at s) ≡ take at d ++ s
+  pub placed_front : take (at + length s) (placed d at s) ≡ take at d ++ s
   unfolding placed
-  placed-front = take_at (take at d ++ s) (drop (at + length s) d) (at + length s) front
+  placed_front = take_at (take at d ++ s) (drop (at + length s) d) (at + length s) front
 
-  pub placed-back : drop (at + length s) (placed d at s) ≡ drop (at + length s) d
+  pub placed_back : drop (at + length s) (placed d at s) ≡ drop (at + length s) d
   unfolding placed
-  placed-back = drop_at (take at d ++ s) (drop (at + length s) d) (at + length s) front
+  placed_back = drop_at (take at d ++ s) (drop (at + length s) d) (at + length s) front
 
-  pub placed-length : length (placed d at s) ≡ length d
+  pub placed_length : length (placed d at s) ≡ length d
   unfolding placed
-  placed-length = length-append (take at d ++ s) (drop (at + length s) d) ∙ rw (front, length-drop) (omega arith)
+  placed_length = length-append (take at d ++ s) (drop (at + length s) d) ∙ rw (front, length-drop) (omega arith)
 
-  unfold-placed : (t : List ℕ) (k : ℕ) → placed (placed d at s) k t ≡ take k (placed d at s) ++ t ++ drop (k + length t) (placed d at s)
+  unfold_placed : (t : List ℕ) (k : ℕ) → placed (placed d at s) k t ≡ take k (placed d at s) ++ t ++ drop (k + length t) (placed d at s)
   unfolding placed
-  unfold-placed t k = refl
+  unfold_placed t k = refl
 
   laid : (t : List ℕ) → take at d ++ s ++ t ++ drop (at + length s + length t) d ≡ placed d at (s ++ t)
   unfolding placed
   laid t = rw (append_assoc (take at d) s t, length-append s t, add_assoc)
 
-  pub placed-next : (t : List ℕ) (k : ℕ) → k ≡ at + length s → placed (placed d at s) k t ≡ placed d at (s ++ t)
-  placed-next t k e =
+  pub placed_next : (t : List ℕ) (k : ℕ) → k ≡ at + length s → placed (placed d at s) k t ≡ placed d at (s ++ t)
+  placed_next t k e =
       rw e
-      (unfold-placed t (at + length s)
-      ∙ rw (placed-front, ← (drop-drop (length t) (at + length s) (placed d at s)), placed-back, drop-drop (length t) (at + length s) d) (laid t))
+      (unfold_placed t (at + length s)
+      ∙ rw (placed_front, ← (drop-drop (length t) (at + length s) (placed d at s)), placed_back, drop-drop (length t) (at + length s) d) (laid t))
 
 -- bytes laid before others
 pub placed_before : (d : List ℕ) (at : ℕ) (s t : List ℕ) (k : ℕ) → k ≡ at + length s → k + length t ≤ length d → placed (placed d k t) at s ≡ placed d at (s ++ t)

@@ -5,14 +5,14 @@ use mathlib.Core.List.{List, [], ◌++◌}
 use native.Mathlib.Omega.{arith}
 use native.Mathlib.Nat.{add-zero, zero-add, add_assoc}
 use lib.ListN.{length, drop, length-append}
-use Rattle.ground_placing.proofs.Placing.{placed-length, placed-next, placed_none, placed_whole}
+use Rattle.ground_placing.proofs.Placing.{placed_length, placed_next, placed_none, placed_whole}
 use Rattle.ground_placing.specs.Put.{Put}
 
 pub room_first : (at : ℕ) (xs ys : List ℕ) {n : ℕ} → at + length (xs ++ ys) ≤ n → at + length xs ≤ n
 room_first at xs ys h = omega (arith, length-append xs ys)
 
 pub put_length : {d : List ℕ} {at : ℕ} {xs e : List ℕ} {a : ℕ} → Put d at xs e a → length e ≡ length d
-put_length {d} {at} {xs} p = ap length p.written ∙ placed-length d at xs p.fits
+put_length {d} {at} {xs} p = ap length p.written ∙ placed_length d at xs p.fits
 
 -- what has room after the first has room at the place that the first answers
 pub put_room : {d : List ℕ} {at : ℕ} {xs e : List ℕ} {a : ℕ} (ys : List ℕ)
@@ -28,7 +28,7 @@ put_then {d} {at} {xs} {e} {a} {ys} p q =
     let n = length-append xs ys in
     record {
       fits = omega (arith, n, put_length p, p.after, q.fits);
-      written = q.written ∙ rw p.written (placed-next d at xs p.fits ys a p.after);
+      written = q.written ∙ rw p.written (placed_next d at xs p.fits ys a p.after);
       after = q.after ∙ rw (p.after, n) (add_assoc at (length xs) (length ys));
     }
 

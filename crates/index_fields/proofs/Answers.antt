@@ -42,9 +42,9 @@ and_none t u e = rw e
 -- ---- the table
 
 module _ (s : List ℕ) where
-  pub signature-no : (r : Refusal) → NoStep r ≡ ended (list_of (count 1) (opaque 2)) s (length s) 0 → NoPart r ≡ signature_part s
+  pub signature_no : (r : Refusal) → NoStep r ≡ ended (list_of (count 1) (opaque 2)) s (length s) 0 → NoPart r ≡ signature_part s
   unfolding signature_part
-  signature-no r e = rw (step_refused (list_of (count 1) (opaque 2)) s (length s) 0 r e)
+  signature_no r e = rw (step_refused (list_of (count 1) (opaque 2)) s (length s) 0 r e)
 
   pub signature_is : (q : ℕ) → At q ≡ ended (list_of (count 1) (opaque 2)) s (length s) 0 → part_read 2 s (length s) q ≡ signature_part s
   unfolding signature_part part_read
@@ -82,24 +82,24 @@ module _ (s : List ℕ) (at n : ℕ) where
   unfolding network
   network_is b = number_in s at n 2 network_place b
 
-  pub extension-no : leb (at + n) (length s) ≡ false → NoNumber (OutsideSet 0) ≡ extension s at n
+  pub extension_no : leb (at + n) (length s) ≡ false → NoNumber (OutsideSet 0) ≡ extension s at n
   unfolding extension
-  extension-no e = rw e
+  extension_no e = rw e
 
   pub extension_is : leb (at + n) (length s) ≡ true → extension_at s (at + n) at ≡ extension s at n
   unfolding extension
   extension_is e = rw e
 
-  pub identifier-digit-no : (i : ℕ) → leb (at + n) (length s) ≡ false → NoNumber (OutsideSet 0) ≡ identifier_digit s at n i
+  pub identifier_digit_no : (i : ℕ) → leb (at + n) (length s) ≡ false → NoNumber (OutsideSet 0) ≡ identifier_digit s at n i
   unfolding identifier_digit
-  identifier-digit-no i e = rw e
+  identifier_digit_no i e = rw e
 
-  pub identifier-digit-is : (i : ℕ) → leb (at + n) (length s) ≡ true → digit_read identifier i s (at + n) at ≡ identifier_digit s at n i
+  pub identifier_digit_is : (i : ℕ) → leb (at + n) (length s) ≡ true → digit_read identifier i s (at + n) at ≡ identifier_digit s at n i
   unfolding identifier_digit
-  identifier-digit-is i e = rw e
+  identifier_digit_is i e = rw e
 
-  split-in : field_in (nibbles_among 1 4) class_place s at n ≡ and_then (field_in (count 1) class_place s at n) (split (at + class_place))
-  split-in = rw (split_byte s (at + n) (at + class_place)) (go (leb (at + n) (length s)))
+  split_in : field_in (nibbles_among 1 4) class_place s at n ≡ and_then (field_in (count 1) class_place s at n) (split (at + class_place))
+  split_in = rw (split_byte s (at + n) (at + class_place)) (go (leb (at + n) (length s)))
     where
       go : (t : Bool) → need t (OutsideSet 0) (and_then ((count 1).parse s (at + n) (at + class_place)) (split (at + class_place)))
           ≡ and_then (need t (OutsideSet 0) ((count 1).parse s (at + n) (at + class_place))) (split (at + class_place))
@@ -109,18 +109,18 @@ module _ (s : List ℕ) (at n : ℕ) where
   abbrev shared : Reading ℕ
   shared = and_then (field_in (nibbles_among 1 4) class_place s at n) (λ x q. found (x.0 * 16 + x.1) q)
 
-  pub shared-no : (r : Refusal) → NoNumber r ≡ number_of (field_in (count 1) class_place s at n) → NoNumber r ≡ number_of shared
-  shared-no r e = rw (split-in, number_refused (field_in (count 1) class_place s at n) r e)
+  pub shared_no : (r : Refusal) → NoNumber r ≡ number_of (field_in (count 1) class_place s at n) → NoNumber r ≡ number_of shared
+  shared_no r e = rw (split_in, number_refused (field_in (count 1) class_place s at n) r e)
 
   module _ (b q : ℕ) (e : Is b q ≡ number_of (field_in (count 1) class_place s at n)) where
-    pub shared-in : at + n ≤ length s
-    shared-in = (found_in s at n (count 1) class_place b q (number_found (field_in (count 1) class_place s at n) b q e)).0
+    pub shared_in : at + n ≤ length s
+    shared_in = (found_in s at n (count 1) class_place b q (number_found (field_in (count 1) class_place s at n) b q e)).0
 
-    pub shared-is : halves_good b ≡ true → Is b q ≡ number_of shared
-    shared-is h = rw (split-in, number_found (field_in (count 1) class_place s at n) b q e, h, div-add-mod' b 16)
+    pub shared_is : halves_good b ≡ true → Is b q ≡ number_of shared
+    shared_is h = rw (split_in, number_found (field_in (count 1) class_place s at n) b q e, h, div-add-mod' b 16)
 
-    pub shared-bad : halves_good b ≡ false → NoNumber (OutsideSet (at + class_place)) ≡ number_of shared
-    shared-bad h = rw (split-in, number_found (field_in (count 1) class_place s at n) b q e, h)
+    pub shared_bad : halves_good b ≡ false → NoNumber (OutsideSet (at + class_place)) ≡ number_of shared
+    shared_bad h = rw (split_in, number_found (field_in (count 1) class_place s at n) b q e, h)
 
   -- both are answered, from the byte, or neither is
   module _ (r : Refusal) (e : NoNumber r ≡ number_of shared) where
@@ -131,19 +131,19 @@ module _ (s : List ℕ) (at n : ℕ) where
         go (refused t) f = let z : t ≡ r = cc in ap refused z
         go (found x q) f = absurd (let z : ◌≡◌ {A = ℕ} 0 1 = cc in omega arith)
 
-    pub class-no : NoNumber r ≡ class s at n
+    pub class_no : NoNumber r ≡ class s at n
     unfolding class
-    class-no = rw none
+    class_no = rw none
 
-    pub level-no : NoNumber r ≡ level s at n
+    pub level_no : NoNumber r ≡ level s at n
     unfolding level
-    level-no = rw none
+    level_no = rw none
 
   module _ (b q : ℕ) (e : Is b q ≡ number_of shared) where
     halved : field_in (nibbles_among 1 4) class_place s at n ≡ found (b / 16, b % 16) q
     halved =
         let i = and_then_found (field_in (nibbles_among 1 4) class_place s at n) _ b q (number_found shared b q e) in
-        let j = and_then_found (field_in (count 1) class_place s at n) (split (at + class_place)) i.0 i.1 (sym split-in ∙ i.2) in
+        let j = and_then_found (field_in (count 1) class_place s at n) (split (at + class_place)) i.0 i.1 (sym split_in ∙ i.2) in
         let y = j.0 in
         let k = found_inj (judged_found (unless (halves_good y) (OutsideSet (at + class_place))) (found (y / 16, y % 16) j.1) i.0 i.1 j.3).1 in
         let same : y ≡ b = sym (div-add-mod' y 16) ∙ ap (λ (x : ℕ × ℕ). x.0 * 16 + x.1) k.0 ∙ (found_inj i.3).0 in
@@ -160,94 +160,94 @@ module _ (s : List ℕ) (at n : ℕ) where
   -- ---- resources
 
   module _ (r : Refusal) (e : NoNumber r ≡ resource_count s at n) where
-    pub resource-no : (i : ℕ) → NoNumber r ≡ number_of (resource_at s at n i)
+    pub resource_no : (i : ℕ) → NoNumber r ≡ number_of (resource_at s at n i)
     unfolding resource_count resource_at
-    resource-no i = rw (number_refused (field_in (count 1) resource_count_place s at n) r e)
+    resource_no i = rw (number_refused (field_in (count 1) resource_count_place s at n) r e)
 
-    pub flag-no : NoNumber r ≡ flag s at n
+    pub flag_no : NoNumber r ≡ flag s at n
     unfolding resource_count flag flag_at
-    flag-no = rw (number_refused (field_in (count 1) resource_count_place s at n) r e)
+    flag_no = rw (number_refused (field_in (count 1) resource_count_place s at n) r e)
 
   module _ (m q : ℕ) (e : Is m q ≡ resource_count s at n) where
-    counted-there : field_in (count 1) resource_count_place s at n ≡ found m q
+    counted_there : field_in (count 1) resource_count_place s at n ≡ found m q
     unfolding resource_count
-    counted-there = number_found (field_in (count 1) resource_count_place s at n) m q e
+    counted_there = number_found (field_in (count 1) resource_count_place s at n) m q e
 
-    pub resources-in : Bytes s → (at + n ≤ length s) × (q ≤ length s) × (m < 256)
+    pub resources_in : Bytes s → (at + n ≤ length s) × (q ≤ length s) × (m < 256)
     unfolding count
-    resources-in b =
-        let f = found_in s at n (count 1) resource_count_place m q counted-there in
+    resources_in b =
+        let f = found_in s at n (count 1) resource_count_place m q counted_there in
         let w = within_found s (at + n) (at + resource_count_place) (at + resource_count_place + 1) _ m q f.1 in
         let i = found_inj w.2 in
         (f.0, rw (← i.1) w.0, rw (← i.0) (number_below s (at + resource_count_place) 1 b))
 
-    pub resource-none : (i : ℕ) → m ≤ i → NoNumber (OutsideSet 0) ≡ number_of (resource_at s at n i)
+    pub resource_none : (i : ℕ) → m ≤ i → NoNumber (OutsideSet 0) ≡ number_of (resource_at s at n i)
     unfolding resource_at
-    resource-none i h = rw (counted-there, le-ltb i m h)
+    resource_none i h = rw (counted_there, le-ltb i m h)
 
     pub resource_is : (i : ℕ) → i < m → Is m (q + resource_bytes * i) ≡ number_of (resource_at s at n i)
     unfolding resource_at
-    resource_is i h = rw (counted-there, lt-ltb i m h)
+    resource_is i h = rw (counted_there, lt-ltb i m h)
 
     pub flag_is : number_of ((reserved 7 0).parse s (at + n) (q + resource_bytes * m)) ≡ flag s at n
     unfolding flag flag_at
-    flag_is = rw counted-there
+    flag_is = rw counted_there
 
   module _ (i : ℕ) (r : Refusal) (e : NoNumber r ≡ number_of (resource_at s at n i)) where
-    pub resource-part-no : NoPart r ≡ resource_part s at n i
+    pub resource_part_no : NoPart r ≡ resource_part s at n i
     unfolding resource_part
-    resource-part-no = rw (number_refused (resource_at s at n i) r e)
+    resource_part_no = rw (number_refused (resource_at s at n i) r e)
 
-    pub resource-digit-no : (j : ℕ) → NoNumber r ≡ resource_digit s at n i j
+    pub resource_digit_no : (j : ℕ) → NoNumber r ≡ resource_digit s at n i j
     unfolding resource_digit
-    resource-digit-no j = rw (number_refused (resource_at s at n i) r e)
+    resource_digit_no j = rw (number_refused (resource_at s at n i) r e)
 
   module _ (i m p : ℕ) (e : Is m p ≡ number_of (resource_at s at n i)) where
-    resource-there : (at + n ≤ length s) × (p ≡ at + resources_place + resource_bytes * i)
+    resource_there : (at + n ≤ length s) × (p ≡ at + resources_place + resource_bytes * i)
     unfolding resource_at count
-    resource-there =
+    resource_there =
         let f = and_then_found (field_in (count 1) resource_count_place s at n) _ m p (number_found (resource_at s at n i) m p e) in
         let g = found_in s at n (count 1) resource_count_place f.0 f.1 f.2 in
         let w = within_found s (at + n) (at + resource_count_place) (at + resource_count_place + 1) _ f.0 f.1 g.1 in
         let t = need_found (ltb i f.0) (OutsideSet 0) _ m p f.3 in
         (g.0, omega (arith, (found_inj w.2).1, (found_inj t.1).1))
 
-    pub resource-in : at + n ≤ length s
-    resource-in = resource-there.0
+    pub resource_in : at + n ≤ length s
+    resource_in = resource_there.0
 
-    pub resource-part : field_part p (resource.parse s (at + n) p) ≡ resource_part s at n i
+    pub resource_part_lem : field_part p (resource.parse s (at + n) p) ≡ resource_part s at n i
     unfolding resource_part
-    resource-part = rw (number_found (resource_at s at n i) m p e, resource-there.1)
+    resource_part_lem = rw (number_found (resource_at s at n i) m p e, resource_there.1)
 
-    pub resource-digit : (j : ℕ) → digit_read resource j s (at + n) p ≡ resource_digit s at n i j
+    pub resource_digit_lem : (j : ℕ) → digit_read resource j s (at + n) p ≡ resource_digit s at n i j
     unfolding resource_digit
-    resource-digit j = rw (number_found (resource_at s at n i) m p e)
+    resource_digit_lem j = rw (number_found (resource_at s at n i) m p e)
 
   -- ---- the channel
 
-  pub channel-no : (r : Refusal) → NoNumber r ≡ flag s at n → NoNumber r ≡ number_of (channel_at s at n)
+  pub channel_no : (r : Refusal) → NoNumber r ≡ flag s at n → NoNumber r ≡ number_of (channel_at s at n)
   unfolding flag channel_at
-  channel-no r e = rw (number_refused (flag_at s at n) r e)
+  channel_no r e = rw (number_refused (flag_at s at n) r e)
 
   module _ (f q : ℕ) (e : Is f q ≡ flag s at n) where
-    pub channel-none : f ≤ 0 → NoNumber (OutsideSet 0) ≡ number_of (channel_at s at n)
+    pub channel_none : f ≤ 0 → NoNumber (OutsideSet 0) ≡ number_of (channel_at s at n)
     unfolding flag channel_at
-    channel-none h = rw (number_found (flag_at s at n) f q e, le-ltb 0 f h)
+    channel_none h = rw (number_found (flag_at s at n) f q e, le-ltb 0 f h)
 
-    pub channel-is : 0 < f → Is f q ≡ number_of (channel_at s at n)
+    pub channel_is : 0 < f → Is f q ≡ number_of (channel_at s at n)
     unfolding flag channel_at
-    channel-is h = rw (number_found (flag_at s at n) f q e, lt-ltb 0 f h)
+    channel_is h = rw (number_found (flag_at s at n) f q e, lt-ltb 0 f h)
 
-  pub in-channel-no : {A : Type 0} (F : Format A) (k : ℕ) (r : Refusal) → NoNumber r ≡ number_of (channel_at s at n) → refused r ≡ in_channel F k s at n
-  in-channel-no F k r e = rw (number_refused (channel_at s at n) r e)
+  pub in_channel_no : {A : Type 0} (F : Format A) (k : ℕ) (r : Refusal) → NoNumber r ≡ number_of (channel_at s at n) → refused r ≡ in_channel F k s at n
+  in_channel_no F k r e = rw (number_refused (channel_at s at n) r e)
 
   module _ (f q : ℕ) (e : Is f q ≡ number_of (channel_at s at n)) where
-    pub in-channel : {A : Type 0} (F : Format A) (k : ℕ) → F.parse s (at + n) (q + k) ≡ in_channel F k s at n
-    in-channel F k = rw (number_found (channel_at s at n) f q e)
+    pub in_channel_lem : {A : Type 0} (F : Format A) (k : ℕ) → F.parse s (at + n) (q + k) ≡ in_channel F k s at n
+    in_channel_lem F k = rw (number_found (channel_at s at n) f q e)
 
-    pub channel-in : (at + n ≤ length s) × (q ≤ length s)
+    pub channel_in : (at + n ≤ length s) × (q ≤ length s)
     unfolding channel_at flag_at
-    channel-in =
+    channel_in =
         let i = and_then_found (flag_at s at n) _ f q (number_found (channel_at s at n) f q e) in
         let j = need_found (ltb 0 i.0) (OutsideSet 0) _ f q i.3 in
         let g = and_then_found (field_in (count 1) resource_count_place s at n) _ i.0 i.1 i.2 in
@@ -257,29 +257,29 @@ module _ (s : List ℕ) (at n : ℕ) where
 -- ---- streams
 
 module _ (s : List ℕ) (at n : ℕ) where
-  pub streams-no : (r : Refusal) → NoPart r ≡ descriptors_part s at n → NoPart r ≡ streams_part s at n
+  pub streams_no : (r : Refusal) → NoPart r ≡ descriptors_part s at n → NoPart r ≡ streams_part s at n
   unfolding descriptors_part streams_part
-  streams-no r e = rw (part_refused (in_channel (counted length12 rest) channel_descriptors_place s at n) r e)
+  streams_no r e = rw (part_refused (in_channel (counted length12 rest) channel_descriptors_place s at n) r e)
 
-  descriptors-found : (xs : List ℕ) (q : ℕ) → in_channel (counted length12 rest) channel_descriptors_place s at n ≡ found xs q → (length xs ≤ q) × (q ≤ length s) × (at + n ≤ length s)
+  descriptors_found : (xs : List ℕ) (q : ℕ) → in_channel (counted length12 rest) channel_descriptors_place s at n ≡ found xs q → (length xs ≤ q) × (q ≤ length s) × (at + n ≤ length s)
   unfolding rest
-  descriptors-found xs q e =
+  descriptors_found xs q e =
       let i = and_then_found (channel_at s at n) _ xs q e in
       let h = counted_holds length12 rest s (at + n) (i.1 + 8) xs q i.3 in
       let f = found_inj h.inner in
       let m = length-take-le (h.at + h.size - h.at) (drop h.at s) (simp length-drop (omega (arith, h.in_body_lem))) in
-      (omega (arith, ap length f.0, f.1, m), omega (arith, f.1, h.in_body_lem), (channel-in s at n i.0 i.1 (ap number_of (sym i.2))).0)
+      (omega (arith, ap length f.0, f.1, m), omega (arith, f.1, h.in_body_lem), (channel_in s at n i.0 i.1 (ap number_of (sym i.2))).0)
 
   module _ (a m : ℕ) (e : Of a m ≡ descriptors_part s at n) where
     there : (xs : List ℕ) × (in_channel (counted length12 rest) channel_descriptors_place s at n ≡ found xs (a + m))
     unfolding descriptors_part
-    there = part_found (in_channel (counted length12 rest) channel_descriptors_place s at n) a m e (λ xs q f. (descriptors-found xs q f).0)
+    there = part_found (in_channel (counted length12 rest) channel_descriptors_place s at n) a m e (λ xs q f. (descriptors_found xs q f).0)
 
-    pub streams-in : (at + n ≤ length s) × (a + m ≤ length s)
-    streams-in =
-        let f = descriptors-found there.0 (a + m) there.1 in
+    pub streams_in : (at + n ≤ length s) × (a + m ≤ length s)
+    streams_in =
+        let f = descriptors_found there.0 (a + m) there.1 in
         (f.2, f.1)
 
-    pub streams-is : part_read 2 s (at + n) (a + m) ≡ streams_part s at n
+    pub streams_is : part_read 2 s (at + n) (a + m) ≡ streams_part s at n
     unfolding streams_part part_read
-    streams-is = rw there.1
+    streams_is = rw there.1

@@ -22,15 +22,15 @@ use Rattle.body_formats.proofs.Elements.{exact_found, view_found, followed_found
 use Rattle.body_formats.proofs.RoundTrips as trips
 use Rattle.body_formats.specs.Resource.{resource_pairs, resource_bytes, resource}
 use Rattle.body_formats.specs.Identifier.{identifier_bytes, identifier}
-use Rattle.body_formats.proofs.Strings.{digits-many, digits_bytes}
-use Rattle.body_formats.proofs.Identifiers.{identifier-sized, identifier_bytes_lem, identifier-many}
+use Rattle.body_formats.proofs.Strings.{digits_many, digits_bytes}
+use Rattle.body_formats.proofs.Identifiers.{identifier_sized, identifier_bytes_lem, identifier_many}
 use Rattle.body_asking.specs.Asking.{in_body, field_in, in_part}
 use Rattle.body_asking.specs.Agreement.{NoNumberThere}
-use Rattle.body_asking.proofs.Sizes.{Sized, count_sized, number_sized, number_inside, time_sized, end_sized, nibbles_among_sized, bytes_are, bytes_sized, reserved_sized, digits_sized, next, repeat-sized, nth-sized}
+use Rattle.body_asking.proofs.Sizes.{Sized, count_sized, number_sized, number_inside, time_sized, end_sized, nibbles_among_sized, bytes_are, bytes_sized, reserved_sized, digits_sized, next, repeat_sized, nth_sized}
 use Rattle.body_asking.proofs.Answers.{asked}
 use Rattle.body_asking.proofs.Entries.{after_all, all_same}
-use Rattle.body_asking.proofs.Parts.{length_sized, length12_sized, part-holds, part_after_lem, bytes-hold, digit-there, digit_past, depending_found}
-use Rattle.body_asking.proofs.Turns.{ReadAt, read-in-turn, holds_in_turn, opaque_fills_at, follows_length}
+use Rattle.body_asking.proofs.Parts.{length_sized, length12_sized, part_holds, part_after_lem, bytes_hold, digit_there, digit_past, depending_found}
+use Rattle.body_asking.proofs.Turns.{ReadAt, read_in_turn, holds_in_turn, opaque_fills_at, follows_length}
 use Rattle.body_extension.specs.Extension.{extension_at}
 use Rattle.index.specs.Index.{Descriptor, descriptor, descriptors, Stream, stream_fields, stream, streams, Channel, ChannelFields, channel_fields, channel, flagged, Message, HeadFields, MessageFields, head, message_fields, named, unnamed, message, Index, fields, index, index_kind}
 use Rattle.index.specs.Places.{network_place, start_place, end_place, type_place, class_place, resource_count_place, resources_place, channel_stream_place, channel_program_place, pcr_pid_place, channel_descriptors_place, stream_pid_place, stream_descriptors_place}
@@ -42,9 +42,9 @@ use Rattle.index.proofs.Lawful.{all_descriptors_filling, all_streams_filling, in
 -- ---- descriptors and streams, told by where they begin and how many bytes their part has from there on
 
 module _ (s : List ℕ) (at n : ℕ) where
-  no-descriptor : (ltb 0 n && leb (at + n) (length s)) ≡ false → NoDescriptor s at n
+  no_descriptor : (ltb 0 n && leb (at + n) (length s)) ≡ false → NoDescriptor s at n
   unfolding first_byte descriptor_tag descriptor_part
-  no-descriptor t = record { no_tag = rw t; no_bytes = rw t }
+  no_descriptor t = record { no_tag = rw t; no_bytes = rw t }
 
   no_stream : (ltb 0 n && leb (at + n) (length s)) ≡ false → NoStream s at n
   unfolding first_byte stream_type stream_pid stream_descriptors
@@ -53,8 +53,8 @@ module _ (s : List ℕ) (at n : ℕ) where
   past_end : n ≤ 0 → (ltb 0 n && leb (at + n) (length s)) ≡ false
   past_end h = rw (le-ltb 0 n h)
 
-  past-body : length s < at + n → (ltb 0 n && leb (at + n) (length s)) ≡ false
-  past-body h = rw (lt-leb (at + n) (length s) h) (go (ltb 0 n))
+  past_body : length s < at + n → (ltb 0 n && leb (at + n) (length s)) ≡ false
+  past_body h = rw (lt-leb (at + n) (length s) h) (go (ltb 0 n))
     where
       go : (t : Bool) → (t && false) ≡ false
       go true = refl
@@ -69,9 +69,9 @@ in_its_part s l p v inside e k =
     rw t (ap k ends)
 
 module _ (s : List ℕ) (b : Bytes s) (l : ℕ) (inside : l ≤ length s) (p q : ℕ) where
-  descriptor-fields : (x : ℕ × List ℕ) → (number 1 ▷ opaque 1).parse s l p ≡ found x q → DescriptorAsked s l (record { tag = x.0; bytes = x.1 }) p q
+  descriptor_fields : (x : ℕ × List ℕ) → (number 1 ▷ opaque 1).parse s l p ≡ found x q → DescriptorAsked s l (record { tag = x.0; bytes = x.1 }) p q
   unfolding first_byte descriptor_tag descriptor_part
-  descriptor-fields x e =
+  descriptor_fields x e =
       let f = next (number 1) (opaque 1) 1 (number_sized 1) s l p (p + 1) x q refl e in
       let g = opaque_fills_at s b l inside 1 (p + 1) (p + 2) (omega arith) x.1 q f.1 in
       record {
@@ -80,18 +80,18 @@ module _ (s : List ℕ) (b : Bytes s) (l : ℕ) (inside : l ≤ length s) (p q :
         ends = g.1;
       }
 
-  descriptor-asked : (d : Descriptor) → descriptor.parse s l p ≡ found d q → DescriptorAsked s l d p q
+  descriptor_asked : (d : Descriptor) → descriptor.parse s l p ≡ found d q → DescriptorAsked s l d p q
   unfolding descriptor
-  descriptor-asked d e =
+  descriptor_asked d e =
       let v = view_found _ _ (number 1 ▷ opaque 1) s l p d q e in
-      subst (λ (y : Descriptor). DescriptorAsked s l y p q) v.2 (descriptor-fields v.0 v.1)
+      subst (λ (y : Descriptor). DescriptorAsked s l y p q) v.2 (descriptor_fields v.0 v.1)
 
 -- as many things are counted in a part as are read in it
 all_counted : {A : Type 0} (L : Length) (k : ℕ) → Sized L.field k → (F : Format A) → Filling (many F) → (s : List ℕ) → Bytes s
     → (l p at : ℕ) → at ≡ p + k → (xs : List A) (q : ℕ) → (counted L (many F)).parse s l p ≡ found xs q
     → number_of (count_of (in_body s at (q - at) (λ m. (many F).parse s m at))) ≡ Is (length xs) q
 all_counted L k z F f s b l p at from xs q e =
-    let h = part-holds L (many F) f s b l p xs q e in
+    let h = part_holds L (many F) f s b l p xs q e in
     let begins : h.at ≡ at = part_after_lem L k z (many F) f s b l p xs q e ∙ sym from in
     let ends : at + (q - at) ≡ q = omega (arith, begins, h.ends) in
     let inner : (many F).parse s q at ≡ found xs q = ap ((many F).parse s q) (sym begins) ∙ h.inner in
@@ -104,7 +104,7 @@ unfolding descriptors descriptor_count
 descriptors_asked s b l p at from ds q e =
     record {
       in_turn = holds_in_turn length12 2 length12_sized descriptor all_descriptors_filling s b l p at from ds q e (DescriptorAsked s q)
-          (λ inside d a r h. descriptor-asked s b q inside a r d h);
+          (λ inside d a r h. descriptor_asked s b q inside a r d h);
       counted = all_counted length12 2 length12_sized descriptor all_descriptors_filling s b l p at from ds q e;
     }
 
@@ -112,13 +112,13 @@ descriptors_asked s b l p at from ds q e =
 descriptors_end : (s : List ℕ) → Bytes s → (l p : ℕ) (ds : List Descriptor) (q : ℕ) → descriptors.parse s l p ≡ found ds q
     → (xs : List ℕ) × ((counted length12 rest).parse s l p ≡ found xs q)
 unfolding descriptors
-descriptors_end s b l p ds q e = bytes-hold length12 (many descriptor) all_descriptors_filling s b l p ds q e
+descriptors_end s b l p ds q e = bytes_hold length12 (many descriptor) all_descriptors_filling s b l p ds q e
 
 module _ (s : List ℕ) (b : Bytes s) (l : ℕ) (inside : l ≤ length s) (p q : ℕ) where
-  stream-fields : (x : ℕ × (ℕ × List Descriptor)) → stream_fields.parse s l p ≡ found x q
+  stream_fields_lem : (x : ℕ × (ℕ × List Descriptor)) → stream_fields.parse s l p ≡ found x q
       → StreamAsked s l (record { type = x.0; pid = x.1.0; descriptors = x.1.1 }) p q
   unfolding stream_fields first_byte stream_type stream_pid stream_descriptors
-  stream-fields x e =
+  stream_fields_lem x e =
       let f = next (number 1) (reserved 3 1 ▷ descriptors) 1 (number_sized 1) s l p (p + stream_pid_place) x q refl e in
       let past = p + stream_descriptors_place in
       let g = next (reserved 3 1) descriptors 2 (reserved_sized 3 1) s l (p + stream_pid_place) past x.1 q (omega arith) f.1 in
@@ -129,11 +129,11 @@ module _ (s : List ℕ) (b : Bytes s) (l : ℕ) (inside : l ≤ length s) (p q :
             (descriptors_asked s b l past (past + 2) refl x.1.1 q g.1);
       }
 
-  stream-asked : (t : Stream) → stream.parse s l p ≡ found t q → StreamAsked s l t p q
+  stream_asked : (t : Stream) → stream.parse s l p ≡ found t q → StreamAsked s l t p q
   unfolding stream
-  stream-asked t e =
+  stream_asked t e =
       let v = view_found _ _ stream_fields s l p t q e in
-      subst (λ (y : Stream). StreamAsked s l y p q) v.2 (stream-fields v.0 v.1)
+      subst (λ (y : Stream). StreamAsked s l y p q) v.2 (stream_fields_lem v.0 v.1)
 
 -- the streams after their length at p
 streams_asked : (s : List ℕ) → Bytes s → (l p at : ℕ) → at ≡ p + 2 → (ts : List Stream) (q : ℕ) → streams.parse s l p ≡ found ts q
@@ -142,7 +142,7 @@ unfolding streams stream_count
 streams_asked s b l p at from ts q e =
     record {
       in_turn = holds_in_turn (length_of 2) 2 (length_sized 2) stream all_streams_filling s b l p at from ts q e (StreamAsked s q)
-          (λ inside t a r m. stream-asked s b q inside a r t m);
+          (λ inside t a r m. stream_asked s b q inside a r t m);
       counted = all_counted (length_of 2) 2 (length_sized 2) stream all_streams_filling s b l p at from ts q e;
     }
 
@@ -153,10 +153,10 @@ unfolding channel_network channel_stream channel_program pcr_pid descriptors_par
 no_channel s at n e = record { no_network = rw e; no_stream = rw e; no_program = rw e; no_pcr_pid = rw e; no_descriptors = rw e; no_streams = rw e }
 
 module _ (s : List ℕ) (at n : ℕ) (b : Bytes s) (f p : ℕ) (begins : channel_at s at n ≡ found f p) (q : ℕ) where
-  channel-fields : (x : ChannelFields) → channel_fields.parse s (at + n) p ≡ found x q
+  channel_fields_lem : (x : ChannelFields) → channel_fields.parse s (at + n) p ≡ found x q
       → ChannelAsked s at n (record { network = x.0; stream = x.1.0; program = x.1.1.0; pcr_pid = x.1.1.1.0; descriptors = x.1.1.1.1.0; streams = x.1.1.1.1.1 }) p q
   unfolding channel_fields channel_network channel_stream channel_program pcr_pid descriptors_part streams_part
-  channel-fields x e =
+  channel_fields_lem x e =
       let l = at + n in
       let g = next (number 2) _ 2 (number_sized 2) s l p (p + channel_stream_place) x q refl e in
       let h = next (number 2) _ 2 (number_sized 2) s l (p + channel_stream_place) (p + channel_program_place) x.1 q (omega arith) g.1 in
@@ -180,7 +180,7 @@ module _ (s : List ℕ) (at n : ℕ) (b : Bytes s) (f p : ℕ) (begins : channel
   unfolding channel
   channel_asked c e =
       let v = view_found _ _ channel_fields s (at + n) p c q e in
-      subst (λ (y : Channel). ChannelAsked s at n y p q) v.2 (channel-fields v.0 v.1)
+      subst (λ (y : Channel). ChannelAsked s at n y p q) v.2 (channel_fields_lem v.0 v.1)
 
 -- what the flag says of it
 under_flag : (s : List ℕ) (at n : ℕ) → Bytes s → (f : ℕ) (c : Under Channel f) (p q : ℕ) → flag_at s at n ≡ found f p
@@ -200,7 +200,7 @@ module _ (s : List ℕ) (at n : ℕ) (x : HeadFields) (q : ℕ) (e : head.parse 
   unfolding head
   heads =
       let l = at + n in
-      let f = next identifier _ identifier_bytes identifier-sized s l at (at + network_place) x q refl e in
+      let f = next identifier _ identifier_bytes identifier_sized s l at (at + network_place) x q refl e in
       let g = next (number 2) _ 2 (number_sized 2) s l (at + network_place) (at + start_place) x.1 q (omega arith) f.1 in
       let h = next time _ 5 time_sized s l (at + start_place) (at + end_place) x.1.1 q (omega arith) g.1 in
       let i = next end_time _ 5 end_sized s l (at + end_place) (at + type_place) x.1.1.1 q (omega arith) h.1 in
@@ -223,7 +223,7 @@ module _ (s : List ℕ) (at n : ℕ) (b : Bytes s) (there : at + n ≤ length s)
       let g = followed_found (list_of (count 1) resource) flagged s l f.0 x.1 (at + n) f.2 in
       let i = list_found (count 1) resource s l f.0 rs g.0 g.1 in
       let j : i.0 ≡ at + resources_place = count_sized 1 s l f.0 (length rs) i.0 i.1 ∙ omega (arith, h) in
-      let k = repeat-sized resource resource_bytes (digits_sized resource_pairs) s l (length rs) i.0 rs g.0 i.2 in (
+      let k = repeat_sized resource resource_bytes (digits_sized resource_pairs) s l (length rs) i.0 rs g.0 i.2 in (
         f.1 ∙ ap (found x.0) h,
         asked s at n (count 1) resource_count_place (length rs) (at + resources_place) there (ap ((count 1).parse s l) (sym h) ∙ i.1 ∙ ap (found (length rs)) j),
         g.0,
@@ -231,25 +231,25 @@ module _ (s : List ℕ) (at n : ℕ) (b : Bytes s) (there : at + n ≤ length s)
         ap (flagged.parse s l) (let z : at + resources_place + resource_bytes * length rs ≡ g.0 = omega (arith, j, k) in z) ∙ g.2,
       )
 
-  resource-found : (i : ℕ) → i < length x.1.0 → resource.parse s (at + n) (at + resources_place + resource_bytes * i) ≡ found (get_or x.1.0 i []) (at + resources_place + resource_bytes * i + resource_bytes)
-  resource-found i h = nth-sized resource resource_bytes (digits_sized resource_pairs) s (at + n) [] (length x.1.0) i (at + resources_place) x.1.0 parts.2 parts.3 h
+  resource_found : (i : ℕ) → i < length x.1.0 → resource.parse s (at + n) (at + resources_place + resource_bytes * i) ≡ found (get_or x.1.0 i []) (at + resources_place + resource_bytes * i + resource_bytes)
+  resource_found i h = nth_sized resource resource_bytes (digits_sized resource_pairs) s (at + n) [] (length x.1.0) i (at + resources_place) x.1.0 parts.2 parts.3 h
 
-  resource-many : (i : ℕ) → i < length x.1.0 → length (get_or x.1.0 i []) ≡ 23
-  resource-many i h = digits-many s (at + n) (at + resources_place + resource_bytes * i) resource_pairs _ _ (resource-found i h) b
+  resource_many : (i : ℕ) → i < length x.1.0 → length (get_or x.1.0 i []) ≡ 23
+  resource_many i h = digits_many s (at + n) (at + resources_place + resource_bytes * i) resource_pairs _ _ (resource_found i h) b
 
-  resource-at : (i : ℕ) → i < length x.1.0 → resource_at s at n i ≡ found (length x.1.0) (at + resources_place + resource_bytes * i)
+  resource_at_lem : (i : ℕ) → i < length x.1.0 → resource_at s at n i ≡ found (length x.1.0) (at + resources_place + resource_bytes * i)
   unfolding resource_at
-  resource-at i h = rw (parts.1, lt-ltb i (length x.1.0) h)
+  resource_at_lem i h = rw (parts.1, lt-ltb i (length x.1.0) h)
 
-  resource-none : (i : ℕ) → length x.1.0 ≤ i → resource_at s at n i ≡ refused (OutsideSet 0)
+  resource_none : (i : ℕ) → length x.1.0 ≤ i → resource_at s at n i ≡ refused (OutsideSet 0)
   unfolding resource_at
-  resource-none i h = rw (parts.1, le-ltb i (length x.1.0) h)
+  resource_none i h = rw (parts.1, le-ltb i (length x.1.0) h)
 
   -- the flag, where the channel begins, and what the flag says of it
-  flag-found : (flag_at s at n ≡ found x.1.1.0 (at + resources_place + resource_bytes * length x.1.0 + 1))
+  flag_found : (flag_at s at n ≡ found x.1.1.0 (at + resources_place + resource_bytes * length x.1.0 + 1))
       × ((under channel x.1.1.0).parse s (at + n) (at + resources_place + resource_bytes * length x.1.0 + 1) ≡ found x.1.1.1 (at + n))
   unfolding flag_at flagged
-  flag-found =
+  flag_found =
       let p = at + resources_place + resource_bytes * length x.1.0 in
       let f = depending_found (reserved 7 0) (under channel) s (at + n) p x.1.1 (at + n) parts.4 in
       let z : f.0 ≡ at + resources_place + resource_bytes * length x.1.0 + 1 = reserved_sized 7 0 s (at + n) p x.1.1.0 f.0 f.1 ∙ omega arith in
@@ -260,12 +260,12 @@ module _ (s : List ℕ) (at n : ℕ) (b : Bytes s) (there : at + n ≤ length s)
   fields_asked =
       let h = heads s at n x.0 (at + resource_count_place) parts.0 in
       let room = le-leb (at + n) (length s) there in
-      let thirty-five = identifier-many s (at + n) at x.0.0 (at + network_place) h.0 b in
+      let thirty_five = identifier_many s (at + n) at x.0.0 (at + network_place) h.0 b in
       record {
         identifier_is = rw (room, h.0, add-sub_cancel_left at identifier_bytes);
         identifier_bytes_lem = identifier_bytes_lem s (at + n) at x.0.0 (at + network_place) h.0 b;
-        identifier_digits = λ i k. rw room (digit-there identifier s (at + n) at x.0.0 (at + network_place) h.0 i (omega (arith, thirty-five)));
-        identifier_past = λ i k. rw room (digit_past identifier s (at + n) at x.0.0 (at + network_place) h.0 i (omega (arith, thirty-five)));
+        identifier_digits = λ i k. rw room (digit_there identifier s (at + n) at x.0.0 (at + network_place) h.0 i (omega (arith, thirty_five)));
+        identifier_past = λ i k. rw room (digit_past identifier s (at + n) at x.0.0 (at + network_place) h.0 i (omega (arith, thirty_five)));
         extension_is = rw (room, h.0);
         network_is = rw (asked s at n (number 2) network_place _ _ there h.1);
         start_is = rw (asked s at n time start_place _ _ there h.2);
@@ -275,16 +275,16 @@ module _ (s : List ℕ) (at n : ℕ) (b : Bytes s) (there : at + n ≤ length s)
         class_is = rw (asked s at n (nibbles_among 1 4) class_place _ _ there h.5);
         level_is = rw (asked s at n (nibbles_among 1 4) class_place _ _ there h.5);
         resources_counted = rw parts.1;
-        resource_is = λ i k. rw (resource-at i k, resource-found i k, add-sub_cancel_left (at + resources_place + resource_bytes * i) resource_bytes);
-        resource_bytes_lem = λ i k. digits_bytes s (at + n) (at + resources_place + resource_bytes * i) resource_pairs (get_or x.1.0 i []) _ (resource-found i k) b;
+        resource_is = λ i k. rw (resource_at_lem i k, resource_found i k, add-sub_cancel_left (at + resources_place + resource_bytes * i) resource_bytes);
+        resource_bytes_lem = λ i k. digits_bytes s (at + n) (at + resources_place + resource_bytes * i) resource_pairs (get_or x.1.0 i []) _ (resource_found i k) b;
         resource_digits = λ i j k m.
-            rw (resource-at i k) (digit-there resource s (at + n) (at + resources_place + resource_bytes * i) _ _ (resource-found i k) j (omega (arith, resource-many i k)));
+            rw (resource_at_lem i k) (digit_there resource s (at + n) (at + resources_place + resource_bytes * i) _ _ (resource_found i k) j (omega (arith, resource_many i k)));
         resource_digit_past = λ i j k m.
-            rw (resource-at i k) (digit_past resource s (at + n) (at + resources_place + resource_bytes * i) _ _ (resource-found i k) j (omega (arith, resource-many i k)));
-        resource_past = λ i k. rw (resource-none i k);
-        resource_past_digit = λ i j k. rw (resource-none i k);
-        flag_is = rw flag-found.0;
-        channel_asked = under_flag s at n b x.1.1.0 x.1.1.1 (at + resources_place + resource_bytes * length x.1.0 + 1) (at + n) flag-found.0 flag-found.1;
+            rw (resource_at_lem i k) (digit_past resource s (at + n) (at + resources_place + resource_bytes * i) _ _ (resource_found i k) j (omega (arith, resource_many i k)));
+        resource_past = λ i k. rw (resource_none i k);
+        resource_past_digit = λ i j k. rw (resource_none i k);
+        flag_is = rw flag_found.0;
+        channel_asked = under_flag s at n b x.1.1.0 x.1.1.1 (at + resources_place + resource_bytes * length x.1.0 + 1) (at + n) flag_found.0 flag_found.1;
       }
 
 -- a part that does not lie in the body has none of them
@@ -330,11 +330,11 @@ module _ (s : List ℕ) (b : Bytes s) (x : List Message × List ℕ) (q : ℕ) (
 
   same : (p : ℕ) (m : Message) (r : ℕ) → message.parse s (length s) p ≡ found m r → (xs : List ℕ) × ((opaque 2).parse s (length s) p ≡ found xs r)
   unfolding message
-  same p m r h = bytes-hold (length_of 2) _ inner_filling s b (length s) p m r h
+  same p m r h = bytes_hold (length_of 2) _ inner_filling s b (length s) p m r h
 
-  message-asked : (i : ℕ) (m : Message) (p r : ℕ) → ReadAt message (opaque 2) s (length s) (length x.0) 1 i m p r → MessageAsked s i m p r
+  message_asked : (i : ℕ) (m : Message) (p r : ℕ) → ReadAt message (opaque 2) s (length s) (length x.0) 1 i m p r → MessageAsked s i m p r
   unfolding message message_part part_listed thing_listed
-  message-asked i m p r h =
+  message_asked i m p r h =
       let g = follows_length 2 _ inner_filling s b p m r h.here in
       let at = p + 2 in
       let v = view_found named unnamed message_fields s (at + g.0) at m (at + g.0) (exact_found PastPart _ s (at + g.0) at m (at + g.0) g.2).0 in
@@ -345,20 +345,20 @@ module _ (s : List ℕ) (b : Bytes s) (x : List Message × List ℕ) (q : ℕ) (
         fields_asked = subst (FieldsAsked s at g.0) v.2 (fields_asked s at g.0 b inside v.0 v.1);
       }
 
-  table-fields : IndexAsked s (record { messages = x.0; signature = x.1 })
+  table_fields : IndexAsked s (record { messages = x.0; signature = x.1 })
   unfolding message_count message_part signature_part number_read part_listed thing_listed list_of
-  table-fields =
+  table_fields =
       record {
         messages_counted = rw messages.0;
         messages_end = two.0;
-        messages_asked = read-in-turn message (opaque 2) s (length s) same 1 x.0 two.0 messages.1 (MessageAsked s) message-asked;
+        messages_asked = read_in_turn message (opaque 2) s (length s) same 1 x.0 two.0 messages.1 (MessageAsked s) message_asked;
         message_past = λ i h. rw (messages.0, le-ltb i (length x.0) h);
         signature_fills = rw (messages.0, (all_same message (opaque 2) s (length s) same (length x.0) 1 x.0 two.0 messages.1).1)
             (opaque_fills_at s b (length s) (le_refl (length s)) 2 two.0 (two.0 + 2) refl x.1 q two.2).0;
         message_outside = no_message s;
-        descriptor_outside = λ at n h. no-descriptor s at n (past-body s at n h);
-        descriptor_past = λ at. no-descriptor s at 0 (past_end s at 0 (omega arith));
-        stream_outside = λ at n h. no_stream s at n (past-body s at n h);
+        descriptor_outside = λ at n h. no_descriptor s at n (past_body s at n h);
+        descriptor_past = λ at. no_descriptor s at 0 (past_end s at 0 (omega arith));
+        stream_outside = λ at n h. no_stream s at n (past_body s at n h);
         stream_past = λ at. no_stream s at 0 (past_end s at 0 (omega arith));
         descriptors_outside = λ at n h. (none_counted s at n h).0;
         streams_outside = λ at n h. (none_counted s at n h).1;
@@ -370,4 +370,4 @@ index_asked kind s b t q e =
     let a = trips.accepted index index_filling index_kind kind s b t q e in
     let x = exact_found LeftOver _ s (length s) 0 t q a.2 in
     let v = view_found _ _ fields s (length s) 0 t q x.0 in
-    subst (IndexAsked s) v.2 (table-fields s b v.0 q v.1)
+    subst (IndexAsked s) v.2 (table_fields s b v.0 q v.1)

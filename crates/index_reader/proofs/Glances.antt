@@ -18,7 +18,7 @@ use Rattle.body_formats.specs.Resource.{resource}
 use Rattle.body_formats.specs.Identifier.{identifier}
 use Rattle.body_formats.proofs.Classes.{Bytes}
 use Rattle.body_glance.specs.Glance.{Reads, Fills}
-use Rattle.body_glance.proofs.Finds.{reads-to, reads-pair, reads-view, reads-number, reads-count, reads-among, reads-part, reads-opaque, fills-exact}
+use Rattle.body_glance.proofs.Finds.{reads_to, reads_pair, reads_view, reads_number, reads_count, reads_among, reads_part, reads_opaque, fills_exact}
 use Rattle.body_glance.proofs.Runs.{reads_list}
 use Rattle.index.specs.Index.{Flagged, flagged, HeadFields, head, MessageFields, message_fields, named, unnamed, Message, message, Index, fields, index}
 
@@ -26,62 +26,62 @@ use Rattle.index.specs.Index.{Flagged, flagged, HeadFields, head, MessageFields,
 
 module _ (s : List ℕ) where
   -- one more byte that is at most hi
-  most-more : (hi p q n : ℕ) → p < length s → get_or s p 0 ≤ hi → p + 1 ≡ q → every (λ x. leb 0 x && leb x hi) (take n (drop q s)) ≡ true
+  most_more : (hi p q n : ℕ) → p < length s → get_or s p 0 ≤ hi → p + 1 ≡ q → every (λ x. leb 0 x && leb x hi) (take n (drop q s)) ≡ true
       → every (λ x. leb 0 x && leb x hi) (take (suc n) (drop p s)) ≡ true
   unfolding every
-  most-more hi p q n h m e all =
+  most_more hi p q n h m e all =
       rw (drop-cons s p 0 h, ← add-one p, e) (and_of (and_of (le-leb 0 (get_or s p 0) (omega arith)) (le-leb (get_or s p 0) hi m)) all)
 
   -- "type five bytes each at most 0x7F"
-  pub type-good : (p : ℕ) → p + 5 ≤ length s → get_or s p 0 ≤ 0x7F → get_or s (p + 1) 0 ≤ 0x7F → get_or s (p + 2) 0 ≤ 0x7F → get_or s (p + 3) 0 ≤ 0x7F
+  pub type_good : (p : ℕ) → p + 5 ≤ length s → get_or s p 0 ≤ 0x7F → get_or s (p + 1) 0 ≤ 0x7F → get_or s (p + 2) 0 ≤ 0x7F → get_or s (p + 3) 0 ≤ 0x7F
       → get_or s (p + 4) 0 ≤ 0x7F
       → (xs : List ℕ) × Reads (bytes_among 0 0x7F 5) s p xs (p + 5)
   unfolding every
-  type-good p k first second third fourth fifth = (
+  type_good p k first second third fourth fifth = (
     _,
-    reads-among s p 5 0 0x7F
-        (most-more 0x7F p (p + 1) 4 (omega arith) first (omega arith)
-        (most-more 0x7F (p + 1) (p + 2) 3 (omega arith) second (omega arith)
-        (most-more 0x7F (p + 2) (p + 3) 2 (omega arith) third (omega arith)
-        (most-more 0x7F (p + 3) (p + 4) 1 (omega arith) fourth (omega arith)
-        (most-more 0x7F (p + 4) (p + 5) 0 (omega arith) fifth (omega arith) refl))))),
+    reads_among s p 5 0 0x7F
+        (most_more 0x7F p (p + 1) 4 (omega arith) first (omega arith)
+        (most_more 0x7F (p + 1) (p + 2) 3 (omega arith) second (omega arith)
+        (most_more 0x7F (p + 2) (p + 3) 2 (omega arith) third (omega arith)
+        (most_more 0x7F (p + 3) (p + 4) 1 (omega arith) fourth (omega arith)
+        (most_more 0x7F (p + 4) (p + 5) 0 (omega arith) fifth (omega arith) refl))))),
   )
 
 module _ (s : List ℕ) (p : ℕ) (b : Bytes s) where
   -- from the identifier to the level
-  pub head-good : (ds : List ℕ) × Reads identifier s p ds (p + 18) → (x : ℕ) × Reads time s (p + 20) x (p + 20 + 5)
+  pub head_good : (ds : List ℕ) × Reads identifier s p ds (p + 18) → (x : ℕ) × Reads time s (p + 20) x (p + 20 + 5)
       → (x : ℕ) × Reads end_time s (p + 25) x (p + 25 + 5)
       → (xs : List ℕ) × Reads (bytes_among 0 0x7F 5) s (p + 30) xs (p + 30 + 5) → (x : ℕ × ℕ) × Reads (nibbles_among 1 4) s (p + 35) x (p + 35 + 1)
       → (h : HeadFields) × Reads head s p h (p + 36)
   unfolding head
-  head-good digits start end type grades = (
+  head_good digits start end type grades = (
     _,
-    reads-pair digits.1
-        (reads-pair (reads-to {t = p + 20} (omega arith) (reads-number s (p + 18) 2 b))
-        (reads-pair (reads-to {t = p + 25} (omega arith) start.1)
-        (reads-pair (reads-to {t = p + 30} (omega arith) end.1)
-        (reads-pair (reads-to {t = p + 35} (omega arith) type.1) (reads-to (omega arith) grades.1))))),
+    reads_pair digits.1
+        (reads_pair (reads_to {t = p + 20} (omega arith) (reads_number s (p + 18) 2 b))
+        (reads_pair (reads_to {t = p + 25} (omega arith) start.1)
+        (reads_pair (reads_to {t = p + 30} (omega arith) end.1)
+        (reads_pair (reads_to {t = p + 35} (omega arith) type.1) (reads_to (omega arith) grades.1))))),
   )
 
   -- ---- a message
 
   -- its head, its resources after their count, and what its flag says
-  pub fields-good : {r l : ℕ} (k : ℕ) → k ≡ get_or s (p + 36) 0 → (h : HeadFields) × Reads head s p h (p + 36)
+  pub fields_good : {r l : ℕ} (k : ℕ) → k ≡ get_or s (p + 36) 0 → (h : HeadFields) × Reads head s p h (p + 36)
       → (rs : List (List ℕ)) × Reads (times k resource) s (p + 37) rs r → (x : Flagged) × Reads flagged s r x l
       → (m : MessageFields) × Reads message_fields s p m l
   unfolding message_fields number_at
-  fields-good k e h rs x =
+  fields_good k e h rs x =
       let count : number_at s (p + 36) 1 ≡ k = rw add-zero (omega arith) in (
         _,
-        reads-pair h.1
-            (reads-pair (reads_list resource (rw count at (reads-to {t = p + 37} (omega arith) (reads-count s (p + 36) 1))) rs.1) x.1),
+        reads_pair h.1
+            (reads_pair (reads_list resource (rw count at (reads_to {t = p + 37} (omega arith) (reads_count s (p + 36) 1))) rs.1) x.1),
       )
 
   -- "16-bit EBM_length, then" its fields, which fill it
-  pub message-good : {l : ℕ} → p + 2 + number_at s p 2 ≡ l → l ≤ length s → (f : MessageFields) × Reads message_fields s (p + 2) f l
+  pub message_good : {l : ℕ} → p + 2 + number_at s p 2 ≡ l → l ≤ length s → (f : MessageFields) × Reads message_fields s (p + 2) f l
       → (m : Message) × Reads message s p m l
   unfolding message
-  message-good e k f = (named f.0, reads-to e (reads-part s p 2 b (rw e (fills-exact PastPart k (reads-view named unnamed f.1)))))
+  message_good e k f = (named f.0, reads_to e (reads_part s p 2 b (rw e (fills_exact PastPart k (reads_view named unnamed f.1)))))
 
 -- ---- the table
 
@@ -94,6 +94,6 @@ index_good s b {n} {q} {m} e ms inside size rest =
     let count : number_at s 0 1 ≡ n = omega arith in
     let end : q + 2 + number_at s q 2 ≡ length s = rw (← size) (omega arith) in (
       _,
-      fills-exact LeftOver (le_refl _)
-          (reads-view _ _ (reads-pair (reads_list message (rw count at (reads-count s 0 1)) ms.1) (reads-to end (reads-opaque s q 2 b).1))),
+      fills_exact LeftOver (le_refl _)
+          (reads_view _ _ (reads_pair (reads_list message (rw count at (reads_count s 0 1)) ms.1) (reads_to end (reads_opaque s q 2 b).1))),
     )

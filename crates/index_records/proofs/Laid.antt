@@ -13,13 +13,13 @@ use Rattle.body_formats.specs.Body.{reading}
 use Rattle.body_formats.specs.declared.Step.TheVariants.{Refused as NoStep}
 use Rattle.body_formats.proofs.Classes.{Bytes}
 use Rattle.body_asking.specs.Agreement.{InTurn}
-use Rattle.body_asking.proofs.Turns.{read-in-turn, follows_length, follows_takes}
+use Rattle.body_asking.proofs.Turns.{read_in_turn, follows_length, follows_takes}
 use Rattle.index.specs.Index.{Message, message, Index, index, index_kind}
 use Rattle.index.proofs.Lawful.{inner_filling}
 use Rattle.index_records.specs.Records.{record_of, records_of, recording, body_recorded, recorded}
 use Rattle.index_records.specs.Agreement.{RecordIs, RecordsLaid, RecordsAre}
 use Rattle.index_records.specs.declared.Record.{Record}
-use Rattle.index_records.proofs.Plans.{messages-read}
+use Rattle.index_records.proofs.Plans.{messages_read}
 
 length_records : (ms : List Message) (p : ℕ) → length (records_of ms p) ≡ length ms
 unfolding records_of
@@ -51,11 +51,11 @@ module _ (s : List ℕ) (b : Bytes s) where
 
   -- a list that has the records of the messages from number i on
   module _ (d : Record) (rs : List Record) where
-    records-in-turn : (i : ℕ) (ms : List Message) (p q : ℕ) → ((j : ℕ) → j < length ms → get_or rs (i + j) d ≡ get_or (records_of ms p) j d)
+    records_in_turn : (i : ℕ) (ms : List Message) (p q : ℕ) → ((j : ℕ) → j < length ms → get_or rs (i + j) d ≡ get_or (records_of ms p) j d)
         → InTurn (λ k m a r. message.parse s (length s) a ≡ found m r) i ms p q → InTurn (λ k. RecordIs s (get_or rs k d)) i ms p q
     unfolding InTurn records_of
-    records-in-turn i [] p q same h = h
-    records-in-turn i (m ∷ ms) p q same h =
+    records_in_turn i [] p q same h = h
+    records_in_turn i (m ∷ ms) p q same h =
         let r = h.0 in
         let f = record_is m p r h.1 in
         let here : record_of m p ≡ get_or rs i d = sym (same 0 (omega arith)) ∙ ap (λ (k : ℕ). get_or rs k d) (add-zero i) in
@@ -63,27 +63,27 @@ module _ (s : List ℕ) (b : Bytes s) where
         λ j k.
         let z : suc i + j ≡ i + suc j = omega arith in
         ap (λ (u : ℕ). get_or rs u d) z ∙ same (suc j) (omega arith) ∙ ap (λ (u : ℕ). get_or (records_of ms u) j d) (sym f.1) in
-        (r, subst (λ (x : Record). RecordIs s x m p r) here f.0, records-in-turn (suc i) ms r q others h.2)
+        (r, subst (λ (x : Record). RecordIs s x m p r) here f.0, records_in_turn (suc i) ms r q others h.2)
 
 module _ (kind : ℕ) (s : List ℕ) (b : Bytes s) (t : Index) (q : ℕ) (e : reading index index_kind kind s ≡ found t q) (list : List Record) where
   abbrev ms : List Message
   ms = t.messages
 
   module _ (room : length ms ≤ length list) where
-    list-is : recorded kind s list ≡ records_of ms 1 ++ drop (length ms) list
+    list_is : recorded kind s list ≡ records_of ms 1 ++ drop (length ms) list
     unfolding recorded recording
-    list-is = rw (e, le-leb (length ms) (length list) room)
+    list_is = rw (e, le-leb (length ms) (length list) room)
 
-    in_turn : (d : Record) → InTurn (λ i. RecordIs s (get_or (recorded kind s list) i d)) 0 ms 1 (messages-read kind s b t q e).1
+    in_turn : (d : Record) → InTurn (λ i. RecordIs s (get_or (recorded kind s list) i d)) 0 ms 1 (messages_read kind s b t q e).1
     in_turn d =
-        let r = messages-read kind s b t q e in
+        let r = messages_read kind s b t q e in
         let n = length_records ms 1 in
         let same : (j : ℕ) → j < length ms → get_or (recorded kind s list) (0 + j) d ≡ get_or (records_of ms 1) j d =
         λ j k.
-        ap₂ (λ (rs : List Record) (u : ℕ). get_or rs u d) list-is (zero-add j)
+        ap₂ (λ (rs : List Record) (u : ℕ). get_or rs u d) list_is (zero-add j)
         ∙ get_or-append (records_of ms 1) (drop (length ms) list) d j (omega (arith, n)) in
-        records-in-turn s b d (recorded kind s list) 0 ms 1 r.1 same
-        (read-in-turn message message s (length s) (λ p m u h. (m, h)) 1 ms r.1 r.2 (λ k m a u. message.parse s (length s) a ≡ found m u)
+        records_in_turn s b d (recorded kind s list) 0 ms 1 r.1 same
+        (read_in_turn message message s (length s) (λ p m u h. (m, h)) 1 ms r.1 r.2 (λ k m a u. message.parse s (length s) a ≡ found m u)
         (λ k m a u h. h.here))
 
     stays : (d : Record) (i : ℕ) → length ms ≤ i → get_or (recorded kind s list) i d ≡ get_or list i d
@@ -91,27 +91,27 @@ module _ (kind : ℕ) (s : List ℕ) (b : Bytes s) (t : Index) (q : ℕ) (e : re
         let rs = records_of ms 1 in
         let k = i - length ms in
         let at : i ≡ length rs + k = omega (arith, length_records ms 1) in
-        ap₂ (λ (ys : List Record) (u : ℕ). get_or ys u d) list-is at
+        ap₂ (λ (ys : List Record) (u : ℕ). get_or ys u d) list_is at
         ∙ get_or-append-add rs (drop (length ms) list) k d
         ∙ get_or-drop (length ms) list k d
         ∙ ap (λ (u : ℕ). get_or list u d) (let z : length ms + k ≡ i = omega arith in z)
 
-    records-laid : RecordsLaid kind s t list
+    records_laid : RecordsLaid kind s t list
     unfolding body_recorded recording
-    records-laid =
+    records_laid =
         record {
           answers = rw (e, le-leb (length ms) (length list) room);
-          messages_end = (messages-read kind s b t q e).1;
+          messages_end = (messages_read kind s b t q e).1;
           records_are = in_turn;
           others_stay = stays;
-          as_long = ap length list-is ∙ simp (length-append, length-drop) (omega (arith, length_records ms 1));
+          as_long = ap length list_is ∙ simp (length-append, length-drop) (omega (arith, length_records ms 1));
         }
 
-  none-laid : length list < length ms → (body_recorded kind s (length list) ≡ NoStep OutputTooSmall) × (recorded kind s list ≡ list)
+  none_laid : length list < length ms → (body_recorded kind s (length list) ≡ NoStep OutputTooSmall) × (recorded kind s list ≡ list)
   unfolding body_recorded recorded recording
-  none-laid small =
+  none_laid small =
       let x = lt-leb (length ms) (length list) small in
       (rw (e, x), rw (e, x))
 
 pub records_are : (kind : ℕ) (s : List ℕ) → Bytes s → (t : Index) (q : ℕ) → reading index index_kind kind s ≡ found t q → RecordsAre kind s t
-records_are kind s b t q e = record { laid = records-laid kind s b t q e; too_small = none-laid kind s b t q e }
+records_are kind s b t q e = record { laid = records_laid kind s b t q e; too_small = none_laid kind s b t q e }

@@ -18,7 +18,7 @@ use Rattle.body_formats.proofs.Classes.{Bytes}
 use Rattle.body_formats.proofs.Outcomes.{found_inj, and_then_found, within_found}
 use Rattle.body_formats.proofs.Elements.{exact_found, view_found, followed_found}
 use Rattle.body_formats.proofs.Readers.{number_facts}
-use Rattle.body_formats.proofs.Identifiers.{identifier-sized}
+use Rattle.body_formats.proofs.Identifiers.{identifier_sized}
 use Rattle.body_asking.proofs.Sizes.{only_found, bytes_sized}
 use Rattle.body_walk.specs.Entries.{number_worth}
 use Rattle.index.specs.Index.{HeadFields, head, message_fields, named, unnamed, Message, message}
@@ -81,7 +81,7 @@ head_stands s p l at h q from e =
     let f₂ = followed_found _ _ s l f₁.0 h.1.1 q f₁.2 in
     let f₃ = followed_found _ _ s l f₂.0 h.1.1.1 q f₂.2 in
     let f₄ = followed_found _ _ s l f₃.0 h.1.1.1.1 q f₃.2 in
-    let e₀ = identifier-sized s l at h.0 f₀.0 f₀.1 in
+    let e₀ = identifier_sized s l at h.0 f₀.0 f₀.1 in
     let e₁ = number_stands 2 s l f₀.0 h.1.0 f₁.0 f₁.1 in
     let e₂ = number_stands 5 s l f₁.0 h.1.1.0 f₂.0 (only_found _ (number 5) s l f₁.0 h.1.1.0 f₂.0 f₂.1) in
     let e₃ = number_stands 5 s l f₂.0 h.1.1.1.0 f₃.0 (only_found _ (number 5) s l f₂.0 h.1.1.1.0 f₃.0 f₃.1) in

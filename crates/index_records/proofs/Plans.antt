@@ -31,10 +31,10 @@ use Rattle.index_records.proofs.Places.{count_stands, messages_placed}
 
 -- an accepted body's messages, from position 1 on
 module _ (kind : ℕ) (s : List ℕ) (b : Bytes s) (t : Index) (q : ℕ) (e : reading index index_kind kind s ≡ found t q) where
-  pub messages-read : (standing s 0 1 ≡ length t.messages)
+  pub messages_read : (standing s 0 1 ≡ length t.messages)
       × (end : ℕ) × (repeat (message.parse s (length s)) (length t.messages) 1 ≡ found t.messages end)
   unfolding index fields
-  messages-read =
+  messages_read =
       let a = trips.accepted index index_filling index_kind kind s b t q e in
       let v = view_found _ _ fields s (length s) 0 t q (exact_found LeftOver _ s (length s) 0 t q a.2).0 in
       let f = followed_found _ _ s (length s) 0 v.0 q v.1 in
@@ -44,16 +44,16 @@ module _ (kind : ℕ) (s : List ℕ) (b : Bytes s) (t : Index) (q : ℕ) (e : re
       (ap (λ t. t.messages) v.2)
       (c.0, f.0, ap (repeat (message.parse s (length s)) (length v.0.0)) (sym c.1) ∙ g.2)
 
-  table-stands : (standing s 0 1 ≡ length t.messages) × (records_from s 1 (length t.messages) ≡ records_of t.messages 1)
-  table-stands =
+  table_stands : (standing s 0 1 ≡ length t.messages) × (records_from s 1 (length t.messages) ≡ records_of t.messages 1)
+  table_stands =
       let small = (trips.accepted index index_filling index_kind kind s b t q e).1 in
-      let r = messages-read in
+      let r = messages_read in
       (r.0, messages_placed s b small (length t.messages) 1 t.messages r.1 r.2)
 
 module _ (kind : ℕ) (s : List ℕ) (room : ℕ) where
-  pub plan-no : (r : Refusal) → NoStep r ≡ body_read index index_kind kind s → Planned kind s room (record { n = 0; answer = NoStep r })
+  pub plan_no : (r : Refusal) → NoStep r ≡ body_read index index_kind kind s → Planned kind s room (record { n = 0; answer = NoStep r })
   unfolding body_read recording
-  plan-no r e =
+  plan_no r e =
       let x : reading index index_kind kind s ≡ refused r = go (reading index index_kind kind s) e in
       record { said = rw x; many = rw x; laid = rw x; fits = omega arith }
     where
@@ -64,21 +64,21 @@ module _ (kind : ℕ) (s : List ℕ) (room : ℕ) where
   module _ (b : Bytes s) (n q : ℕ) (e : At q ≡ body_read index index_kind kind s) (stands : n ≡ standing s 0 1) where
     -- the count is the table's
     counted : n ≡ length (table index index_kind kind s q e).0.messages
-    counted = stands ∙ (table-stands kind s b (table index index_kind kind s q e).0 q (table index index_kind kind s q e).1).0
+    counted = stands ∙ (table_stands kind s b (table index index_kind kind s q e).0 q (table index index_kind kind s q e).1).0
 
-    pub plan-small : room < n → Planned kind s room (record { n = 0; answer = NoStep OutputTooSmall })
+    pub plan_small : room < n → Planned kind s room (record { n = 0; answer = NoStep OutputTooSmall })
     unfolding recording
-    plan-small h =
+    plan_small h =
         let t = table index index_kind kind s q e in
         let x = lt-leb (length t.0.messages) room (omega (arith, counted)) in
         record { said = rw (t.1, x); many = rw (t.1, x); laid = rw (t.1, x); fits = omega arith }
 
-    pub plan-all : n ≤ room → Planned kind s room (record { n = n; answer = At n })
+    pub plan_all : n ≤ room → Planned kind s room (record { n = n; answer = At n })
     unfolding recording
-    plan-all h =
+    plan_all h =
         let t = table index index_kind kind s q e in
         let x = le-leb (length t.0.messages) room (omega (arith, counted)) in
-        record { said = rw (t.1, x, counted); many = rw (t.1, x, counted); laid = rw (t.1, x, counted) (table-stands kind s b t.0 q t.1).1; fits = h }
+        record { said = rw (t.1, x, counted); many = rw (t.1, x, counted); laid = rw (t.1, x, counted) (table_stands kind s b t.0 q t.1).1; fits = h }
 
 -- ---- the list, when the planned records are laid
 
@@ -97,9 +97,9 @@ module _ (kind : ℕ) (s : List ℕ) (list : List Record) (plan : Plan) (h : Pla
   unfolding body_recorded
   answers = h.said
 
-  pub laid-recorded : sets list 0 (records_from s 1 plan.n) ≡ recorded kind s list
+  pub laid_recorded : sets list 0 (records_from s 1 plan.n) ≡ recorded kind s list
   unfolding recorded
-  laid-recorded =
+  laid_recorded =
       let n = length_records s 1 plan.n in
       sets-eq (records_from s 1 plan.n) list 0 (omega (arith, n, h.fits))
       ∙ ap (λ (k : ℕ). records_from s 1 plan.n ++ drop k list) (zero-add (length (records_from s 1 plan.n)) ∙ n)

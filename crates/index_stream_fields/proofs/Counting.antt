@@ -53,10 +53,10 @@ module _ {A : Type 0} (F : Format A) (s : List ℕ) (l : ℕ) where
       let all : l - p - 0 ≡ l - p = omega arith in
       record { enough = omega arith; answer = none_behind (parse_many F (l - p) s l p) ∙ ap (λ (k : ℕ). counts F s l 0 k p) (sym all) }
 
-  count-end : (m k at : ℕ) → l ≤ at → counts F s l m k at ≡ Is m at
+  count_end : (m k at : ℕ) → l ≤ at → counts F s l m k at ≡ Is m at
   unfolding parse_many
-  count-end m zero at h = rw (le-leb l at h) (ap (λ (n : ℕ). Is n at) (add-zero m))
-  count-end m (suc k) at h = rw (le-leb l at h) (ap (λ (n : ℕ). Is n at) (add-zero m))
+  count_end m zero at h = rw (le-leb l at h) (ap (λ (n : ℕ). Is n at) (add-zero m))
+  count_end m (suc k) at h = rw (le-leb l at h) (ap (λ (n : ℕ). Is n at) (add-zero m))
 
   count_refused : (m k at : ℕ) (r : Refusal) → at < l → l - at ≤ k → NoStep r ≡ ended F s l at → counts F s l m k at ≡ NoNumber r
   unfolding parse_many
@@ -78,14 +78,14 @@ module _ {A : Type 0} (F : Format A) (s : List ℕ) (l : ℕ) where
     pub again : Counted F s l p (m + 1) q
 
   module _ (p m at : ℕ) (c : Counted F s l p m at) where
-    pub count-done : l ≤ at → Is m at ≡ number_of (count_of ((many F).parse s l p))
-    count-done h = sym (c.answer ∙ count-end m (l - p - m) at h)
+    pub count_done : l ≤ at → Is m at ≡ number_of (count_of ((many F).parse s l p))
+    count_done h = sym (c.answer ∙ count_end m (l - p - m) at h)
 
-    pub count-stop : (r : Refusal) → at < l → NoStep r ≡ ended F s l at → NoNumber r ≡ number_of (count_of ((many F).parse s l p))
-    count-stop r h e = sym (c.answer ∙ count_refused m (l - p - m) at r h c.enough e)
+    pub count_stop : (r : Refusal) → at < l → NoStep r ≡ ended F s l at → NoNumber r ≡ number_of (count_of ((many F).parse s l p))
+    count_stop r h e = sym (c.answer ∙ count_refused m (l - p - m) at r h c.enough e)
 
-    pub count-go : Lawful F → ((a : A) → 0 < length (F.print a)) → Bytes s → l ≤ length s → (q : ℕ) → at < l → At q ≡ ended F s l at → Turn p m at q
-    count-go f takes b inb q h e =
+    pub count_go : Lawful F → ((a : A) → 0 < length (F.print a)) → Bytes s → l ≤ length s → (q : ℕ) → at < l → At q ≡ ended F s l at → Turn p m at q
+    count_go f takes b inb q h e =
         let g = step_found F s l at q e in
         let nearer = (forward F f takes s b l inb at g.0 q (omega arith) g.1).0 in
         let less : l - p - m - 1 ≡ l - p - (m + 1) = omega arith in
@@ -101,27 +101,27 @@ module _ {A : Type 0} (F : Format A) (s : List ℕ) (l : ℕ) where
 -- ---- one descriptor, one stream: its first byte stands in the part
 
 module _ (s : List ℕ) (b : Bytes s) (l p : ℕ) (here : p < l) (inside : l ≤ length s) where
-  byte-found : (number 1).parse s l p ≡ found (number_at s p 1) (p + 1)
+  byte_found : (number 1).parse s l p ≡ found (number_at s p 1) (p + 1)
   unfolding number_read
-  byte-found =
+  byte_found =
       number_found ((number 1).parse s l p) (number_at s p 1) (p + 1)
       (number_is s l p 1 (omega arith) (omega arith) (number_at s p 1) (p + 1) refl refl ∙ count_number 1 s l p b)
 
-  pub descriptor-no : (r : Refusal) → NoPart r ≡ part_read 1 s l (p + 1) → NoStep r ≡ ended descriptor s l p
+  pub descriptor_no : (r : Refusal) → NoPart r ≡ part_read 1 s l (p + 1) → NoStep r ≡ ended descriptor s l p
   unfolding ended descriptor view followed
-  descriptor-no r e = rw (byte-found, part_refused s l (p + 1) 1 r e)
+  descriptor_no r e = rw (byte_found, part_refused s l (p + 1) 1 r e)
 
-  pub descriptor-at : (a m : ℕ) → Of a m ≡ part_read 1 s l (p + 1) → At (a + m) ≡ ended descriptor s l p
+  pub descriptor_at : (a m : ℕ) → Of a m ≡ part_read 1 s l (p + 1) → At (a + m) ≡ ended descriptor s l p
   unfolding ended descriptor view followed
-  descriptor-at a m e = rw (byte-found, (part_found s l (p + 1) 1 a m e).1)
+  descriptor_at a m e = rw (byte_found, (part_found s l (p + 1) 1 a m e).1)
 
-  pub stream-no : (r : Refusal) → NoNumber r ≡ number_of ((reserved 3 1).parse s l (p + 1)) → NoStep r ≡ ended stream s l p
+  pub stream_no : (r : Refusal) → NoNumber r ≡ number_of ((reserved 3 1).parse s l (p + 1)) → NoStep r ≡ ended stream s l p
   unfolding ended stream stream_fields view followed
-  stream-no r e = rw (byte-found, number_refused ((reserved 3 1).parse s l (p + 1)) r e)
+  stream_no r e = rw (byte_found, number_refused ((reserved 3 1).parse s l (p + 1)) r e)
 
   pub stream_is : (v q : ℕ) → Is v q ≡ number_of ((reserved 3 1).parse s l (p + 1)) → ended descriptors s l q ≡ ended stream s l p
   unfolding ended stream stream_fields view followed
-  stream_is v q e = rw (byte-found, number_found ((reserved 3 1).parse s l (p + 1)) v q e) (go (descriptors.parse s l q))
+  stream_is v q e = rw (byte_found, number_found ((reserved 3 1).parse s l (p + 1)) v q e) (go (descriptors.parse s l q))
     where
       type : ℕ
       type = number_at s p 1
@@ -176,8 +176,8 @@ module _ (L : Length) {A : Type 0} (F : Format A) (s : List ℕ) (l p : ℕ) whe
         rw (i.2, le-leb (i.1 + m) (length s) g.0, le-leb (i.1 + m) l g.1, j.0) (ap₂ (F.parse s) ends begins),
       )
 
-  pub into-part : (a m : ℕ) → Of a m ≡ part_of ((counted L rest).parse s l p) → (a + m ≤ length s) × ((counted L F).parse s l p ≡ F.parse s (a + m) a)
-  into-part a m e = go ((counted L rest).parse s l p) refl e
+  pub into_part : (a m : ℕ) → Of a m ≡ part_of ((counted L rest).parse s l p) → (a + m ≤ length s) × ((counted L F).parse s l p ≡ F.parse s (a + m) a)
+  into_part a m e = go ((counted L rest).parse s l p) refl e
     where
       go : (x : Reading (List ℕ)) → (counted L rest).parse s l p ≡ x → Of a m ≡ part_of x → (a + m ≤ length s) × ((counted L F).parse s l p ≡ F.parse s (a + m) a)
       go (refused r) f e = absurd (let z : ◌≡◌ {A = ℕ} 0 1 = cc in omega arith)
@@ -191,22 +191,22 @@ module _ (L : Length) {A : Type 0} (F : Format A) (s : List ℕ) (l p : ℕ) whe
 -- ---- the descriptors after their 12-bit length
 
 module _ (s : List ℕ) (l p : ℕ) where
-  pub descriptors-no : (r : Refusal) → NoPart r ≡ part_of ((counted length12 rest).parse s l p) → NoStep r ≡ ended descriptors s l p
+  pub descriptors_no : (r : Refusal) → NoPart r ≡ part_of ((counted length12 rest).parse s l p) → NoStep r ≡ ended descriptors s l p
   unfolding ended descriptors
-  descriptors-no r e = rw (no_part length12 (many descriptor) s l p r e)
+  descriptors_no r e = rw (no_part length12 (many descriptor) s l p r e)
 
   module _ (a m : ℕ) (e : Of a m ≡ part_of ((counted length12 rest).parse s l p)) where
-    pub descriptors-bad : (r : Refusal) → NoNumber r ≡ number_of (count_of ((many descriptor).parse s (a + m) a)) → NoStep r ≡ ended descriptors s l p
+    pub descriptors_bad : (r : Refusal) → NoNumber r ≡ number_of (count_of ((many descriptor).parse s (a + m) a)) → NoStep r ≡ ended descriptors s l p
     unfolding ended descriptors
-    descriptors-bad r f = go ((many descriptor).parse s (a + m) a) f ∙ ap step_of (sym (into-part length12 (many descriptor) s l p a m e).1)
+    descriptors_bad r f = go ((many descriptor).parse s (a + m) a) f ∙ ap step_of (sym (into_part length12 (many descriptor) s l p a m e).1)
       where
         go : (x : Reading (List Descriptor)) → NoNumber r ≡ number_of (count_of x) → NoStep r ≡ step_of x
         go (found ds q) f = absurd (let z : ◌≡◌ {A = ℕ} 0 1 = cc in omega arith)
         go (refused t) f = let z : r ≡ t = cc in ap NoStep z
 
-    pub descriptors-at : (k q : ℕ) → Is k q ≡ number_of (count_of ((many descriptor).parse s (a + m) a)) → At q ≡ ended descriptors s l p
+    pub descriptors_at : (k q : ℕ) → Is k q ≡ number_of (count_of ((many descriptor).parse s (a + m) a)) → At q ≡ ended descriptors s l p
     unfolding ended descriptors
-    descriptors-at k q f = go ((many descriptor).parse s (a + m) a) f ∙ ap step_of (sym (into-part length12 (many descriptor) s l p a m e).1)
+    descriptors_at k q f = go ((many descriptor).parse s (a + m) a) f ∙ ap step_of (sym (into_part length12 (many descriptor) s l p a m e).1)
       where
         go : (x : Reading (List Descriptor)) → Is k q ≡ number_of (count_of x) → At q ≡ step_of x
         go (found ds t) f = let z : q ≡ t = cc in ap At z

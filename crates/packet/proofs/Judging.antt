@@ -18,43 +18,43 @@ use Rattle.packet.specs.Judging.{judged, is_carrying}
 -- ---- each way out
 
 module _ (p : List ℕ) where
-  pub judged-length : (length p ≡ packet_bytes → ⊥) → Refused NotAPacket ≡ judged p
+  pub judged_length : (length p ≡ packet_bytes → ⊥) → Refused NotAPacket ≡ judged p
   unfolding judged
-  judged-length h = rw (ne_eqb (length p) packet_bytes h)
+  judged_length h = rw (ne_eqb (length p) packet_bytes h)
 
   module _ (size : length p ≡ packet_bytes) where
-    pub judged-sync : (byte p 0 ≡ sync_byte → ⊥) → Refused NoSyncByte ≡ judged p
+    pub judged_sync : (byte p 0 ≡ sync_byte → ⊥) → Refused NoSyncByte ≡ judged p
     unfolding judged
-    judged-sync h = simp (size, ne_eqb (byte p 0) sync_byte h)
+    judged_sync h = simp (size, ne_eqb (byte p 0) sync_byte h)
 
     module _ (sync : byte p 0 ≡ sync_byte) where
-      pub judged-error : 0x80 ≤ byte p 1 → Damaged ≡ judged p
+      pub judged_error : 0x80 ≤ byte p 1 → Damaged ≡ judged p
       unfolding judged has_error
-      judged-error h = simp (size, sync, le-leb 0x80 (byte p 1) h)
+      judged_error h = simp (size, sync, le-leb 0x80 (byte p 1) h)
 
       module _ (whole : byte p 1 < 0x80) where
-        pub judged-pid : (pid p ≡ our_pid → ⊥) → Refused OtherPid ≡ judged p
+        pub judged_pid : (pid p ≡ our_pid → ⊥) → Refused OtherPid ≡ judged p
         unfolding judged has_error
-        judged-pid h = simp (size, sync, lt-leb 0x80 (byte p 1) whole, ne_eqb (pid p) our_pid h)
+        judged_pid h = simp (size, sync, lt-leb 0x80 (byte p 1) whole, ne_eqb (pid p) our_pid h)
 
         module _ (ours : pid p ≡ our_pid) where
-          pub judged-scrambled : (scrambling p ≡ 0 → ⊥) → Refused Scrambled ≡ judged p
+          pub judged_scrambled : (scrambling p ≡ 0 → ⊥) → Refused Scrambled ≡ judged p
           unfolding judged has_error
-          judged-scrambled h = simp (size, sync, lt-leb 0x80 (byte p 1) whole, ours, ne_eqb (scrambling p) 0 h)
+          judged_scrambled h = simp (size, sync, lt-leb 0x80 (byte p 1) whole, ours, ne_eqb (scrambling p) 0 h)
 
           module _ (clear : scrambling p ≡ 0) where
-            pub judged-past : in_place p ≡ false → Refused PastPacket ≡ judged p
+            pub judged_past : in_place p ≡ false → Refused PastPacket ≡ judged p
             unfolding judged has_error
-            judged-past h = simp (size, sync, lt-leb 0x80 (byte p 1) whole, ours, clear, h)
+            judged_past h = simp (size, sync, lt-leb 0x80 (byte p 1) whole, ours, clear, h)
 
             module _ (placed : in_place p ≡ true) where
-              pub judged-skipped : control p ≡ 2 → Skipped ≡ judged p
+              pub judged_skipped : control p ≡ 2 → Skipped ≡ judged p
               unfolding judged has_error
-              judged-skipped h = simp (size, sync, lt-leb 0x80 (byte p 1) whole, ours, clear, placed, h)
+              judged_skipped h = simp (size, sync, lt-leb 0x80 (byte p 1) whole, ours, clear, placed, h)
 
-              pub judged-carrying : (control p ≡ 2 → ⊥) → Carrying ≡ judged p
+              pub judged_carrying : (control p ≡ 2 → ⊥) → Carrying ≡ judged p
               unfolding judged has_error
-              judged-carrying h = simp (size, sync, lt-leb 0x80 (byte p 1) whole, ours, clear, placed, ne_eqb (control p) 2 h)
+              judged_carrying h = simp (size, sync, lt-leb 0x80 (byte p 1) whole, ours, clear, placed, ne_eqb (control p) 2 h)
 
 -- a packet that is taken has its fields in place
 pub record Carried (p : List ℕ) : Type 0 where

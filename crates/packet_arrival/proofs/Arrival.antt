@@ -8,14 +8,14 @@ use borrow.Author.Tests.{le-ltb, ne_eqb}
 use lib.ListN.{length, get_or, take, drop, replicate, length-append, length-take, length-drop, take-append-drop}
 use lib.Seq.{take_all, length-take-le}
 use Rattle.ground_numbers.specs.Sizes.{configuration_kind, content_kind, section_length_most}
-use Rattle.ground_numbers.proofs.Ranges.{within-known}
+use Rattle.ground_numbers.proofs.Ranges.{within_known}
 use Rattle.section_reader.specs.Section.{is_kind, section_length}
 use Rattle.section_reader.proofs.Accepting.{accepted}
 use Rattle.packet.specs.Sizes.{packet_bytes, stuffing, counter_most}
 use Rattle.packet.specs.Fields.{counter}
 use Rattle.packet_frames.specs.Framing.{at_stuffing, framed, is_begun, nothing, longer, gone_on, begun}
 use Rattle.packet_frames.proofs.Frames.{length_front, framed_front}
-use Rattle.packet_frames.proofs.Growing.{begun-tests, nothing_begun_lem}
+use Rattle.packet_frames.proofs.Growing.{begun_tests, nothing_begun_lem}
 use Rattle.packet_plan.specs.Reading.{ended}
 use Rattle.packet_memory.specs.Memory.{Memory, fresh, held_after, is_repeat, going_on}
 use Rattle.packet_memory.proofs.States.{going_begun}
@@ -24,8 +24,8 @@ use Rattle.packet_frames.specs.Framing.{joined}
 use Rattle.packet_writer.specs.Packing.{first_room, next_room, header, packet_of, next, continued, packed, after, packed_all}
 use Rattle.packet_writer.proofs.Packets.{packet_long}
 use Rattle.packet_arrival.specs.Packed.{GoodSection, AllGood, first_packet}
-use Rattle.packet_arrival.proofs.Packets.{Awaits, packet-counter, awaited_repeat, continuing, starting}
-use Rattle.packet_arrival.proofs.Bytes.{stuffing_front, goes-on-whole, goes-on-open, begins-whole, begins-open}
+use Rattle.packet_arrival.proofs.Packets.{Awaits, packet_counter, awaited_repeat, continuing, starting}
+use Rattle.packet_arrival.proofs.Bytes.{stuffing_front, goes_on_whole, goes_on_open, begins_whole, begins_open}
 use Rattle.packet_arrival.proofs.Runs.{run_cons, run_then}
 
 -- ---- good sections
@@ -40,7 +40,7 @@ record Framed (s : List ℕ) : Type 0 where
 kind_begins : (s : List ℕ) → 3 ≤ length s → is_kind (get_or s 0 0) ≡ true → at_stuffing s ≡ false
 unfolding is_kind at_stuffing
 kind_begins [] h e = absurd (omega arith)
-kind_begins (b ∷ bs) h e = let k = (within-known configuration_kind b content_kind e).1 in ne_eqb b stuffing (λ q. omega arith)
+kind_begins (b ∷ bs) h e = let k = (within_known configuration_kind b content_kind e).1 in ne_eqb b stuffing (λ q. omega arith)
 
 good_framed : (s : List ℕ) → GoodSection s → Framed s
 unfolding framed
@@ -49,7 +49,7 @@ good_framed s g =
     let l = f.long in
     record {
       least = omega arith;
-      short = (within-known 9 (section_length s) section_length_most f.counted).1;
+      short = (within_known 9 (section_length s) section_length_most f.counted).1;
       own = sym f.whole;
       begins = kind_begins s (omega arith) f.kind;
     }
@@ -68,9 +68,9 @@ after_low (suc n) c h = after_low n (next c) (next_low c)
 -- ---- one packet's verdict, with room
 
 module _ (room : ℕ) (p : List ℕ) where
-  fits-none : (u : List ℕ) → fitting room p (record { sections = []; unfinished = u }) ≡ gives [] (held_after u p)
+  fits_none : (u : List ℕ) → fitting room p (record { sections = []; unfinished = u }) ≡ gives [] (held_after u p)
   unfolding fitting joined
-  fits-none u = rw (le-ltb room 0 (omega arith))
+  fits_none u = rw (le-ltb room 0 (omega arith))
 
   fits_one : (s : List ℕ) → length s ≤ room
       → fitting room p (record { sections = s ∷ []; unfinished = [] }) ≡ gives (s ∷ []) (held_after [] p)
@@ -90,7 +90,7 @@ awaits_of [] c e = tt
 awaits_of (b ∷ bs) c e = e
 
 packet_awaits : (start : Bool) (c : ℕ) → c ≤ counter_most → (payload : List ℕ) → Awaits (packet_of start c payload) (next c)
-packet_awaits start c low payload = awaits_of (packet_of start c payload) (next c) (ap next (packet-counter start c low payload))
+packet_awaits start c low payload = awaits_of (packet_of start c payload) (next c) (ap next (packet_counter start c low payload))
 
 -- ---- a section's packets after the first
 
@@ -128,26 +128,26 @@ continued_length (suc k) c r = ap suc (continued_length k (next c) (drop next_ro
 
 module _ (room : ℕ) (roomy : 4096 ≤ room) where
   -- the last of them
-  last-packet : (c : ℕ) (m : Memory) (r : List ℕ) → c ≤ counter_most → Awaits m.last c → Open m.unfinished r → length r ≤ next_room
+  last_packet : (c : ℕ) (m : Memory) (r : List ℕ) → c ≤ counter_most → Awaits m.last c → Open m.unfinished r → length r ≤ next_room
       → unpacking room m (packet_of false c (take next_room r)) ≡ gives ((m.unfinished ++ r) ∷ []) (held_after [] (packet_of false c (take next_room r)))
   unfolding framed
-  last-packet c m r low a o h =
+  last_packet c m r low a o h =
       rw (take_all next_room r h)
       (continuing m c low a room r h
-      ∙ ap (fitting room (packet_of false c r)) (goes-on-whole m.unfinished r o.least o.most (replicate (next_room - length r) stuffing) o.sum)
+      ∙ ap (fitting room (packet_of false c r)) (goes_on_whole m.unfinished r o.least o.most (replicate (next_room - length r) stuffing) o.sum)
       ∙ fits_one room (packet_of false c r) (m.unfinished ++ r) (let s = o.sum in let t = o.most in omega (arith, length-append m.unfinished r)))
 
   -- one before the last
-  full-packet : (c : ℕ) (m : Memory) (r : List ℕ) → c ≤ counter_most → Awaits m.last c → Open m.unfinished r → next_room < length r
+  full_packet : (c : ℕ) (m : Memory) (r : List ℕ) → c ≤ counter_most → Awaits m.last c → Open m.unfinished r → next_room < length r
       → unpacking room m (packet_of false c (take next_room r)) ≡ gives [] (held_after (m.unfinished ++ take next_room r) (packet_of false c (take next_room r)))
-  full-packet c m r low a o h =
+  full_packet c m r low a o h =
       let l = length-take-le next_room r (omega arith) in
       let s = o.sum in
       continuing m c low a room (take next_room r) (omega arith)
       ∙ ap (fitting room (packet_of false c (take next_room r)))
       (ap (gone_on m.unfinished) (no_stuffing (next_room - length (take next_room r)) (take next_room r) (omega arith))
-      ∙ goes-on-open m.unfinished (take next_room r) o.least o.most (omega arith))
-      ∙ fits-none room (packet_of false c (take next_room r)) (m.unfinished ++ take next_room r)
+      ∙ goes_on_open m.unfinished (take next_room r) o.least o.most (omega arith))
+      ∙ fits_none room (packet_of false c (take next_room r)) (m.unfinished ++ take next_room r)
 
   continues : (k c : ℕ) (m : Memory) (r : List ℕ) → c ≤ counter_most → Awaits m.last c → Open m.unfinished r
       → next_room * k < length r → length r ≤ next_room * suc k
@@ -158,7 +158,7 @@ module _ (room : ℕ) (roomy : 4096 ≤ room) where
         left = packet_of false c (take next_room r);
         run =
             run_cons room m (held_after [] (packet_of false c (take next_room r))) _ (packet_of false c (take next_room r)) [] ((m.unfinished ++ r) ∷ []) []
-            (last-packet c m r low a o (omega arith)) (run_none room _);
+            (last_packet c m r low a o (omega arith)) (run_none room _);
         awaits = packet_awaits false c low (take next_room r);
       }
   continues (suc k) c m r low a o more less =
@@ -171,7 +171,7 @@ module _ (room : ℕ) (roomy : 4096 ≤ room) where
       record {
         left = rest.left;
         run =
-            run_cons room m n _ p _ [] _ (full-packet c m r low a o (omega arith)) rest.run
+            run_cons room m n _ p _ [] _ (full_packet c m r low a o (omega arith)) rest.run
             ∙ ap (λ s. gives (s ∷ []) (held_after [] rest.left))
             (append_assoc m.unfinished (take next_room r) (drop next_room r) ∙ ap (λ l. m.unfinished ++ l) (take-append-drop next_room r));
         awaits = rest.awaits;
@@ -180,10 +180,10 @@ module _ (room : ℕ) (roomy : 4096 ≤ room) where
   -- ---- a section
 
   -- nothing is lost of what was before, since it was not whole: the first packet's pointer comes too soon for it
-  ended-begun : (u d : List ℕ) → is_begun u ≡ true → ended u [] d ≡ begun d
+  ended_begun : (u d : List ℕ) → is_begun u ≡ true → ended u [] d ≡ begun d
   unfolding ended gone_on nothing longer
-  ended-begun [] d e = refl
-  ended-begun (x ∷ xs) d e = let t = begun-tests x xs e in rw (append-nil xs, t.1, t.2)
+  ended_begun [] d e = refl
+  ended_begun (x ∷ xs) d e = let t = begun_tests x xs e in rw (append-nil xs, t.1, t.2)
 
   -- from any memory: the section's first packet is no repeat of the last one taken
   module _ (c : ℕ) (low : c ≤ counter_most) (m : Memory) (b : is_begun m.unfinished ≡ true) (s : List ℕ) (other : is_repeat m (first_packet c s) ≡ false)
@@ -191,17 +191,17 @@ module _ (room : ℕ) (roomy : 4096 ≤ room) where
     p₁ : List ℕ
     p₁ = packet_of true c (0 ∷ take first_room s)
 
-    begins-at : unpacking room m p₁ ≡ fitting room p₁ (begun (take first_room s ++ replicate (first_room - length (take first_room s)) stuffing))
+    begins_at : unpacking room m p₁ ≡ fitting room p₁ (begun (take first_room s ++ replicate (first_room - length (take first_room s)) stuffing))
     unfolding p₁ first_packet
-    begins-at =
+    begins_at =
         starting m c low room (take first_room s) (omega (arith, length-take first_room s)) other
-        ∙ ap (fitting room p₁) (ended-begun (going_on m p₁) _ (going_begun m p₁ b))
+        ∙ ap (fitting room p₁) (ended_begun (going_on m p₁) _ (going_begun m p₁ b))
 
-    one-packet : length s ≤ first_room → unpacking room m p₁ ≡ gives (s ∷ []) (held_after [] p₁)
-    one-packet h =
-        begins-at
+    one_packet : length s ≤ first_room → unpacking room m p₁ ≡ gives (s ∷ []) (held_after [] p₁)
+    one_packet h =
+        begins_at
         ∙ ap (λ d. fitting room p₁ (begun (d ++ replicate (first_room - length d) stuffing))) (take_all first_room s h)
-        ∙ ap (fitting room p₁) (begins-whole s f.least f.short f.begins (first_room - length s) f.own)
+        ∙ ap (fitting room p₁) (begins_whole s f.least f.short f.begins (first_room - length s) f.own)
         ∙ fits_one room p₁ s (omega arith)
 
     front_length : first_room < length s → section_length (take first_room s) ≡ section_length s
@@ -209,80 +209,80 @@ module _ (room : ℕ) (roomy : 4096 ≤ room) where
         sym (length_front (take first_room s) (drop first_room s) (omega (arith, length-take-le first_room s (omega arith))))
         ∙ ap section_length (take-append-drop first_room s)
 
-    front-framed : first_room < length s → framed (take first_room s) ≡ length s
+    front_framed : first_room < length s → framed (take first_room s) ≡ length s
     unfolding framed
-    front-framed h = ap (λ (n : ℕ). n + 3) (front_length h) ∙ f.own
+    front_framed h = ap (λ (n : ℕ). n + 3) (front_length h) ∙ f.own
 
-    front-begins : first_room < length s → at_stuffing (take first_room s) ≡ false
-    front-begins h =
+    front_begins : first_room < length s → at_stuffing (take first_room s) ≡ false
+    front_begins h =
         sym (stuffing_front (take first_room s) (drop first_room s) (omega (arith, length-take-le first_room s (omega arith))))
         ∙ ap at_stuffing (take-append-drop first_room s) ∙ f.begins
 
-    front-open : first_room < length s → Open (take first_room s) (drop first_room s)
-    front-open h =
+    front_open : first_room < length s → Open (take first_room s) (drop first_room s)
+    front_open h =
         let l = length-take-le first_room s (omega arith) in
-        let e = front-framed h in
+        let e = front_framed h in
         let d = length_part first_room s (omega arith) in
         record { least = omega arith; sum = omega arith; most = rw (front_length h) f.short }
 
-    first-packet : first_room < length s → unpacking room m p₁ ≡ gives [] (held_after (take first_room s) p₁)
-    first-packet h =
+    first_packet_lem : first_room < length s → unpacking room m p₁ ≡ gives [] (held_after (take first_room s) p₁)
+    first_packet_lem h =
         let l = length-take-le first_room s (omega arith) in
-        let e = front-framed h in
-        let o = front-open h in
-        begins-at
+        let e = front_framed h in
+        let o = front_open h in
+        begins_at
         ∙ ap (λ d. fitting room p₁ (begun d)) (no_stuffing (first_room - length (take first_room s)) (take first_room s) (omega arith))
-        ∙ ap (fitting room p₁) (begins-open (take first_room s) o.least o.most (front-begins h) (omega arith))
-        ∙ fits-none room p₁ (take first_room s)
+        ∙ ap (fitting room p₁) (begins_open (take first_room s) o.least o.most (front_begins h) (omega arith))
+        ∙ fits_none room p₁ (take first_room s)
 
-    many-packets : (k : ℕ) → length s / next_room ≡ k → Arrives room m (p₁ ∷ continued k (next c) (drop first_room s)) (s ∷ []) (after (suc k) c)
+    many_packets : (k : ℕ) → length s / next_room ≡ k → Arrives room m (p₁ ∷ continued k (next c) (drop first_room s)) (s ∷ []) (after (suc k) c)
     unfolding continued after p₁ held_after
-    many-packets zero e =
+    many_packets zero e =
         record {
           left = p₁;
-          run = run_cons room m (held_after [] p₁) _ p₁ [] (s ∷ []) [] (one-packet (omega arith)) (run_none room _);
+          run = run_cons room m (held_after [] p₁) _ p₁ [] (s ∷ []) [] (one_packet (omega arith)) (run_none room _);
           awaits = packet_awaits true c low (0 ∷ take first_room s);
         }
-    many-packets (suc k) e =
+    many_packets (suc k) e =
         let h : first_room < length s = omega arith in
         let n = held_after (take first_room s) p₁ in
         let d = length-drop first_room s in
         let rest =
-        continues k (next c) n (drop first_room s) (next_low c) (packet_awaits true c low (0 ∷ take first_room s)) (front-open h)
+        continues k (next c) n (drop first_room s) (next_low c) (packet_awaits true c low (0 ∷ take first_room s)) (front_open h)
         (omega arith) (omega arith) in
         record {
           left = rest.left;
           run =
-              run_cons room m n _ p₁ _ [] _ (first-packet h) rest.run
+              run_cons room m n _ p₁ _ [] _ (first_packet_lem h) rest.run
               ∙ ap (λ t. gives (t ∷ []) (held_after [] rest.left)) (take-append-drop first_room s);
           awaits = rest.awaits;
         }
 
-    section-arrives : Arrives room m (packed c s) (s ∷ []) (after (length (packed c s)) c)
+    section_arrives : Arrives room m (packed c s) (s ∷ []) (after (length (packed c s)) c)
     unfolding packed p₁
-    section-arrives = rw (continued_length (length s / next_room) (next c) (drop first_room s)) (many-packets (length s / next_room) refl)
+    section_arrives = rw (continued_length (length s / next_room) (next c) (drop first_room s)) (many_packets (length s / next_room) refl)
 
   -- ---- all of them
 
-  first-long : (c : ℕ) (s : List ℕ) → length (first_packet c s) ≡ packet_bytes
+  first_long : (c : ℕ) (s : List ℕ) → length (first_packet c s) ≡ packet_bytes
   unfolding first_packet
-  first-long c s = packet_long true c (0 ∷ take first_room s) (omega (arith, length-take first_room s))
+  first_long c s = packet_long true c (0 ∷ take first_room s) (omega (arith, length-take first_room s))
 
   -- the first packet of what is awaited is no repeat
-  awaited-first : (c : ℕ) → c ≤ counter_most → (l : List ℕ) → Awaits l c → (s : List ℕ) → is_repeat (held_after [] l) (first_packet c s) ≡ false
+  awaited_first : (c : ℕ) → c ≤ counter_most → (l : List ℕ) → Awaits l c → (s : List ℕ) → is_repeat (held_after [] l) (first_packet c s) ≡ false
   unfolding held_after first_packet
-  awaited-first c low l a s =
-      awaited_repeat (held_after [] l) (first_packet c s) (first-long c s) (rw (packet-counter true c low (0 ∷ take first_room s)) a)
+  awaited_first c low l a s =
+      awaited_repeat (held_after [] l) (first_packet c s) (first_long c s) (rw (packet_counter true c low (0 ∷ take first_room s)) a)
 
-  sections-arrive : (ss : List (List ℕ)) → AllGood ss → (c : ℕ) → c ≤ counter_most → (l : List ℕ) → Awaits l c
+  sections_arrive : (ss : List (List ℕ)) → AllGood ss → (c : ℕ) → c ≤ counter_most → (l : List ℕ) → Awaits l c
       → (n : Memory) × (unpacking_all room (held_after [] l) (packed_all c ss) ≡ gives ss n)
   unfolding packed_all held_after
-  sections-arrive [] fs c low l a = (held_after [] l, run_none room (held_after [] l))
-  sections-arrive (s ∷ ss) fs c low l a =
+  sections_arrive [] fs c low l a = (held_after [] l, run_none room (held_after [] l))
+  sections_arrive (s ∷ ss) fs c low l a =
       let m = held_after [] l in
-      let one = section-arrives c low m nothing_begun_lem s (awaited-first c low l a s) (good_framed s fs.0) in
+      let one = section_arrives c low m nothing_begun_lem s (awaited_first c low l a s) (good_framed s fs.0) in
       let d = after (length (packed c s)) c in
-      let rest = sections-arrive ss fs.1 d (after_low (length (packed c s)) c low) one.left one.awaits in
+      let rest = sections_arrive ss fs.1 d (after_low (length (packed c s)) c low) one.left one.awaits in
       (rest.0, run_then room m (held_after [] one.left) rest.0 (packed c s) _ (s ∷ []) ss one.run rest.1)
 
 -- whatever was before, a gap, an error bit, a length too great or a pointer too soon: what is packed from then on arrives, from any counter, unless its
@@ -292,13 +292,13 @@ pub resumes : (room c : ℕ) (m : Memory) (s : List ℕ) (ss : List (List ℕ)) 
     → (n : Memory) × (unpacking_all room m (packed_all c (s ∷ ss)) ≡ gives (s ∷ ss) n)
 unfolding packed_all
 resumes room c m s ss roomy low fs b other =
-    let one = section-arrives room roomy c low m b s other (good_framed s fs.0) in
+    let one = section_arrives room roomy c low m b s other (good_framed s fs.0) in
     let d = after (length (packed c s)) c in
-    let rest = sections-arrive room roomy ss fs.1 d (after_low (length (packed c s)) c low) one.left one.awaits in
+    let rest = sections_arrive room roomy ss fs.1 d (after_low (length (packed c s)) c low) one.left one.awaits in
     (rest.0, run_then room m (held_after [] one.left) rest.0 (packed c s) _ (s ∷ []) ss one.run rest.1)
 
 -- "From a fresh unpacker, packing good sections, each from the counter after the last packet's, and unpacking gives them in order."
 pub arrives : (room c : ℕ) (ss : List (List ℕ)) → 4096 ≤ room → c ≤ counter_most → AllGood ss
     → (m : Memory) × (unpacking_all room fresh (packed_all c ss) ≡ gives ss m)
 unfolding fresh held_after
-arrives room c ss roomy low fs = sections-arrive room roomy ss fs c low [] tt
+arrives room c ss roomy low fs = sections_arrive room roomy ss fs c low [] tt

@@ -26,18 +26,18 @@ module _ (s x : List ℕ) (least : 3 ≤ length s) (most : section_length s ≤ 
   long : length (s ++ x) ≡ length s + length x
   long = length-append s x
 
-  pub not-too-long : too_long (s ++ x) ≡ false
+  pub not_too_long : too_long (s ++ x) ≡ false
   unfolding too_long
-  not-too-long = simp (length_front s x least, le-ltb section_length_most (section_length s) most, and-false)
+  not_too_long = simp (length_front s x least, le-ltb section_length_most (section_length s) most, and-false)
 
   pub whole : framed s ≤ length s + length x → is_whole (s ++ x) ≡ true
   unfolding is_whole
   whole h =
       simp (framed_front s x least, le-leb 3 (length (s ++ x)) (omega (arith, long)), le-leb (framed s) (length (s ++ x)) (omega (arith, long)))
 
-  pub not-whole : length s + length x < framed s → is_whole (s ++ x) ≡ false
+  pub not_whole : length s + length x < framed s → is_whole (s ++ x) ≡ false
   unfolding is_whole
-  not-whole h = simp (framed_front s x least, lt-leb (framed s) (length (s ++ x)) (omega (arith, long)), and-false)
+  not_whole h = simp (framed_front s x least, lt-leb (framed s) (length (s ++ x)) (omega (arith, long)), and-false)
 
 -- ---- going on
 
@@ -56,19 +56,19 @@ goes_on (b ∷ bs) more h = refl
 
 module _ (u r : List ℕ) (least : 3 ≤ length u) (most : section_length u ≤ section_length_most) where
   -- the unfinished section's last bytes
-  pub goes-on-whole : (x : List ℕ) → framed u ≡ length u + length r
+  pub goes_on_whole : (x : List ℕ) → framed u ≡ length u + length r
       → gone_on u (r ++ x) ≡ record { sections = (u ++ r) ∷ []; unfinished = [] }
-  goes-on-whole x e =
+  goes_on_whole x e =
       goes_on u (r ++ x) least
-      ∙ longer_whole (u ++ (r ++ x)) (not-too-long u (r ++ x) least most) (whole u (r ++ x) least most (omega (arith, length-append r x)))
+      ∙ longer_whole (u ++ (r ++ x)) (not_too_long u (r ++ x) least most) (whole u (r ++ x) least most (omega (arith, length-append r x)))
       ∙ ap (λ s. record { sections = s ∷ []; unfinished = [] })
       (rw (framed_front u (r ++ x) least, e, ← (append_assoc u r x)) (take_at (u ++ r) x (length u + length r) (length-append u r)))
 
   -- some of its bytes, and more to come
-  pub goes-on-open : length u + length r < framed u → gone_on u r ≡ record { sections = []; unfinished = u ++ r }
-  goes-on-open h =
+  pub goes_on_open : length u + length r < framed u → gone_on u r ≡ record { sections = []; unfinished = u ++ r }
+  goes_on_open h =
       goes_on u r least
-      ∙ longer_open (u ++ r) (not-too-long u r least most) (not-whole u r least most h)
+      ∙ longer_open (u ++ r) (not_too_long u r least most) (not_whole u r least most h)
 
 -- ---- beginning
 
@@ -93,17 +93,17 @@ unfolding begun
 begun_turns d h = ap (λ (n : ℕ). begun_in n d) (omega arith)
 
 module _ (s : List ℕ) (least : 3 ≤ length s) (most : section_length s ≤ section_length_most) (begins : at_stuffing s ≡ false) where
-  whole-behind : (x : List ℕ) (n : ℕ) → framed s ≡ length s
+  whole_behind : (x : List ℕ) (n : ℕ) → framed s ≡ length s
       → before (take (framed (s ++ x)) (s ++ x)) (begun_in n (drop (framed (s ++ x)) (s ++ x))) ≡ before s (begun_in n x)
-  whole-behind x n e = rw (framed_front s x least, e, take_at s x (length s) refl, drop_at s x (length s) refl)
+  whole_behind x n e = rw (framed_front s x least, e, take_at s x (length s) refl, drop_at s x (length s) refl)
 
   -- a section whole, and stuffing behind it
-  pub begins-whole : (k : ℕ) → framed s ≡ length s → begun (s ++ replicate k stuffing) ≡ record { sections = s ∷ []; unfinished = [] }
+  pub begins_whole : (k : ℕ) → framed s ≡ length s → begun (s ++ replicate k stuffing) ≡ record { sections = s ∷ []; unfinished = [] }
   unfolding before nothing
-  begins-whole k e =
+  begins_whole k e =
       begun_turns (s ++ x) (omega (arith, length-append s x))
-      ∙ begun_whole n (s ++ x) (stuffing_front s x least ∙ begins) (not-too-long s x least most) (whole s x least most (omega arith))
-      ∙ whole-behind x n e
+      ∙ begun_whole n (s ++ x) (stuffing_front s x least ∙ begins) (not_too_long s x least most) (whole s x least most (omega arith))
+      ∙ whole_behind x n e
       ∙ ap (before s) (begun_stuffing n k)
     where
       x : List ℕ
@@ -113,9 +113,9 @@ module _ (s : List ℕ) (least : 3 ≤ length s) (most : section_length s ≤ se
       n = length (s ++ x) - 1
 
   -- a section's first bytes
-  pub begins-open : length s < framed s → begun s ≡ record { sections = []; unfinished = s }
-  begins-open l =
+  pub begins_open : length s < framed s → begun s ≡ record { sections = []; unfinished = s }
+  begins_open l =
       begun_turns s least
       ∙ begun_open (length s - 1) s begins
-      (subst (λ v. too_long v ≡ false) (append-nil s) (not-too-long s [] least most))
-      (subst (λ v. is_whole v ≡ false) (append-nil s) (not-whole s [] least most (omega arith)))
+      (subst (λ v. too_long v ≡ false) (append-nil s) (not_too_long s [] least most))
+      (subst (λ v. is_whole v ≡ false) (append-nil s) (not_whole s [] least most (omega arith)))

@@ -20,7 +20,7 @@ use Rattle.packet.specs.declared.Judged.TheVariants.{Refused, Damaged, Skipped, 
 use Rattle.packet.proofs.Judging.{Carried, carried}
 use Rattle.packet_frames.specs.Framing.{at_stuffing, framed, too_long, is_whole, is_begun, Read, nothing, longer, gone_on, before, begun_in, begun, joined}
 use Rattle.packet_frames.proofs.Frames.{framed_least}
-use Rattle.packet_frames.proofs.Growing.{begun-tests}
+use Rattle.packet_frames.proofs.Growing.{begun_tests}
 use Rattle.packet_plan.specs.Reading.{ended, ahead, read_on}
 use Rattle.packet_plan.proofs.Plans.{joined_append}
 use Rattle.packet_memory.specs.Memory.{Memory, held_after, repeated_once, is_repeat, going_on}
@@ -132,11 +132,11 @@ one_gone (x ∷ xs) more e = go (too_long d) refl (is_whole d) refl
         record {
           count = omega arith;
           bytes = omega arith;
-          none = λ q. let z : true ≡ false = sym w ∙ ap is_whole (unmoved more q) ∙ (begun-tests x xs e).2 in absurd-bool z;
+          none = λ q. let z : true ≡ false = sym w ∙ ap is_whole (unmoved more q) ∙ (begun_tests x xs e).2 in absurd_bool z;
         }
       where
-        absurd-bool : true ≡ false → length (take (framed d) d ∷ []) ≡ 0
-        absurd-bool z = let y : ◌≡◌ {A = ℕ} 1 0 = ap (λ b. if b then 1 else 0) z in absurd (omega arith)
+        absurd_bool : true ≡ false → length (take (framed d) d ∷ []) ≡ 0
+        absurd_bool z = let y : ◌≡◌ {A = ℕ} 1 0 = ap (λ b. if b then 1 else 0) z in absurd (omega arith)
     go false t false w = record { count = omega arith; bytes = omega arith; none = λ q. refl }
 
 -- ---- a packet
@@ -173,9 +173,9 @@ unfolding pointed_at
 pointed_least p = omega arith
 
 module _ (u p : List ℕ) (b : is_begun u ≡ true) (c : Carried p) where
-  most-started : Most (ended u (ahead p) (drop (pointed_at p) p)).sections
+  most_started : Most (ended u (ahead p) (drop (pointed_at p) p)).sections
   unfolding ended
-  most-started =
+  most_started =
       let one = one_gone u (ahead p) b in
       let few = few_begun (drop (pointed_at p) p) in
       let front = (gone_on u (ahead p)).sections in
@@ -191,20 +191,20 @@ module _ (u p : List ℕ) (b : is_begun u ≡ true) (c : Carried p) where
         bytes = subst (λ n. n ≤ 4278) (sym (ap length (joined_append front back) ∙ length-append (joined front) (joined back))) s.1;
       }
 
-  most-unstarted : Most (gone_on u (drop (payload_at p) p)).sections
-  most-unstarted =
+  most_unstarted : Most (gone_on u (drop (payload_at p) p)).sections
+  most_unstarted =
       let one = one_gone u (drop (payload_at p) p) b in
       let n = one.count in
       let m = one.bytes in
       record { sections = omega arith; bytes = omega arith }
 
-  most-read : Most (read_on u p).sections
+  most_read : Most (read_on u p).sections
   unfolding read_on
-  most-read = go (starts p)
+  most_read = go (starts p)
     where
       go : (s : Bool) → Most (if s then ended u (ahead p) (drop (pointed_at p) p) else gone_on u (drop (payload_at p) p)).sections
-      go true = most-started
-      go false = most-unstarted
+      go true = most_started
+      go false = most_unstarted
 
 -- ---- a verdict
 
@@ -228,7 +228,7 @@ carrying_most room s p ss m c e = go (is_repeat (memory_of s) p) e
 
     go : (b : Bool) → (if b then gives [] (repeated_once (memory_of s)) else fitting room p (read_on u p)) ≡ gives ss m → Most ss
     go true q = none_given _ m ss q
-    go false q = fitting_most room p (read_on u p) ss m (most-read u p (going_begun (memory_of s) p (memory_begun s)) c) q
+    go false q = fitting_most room p (read_on u p) ss m (most_read u p (going_begun (memory_of s) p (memory_begun s)) c) q
 
 -- no packet, after any state, gives more than 61 sections, or more than 4,278 bytes of them
 pub gives_most : (room : ℕ) (s p : List ℕ) (ss : List (List ℕ)) (m : Memory) → unpacking room (memory_of s) p ≡ gives ss m

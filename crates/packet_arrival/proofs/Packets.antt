@@ -24,25 +24,25 @@ use Rattle.packet_writer.proofs.Packets.{packet_long}
 -- ---- a packet that the packer writes
 
 module _ (start : Bool) (c : ℕ) (low : c ≤ counter_most) (payload : List ℕ) where
-  pub packet-payload : drop 4 (packet_of start c payload) ≡ payload ++ replicate (next_room - length payload) stuffing
+  pub packet_payload : drop 4 (packet_of start c payload) ≡ payload ++ replicate (next_room - length payload) stuffing
   unfolding packet_of header
-  packet-payload = refl
+  packet_payload = refl
 
-  pub packet-control : control (packet_of start c payload) ≡ 1
+  pub packet_control : control (packet_of start c payload) ≡ 1
   unfolding packet_of header control
-  packet-control = omega arith
+  packet_control = omega arith
 
-  pub packet-counter : counter (packet_of start c payload) ≡ c
+  pub packet_counter : counter (packet_of start c payload) ≡ c
   unfolding packet_of header counter
-  packet-counter = omega arith
+  packet_counter = omega arith
 
-  pub packet-scrambling : scrambling (packet_of start c payload) ≡ 0
+  pub packet_scrambling : scrambling (packet_of start c payload) ≡ 0
   unfolding packet_of header scrambling
-  packet-scrambling = omega arith
+  packet_scrambling = omega arith
 
-  pub packet-at : payload_at (packet_of start c payload) ≡ 4
+  pub packet_at : payload_at (packet_of start c payload) ≡ 4
   unfolding payload_at
-  packet-at = rw (packet-control)
+  packet_at = rw (packet_control)
 
 pub packet_error : (start : Bool) (c : ℕ) (payload : List ℕ) → has_error (packet_of start c payload) ≡ false
 unfolding packet_of header start_byte has_error
@@ -114,15 +114,15 @@ packet_judged start c low payload h i =
       packet_sync start c payload,
       packet_error start c payload,
       packet_pid start c payload,
-      packet-scrambling start c low payload,
-      packet-control start c low payload,
+      packet_scrambling start c low payload,
+      packet_control start c low payload,
       i,
     )
 
 -- the pointer of a section's first packet
 pub packet_pointed : (c : ℕ) → c ≤ counter_most → (payload : List ℕ) → pointed_at (packet_of true c (0 ∷ payload)) ≡ 5
 unfolding pointed_at packet_of header
-packet_pointed c low payload = rw (packet-at true c low (0 ∷ payload))
+packet_pointed c low payload = rw (packet_at true c low (0 ∷ payload))
 
 packet_section : (c : ℕ) (payload : List ℕ) → drop 5 (packet_of true c (0 ∷ payload)) ≡ payload ++ replicate (first_room - length payload) stuffing
 unfolding packet_of header
@@ -138,13 +138,13 @@ pub continuing : (m : Memory) (c : ℕ) → c ≤ counter_most → Awaits m.last
 unfolding in_place read_on
 continuing m c low a room payload h =
     let p = packet_of false c payload in
-    let b : Awaits m.last (counter p) = rw (packet-counter false c low payload) a in
+    let b : Awaits m.last (counter p) = rw (packet_counter false c low payload) a in
     taken_read room m p
     (packet_judged false c low payload h
-    (simp (packet-control false c low payload, packet-at false c low payload, packet_starts false c payload)))
+    (simp (packet_control false c low payload, packet_at false c low payload, packet_starts false c payload)))
     (awaited_repeat m p (packet_long false c payload h) b)
     ∙ ap (λ u. fitting room p (read_on u p)) (awaited_goes m p b)
-    ∙ simp (packet_starts false c payload, packet-at false c low payload, packet-payload false c low payload)
+    ∙ simp (packet_starts false c payload, packet_at false c low payload, packet_payload false c low payload)
 
 -- a section's first packet, if it is no repeat: whatever it goes on from ends there
 pub starting : (m : Memory) (c : ℕ) → c ≤ counter_most → (room : ℕ) (payload : List ℕ) → length payload ≤ first_room
@@ -158,10 +158,10 @@ starting m c low room payload h n =
     taken_read room m p
     (packet_judged true c low (0 ∷ payload) (omega arith)
     (simp (
-      packet-control true c low (0 ∷ payload),
-      packet-at true c low (0 ∷ payload),
+      packet_control true c low (0 ∷ payload),
+      packet_at true c low (0 ∷ payload),
       packet_starts true c (0 ∷ payload),
       packet_pointed c low payload,
     )))
     n
-    ∙ simp (packet_starts true c (0 ∷ payload), packet-at true c low (0 ∷ payload), packet_pointed c low payload, packet_section c payload)
+    ∙ simp (packet_starts true c (0 ∷ payload), packet_at true c low (0 ∷ payload), packet_pointed c low payload, packet_section c payload)

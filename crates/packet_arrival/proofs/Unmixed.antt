@@ -187,28 +187,28 @@ module _ (h : Heard) (y : List ℕ) where
   plain : Heard
   plain = record { bytes = h.bytes ++ y; pointers = h.pointers }
 
-  plain-grows : Grows h plain
+  plain_grows : Grows h plain
   unfolding plain
-  plain-grows = record { new = y; bytes = refl; pointers = λ k a. a }
+  plain_grows = record { new = y; bytes = refl; pointers = λ k a. a }
 
-  plain-standing : (u : List ℕ) → Standing u h → Standing (u ++ y) plain
+  plain_standing : (u : List ℕ) → Standing u h → Standing (u ++ y) plain
   unfolding plain
-  plain-standing u s =
+  plain_standing u s =
       let w = s.within in
       record {
         at = s.at;
         within = omega (arith, length-append h.bytes y);
         rest = drop-append-le s.at h.bytes y w ∙ ap (λ l. l ++ y) s.rest;
-        begins = begins_more h plain plain-grows s.at s.begins;
+        begins = begins_more h plain plain_grows s.at s.begins;
         below = s.below;
       }
 
-  gone-sound : (u : List ℕ) → Stands u h → Sound plain (gone_on u y)
+  gone_sound : (u : List ℕ) → Stands u h → Sound plain (gone_on u y)
   unfolding gone_on nothing plain
-  gone-sound [] s = (tt, tt)
-  gone-sound (b ∷ bs) s =
+  gone_sound [] s = (tt, tt)
+  gone_sound (b ∷ bs) s =
       let u = b ∷ bs in
-      let t = plain-standing u s in (
+      let t = plain_standing u s in (
         longer_framed plain t.at (u ++ y) [] (t.rest ∙ sym (append-nil (u ++ y))) t.begins
             (below_inside t.at (t.at + length (u ++ y)) h.pointers t.below),
         longer_open (u ++ y) plain t,
@@ -224,25 +224,25 @@ module _ (h : Heard) (x d : List ℕ) where
   pointing : Heard
   pointing = record { bytes = h.bytes ++ (x ++ d); pointers = place ∷ h.pointers }
 
-  pointing-grows : Grows h pointing
+  pointing_grows : Grows h pointing
   unfolding pointing
-  pointing-grows = record { new = x ++ d; bytes = refl; pointers = λ k a. inr a }
+  pointing_grows = record { new = x ++ d; bytes = refl; pointers = λ k a. inr a }
 
-  from-pointer : drop place pointing.bytes ≡ d
+  from_pointer : drop place pointing.bytes ≡ d
   unfolding pointing place
-  from-pointer =
+  from_pointer =
       ap (drop (length h.bytes + length x)) (sym (append_assoc h.bytes x d))
       ∙ drop_at (h.bytes ++ x) d (length h.bytes + length x) (length-append h.bytes x)
 
   -- nothing heard before begins behind what the pointer points at
-  pointing-below : AllBelow (length h.bytes) h.pointers → AllBelow place pointing.pointers
+  pointing_below : AllBelow (length h.bytes) h.pointers → AllBelow place pointing.pointers
   unfolding pointing place
-  pointing-below b = (omega arith, below_more (length h.bytes) (length h.bytes + length x) (omega arith) h.pointers b)
+  pointing_below b = (omega arith, below_more (length h.bytes) (length h.bytes + length x) (omega arith) h.pointers b)
 
-  ended-first : (u : List ℕ) → Stands u h → AllFramedIn pointing (gone_on u x).sections
+  ended_first : (u : List ℕ) → Stands u h → AllFramedIn pointing (gone_on u x).sections
   unfolding gone_on nothing pointing place
-  ended-first [] s = tt
-  ended-first (b ∷ bs) s =
+  ended_first [] s = tt
+  ended_first (b ∷ bs) s =
       let u = b ∷ bs in
       let w = s.within in
       let l = length-drop s.at h.bytes in
@@ -250,24 +250,24 @@ module _ (h : Heard) (x d : List ℕ) where
       let long = length-append u x in
       longer_framed pointing s.at (u ++ x) d
       (drop-append-le s.at h.bytes (x ++ d) w ∙ ap (λ t. t ++ (x ++ d)) s.rest ∙ sym (append_assoc u x d))
-      (begins_more h pointing pointing-grows s.at s.begins)
+      (begins_more h pointing pointing_grows s.at s.begins)
       (inr (omega arith), below_inside s.at (s.at + length (u ++ x)) h.pointers s.below)
 
-  pointing-length : length pointing.bytes ≡ place + length d
+  pointing_length : length pointing.bytes ≡ place + length d
   unfolding pointing place
-  pointing-length =
+  pointing_length =
       ap length (sym (append_assoc h.bytes x d)) ∙ length-append (h.bytes ++ x) d
       ∙ ap (λ (n : ℕ). n + length d) (length-append h.bytes x)
 
-  ended-sound : (u : List ℕ) → Stands u h → AllBelow (length h.bytes) h.pointers → Sound pointing (ended u x d)
+  ended_sound : (u : List ℕ) → Stands u h → AllBelow (length h.bytes) h.pointers → Sound pointing (ended u x d)
   unfolding ended begun pointing
-  ended-sound u s b =
+  ended_sound u s b =
       let r =
       begun_sound pointing (length d) place
-      (omega (arith, pointing-length))
-      (pointed (inl refl)) (pointing-below b) in
-      let t = subst (λ (e : List ℕ). Sound pointing (begun_in (length d) e)) from-pointer r in
-      (framed_append pointing (gone_on u x).sections (begun d).sections (ended-first u s) t.0, t.1)
+      (omega (arith, pointing_length))
+      (pointed (inl refl)) (pointing_below b) in
+      let t = subst (λ (e : List ℕ). Sound pointing (begun_in (length d) e)) from_pointer r in
+      (framed_append pointing (gone_on u x).sections (begun d).sections (ended_first u s) t.0, t.1)
 
 -- ---- a packet's payload
 
@@ -287,9 +287,9 @@ abbrev Ready : List ℕ → Heard → Type 0
 Ready u h = Stands u h × AllBelow (length h.bytes) h.pointers
 
 module _ (h : Heard) (p u : List ℕ) (v : Ready u h) where
-  read-sound : Sound (hearing h p) (read_on u p)
+  read_sound : Sound (hearing h p) (read_on u p)
   unfolding read_on hearing carried plain pointing place
-  read-sound = go (starts p)
+  read_sound = go (starts p)
     where
       d : List ℕ
       d = drop (pointed_at p) p
@@ -305,12 +305,12 @@ module _ (h : Heard) (p u : List ℕ) (v : Ready u h) where
           subst
           (λ (y : List ℕ).
           Sound (record { bytes = h.bytes ++ y; pointers = (length h.bytes + length (ahead p)) ∷ h.pointers }) (ended u (ahead p) d))
-          (pointed_whole p) (ended-sound h (ahead p) d u v.0 v.1)
-      go false = gone-sound h (drop (payload_at p) p) u v.0
+          (pointed_whole p) (ended_sound h (ahead p) d u v.0 v.1)
+      go false = gone_sound h (drop (payload_at p) p) u v.0
 
-  hearing-below : AllBelow (length (hearing h p).bytes) (hearing h p).pointers
+  hearing_below : AllBelow (length (hearing h p).bytes) (hearing h p).pointers
   unfolding hearing carried
-  hearing-below = go (starts p)
+  hearing_below = go (starts p)
     where
       more : (y : List ℕ) → length h.bytes ≤ length (h.bytes ++ y)
       more y = omega (arith, length-append h.bytes y)
@@ -339,26 +339,26 @@ unfolding silence
 ready_silence = (tt, tt)
 
 module _ (room : ℕ) (m : Memory) (h : Heard) (p : List ℕ) (v : Ready m.unfinished h) where
-  going-ready : Ready (going_on m p) (if follows m.last p then h else silence)
+  going_ready : Ready (going_on m p) (if follows m.last p then h else silence)
   unfolding going_on
-  going-ready = go (follows m.last p)
+  going_ready = go (follows m.last p)
     where
       go : (b : Bool) → Ready (if b then m.unfinished else []) (if b then h else silence)
       go true = v
       go false = ready_silence
 
-  kept-refusal : (r : Refusal) → Kept (refuses r) m h p
+  kept_refusal : (r : Refusal) → Kept (refuses r) m h p
   unfolding heard_by memory_by given_by
-  kept-refusal r = (tt, v)
+  kept_refusal r = (tt, v)
 
-  kept-error : has_error p ≡ true → Kept (gives [] fresh) m h p
+  kept_error : has_error p ≡ true → Kept (gives [] fresh) m h p
   unfolding heard_by memory_by given_by fresh
-  kept-error t = (tt, rw t ready_silence)
+  kept_error t = (tt, rw t ready_silence)
 
   module _ (good : has_error p ≡ false) where
-    kept-skipped : (n : Memory) → n.unfinished ≡ m.unfinished → (eqb (control p) 2 || is_repeat m p) ≡ true → Kept (gives [] n) m h p
+    kept_skipped : (n : Memory) → n.unfinished ≡ m.unfinished → (eqb (control p) 2 || is_repeat m p) ≡ true → Kept (gives [] n) m h p
     unfolding heard_by memory_by given_by
-    kept-skipped n u t = (tt, rw (good, t, u) v)
+    kept_skipped n u t = (tt, rw (good, t, u) v)
 
     kept_read : (eqb (control p) 2 || is_repeat m p) ≡ false → Kept (fitting room p (read_on (going_on m p) p)) m h p
     unfolding heard_by memory_by given_by fitting held_after
@@ -371,13 +371,13 @@ module _ (room : ℕ) (m : Memory) (h : Heard) (p : List ℕ) (v : Ready m.unfin
         g = if follows m.last p then h else silence
 
         s : Sound (hearing g p) r
-        s = read-sound g p (going_on m p) going-ready
+        s = read_sound g p (going_on m p) going_ready
 
         go : (b : Bool) → Kept (if b then refuses OutputTooSmall else gives r.sections (held_after r.unfinished p)) m h p
         go true = (tt, v)
-        go false = rw (good, t) (s.0, (s.1, hearing-below g p (going_on m p) going-ready))
+        go false = rw (good, t) (s.0, (s.1, hearing_below g p (going_on m p) going_ready))
 
-  -- what the packet's own judgement shows of its fields, as far as `heardBy` asks
+  -- what the packet's own judgement shows of its fields, as far as `heard_by` asks
   Told : Judged → Type 0
   Told (Refused r) = Unit {0}
   Told Damaged = has_error p ≡ true
@@ -414,10 +414,10 @@ module _ (room : ℕ) (m : Memory) (h : Heard) (p : List ℕ) (v : Ready m.unfin
   kept = go (judged p) told (is_repeat m p) refl
     where
       go : (j : Judged) → Told j → (l : Bool) → is_repeat m p ≡ l → Kept (verdict_on j room m p) m h p
-      go (Refused r) t l s = kept-refusal r
-      go Damaged t l s = kept-error t
-      go Skipped t l s = kept-skipped t.0 m refl (rw t.1)
-      go Carrying t true s = rw s (kept-skipped t.0 (repeated_once m) refl (rw (t.1, s)))
+      go (Refused r) t l s = kept_refusal r
+      go Damaged t l s = kept_error t
+      go Skipped t l s = kept_skipped t.0 m refl (rw t.1)
+      go Carrying t true s = rw s (kept_skipped t.0 (repeated_once m) refl (rw (t.1, s)))
       go Carrying t false s = rw s (kept_read t.0 (rw (t.1, s)))
 
 -- ---- a run

@@ -22,11 +22,11 @@ use Rattle.packet_frames.specs.Found.{frame_of, front_of}
 -- ---- a byte of two strings
 
 module _ (u more : List ℕ) (i r : ℕ) (h : r ≤ 255) where
-  pub joint-left : i < length u → r ≡ byte u i → (r ≡ byte (u ++ more) i) × (r ≤ 255)
-  joint-left l e = (e ∙ sym (get_or-append u more 0 i l), h)
+  pub joint_left : i < length u → r ≡ byte u i → (r ≡ byte (u ++ more) i) × (r ≤ 255)
+  joint_left l e = (e ∙ sym (get_or-append u more 0 i l), h)
 
-  pub joint-right : length u ≤ i → r ≡ byte more (i - length u) → (r ≡ byte (u ++ more) i) × (r ≤ 255)
-  joint-right l e = (e ∙ sym (ap (byte (u ++ more)) apart ∙ get_or-append-add u more (i - length u) 0), h)
+  pub joint_right : length u ≤ i → r ≡ byte more (i - length u) → (r ≡ byte (u ++ more) i) × (r ≤ 255)
+  joint_right l e = (e ∙ sym (ap (byte (u ++ more)) apart ∙ get_or-append-add u more (i - length u) 0), h)
     where
       apart : i ≡ length u + (i - length u)
       apart = omega arith
@@ -50,27 +50,27 @@ unfolding framed
 framed_least d = omega arith
 
 module _ (u more : List ℕ) where
-  pub frame-short : length u + length more < 3 → Open ≡ frame_of (u ++ more)
+  pub frame_short : length u + length more < 3 → Open ≡ frame_of (u ++ more)
   unfolding frame_of too_long is_whole
-  frame-short h = let l = length-append u more in simp (lt-leb 3 (length (u ++ more)) (omega arith))
+  frame_short h = let l = length-append u more in simp (lt-leb 3 (length (u ++ more)) (omega arith))
 
   module _ (least : 3 ≤ length u + length more) (n : ℕ) (e : n ≡ section_length (u ++ more)) where
     known : leb 3 (length (u ++ more)) ≡ true
     known = let l = length-append u more in le-leb 3 (length (u ++ more)) (omega arith)
 
-    pub frame-long : section_length_most < n → Nothing ≡ frame_of (u ++ more)
+    pub frame_long : section_length_most < n → Nothing ≡ frame_of (u ++ more)
     unfolding frame_of too_long
-    frame-long h = simp (known, ← e, lt-ltb section_length_most n h)
+    frame_long h = simp (known, ← e, lt-ltb section_length_most n h)
 
-    pub frame-whole : n ≤ section_length_most → n + 3 ≤ length u + length more → Whole (n + 3) ≡ frame_of (u ++ more)
+    pub frame_whole : n ≤ section_length_most → n + 3 ≤ length u + length more → Whole (n + 3) ≡ frame_of (u ++ more)
     unfolding frame_of too_long is_whole framed
-    frame-whole h k =
+    frame_whole h k =
         let l = length-append u more in
         simp (known, ← e, le-ltb section_length_most n h, le-leb (n + 3) (length (u ++ more)) (omega arith))
 
-    pub frame-open : n ≤ section_length_most → length u + length more < n + 3 → Open ≡ frame_of (u ++ more)
+    pub frame_open : n ≤ section_length_most → length u + length more < n + 3 → Open ≡ frame_of (u ++ more)
     unfolding frame_of too_long is_whole framed
-    frame-open h k =
+    frame_open h k =
         let l = length-append u more in
         simp (known, ← e, le-ltb section_length_most n h, lt-leb (n + 3) (length (u ++ more)) (omega arith))
 

@@ -23,16 +23,16 @@ use Rattle.packet_frames.proofs.Scans.{turn}
 
 -- each of its tests
 module _ (x : ℕ) (xs : List ℕ) where
-  pub begun-tests : is_begun (x ∷ xs) ≡ true → (at_stuffing (x ∷ xs) ≡ false) × (too_long (x ∷ xs) ≡ false) × (is_whole (x ∷ xs) ≡ false)
+  pub begun_tests : is_begun (x ∷ xs) ≡ true → (at_stuffing (x ∷ xs) ≡ false) × (too_long (x ∷ xs) ≡ false) × (is_whole (x ∷ xs) ≡ false)
   unfolding is_begun
-  begun-tests e =
+  begun_tests e =
       let a = both (not (at_stuffing (x ∷ xs)) && not (too_long (x ∷ xs))) (not (is_whole (x ∷ xs))) e in
       let b = both (not (at_stuffing (x ∷ xs))) (not (too_long (x ∷ xs))) a.0 in
       (not-true _ b.0, not-true _ b.1, not-true _ a.1)
 
-  pub tests-begun : at_stuffing (x ∷ xs) ≡ false → too_long (x ∷ xs) ≡ false → is_whole (x ∷ xs) ≡ false → is_begun (x ∷ xs) ≡ true
+  pub tests_begun : at_stuffing (x ∷ xs) ≡ false → too_long (x ∷ xs) ≡ false → is_whole (x ∷ xs) ≡ false → is_begun (x ∷ xs) ≡ true
   unfolding is_begun
-  tests-begun a b c = rw (a, b, c)
+  tests_begun a b c = rw (a, b, c)
 
 pub nothing_begun_lem : is_begun [] ≡ true
 unfolding is_begun
@@ -41,7 +41,7 @@ nothing_begun_lem = refl
 pub begun_short : (u : List ℕ) → is_begun u ≡ true → length u ≤ unfinished_most
 unfolding too_long is_whole framed
 begun_short [] e = omega arith
-begun_short (x ∷ xs) e = let t = begun-tests x xs e in go (leb 3 (length (x ∷ xs))) refl t.1 t.2
+begun_short (x ∷ xs) e = let t = begun_tests x xs e in go (leb 3 (length (x ∷ xs))) refl t.1 t.2
   where
     go : (b : Bool) → leb 3 (length (x ∷ xs)) ≡ b → (b && ltb section_length_most (section_length (x ∷ xs))) ≡ false
         → (b && leb (section_length (x ∷ xs) + 3) (length (x ∷ xs))) ≡ false
@@ -68,7 +68,7 @@ gone_begun (x ∷ xs) more e = go (too_long d) refl (is_whole d) refl
         record { sections = []; unfinished = d }).unfinished ≡ true
     go true t b w = nothing_begun_lem
     go false t true w = nothing_begun_lem
-    go false t false w = tests-begun x (xs ++ more) (begun-tests x xs e).0 t w
+    go false t false w = tests_begun x (xs ++ more) (begun_tests x xs e).0 t w
 
 begun_in_begun : (n : ℕ) (d : List ℕ) → is_begun (begun_in n d).unfinished ≡ true
 unfolding begun_in nothing before
@@ -95,7 +95,7 @@ begun_in_begun (suc n) (x ∷ xs) = go (begun_in_begun n (drop (framed d) d)) (a
     go f true p b q c r = nothing_begun_lem
     go f false p true q c r = nothing_begun_lem
     go f false p false q true r = f
-    go f false p false q false r = tests-begun x xs p q r
+    go f false p false q false r = tests_begun x xs p q r
 
 pub begun_begun : (d : List ℕ) → is_begun (begun d).unfinished ≡ true
 unfolding begun
@@ -109,10 +109,10 @@ unfolding is_begun is_whole
 unfinished_short [] more n b = absurd (n refl)
 unfinished_short (x ∷ xs) more n b =
     let w = (both (not (at_stuffing (x ∷ xs)) && not (too_long (x ∷ xs))) (not (is_whole (x ∷ xs))) b).1 in
-    go (leb 3 (length (x ∷ xs))) refl (not-not (leb 3 (length (x ∷ xs)) && leb (framed (x ∷ xs)) (length (x ∷ xs))) w)
+    go (leb 3 (length (x ∷ xs))) refl (not_not (leb 3 (length (x ∷ xs)) && leb (framed (x ∷ xs)) (length (x ∷ xs))) w)
   where
-    not-not : (t : Bool) → not t ≡ true → t ≡ false
-    not-not t e = not-true t e
+    not_not : (t : Bool) → not t ≡ true → t ≡ false
+    not_not t e = not-true t e
 
     go : (t : Bool) → leb 3 (length (x ∷ xs)) ≡ t → (t && leb (framed (x ∷ xs)) (length (x ∷ xs))) ≡ false → length (x ∷ xs) < framed ((x ∷ xs) ++ more)
     go true e f =

@@ -83,9 +83,9 @@ pub finding_start : (d : List ℕ) → Finding d 0
 finding_start d = record { within = omega arith; sections = refl; unfinished = refl }
 
 module _ (d : List ℕ) (at : ℕ) (v : Finding d at) where
-  pub finding-nothing : Nothing ≡ front_of (drop at d) → Scanned d (record { stop = at; left = length d })
+  pub finding_nothing : Nothing ≡ front_of (drop at d) → Scanned d (record { stop = at; left = length d })
   unfolding nothing joined
-  finding-nothing e =
+  finding_nothing e =
       let s = front_step (drop at d) Nothing e in
       record {
         within = v.within;
@@ -94,9 +94,9 @@ module _ (d : List ℕ) (at : ℕ) (v : Finding d at) where
         unfinished = v.unfinished ∙ ap (λ r. r.unfinished) s ∙ sym (drop-length d);
       }
 
-  pub finding-open : Open ≡ front_of (drop at d) → Scanned d (record { stop = at; left = at })
+  pub finding_open : Open ≡ front_of (drop at d) → Scanned d (record { stop = at; left = at })
   unfolding joined
-  finding-open e =
+  finding_open e =
       let s = front_step (drop at d) Open e in
       record {
         within = v.within;
@@ -105,9 +105,9 @@ module _ (d : List ℕ) (at : ℕ) (v : Finding d at) where
         unfinished = v.unfinished ∙ ap (λ r. r.unfinished) s;
       }
 
-  pub finding-whole : (n : ℕ) → Whole n ≡ front_of (drop at d) → Finding d (at + n) × (3 ≤ n)
+  pub finding_whole : (n : ℕ) → Whole n ≡ front_of (drop at d) → Finding d (at + n) × (3 ≤ n)
   unfolding before joined
-  finding-whole n e =
+  finding_whole n e =
       let s = front_step (drop at d) (Whole n) e in
       let l = length-drop at d in
       let w = v.within in

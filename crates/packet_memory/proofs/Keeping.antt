@@ -10,7 +10,7 @@ use lib.Dec.{eqb}
 use lib.ListN.{length, set, take, drop, length-append, length-drop}
 use lib.Seq.{length-take-le, take-add, take_at, drop_at, drop-append-le}
 use Rattle.ground_placing.specs.Placed.{placed}
-use Rattle.ground_placing.proofs.Placing.{stored as stores, placed-next, placed-length, placed_whole}
+use Rattle.ground_placing.proofs.Placing.{stored as stores, placed_next, placed_length, placed_whole}
 use Rattle.packet.specs.Sizes.{packet_bytes}
 use Rattle.packet.specs.Fields.{byte}
 use Rattle.packet.specs.Judging.{judged, is_carrying}
@@ -19,7 +19,7 @@ use Rattle.packet_frames.proofs.Frames.{tail}
 use Rattle.packet_memory.specs.Memory.{fresh, repeated_once, held_after}
 use Rattle.packet_memory.specs.State.{unfinished_at, state_bytes, kept_of, last_of, unfinished_of, may_leave, is_possible, memory_of}
 use Rattle.packet_memory.specs.Keeping.{part_of, Leaves, marked, holding, Keeps}
-use Rattle.packet_memory.proofs.States.{possible-then, possible-shows, memory-fresh, memory-held}
+use Rattle.packet_memory.proofs.States.{possible_then, possible_shows, memory_fresh, memory_held}
 
 -- ---- the bytes as they are laid
 
@@ -73,11 +73,11 @@ state_stored s p s₁ s₂ s₃ goes end v e f g =
     let within = v.within in
     let most = v.most in
     let d = length-drop end p in
-    let long = placed-length s (unfinished_at + goes) (drop end p) (omega arith) in
+    let long = placed_length s (unfinished_at + goes) (drop end p) (omega arith) in
     g
     ∙ ap (λ (x : List ℕ). placed x 3 p)
     (f ∙ ap (λ (x : List ℕ). placed x 0 mark) (e ∙ ap (placed s (unfinished_at + goes)) (tail p end)))
-    ∙ placed-next (placed s (unfinished_at + goes) (drop end p)) 0 mark (omega arith) p 3 refl
+    ∙ placed_next (placed s (unfinished_at + goes) (drop end p)) 0 mark (omega arith) p 3 refl
     ∙ laid_behind s (mark ++ p) (drop end p) unfinished_at goes (omega arith) (omega arith)
     ∙ ap (λ (n : ℕ). placed s 0 (1 ∷ n / 256 % 256 ∷ n % 256 ∷ (p ++ (take goes (drop unfinished_at s) ++ drop end p)))) (sym (part_length s p goes end v))
 
@@ -97,9 +97,9 @@ module _ (s p u : List ℕ) (v : Keeps s p u) where
   t : List ℕ
   t = front ++ drop (length front) s
 
-  holding-is : holding s u p ≡ t
+  holding_is : holding s u p ≡ t
   unfolding holding t front
-  holding-is = placed_whole s front
+  holding_is = placed_whole s front
 
   held_kept : kept_of t ≡ length u
   unfolding kept_of t front
@@ -109,32 +109,32 @@ module _ (s p u : List ℕ) (v : Keeps s p u) where
   unfolding last_of t front
   held_last = ap (take packet_bytes) (append_assoc p u _) ∙ take_at p _ packet_bytes v.packet
 
-  held-unfinished : unfinished_of t ≡ u
+  held_unfinished : unfinished_of t ≡ u
   unfolding unfinished_of t front
-  held-unfinished =
+  held_unfinished =
       ap (λ (n : ℕ). take n (drop unfinished_at t)) held_kept
       ∙ ap (λ (l : List ℕ). take (length u) (drop packet_bytes l)) (append_assoc p u _)
       ∙ ap (take (length u)) (drop_at p _ packet_bytes v.packet)
       ∙ take_at u _ (length u) refl
 
-  held-mark : byte t 0 ≡ 1
+  held_mark : byte t 0 ≡ 1
   unfolding t front
-  held-mark = refl
+  held_mark = refl
 
-  held-possible : is_possible t ≡ true
+  held_possible : is_possible t ≡ true
   unfolding is_carrying
-  held-possible =
-      let m = held-mark in
+  held_possible =
+      let m = held_mark in
       let q = held_kept in
       let l = v.short in
-      sym (possible-then t (omega arith) (omega arith) (ap (λ (x : List ℕ). is_carrying (judged x)) held_last ∙ ap is_carrying v.carries) (omega arith))
-      ∙ ap₂ ◌&&◌ (ap is_begun held-unfinished ∙ v.begun) (ap₂ may_leave held_last held-unfinished ∙ v.may)
+      sym (possible_then t (omega arith) (omega arith) (ap (λ (x : List ℕ). is_carrying (judged x)) held_last ∙ ap is_carrying v.carries) (omega arith))
+      ∙ ap₂ ◌&&◌ (ap is_begun held_unfinished ∙ v.begun) (ap₂ may_leave held_last held_unfinished ∙ v.may)
 
-  pub memory-holding : memory_of (holding s u p) ≡ held_after u p
+  pub memory_holding : memory_of (holding s u p) ≡ held_after u p
   unfolding held_after
-  memory-holding =
-      ap memory_of holding-is ∙ memory-held t held-possible
-      ∙ (λ i. record { unfinished = held-unfinished i; last = held_last i; repeated = eqb (held-mark i) 2 })
+  memory_holding =
+      ap memory_of holding_is ∙ memory_held t held_possible
+      ∙ (λ i. record { unfinished = held_unfinished i; last = held_last i; repeated = eqb (held_mark i) 2 })
 
 -- ---- a repeat, and an error bit
 
@@ -143,7 +143,7 @@ marked_anew : (s : List ℕ) → 0 < length s → is_possible s ≡ true → is_
 unfolding is_possible kept_of last_of unfinished_of marked
 marked_anew [] h e = absurd (omega arith)
 marked_anew (b ∷ bs) h e =
-    let v = possible-shows (b ∷ bs) e in
+    let v = possible_shows (b ∷ bs) e in
     simp (v.0, le-leb (kept_of (b ∷ bs)) unfinished_most v.1, v.2, v.3)
 
 pub memory_repeated : (s : List ℕ) → 0 < length s → is_possible s ≡ true
@@ -151,9 +151,9 @@ pub memory_repeated : (s : List ℕ) → 0 < length s → is_possible s ≡ true
 unfolding kept_of last_of unfinished_of repeated_once marked
 memory_repeated [] h e = absurd (omega arith)
 memory_repeated (b ∷ bs) h e =
-    memory-held (2 ∷ bs) (marked_anew (b ∷ bs) h e) ∙ rw (memory-held (b ∷ bs) e)
+    memory_held (2 ∷ bs) (marked_anew (b ∷ bs) h e) ∙ rw (memory_held (b ∷ bs) e)
 
 pub memory_damaged : (s : List ℕ) → memory_of (marked 0 s) ≡ fresh
 unfolding is_possible marked
-memory_damaged [] = memory-fresh [] refl
-memory_damaged (b ∷ bs) = memory-fresh (0 ∷ bs) refl
+memory_damaged [] = memory_fresh [] refl
+memory_damaged (b ∷ bs) = memory_fresh (0 ∷ bs) refl

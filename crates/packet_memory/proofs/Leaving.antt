@@ -18,7 +18,7 @@ use Rattle.packet_frames.specs.declared.Scan.{Scan}
 use Rattle.packet_frames.specs.Framing.{too_long, is_whole, framed, is_begun, nothing, longer, gone_on, begun}
 use Rattle.packet_frames.specs.Found.{Scanned}
 use Rattle.packet_frames.proofs.Frames.{tail}
-use Rattle.packet_frames.proofs.Growing.{begun-tests}
+use Rattle.packet_frames.proofs.Growing.{begun_tests}
 use Rattle.packet_plan.specs.Reading.{ended, ahead, read_on}
 use Rattle.packet_memory.specs.State.{ends_with, may_leave}
 
@@ -69,7 +69,7 @@ leaves_may u p = go (starts p)
 open_is : (v : List ℕ) → (length v ≡ 0 → ⊥) → is_begun v ≡ true → longer v ≡ record { sections = []; unfinished = v }
 unfolding longer
 open_is [] n b = absurd (n refl)
-open_is (x ∷ xs) n b = let t = begun-tests x xs b in rw (t.1, t.2)
+open_is (x ∷ xs) n b = let t = begun_tests x xs b in rw (t.1, t.2)
 
 goes_on : (u more : List ℕ) → (length u ≡ 0 → ⊥) → gone_on u more ≡ longer (u ++ more)
 unfolding gone_on
@@ -117,14 +117,14 @@ ends_then (x ∷ xs) more n h =
     ap (λ a. same_bytes a more) (tail (x ∷ xs) (length (x ∷ xs) - length more)) ∙ sym (rw (lt-ltb (length more) (length (x ∷ xs)) h))
 
 module _ (p u : List ℕ) where
-  pub may-plain : starts p ≡ false → (at : ℕ) → at ≡ payload_at p → ends_with u (take (length p - at) (drop at p)) ≡ may_leave p u
+  pub may_plain : starts p ≡ false → (at : ℕ) → at ≡ payload_at p → ends_with u (take (length p - at) (drop at p)) ≡ may_leave p u
   unfolding may_leave
-  may-plain s at e = ap (ends_with u) (tail p at ∙ ap (λ (n : ℕ). drop n p) e) ∙ sym (rw s)
+  may_plain s at e = ap (ends_with u) (tail p at ∙ ap (λ (n : ℕ). drop n p) e) ∙ sym (rw s)
 
-  pub may-pointed : starts p ≡ true → (first : ℕ) → first ≡ pointed_at p → (found : Scan) → Scanned (take (length p - first) (drop first p)) found
+  pub may_pointed : starts p ≡ true → (first : ℕ) → first ≡ pointed_at p → (found : Scan) → Scanned (take (length p - first) (drop first p)) found
       → same_bytes u (take (length p - (first + found.left)) (drop (first + found.left) p)) ≡ may_leave p u
   unfolding may_leave
-  may-pointed s first e found c =
+  may_pointed s first e found c =
       let v : Scanned (drop first p) found = subst (λ d. Scanned d found) (tail p first) c in
       ap (same_bytes u)
       (tail p (first + found.left) ∙ sym (drop-drop found.left first p) ∙ sym v.unfinished ∙ ap (λ (n : ℕ). (begun (drop n p)).unfinished) e)

@@ -27,17 +27,17 @@ unfolding kept_of
 kept_is s x y e f = let h = e.1 in let k = f.1 in (rw (e.0, f.0), omega arith)
 
 module _ (s : List ℕ) where
-  pub possible-unmarked : (byte s 0 ≡ 1 → ⊥) → (byte s 0 ≡ 2 → ⊥) → false ≡ is_possible s
+  pub possible_unmarked : (byte s 0 ≡ 1 → ⊥) → (byte s 0 ≡ 2 → ⊥) → false ≡ is_possible s
   unfolding is_possible
-  possible-unmarked h k = simp (ne_eqb (byte s 0) 1 h, ne_eqb (byte s 0) 2 k)
+  possible_unmarked h k = simp (ne_eqb (byte s 0) 1 h, ne_eqb (byte s 0) 2 k)
 
-  pub possible-other : is_carrying (judged (last_of s)) ≡ false → false ≡ is_possible s
+  pub possible_other : is_carrying (judged (last_of s)) ≡ false → false ≡ is_possible s
   unfolding is_possible
-  possible-other e = simp (e, and-false)
+  possible_other e = simp (e, and-false)
 
-  pub possible-above : unfinished_most < kept_of s → false ≡ is_possible s
+  pub possible_above : unfinished_most < kept_of s → false ≡ is_possible s
   unfolding is_possible
-  possible-above h = simp (lt-leb (kept_of s) unfinished_most h, and-false)
+  possible_above h = simp (lt-leb (kept_of s) unfinished_most h, and-false)
 
   marked : 0 < byte s 0 → byte s 0 ≤ 2 → (eqb (byte s 0) 1 || eqb (byte s 0) 2) ≡ true
   marked h k = go (byte s 0) h k
@@ -48,37 +48,37 @@ module _ (s : List ℕ) where
       go (suc (suc zero)) h k = refl
       go (suc (suc (suc n))) h k = absurd (omega arith)
 
-  pub possible-then : 0 < byte s 0 → byte s 0 ≤ 2 → is_carrying (judged (last_of s)) ≡ true → kept_of s ≤ unfinished_most
+  pub possible_then : 0 < byte s 0 → byte s 0 ≤ 2 → is_carrying (judged (last_of s)) ≡ true → kept_of s ≤ unfinished_most
       → (is_begun (unfinished_of s) && may_leave (last_of s) (unfinished_of s)) ≡ is_possible s
   unfolding is_possible
-  possible-then h k e l = simp (marked h k, e, le-leb (kept_of s) unfinished_most l)
+  possible_then h k e l = simp (marked h k, e, le-leb (kept_of s) unfinished_most l)
 
   -- the unfinished bytes, as the part that is lent
-  part-kept : (k : ℕ) → k ≡ kept_of s → take (unfinished_at + k - unfinished_at) (drop unfinished_at s) ≡ unfinished_of s
+  part_kept : (k : ℕ) → k ≡ kept_of s → take (unfinished_at + k - unfinished_at) (drop unfinished_at s) ≡ unfinished_of s
   unfolding unfinished_of
-  part-kept k e = ap (λ (n : ℕ). take n (drop unfinished_at s)) less
+  part_kept k e = ap (λ (n : ℕ). take n (drop unfinished_at s)) less
     where
       less : unfinished_at + k - unfinished_at ≡ kept_of s
       less = omega arith
 
-  pub possible-not-begun : (k : ℕ) → k ≡ kept_of s → is_begun (take (unfinished_at + k - unfinished_at) (drop unfinished_at s)) ≡ false → false ≡ is_possible s
+  pub possible_not_begun : (k : ℕ) → k ≡ kept_of s → is_begun (take (unfinished_at + k - unfinished_at) (drop unfinished_at s)) ≡ false → false ≡ is_possible s
   unfolding is_possible
-  possible-not-begun k q b = simp (ap is_begun (sym (part-kept k q)) ∙ b, and-false)
+  possible_not_begun k q b = simp (ap is_begun (sym (part_kept k q)) ∙ b, and-false)
 
-  pub possible-end : (k : ℕ) → k ≡ kept_of s → 0 < byte s 0 → byte s 0 ≤ 2 → is_carrying (judged (last_of s)) ≡ true → k ≤ unfinished_most
+  pub possible_end : (k : ℕ) → k ≡ kept_of s → 0 < byte s 0 → byte s 0 ≤ 2 → is_carrying (judged (last_of s)) ≡ true → k ≤ unfinished_most
       → is_begun (take (unfinished_at + k - unfinished_at) (drop unfinished_at s)) ≡ true
       → may_leave (last_of s) (take (unfinished_at + k - unfinished_at) (drop unfinished_at s)) ≡ is_possible s
-  possible-end k q h m c l b =
-      ap (may_leave (last_of s)) (part-kept k q)
-      ∙ ap (λ t. t && may_leave (last_of s) (unfinished_of s)) (sym b ∙ ap is_begun (part-kept k q))
-      ∙ possible-then h m c (omega arith)
+  possible_end k q h m c l b =
+      ap (may_leave (last_of s)) (part_kept k q)
+      ∙ ap (λ t. t && may_leave (last_of s) (unfinished_of s)) (sym b ∙ ap is_begun (part_kept k q))
+      ∙ possible_then h m c (omega arith)
 
   -- what a possible state shows
-  pub possible-shows : is_possible s ≡ true
+  pub possible_shows : is_possible s ≡ true
       → (is_carrying (judged (last_of s)) ≡ true) × (kept_of s ≤ unfinished_most)
       × (is_begun (unfinished_of s) ≡ true) × (may_leave (last_of s) (unfinished_of s) ≡ true)
   unfolding is_possible
-  possible-shows e =
+  possible_shows e =
       let marks = eqb (byte s 0) 1 || eqb (byte s 0) 2 in
       let carries = is_carrying (judged (last_of s)) in
       let short = leb (kept_of s) unfinished_most in
@@ -88,13 +88,13 @@ module _ (s : List ℕ) where
       let c = both marks carries b.0 in
       (c.1, leb-true (kept_of s) unfinished_most b.1, a.1, z.1)
 
-  pub memory-fresh : is_possible s ≡ false → memory_of s ≡ fresh
+  pub memory_fresh : is_possible s ≡ false → memory_of s ≡ fresh
   unfolding memory_of
-  memory-fresh e = rw e
+  memory_fresh e = rw e
 
-  pub memory-held : is_possible s ≡ true → memory_of s ≡ record { unfinished = unfinished_of s; last = last_of s; repeated = eqb (byte s 0) 2 }
+  pub memory_held : is_possible s ≡ true → memory_of s ≡ record { unfinished = unfinished_of s; last = last_of s; repeated = eqb (byte s 0) 2 }
   unfolding memory_of
-  memory-held e = rw e
+  memory_held e = rw e
 
 -- ---- repeats
 
@@ -104,18 +104,18 @@ no_repeat [] e = absurd (omega arith)
 no_repeat (b ∷ bs) e = refl
 
 module _ (s p : List ℕ) where
-  pub repeat-fresh : is_possible s ≡ false → length p ≡ packet_bytes → false ≡ is_repeat (memory_of s) p
+  pub repeat_fresh : is_possible s ≡ false → length p ≡ packet_bytes → false ≡ is_repeat (memory_of s) p
   unfolding is_repeat fresh
-  repeat-fresh e n = rw (memory-fresh s e) (no_repeat p n)
+  repeat_fresh e n = rw (memory_fresh s e) (no_repeat p n)
 
   module _ (e : is_possible s ≡ true) where
-    pub repeat-second : byte s 0 ≡ 2 → false ≡ is_repeat (memory_of s) p
+    pub repeat_second : byte s 0 ≡ 2 → false ≡ is_repeat (memory_of s) p
     unfolding is_repeat
-    repeat-second m = rw (memory-held s e, m)
+    repeat_second m = rw (memory_held s e, m)
 
-    pub repeat-then : (byte s 0 ≡ 2 → ⊥) → same_bytes (last_of s) p ≡ is_repeat (memory_of s) p
+    pub repeat_then : (byte s 0 ≡ 2 → ⊥) → same_bytes (last_of s) p ≡ is_repeat (memory_of s) p
     unfolding is_repeat
-    repeat-then m = rw (memory-held s e, ne_eqb (byte s 0) 2 m)
+    repeat_then m = rw (memory_held s e, ne_eqb (byte s 0) 2 m)
 
 -- ---- gaps
 
@@ -125,35 +125,35 @@ follows_is [] p e = absurd (omega arith)
 follows_is (b ∷ bs) p e = refl
 
 module _ (s p : List ℕ) where
-  pub going-nothing : is_possible s ≡ false → Goes s p 0
+  pub going_nothing : is_possible s ≡ false → Goes s p 0
   unfolding going_on fresh
-  going-nothing e = record { is = rw (memory-fresh s e) (either (follows [] p)); most = omega arith; begun = nothing_begun_lem }
+  going_nothing e = record { is = rw (memory_fresh s e) (either (follows [] p)); most = omega arith; begun = nothing_begun_lem }
     where
       either : (b : Bool) → (if b then [] else []) ≡ take 0 (drop unfinished_at s)
       either true = refl
       either false = refl
 
   module _ (e : is_possible s ≡ true) (n : length s ≡ state_bytes) where
-    last-length : length (last_of s) ≡ packet_bytes
+    last_length : length (last_of s) ≡ packet_bytes
     unfolding last_of
-    last-length = length-take-le packet_bytes (drop last_at s) (let l = length-drop last_at s in omega arith)
+    last_length = length-take-le packet_bytes (drop last_at s) (let l = length-drop last_at s in omega arith)
 
-    pub going-gap : (x y : ℕ) → x ≡ counter p → y ≡ counter (last_of s) → (x ≡ (y + 1) % 16 → ⊥) → Goes s p 0
+    pub going_gap : (x y : ℕ) → x ≡ counter p → y ≡ counter (last_of s) → (x ≡ (y + 1) % 16 → ⊥) → Goes s p 0
     unfolding going_on
-    going-gap x y a b h =
+    going_gap x y a b h =
         record {
-          is = rw (memory-held s e, follows_is (last_of s) p last-length, ← a, ← b, ne_eqb x ((y + 1) % 16) h);
+          is = rw (memory_held s e, follows_is (last_of s) p last_length, ← a, ← b, ne_eqb x ((y + 1) % 16) h);
           most = omega arith;
           begun = nothing_begun_lem;
         }
 
-    pub going-then : (x y k : ℕ) → x ≡ counter p → y ≡ counter (last_of s) → x ≡ (y + 1) % 16 → k ≡ kept_of s → Goes s p k
+    pub going_then : (x y k : ℕ) → x ≡ counter p → y ≡ counter (last_of s) → x ≡ (y + 1) % 16 → k ≡ kept_of s → Goes s p k
     unfolding going_on unfinished_of
-    going-then x y k a b h q =
-        let v = possible-shows s e in
+    going_then x y k a b h q =
+        let v = possible_shows s e in
         let w = v.1 in
         record {
-          is = rw (memory-held s e, follows_is (last_of s) p last-length, ← a, ← b, eq-eqb x ((y + 1) % 16) h, q);
+          is = rw (memory_held s e, follows_is (last_of s) p last_length, ← a, ← b, eq-eqb x ((y + 1) % 16) h, q);
           most = omega arith;
           begun = rw q v.2;
         }
@@ -164,7 +164,7 @@ repeat_possible s p e n = go (is_possible s) refl
   where
     go : (b : Bool) → is_possible s ≡ b → is_possible s ≡ true
     go true q = q
-    go false q = absurd (false≢true (repeat-fresh s p q n ∙ e))
+    go false q = absurd (false≢true (repeat_fresh s p q n ∙ e))
 
 -- ---- what is unfinished may be kept
 
@@ -173,8 +173,8 @@ unfolding fresh
 memory_begun s = go (is_possible s) refl
   where
     go : (b : Bool) → is_possible s ≡ b → is_begun (memory_of s).unfinished ≡ true
-    go true e = ap (λ m. is_begun m.unfinished) (memory-held s e) ∙ (possible-shows s e).2
-    go false e = ap (λ m. is_begun m.unfinished) (memory-fresh s e) ∙ nothing_begun_lem
+    go true e = ap (λ m. is_begun m.unfinished) (memory_held s e) ∙ (possible_shows s e).2
+    go false e = ap (λ m. is_begun m.unfinished) (memory_fresh s e) ∙ nothing_begun_lem
 
 pub going_begun : (m : Memory) (p : List ℕ) → is_begun m.unfinished ≡ true → is_begun (going_on m p) ≡ true
 unfolding going_on

@@ -69,10 +69,10 @@ module _ (u p : List ℕ) (at : ℕ) (v : Unpointed u p at) where
   unfolding read_on rest
   on_read = rw (v.plain, tail p at, v.is)
 
-  pub plan-on-nothing : Grown u (take (length p - at) (drop at p)) Nothing
+  pub plan_on_nothing : Grown u (take (length p - at) (drop at p)) Nothing
       → Planned u p (record { ended = 0; from = at; upto = at; first = at; stop = at; goes = 0; left = packet_bytes })
   unfolding joined nothing rest
-  plan-on-nothing g =
+  plan_on_nothing g =
       let s = v.size in
       let h = v.within in
       record {
@@ -87,10 +87,10 @@ module _ (u p : List ℕ) (at : ℕ) (v : Unpointed u p at) where
         unfinished = ap (λ r. r.unfinished) (on_read ∙ g) ∙ sym (drop_of_length-le p {i = packet_bytes} (omega arith));
       }
 
-  pub plan-on-open : Grown u (take (length p - at) (drop at p)) Open
+  pub plan_on_open : Grown u (take (length p - at) (drop at p)) Open
       → Planned u p (record { ended = 0; from = at; upto = at; first = at; stop = at; goes = length u; left = at })
   unfolding joined rest
-  plan-on-open g =
+  plan_on_open g =
       let s = v.size in
       let h = v.within in
       record {
@@ -105,10 +105,10 @@ module _ (u p : List ℕ) (at : ℕ) (v : Unpointed u p at) where
         unfinished = ap (λ r. r.unfinished) (on_read ∙ g) ∙ ap₂ ◌++◌ (sym (take-length u)) (tail p at);
       }
 
-  pub plan-on-whole : (n : ℕ) → Grown u (take (length p - at) (drop at p)) (Whole n)
+  pub plan_on_whole : (n : ℕ) → Grown u (take (length p - at) (drop at p)) (Whole n)
       → Planned u p (record { ended = length u; from = at; upto = at + (n - length u); first = at; stop = at; goes = 0; left = packet_bytes })
   unfolding joined given rest
-  plan-on-whole n g =
+  plan_on_whole n g =
       let s = v.size in
       let h = v.within in
       let l = length-drop at p in
@@ -132,17 +132,17 @@ module _ (u p : List ℕ) (at : ℕ) (v : Unpointed u p at) where
 -- ---- with a pointer
 
 module _ (u p : List ℕ) (at first : ℕ) (v : Pointed u p at first) (found : Scan) (c : Scanned (take (length p - first) (drop first p)) found) where
-  pointed-read : read_on u p ≡ ended u (take (first - at) (drop at p)) (drop first p)
+  pointed_read : read_on u p ≡ ended u (take (first - at) (drop at p)) (drop first p)
   unfolding read_on ahead
-  pointed-read = rw (v.begins, v.is, v.points)
+  pointed_read = rw (v.begins, v.is, v.points)
 
   -- the bytes given of the unfinished section, whatever they are, and then the sections from the pointer on
-  pub plan-pointed : (n upto : ℕ) → n ≤ length u → at ≤ upto → upto ≤ first
+  pub plan_pointed : (n upto : ℕ) → n ≤ length u → at ≤ upto → upto ≤ first
       → joined (gone_on u (take (first - at) (drop at p))).sections ≡ take n u ++ piece at upto p
       → Planned u p
       (record { ended = n; from = at; upto = upto; first = first; stop = first + found.stop; goes = 0; left = first + found.left })
   unfolding ended given
-  plan-pointed n upto i j l q =
+  plan_pointed n upto i j l q =
       let w : Scanned (drop first p) found = subst (λ d. Scanned d found) (tail p first) c in
       let d = length-drop first p in
       let s = v.size in
@@ -158,31 +158,31 @@ module _ (u p : List ℕ) (at first : ℕ) (v : Pointed u p at first) (found : S
         goes = omega arith;
         left = omega arith;
         sections =
-            ap (λ r. joined r.sections) pointed-read
+            ap (λ r. joined r.sections) pointed_read
             ∙ joined_append (gone_on u (take (first - at) (drop at p))).sections (begun (drop first p)).sections
             ∙ ap₂ ◌++◌ q (w.sections ∙ sym (piece_add first found.stop p));
-        unfinished = ap (λ r. r.unfinished) pointed-read ∙ w.unfinished ∙ drop-drop found.left first p;
+        unfinished = ap (λ r. r.unfinished) pointed_read ∙ w.unfinished ∙ drop-drop found.left first p;
       }
 
   -- nothing of it: it is dropped, or there is none
-  pub plan-pointed-none : joined (gone_on u (take (first - at) (drop at p))).sections ≡ []
+  pub plan_pointed_none : joined (gone_on u (take (first - at) (drop at p))).sections ≡ []
       → Planned u p
       (record { ended = 0; from = at; upto = at; first = first; stop = first + found.stop; goes = 0; left = first + found.left })
-  plan-pointed-none e = plan-pointed 0 at (omega arith) (omega arith) v.follows (e ∙ sym (piece_none at p))
+  plan_pointed_none e = plan_pointed 0 at (omega arith) (omega arith) v.follows (e ∙ sym (piece_none at p))
 
-  pub plan-pointed-nothing : Grown u (take (first - at) (drop at p)) Nothing
+  pub plan_pointed_nothing : Grown u (take (first - at) (drop at p)) Nothing
       → Planned u p
       (record { ended = 0; from = at; upto = at; first = first; stop = first + found.stop; goes = 0; left = first + found.left })
   unfolding nothing joined
-  plan-pointed-nothing g = plan-pointed-none (ap (λ r. joined r.sections) g)
+  plan_pointed_nothing g = plan_pointed_none (ap (λ r. joined r.sections) g)
 
-  pub plan-pointed-open : Grown u (take (first - at) (drop at p)) Open
+  pub plan_pointed_open : Grown u (take (first - at) (drop at p)) Open
       → Planned u p
       (record { ended = 0; from = at; upto = at; first = first; stop = first + found.stop; goes = 0; left = first + found.left })
   unfolding joined
-  plan-pointed-open g = plan-pointed-none (ap (λ r. joined r.sections) g)
+  plan_pointed_open g = plan_pointed_none (ap (λ r. joined r.sections) g)
 
-  pub plan-pointed-whole : (n : ℕ) → Grown u (take (first - at) (drop at p)) (Whole n)
+  pub plan_pointed_whole : (n : ℕ) → Grown u (take (first - at) (drop at p)) (Whole n)
       → Planned u p
       (record {
         ended = length u;
@@ -194,12 +194,12 @@ module _ (u p : List ℕ) (at first : ℕ) (v : Pointed u p at first) (found : S
         left = first + found.left;
       })
   unfolding joined
-  plan-pointed-whole n g =
+  plan_pointed_whole n g =
       let a = g.1 in
       let b = g.2 in
       let h = v.follows in
       let t = length-take (first - at) (drop at p) in
-      plan-pointed (length u) (at + (n - length u)) (omega arith) (omega arith) (omega arith)
+      plan_pointed (length u) (at + (n - length u)) (omega arith) (omega arith) (omega arith)
       (ap (λ r. joined r.sections) g.0
       ∙ append-nil (u ++ take (n - length u) (take (first - at) (drop at p)))
       ∙ ap₂ ◌++◌ (sym (take-length u))

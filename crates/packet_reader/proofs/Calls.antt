@@ -8,7 +8,7 @@ use borrow.Author.Tests.{lt-ltb, le-ltb}
 use lib.ListN.{length, take, drop, length-append, length-drop}
 use lib.Seq.{length-take-le, take-take}
 use Rattle.ground_placing.specs.Placed.{placed}
-use Rattle.ground_placing.proofs.Placing.{placed_none, placed-next}
+use Rattle.ground_placing.proofs.Placing.{placed_none, placed_next}
 use Rattle.ground_refusal.specs.declared.Refusal.{Refusal}
 use Rattle.ground_refusal.specs.declared.Refusal.TheVariants.{OutputTooSmall}
 use Rattle.packet.specs.Sizes.{packet_bytes}
@@ -35,7 +35,7 @@ use Rattle.packet_reader.specs.Answers.{answer_by, output_by, state_read, state_
 
 laid_two : (d a b d₁ d₂ : List ℕ) (k : ℕ) → d₁ ≡ placed d 0 a → d₂ ≡ placed d₁ k b → k ≡ length a → length a ≤ length d
     → d₂ ≡ placed d 0 (a ++ b)
-laid_two d a b d₁ d₂ k e f g h = f ∙ ap (λ l. placed l k b) e ∙ placed-next d 0 a (omega arith) b k (g ∙ omega arith)
+laid_two d a b d₁ d₂ k e f g h = f ∙ ap (λ l. placed l k b) e ∙ placed_next d 0 a (omega arith) b k (g ∙ omega arith)
 
 pub laid_three : (d a b c d₁ d₂ d₃ : List ℕ) (k l : ℕ) → d₁ ≡ placed d 0 a → d₂ ≡ placed d₁ k b → d₃ ≡ placed d₂ l c
     → k ≡ length a → l ≡ length a + length b → length a + length b ≤ length d → d₃ ≡ placed d 0 (a ++ b ++ c)
@@ -50,16 +50,16 @@ module _ (v : Verdict) (after out : List ℕ) where
   unfolding answer_by output_by
   by_refusal r left e f = record { told = rw e; state = f; output = rw e }
 
-  pub by-giving : (ss : List (List ℕ)) (m : Memory) (left written : List ℕ) (n : ℕ)
+  pub by_giving : (ss : List (List ℕ)) (m : Memory) (left written : List ℕ) (n : ℕ)
       → v ≡ gives ss m → n ≡ length (joined ss) → written ≡ placed out 0 (joined ss) → left ≡ after
       → Unpacks v after out (Sections n) left written
   unfolding answer_by output_by
-  by-giving ss m left written n e f g h = record { told = rw (e, f); state = h; output = rw e g }
+  by_giving ss m left written n e f g h = record { told = rw (e, f); state = h; output = rw e g }
 
   -- where nothing is given
-  pub by-nothing : (m : Memory) (left : List ℕ) → v ≡ gives [] m → left ≡ after → Unpacks v after out (Sections 0) left out
+  pub by_nothing : (m : Memory) (left : List ℕ) → v ≡ gives [] m → left ≡ after → Unpacks v after out (Sections 0) left out
   unfolding joined
-  by-nothing m left e h = by-giving [] m left out 0 e refl (sym (placed_none out 0)) h
+  by_nothing m left e h = by_giving [] m left out 0 e refl (sym (placed_none out 0)) h
 
 -- ---- a packet that is read
 
@@ -87,32 +87,32 @@ module _ (s p : List ℕ) (kept : ℕ) (q : Kept s kept p) (plan : Plan)
   unfolding u
   v = subst (λ t. Planned t p plan) (part_is s kept) w
 
-  u-length : length u ≡ kept
+  u_length : length u ≡ kept
   unfolding u
-  u-length = length-take-le kept (drop unfinished_at s) (let l = length-drop unfinished_at s in let n = q.size in let k = q.most in omega arith)
+  u_length = length-take-le kept (drop unfinished_at s) (let l = length-drop unfinished_at s in let n = q.size in let k = q.most in omega arith)
 
   -- what is left, as the state holds it
   left_is : (read_on u p).unfinished ≡ part_of s p plan.goes plan.left
   unfolding u part_of
   left_is =
       let g = v.goes in
-      let z = u-length in
+      let z = u_length in
       v.unfinished ∙ ap (λ t. t ++ drop plan.left p) (take-take plan.goes kept (drop unfinished_at s) (omega arith))
 
-  left-begins : is_begun (part_of s p plan.goes plan.left) ≡ true
+  left_begins : is_begun (part_of s p plan.goes plan.left) ≡ true
   unfolding u
-  left-begins = ap is_begun (sym left_is) ∙ left_begun u p q.begun
+  left_begins = ap is_begun (sym left_is) ∙ left_begun u p q.begun
 
   pub leaves : Leaves s p plan.goes plan.left
   unfolding part_of
   leaves =
       let n = q.size in
       let size = (carried p q.carries).size in
-      let a = begun_short (part_of s p plan.goes plan.left) left-begins in
+      let a = begun_short (part_of s p plan.goes plan.left) left_begins in
       let e = length-append (take plan.goes (drop unfinished_at s)) (drop plan.left p) in
       let g = v.goes in
       let h = v.left in
-      let i = u-length in
+      let i = u_length in
       let k = q.most in
       let j = length-take-le plan.goes (drop unfinished_at s) (let l = length-drop unfinished_at s in omega arith) in
       let l = length-drop plan.left p in
@@ -122,7 +122,7 @@ module _ (s p : List ℕ) (kept : ℕ) (q : Kept s kept p) (plan : Plan)
         within = omega arith;
         most = omega arith;
         carries = q.carries;
-        begun = left-begins;
+        begun = left_begins;
         may = ap (may_leave p) (sym left_is) ∙ leaves_may u p;
       }
 
@@ -145,7 +145,7 @@ module _ (s p : List ℕ) (kept : ℕ) (q : Kept s kept p) (plan : Plan)
     read_fits h left written x y =
         let l = given_length u p plan v in
         let t = le-ltb (length out) (length (joined (read_on u p).sections)) (omega arith) in
-        by-giving (fitting (length out) p (read_on u p)) (state_read s (length out) p (read_on u p)) out (read_on u p).sections
+        by_giving (fitting (length out) p (read_on u p)) (state_read s (length out) p (read_on u p)) out (read_on u p).sections
         (held_after (read_on u p).unfinished p) left written g
         (rw t)
         (e ∙ sym l)
@@ -155,18 +155,18 @@ module _ (s p : List ℕ) (kept : ℕ) (q : Kept s kept p) (plan : Plan)
 -- ---- a packet that is taken
 
 module _ (s p out : List ℕ) where
-  pub carry-repeat : is_repeat (memory_of s) p ≡ true → (left : List ℕ) → left ≡ marked 2 s
+  pub carry_repeat : is_repeat (memory_of s) p ≡ true → (left : List ℕ) → left ≡ marked 2 s
       → Unpacks (carrying (length out) (memory_of s) p) (state_taken s (length out) p) out (Sections 0) left out
   unfolding carrying state_taken
-  carry-repeat e left f = by-nothing _ _ out (repeated_once (memory_of s)) left (rw e) (rw e f)
+  carry_repeat e left f = by_nothing _ _ out (repeated_once (memory_of s)) left (rw e) (rw e f)
 
-  pub carry-read : is_repeat (memory_of s) p ≡ false → (k : ℕ) → going_on (memory_of s) p ≡ take k (drop unfinished_at s)
+  pub carry_read : is_repeat (memory_of s) p ≡ false → (k : ℕ) → going_on (memory_of s) p ≡ take k (drop unfinished_at s)
       → (r : Completed) (left written : List ℕ)
       → Unpacks (fitting (length out) p (read_on (take k (drop unfinished_at s)) p)) (state_read s (length out) p (read_on (take k (drop unfinished_at s)) p))
       out r left written
       → Unpacks (carrying (length out) (memory_of s) p) (state_taken s (length out) p) out r left written
   unfolding carrying state_taken
-  carry-read e k g r left written q = rw (e, g) q
+  carry_read e k g r left written q = rw (e, g) q
 
 -- ---- any byte string
 
@@ -176,17 +176,17 @@ module _ (s p out : List ℕ) where
   unfolding unpacking verdict_on state_after state_on
   unpack_refused r e = by_refusal _ _ out r s (rw e) (rw e)
 
-  pub unpack-damaged : judged p ≡ Damaged → (left : List ℕ) → left ≡ marked 0 s
+  pub unpack_damaged : judged p ≡ Damaged → (left : List ℕ) → left ≡ marked 0 s
       → Unpacks (unpacking (length out) (memory_of s) p) (state_after s p out) out (Sections 0) left out
   unfolding unpacking verdict_on state_after state_on
-  unpack-damaged e left f = by-nothing _ _ out fresh left (rw e) (rw e f)
+  unpack_damaged e left f = by_nothing _ _ out fresh left (rw e) (rw e f)
 
-  pub unpack-skipped : judged p ≡ Skipped → Unpacks (unpacking (length out) (memory_of s) p) (state_after s p out) out (Sections 0) s out
+  pub unpack_skipped : judged p ≡ Skipped → Unpacks (unpacking (length out) (memory_of s) p) (state_after s p out) out (Sections 0) s out
   unfolding unpacking verdict_on state_after state_on
-  unpack-skipped e = by-nothing _ _ out (memory_of s) s (rw e) (rw e)
+  unpack_skipped e = by_nothing _ _ out (memory_of s) s (rw e) (rw e)
 
-  pub unpack-carries : judged p ≡ Carrying → (r : Completed) (left written : List ℕ)
+  pub unpack_carries : judged p ≡ Carrying → (r : Completed) (left written : List ℕ)
       → Unpacks (carrying (length out) (memory_of s) p) (state_taken s (length out) p) out r left written
       → Unpacks (unpacking (length out) (memory_of s) p) (state_after s p out) out r left written
   unfolding unpacking verdict_on state_after state_on
-  unpack-carries e r left written q = rw e q
+  unpack_carries e r left written q = rw e q

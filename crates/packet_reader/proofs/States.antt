@@ -21,7 +21,7 @@ use Rattle.packet_memory.specs.State.{state_bytes, memory_of}
 use Rattle.packet_memory.specs.Keeping.{marked, holding, Keeps}
 use Rattle.packet_memory.proofs.Leaving.{leaves_may}
 use Rattle.packet_memory.proofs.States.{repeat_possible, memory_begun, going_begun}
-use Rattle.packet_memory.proofs.Keeping.{memory-holding, memory_repeated, memory_damaged}
+use Rattle.packet_memory.proofs.Keeping.{memory_holding, memory_repeated, memory_damaged}
 use Rattle.packet_reader.specs.Unpacking.{refuses, gives, fitting, carrying, verdict_on, unpacking}
 use Rattle.packet_reader.specs.Answers.{verdict_for, state_read, state_taken, state_on, state_after, StateBy}
 
@@ -44,34 +44,34 @@ module _ (s p : List ℕ) (room : ℕ) (n : length s ≡ state_bytes) where
           may = leaves_may u p;
         }
 
-    read-means : StateBy (fitting room p r) s (state_read s room p r)
+    read_means : StateBy (fitting room p r) s (state_read s room p r)
     unfolding fitting state_read StateBy
-    read-means = go (ltb room (length (joined r.sections)))
+    read_means = go (ltb room (length (joined r.sections)))
       where
         go : (b : Bool)
             → StateBy (if b then refuses OutputTooSmall else gives r.sections (held_after r.unfinished p)) s
             (if b then s else holding s r.unfinished p)
         go true = refl
-        go false = memory-holding s p r.unfinished keeps
+        go false = memory_holding s p r.unfinished keeps
 
-    taken-means : StateBy (carrying room (memory_of s) p) s (state_taken s room p)
+    taken_means : StateBy (carrying room (memory_of s) p) s (state_taken s room p)
     unfolding carrying state_taken StateBy r
-    taken-means = go (is_repeat (memory_of s) p) refl
+    taken_means = go (is_repeat (memory_of s) p) refl
       where
         go : (b : Bool) → is_repeat (memory_of s) p ≡ b
             → StateBy (if b then gives [] (repeated_once (memory_of s)) else fitting room p (read_on (going_on (memory_of s) p) p)) s
             (if b then marked 2 s else state_read s room p (read_on (going_on (memory_of s) p) p))
         go true e = memory_repeated s (omega arith) (repeat_possible s p e (carried p c).size)
-        go false e = read-means
+        go false e = read_means
 
-  means-on : (j : Judged) → judged p ≡ j → StateBy (verdict_on j room (memory_of s) p) s (state_on j s room p)
+  means_on : (j : Judged) → judged p ≡ j → StateBy (verdict_on j room (memory_of s) p) s (state_on j s room p)
   unfolding verdict_on state_on StateBy
-  means-on (Refused why) e = refl
-  means-on Damaged e = memory_damaged s
-  means-on Skipped e = refl
-  means-on Carrying e = taken-means e
+  means_on (Refused why) e = refl
+  means_on Damaged e = memory_damaged s
+  means_on Skipped e = refl
+  means_on Carrying e = taken_means e
 
 -- a refusal leaves the state's bytes; else they mean what is then remembered
 pub state_means : (s p out : List ℕ) → length s ≡ state_bytes → StateBy (verdict_for s p out) s (state_after s p out)
 unfolding unpacking state_after
-state_means s p out n = means-on s p (length out) n (judged p) refl
+state_means s p out n = means_on s p (length out) n (judged p) refl

@@ -6,7 +6,7 @@ use native.Mathlib.Omega.{arith}
 use borrow.Author.Tests.{lt-ltb, le-ltb}
 use lib.ListN.{length}
 use Rattle.ground_placing.specs.Placed.{placed}
-use Rattle.ground_numbers.proofs.Ranges.{within-known}
+use Rattle.ground_numbers.proofs.Ranges.{within_known}
 use Rattle.ground_refusal.specs.declared.Refusal.{Refusal}
 use Rattle.ground_refusal.specs.declared.Refusal.TheVariants.{OutsideSet, OutputTooSmall}
 use Rattle.section_reader.specs.Section.{section_length, read_section}
@@ -34,9 +34,9 @@ module _ (v : Verdict) (out : List ℕ) where
 -- ---- a good section
 
 module _ (out section : List ℕ) (c n : ℕ) (e : n ≡ packet_bytes + packet_bytes * (length section / next_room)) where
-  pub packs-not : length out < n → packing_if_room (length out) (laid (packed c section)) ≡ refuses OutputTooSmall
+  pub packs_not : length out < n → packing_if_room (length out) (laid (packed c section)) ≡ refuses OutputTooSmall
   unfolding packing_if_room
-  packs-not h = rw (lt-ltb (length out) (length (laid (packed c section))) (omega (arith, packed_long c section)))
+  packs_not h = rw (lt-ltb (length out) (length (laid (packed c section))) (omega (arith, packed_long c section)))
 
   pub packs : n ≤ length out → packing_if_room (length out) (laid (packed c section)) ≡ writes (laid (packed c section))
   unfolding packing_if_room
@@ -45,23 +45,23 @@ module _ (out section : List ℕ) (c n : ℕ) (e : n ≡ packet_bytes + packet_b
 -- ---- any byte string
 
 module _ (room counter : ℕ) (section : List ℕ) where
-  pub packing-not-good : (r : Refusal) → read_section section ≡ NotGood r → packing room counter section ≡ refuses r
+  pub packing_not_good : (r : Refusal) → read_section section ≡ NotGood r → packing room counter section ≡ refuses r
   unfolding packing packing_of
-  packing-not-good r e = rw e
+  packing_not_good r e = rw e
 
   module _ (h : Heading) (n : ℕ) (e : read_section section ≡ Good h n) where
-    pub packing-counter : counter_most < counter → packing room counter section ≡ refuses (OutsideSet 0)
+    pub packing_counter : counter_most < counter → packing room counter section ≡ refuses (OutsideSet 0)
     unfolding packing packing_of
-    packing-counter l = rw (e, lt-ltb counter_most counter l)
+    packing_counter l = rw (e, lt-ltb counter_most counter l)
 
-    pub packing-good : counter ≤ counter_most → packing room counter section ≡ packing_if_room room (laid (packed counter section))
+    pub packing_good : counter ≤ counter_most → packing room counter section ≡ packing_if_room room (laid (packed counter section))
     unfolding packing packing_of
-    packing-good l = rw (e, le-ltb counter_most counter l)
+    packing_good l = rw (e, le-ltb counter_most counter l)
 
 -- a good section is at most 4,096 bytes
 pub good_short : (section : List ℕ) (h : Heading) (n : ℕ) → read_section section ≡ Good h n → length section ≤ 4096
 good_short section h n e =
     let f = (accepted section h n e).framed in
     let w = f.whole in
-    let l = (within-known 9 (section_length section) 4093 f.counted).1 in
+    let l = (within_known 9 (section_length section) 4093 f.counted).1 in
     omega arith

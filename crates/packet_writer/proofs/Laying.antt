@@ -8,7 +8,7 @@ use native.Mathlib.Numerals.{add-one, add-two, add-three}
 use native.Mathlib.Omega.{arith}
 use lib.ListN.{length, set, replicate, length-append, length-replicate, replicate-append-replicate}
 use Rattle.ground_placing.specs.Placed.{placed}
-use Rattle.ground_placing.proofs.Placing.{stored, placed-next, placed_none, placed-length}
+use Rattle.ground_placing.proofs.Placing.{stored, placed_next, placed_none, placed_length}
 use Rattle.packet.specs.Sizes.{packet_bytes, sync_byte, our_pid, stuffing}
 use Rattle.packet_writer.specs.Packing.{first_room, next_room, start_byte, header, packet_of}
 
@@ -31,9 +31,9 @@ pub stuffing_step : (d d' : List ℕ) (at i : ℕ) → d' ≡ placed d at (repli
 stuffing_step d d' at i e h =
     let l = length-replicate {A = ℕ} i stuffing in
     let room : at + length (replicate {A = ℕ} i stuffing) ≤ length d = omega arith in
-    byte_stored d' (at + i) stuffing (let m = ap length e in let q = placed-length d at (replicate i stuffing) room in omega arith)
+    byte_stored d' (at + i) stuffing (let m = ap length e in let q = placed_length d at (replicate i stuffing) room in omega arith)
     ∙ ap (λ x. placed x (at + i) (stuffing ∷ [])) e
-    ∙ placed-next d at (replicate i stuffing) room (stuffing ∷ []) (at + i) (omega arith)
+    ∙ placed_next d at (replicate i stuffing) room (stuffing ∷ []) (at + i) (omega arith)
     ∙ ap (placed d at) (replicate-append-replicate i 1 stuffing)
 
 pub stuffing_end : (d d' : List ℕ) (at i n : ℕ) → d' ≡ placed d at (replicate i stuffing) → i ≤ n → n ≤ i
@@ -44,7 +44,7 @@ stuffing_end d d' at i n e h k = e ∙ ap (λ (j : ℕ). placed d at (replicate 
 
 pub laid_two : (d a b d₁ d₂ : List ℕ) (at k : ℕ) → d₁ ≡ placed d at a → d₂ ≡ placed d₁ k b → k ≡ at + length a → at + length a ≤ length d
     → d₂ ≡ placed d at (a ++ b)
-laid_two d a b d₁ d₂ at k e f g h = f ∙ ap (λ l. placed l k b) e ∙ placed-next d at a h b k g
+laid_two d a b d₁ d₂ at k e f g h = f ∙ ap (λ l. placed l k b) e ∙ placed_next d at a h b k g
 
 pub laid_packet : (d d₁ d₂ d₃ bytes : List ℕ) (at c k l : ℕ)
     → d₁ ≡ placed d at (header false c) → d₂ ≡ placed d₁ k bytes → d₃ ≡ placed d₂ l (replicate (next_room - length bytes) stuffing)

@@ -9,7 +9,7 @@ use lib.Dec.{leb}
 use lib.ListN.{length, take, drop, replicate, length-append, length-replicate, length-take, length-drop}
 use lib.Seq.{take_all, drop-drop}
 use Rattle.ground_placing.specs.Placed.{placed}
-use Rattle.ground_placing.proofs.Placing.{placed-next, placed_none, placed-length}
+use Rattle.ground_placing.proofs.Placing.{placed_next, placed_none, placed_length}
 use Rattle.packet.specs.Sizes.{packet_bytes, stuffing, counter_most}
 use Rattle.packet_writer.specs.Packing.{first_room, next_room, header, packet_of, next, continued, packed, laid}
 use Rattle.packet_writer.proofs.Laying.{laid_two}
@@ -63,9 +63,9 @@ laying_start d section k c low =
     less = omega arith
 
 module _ (d section d' : List ℕ) (k i c all : ℕ) (v : Laying d section k i d' c all) where
-  pub laying-end : k ≤ i → d' ≡ placed d packet_bytes (laid (continued k all (drop first_room section)))
+  pub laying_end : k ≤ i → d' ≡ placed d packet_bytes (laid (continued k all (drop first_room section)))
   unfolding laid continued
-  laying-end h =
+  laying_end h =
       sym (placed_none d' (packet_bytes + packet_bytes * i))
       ∙ ap (λ (j : ℕ). placed d' (packet_bytes + packet_bytes * i) (laid (continued j c (drop (first_room + next_room * i) section)))) none
       ∙ v.whole
@@ -76,8 +76,8 @@ module _ (d section d' : List ℕ) (k i c all : ℕ) (v : Laying d section k i d
   module _ (h : i < k) (room : packet_bytes + packet_bytes * k ≤ length d) (part : List ℕ)
       (e : part ≡ take next_room (drop (first_room + next_room * i) section)) (d₁ : List ℕ)
       (f : d₁ ≡ placed d' (packet_bytes + packet_bytes * i) (packet_of false c part)) where
-    long-one : length (packet_of false c part) ≡ packet_bytes
-    long-one = packet_long false c part (let l = ap length e in omega (arith, length-take next_room (drop (first_room + next_room * i) section)))
+    long_one : length (packet_of false c part) ≡ packet_bytes
+    long_one = packet_long false c part (let l = ap length e in omega (arith, length-take next_room (drop (first_room + next_room * i) section)))
 
     -- what is still to be laid, with this packet and without it
     one_more : packet_of false c part ++ laid (continued (k - (i + 1)) ((c + 1) % 16) (drop (first_room + next_room * (i + 1)) section))
@@ -94,19 +94,19 @@ module _ (d section d' : List ℕ) (k i c all : ℕ) (v : Laying d section k i d
         less : suc (k - (i + 1)) ≡ k - i
         less = omega arith
 
-    pub laying-step : Laying d section k (i + 1) d₁ ((c + 1) % 16) all
-    laying-step =
+    pub laying_step : Laying d section k (i + 1) d₁ ((c + 1) % 16) all
+    laying_step =
         let q = v.room in
         let rest = laid (continued (k - (i + 1)) ((c + 1) % 16) (drop (first_room + next_room * (i + 1)) section)) in
-        let fits : (packet_bytes + packet_bytes * i) + length (packet_of false c part) ≤ length d' = omega (arith, long-one) in
-        let at : packet_bytes + packet_bytes * (i + 1) ≡ packet_bytes + packet_bytes * i + length (packet_of false c part) = omega (arith, long-one) in
+        let fits : (packet_bytes + packet_bytes * i) + length (packet_of false c part) ≤ length d' = omega (arith, long_one) in
+        let at : packet_bytes + packet_bytes * (i + 1) ≡ packet_bytes + packet_bytes * i + length (packet_of false c part) = omega (arith, long_one) in
         record {
           most = omega arith;
-          room = ap length f ∙ placed-length d' (packet_bytes + packet_bytes * i) (packet_of false c part) fits ∙ q;
+          room = ap length f ∙ placed_length d' (packet_bytes + packet_bytes * i) (packet_of false c part) fits ∙ q;
           low = omega arith;
           whole =
               ap (λ (x : List ℕ). placed x (packet_bytes + packet_bytes * (i + 1)) rest) f
-              ∙ placed-next d' (packet_bytes + packet_bytes * i) (packet_of false c part) fits rest (packet_bytes + packet_bytes * (i + 1)) at
+              ∙ placed_next d' (packet_bytes + packet_bytes * i) (packet_of false c part) fits rest (packet_bytes + packet_bytes * (i + 1)) at
               ∙ ap (placed d' (packet_bytes + packet_bytes * i)) one_more
               ∙ v.whole;
         }

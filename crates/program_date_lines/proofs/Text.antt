@@ -10,7 +10,7 @@ use Rattle.time_fields.specs.declared.Timed.{Timed}
 use Rattle.time_fields.specs.declared.Timed.TheVariants.{At, Refused}
 use Rattle.time_fields.specs.declared.Fielded.TheVariants.{Field}
 use Rattle.time_fields.proofs.Reading.{accepted_only}
-use Rattle.time_fields.proofs.Inverse.{accepted-instant}
+use Rattle.time_fields.proofs.Inverse.{accepted_instant}
 use Rattle.time_offset.specs.Offset.{is_offset}
 use Rattle.time_local.specs.declared.LocalTime.{LocalTime}
 use Rattle.time_local.specs.declared.Unpacked.TheVariants.{At as LocalAt}
@@ -30,7 +30,7 @@ unpacked_day : (f : ℕ) (t : LocalTime) (said : Timed) → read_time f 0 ≡ sa
 unfolding unpacked_at moment_of
 unpacked_day f t (At m) r e =
     let a = accepted_only f 0 r in
-    omega (arith, accepted-instant f m a, ap (λ u. u.day) a.is)
+    omega (arith, accepted_instant f m a, ap (λ u. u.day) a.is)
 unpacked_day f t (Refused x) r e = let z : ◌≡◌ {A = ℕ} 0 1 = cc in absurd (omega arith)
 
 pub text_day : (s : List ℕ) {f : ℕ} → read_text s (pos 0) ≡ Field f → DayOf f

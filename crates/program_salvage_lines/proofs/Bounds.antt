@@ -9,7 +9,7 @@ use Rattle.salvage.specs.Runs.{Run, runs_of}
 use Rattle.salvage.specs.Salvage.{capture_most}
 use Rattle.salvage.specs.Said.{Follow}
 use Rattle.salvage.proofs.Standing.{runs_most}
-use Rattle.salvage.proofs.Whole.{runs-follow}
+use Rattle.salvage.proofs.Whole.{runs_follow}
 use Rattle.program_printing.specs.Characters.{ascii, decimal_of}
 use Rattle.program_printing.proofs.Digits.{decimal_most}
 use Rattle.program_salvage_lines.specs.Report.{word_of, line_of, lines_of}
@@ -49,4 +49,4 @@ within at end (r ∷ rs) f h =
     )
 
 pub lines_most : (s : List ℕ) → length s ≤ capture_most → length (lines_of (runs_of s)) ≤ 201660
-lines_most s h = omega (arith, within 0 (length s) (runs_of s) (runs-follow s) h, runs_most s)
+lines_most s h = omega (arith, within 0 (length s) (runs_of s) (runs_follow s) h, runs_most s)

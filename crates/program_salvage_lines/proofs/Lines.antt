@@ -8,7 +8,7 @@ use lib.ListN.{length, drop}
 use Rattle.salvage.specs.Reading.{Next}
 use Rattle.salvage.specs.Runs.{Run, run_at, runs_of}
 use Rattle.salvage.specs.Salvage.{capture_most}
-use Rattle.salvage.proofs.Turns.{run_none, run_some, runs_left, runs-turn, runs-end, runs-whole}
+use Rattle.salvage.proofs.Turns.{run_none, run_some, runs_left, runs_turn, runs_end, runs_whole}
 use Rattle.program_printing.specs.Characters.{ascii, decimal_of}
 use Rattle.program_salvage_lines.specs.Report.{word_of, line_of, lines_of, header, report_of}
 
@@ -41,16 +41,16 @@ lines_append (r ∷ rs) qs = ap (λ l. line_of r ++ l) (lines_append rs qs) ∙ 
 
 -- a turn of reading: the lines of the gap and of the section, and then the others
 module _ (s : List ℕ) (from at size : ℕ) (next : Next s from at size) where
-  pub lines-turn : lines_of (runs_left s from) ≡ lines_of (run_at false from (at - from)) ++ (lines_of (run_at true at size) ++ lines_of (runs_left s (at + size)))
-  lines-turn =
-      ap lines_of (runs-turn s from at size next) ∙ lines_append (run_at false from (at - from)) _
+  pub lines_turn : lines_of (runs_left s from) ≡ lines_of (run_at false from (at - from)) ++ (lines_of (run_at true at size) ++ lines_of (runs_left s (at + size)))
+  lines_turn =
+      ap lines_of (runs_turn s from at size next) ∙ lines_append (run_at false from (at - from)) _
       ∙ ap (λ l. lines_of (run_at false from (at - from)) ++ l) (lines_append (run_at true at size) _)
 
 pub lines_end : (s : List ℕ) (from : ℕ) → length s ≤ from → lines_of (runs_left s from) ≡ []
-lines_end s from h = rw (runs-end s from h) lines_none
+lines_end s from h = rw (runs_end s from h) lines_none
 
 pub lines_whole : (s : List ℕ) → lines_of (runs_left s 0) ≡ lines_of (runs_of s)
-lines_whole s = ap lines_of (runs-whole s)
+lines_whole s = ap lines_of (runs_whole s)
 
 -- ---- the whole list
 

@@ -10,7 +10,7 @@ use Rattle.ground_refusal.specs.declared.Refusal.TheVariants.{TooLarge}
 use Rattle.section_reader.specs.Section.{heading_of, read_section}
 use Rattle.section_reader.specs.declared.Sectioned.{Sectioned}
 use Rattle.section_reader.specs.declared.Sectioned.TheVariants.{Good, Refused}
-use Rattle.section_reader.proofs.Accepting.{accepted, accepted-short}
+use Rattle.section_reader.proofs.Accepting.{accepted, accepted_short}
 use Rattle.program_printing.specs.Characters.{ascii, decimal_of}
 use Rattle.program_printing.proofs.Digits.{below_or_not, decimal_most, refused_most}
 use Rattle.program_section_line.specs.Line.{judged_of, heading_text, section_answered}
@@ -36,7 +36,7 @@ section_most s (Good h n) byte e =
       arith,
       length-append (decimal_of h.number) (ascii " " ++ decimal_of n),
       decimal_most 2 h.number (omega (arith, ap (λ k. k.number) a.heading)),
-      decimal_most 3 n (omega (arith, accepted-short s h n a)),
+      decimal_most 3 n (omega (arith, accepted_short s h n a)),
     )
 section_most s (Refused r) byte e = refused_most r
 

@@ -19,7 +19,7 @@ use Rattle.section_cutter.specs.declared.Cut.TheVariants.{Refused as NotCut}
 use Rattle.section_reader.specs.declared.Heading.{Heading}
 use Rattle.section_reader.specs.declared.Sectioned.{Sectioned}
 use Rattle.section_reader.specs.declared.Sectioned.TheVariants.{Good, Refused as NotGood}
-use Rattle.salvage.proofs.Calls.{writes_nothing as salvage-keeps}
+use Rattle.salvage.proofs.Calls.{writes_nothing as salvage_keeps}
 use Rattle.packet_writer.specs.Packing as packer
 use Rattle.packet_writer.specs.Answers as packed
 use Rattle.packet_writer.specs.declared.Packed.TheVariants.{Refused as NotPacked}
@@ -34,23 +34,23 @@ use Rattle.time_printing.specs.declared.TypedTimes.TheVariants.{Fields, Refused 
 use Rattle.c_answers.specs.Answers.{fields_after}
 use Rattle.gathering_state.specs.State.{possible_of, nothing_begun, has_room, spoiled_state}
 use Rattle.gathering_state.specs.declared.Gathering.{Gathering}
-use Rattle.gathering_state.proofs.State.{possible-fresh, possible-begun}
+use Rattle.gathering_state.proofs.State.{possible_fresh, possible_begun}
 use Rattle.gathering_verdict.specs.Deciding.{verdict_of}
 use Rattle.gathering_feed.specs.Feeding as feeding
 use Rattle.gathering_verdict.specs.declared.Verdict.{Verdict}
 use Rattle.gathering_verdict.specs.declared.Verdict.TheVariants.{Refuse, Repeat, Contradict, Begin, Take}
 use Rattle.gathering_feed.specs.declared.Answer.TheVariants.{HeldAlready, Refused as NotFed}
-use Rattle.gathering_verdict.proofs.Verdicts.{verdict-impossible, verdict-bad, verdict-good, Decided, old, other, short, begun, spoiled, new, again, clash, decided}
+use Rattle.gathering_verdict.proofs.Verdicts.{verdict_impossible, verdict_bad, verdict_good, Decided, old, other, short, begun, spoiled, new, again, clash, decided}
 use Rattle.gathering_hand_out.specs.Handing.{body_held, handed_of, out_by, out_after}
 use Rattle.gathering_hand_out.specs.declared.Handed.{Handed}
 use Rattle.gathering_hand_out.specs.declared.Handed.TheVariants.{Body, Refused as NotHanded}
 use Rattle.gathering_hand_out.proofs.Handing.{body_most_lem}
 use Rattle.gathering_pack.specs.Packing as packing
 use Rattle.rooms_marks.proofs.Tests.{Seen, yes_is, no_is, seen}
-use Rattle.rooms_state.specs.State.{Network, mine, possible_of as networksPossible}
+use Rattle.rooms_state.specs.State.{Network, mine, possible_of as networks_possible}
 use Rattle.rooms_state.specs.declared.Networks.{Networks}
-use Rattle.rooms_feed.specs.Feeding as feeding-rooms
-use Rattle.rooms_hand_out.specs.Handing as handing-rooms
+use Rattle.rooms_feed.specs.Feeding as feeding_rooms
+use Rattle.rooms_hand_out.specs.Handing as handing_rooms
 use Rattle.gathering_account.specs.Account.{body_of}
 use Rattle.gathering_account.specs.Answering.{answer_to}
 use Rattle.teaching_rows.specs.Rows.{whole_in_use}
@@ -71,7 +71,7 @@ use Rattle.content_writer.specs.Written.{written_of, content_written, variant_wr
 use Rattle.content_writer.specs.declared.Written.TheVariants.{Refused as NotWritten}
 use Rattle.index_records.specs.Records.{recording, body_recorded, recorded_over, recorded}
 use Rattle.index_records.specs.declared.Record.{Record}
-use Rattle.promises.proofs.Places.{absurd_answer, section_refusals, answer-refusals, places}
+use Rattle.promises.proofs.Places.{absurd_answer, section_refusals, answer_refusals, places}
 use Rattle.promises.proofs.Told.{told}
 use Rattle.promises.specs.Demand1.{Numbered, WritesNothing, OnlySpoils, Demand1}
 use Rattle.promises.proofs.Lists.{given_exactly}
@@ -115,9 +115,9 @@ module _ (buffer : List ℕ) (used store : ℕ) (s : List ℕ) where
   unwhole f e = (rw (f, e), rw (f, e))
 
   -- a refusal above 11 is the buffer's: 37, or 12
-  taught-keeps : (r : Refusal) → 11 < refusal_number r → answer_of buffer used store s ≡ NotFed r → Unchanged
+  taught_keeps : (r : Refusal) → 11 < refusal_number r → answer_of buffer used store s ≡ NotFed r → Unchanged
   unfolding answer_of
-  taught-keeps r h e = go (row_fits (length buffer) used (length s)) refl (whole_in_use buffer used) refl e
+  taught_keeps r h e = go (row_fits (length buffer) used (length s)) refl (whole_in_use buffer used) refl e
     where
       go : (f : Bool) → row_fits (length buffer) used (length s) ≡ f → (w : Bool) → whole_in_use buffer used ≡ w
           → (if not f then NotFed TeachingBufferFull else
@@ -125,7 +125,7 @@ module _ (buffer : List ℕ) (used store : ℕ) (s : List ℕ) where
       go false f w g e = unfitting f
       go true f false g e = unwhole f g
       go true f true g e =
-          let low = answer-refusals (λ q. refusal_number q ≤ 11) (omega arith) (omega arith) (omega arith) (omega arith) (omega arith) (omega arith) (omega arith)
+          let low = answer_refusals (λ q. refusal_number q ≤ 11) (omega arith) (omega arith) (omega arith) (omega arith) (omega arith) (omega arith) (omega arith)
           (omega arith) (omega arith) (omega arith) (omega arith) (has_room store) s (account_in store (take used buffer)) r e in
           absurd (omega arith)
 
@@ -188,32 +188,32 @@ fed_keeps store payload (Take h) r e = absurd_answer (cc)
 
 -- two networks: by the verdict with its room, and where the state is not possible nothing is looked at
 roomed_keeps : (store payload : List ℕ) (room : ℕ) (v : Verdict) (r : Refusal) → feeding.answer_by v ≡ NotFed r
-    → feeding-rooms.store_by store payload room v ≡ store
-unfolding feeding.answer_by feeding-rooms.store_by
+    → feeding_rooms.store_by store payload room v ≡ store
+unfolding feeding.answer_by feeding_rooms.store_by
 roomed_keeps store payload room (Refuse r') r e = refl
 roomed_keeps store payload room Repeat r e = refl
 roomed_keeps store payload room Contradict r e = refl
 roomed_keeps store payload room (Begin h) r e = absurd_answer (cc)
 roomed_keeps store payload room (Take h) r e = absurd_answer (cc)
 
-networks_feed_keeps : (o : Option Network) (x : Networks) (store s : List ℕ) (r : Refusal) → (feeding-rooms.fed_of o x store s).answer ≡ NotFed r
-    → feeding-rooms.store_after o x store s ≡ store
-unfolding feeding-rooms.fed_of feeding-rooms.store_after feeding-rooms.fed_for feeding-rooms.store_for feeding-rooms.part_fed feeding-rooms.part_store
+networks_feed_keeps : (o : Option Network) (x : Networks) (store s : List ℕ) (r : Refusal) → (feeding_rooms.fed_of o x store s).answer ≡ NotFed r
+    → feeding_rooms.store_after o x store s ≡ store
+unfolding feeding_rooms.fed_of feeding_rooms.store_after feeding_rooms.fed_for feeding_rooms.store_for feeding_rooms.part_fed feeding_rooms.part_store
 networks_feed_keeps none x store s r e = refl
-networks_feed_keeps (some i) x store s r e = go (seen (networksPossible x (length store)))
+networks_feed_keeps (some i) x store s r e = go (seen (networks_possible x (length store)))
   where
-    go : Seen (networksPossible x (length store)) → feeding-rooms.store_after (some i) x store s ≡ store
+    go : Seen (networks_possible x (length store)) → feeding_rooms.store_after (some i) x store s ≡ store
     go (yes_is ok) = rw ok (roomed_keeps store (payload_of s) _ _ r (rw ok at e))
     go (no_is bad) = rw bad
 
-networks_hand_keeps : (o : Option Network) (x : Networks) (store out : List ℕ) (r : Refusal) → handing-rooms.handed_of o x store out ≡ NotHanded r
-    → handing-rooms.out_after o x store out ≡ out
-unfolding handing-rooms.handed_of handing-rooms.out_after handing-rooms.handed_for handing-rooms.out_for handing-rooms.part_out
+networks_hand_keeps : (o : Option Network) (x : Networks) (store out : List ℕ) (r : Refusal) → handing_rooms.handed_of o x store out ≡ NotHanded r
+    → handing_rooms.out_after o x store out ≡ out
+unfolding handing_rooms.handed_of handing_rooms.out_after handing_rooms.handed_for handing_rooms.out_for handing_rooms.part_out
 networks_hand_keeps none x store out r e = refl
-networks_hand_keeps (some i) x store out r e = go (seen (networksPossible x (length store)))
+networks_hand_keeps (some i) x store out r e = go (seen (networks_possible x (length store)))
   where
-    go : Seen (networksPossible x (length store)) → handing-rooms.out_after (some i) x store out ≡ out
-    go (yes_is ok) = rw ok (handed_keeps (handing-rooms.body_in (mine i x) store) out (handing-rooms.part_handed (mine i x) store out) r (rw ok at e))
+    go : Seen (networks_possible x (length store)) → handing_rooms.out_after (some i) x store out ≡ out
+    go (yes_is ok) = rw ok (handed_keeps (handing_rooms.body_in (mine i x) store) out (handing_rooms.part_handed (mine i x) store out) r (rw ok at e))
     go (no_is bad) = rw bad
 
 writes_nothing : WritesNothing
@@ -221,7 +221,7 @@ unfolding feeding.fed_of feeding.store_after handed_of out_after teaching.out_af
 writes_nothing =
     record {
       cutter = λ body kind extension version number out. cut_keeps (cutter.cutting body kind extension version number (length out)) out;
-      salvage = salvage-keeps;
+      salvage = salvage_keeps;
       packer = λ counter section out. pack_keeps (packer.packing (length out) counter section) out;
       unpacker = λ s p out r l e.
           (unpack_keeps (completed.verdict_for s p out) out r e, unpacker_keeps (completed.verdict_for s p out) s _ r (state_means s p out l) e);
@@ -229,8 +229,8 @@ writes_nothing =
       typing = typed_keeps;
       feed = λ g store s. fed_keeps store (payload_of s) (verdict_of g store s);
       hand_out = λ g store out. handed_keeps (body_held g store) out (handed_of g store out);
-      teaching_full = λ buffer used store s. taught-keeps buffer used store s TeachingBufferFull (omega arith);
-      teaching_impossible = λ buffer used store s. taught-keeps buffer used store s ImpossibleState (omega arith);
+      teaching_full = λ buffer used store s. taught_keeps buffer used store s TeachingBufferFull (omega arith);
+      teaching_impossible = λ buffer used store s. taught_keeps buffer used store s ImpossibleState (omega arith);
       teaching_hand_out = λ buffer used store out. handed_keeps (body_of (account_in store (take used buffer))) out (teaching.handed_of buffer used store out);
       pack = λ g store. handed_keeps (body_held g store) store (packing.packed_of g store);
       networks_feed = networks_feed_keeps;
@@ -267,8 +267,8 @@ unfolding spoiled_state
 spoiled_stays g p n = go (nothing_begun g) refl
   where
     most : (b : Bool) → nothing_begun g ≡ b → g.spoiled ≤ 1
-    most true e = let f = (possible-fresh g p e).spoiled in omega arith
-    most false e = (possible-begun g p e).of_table.spoiled
+    most true e = let f = (possible_fresh g p e).spoiled in omega arith
+    most false e = (possible_begun g p e).of_table.spoiled
 
     same : g.spoiled ≡ 1 → g ≡ spoiled_state g
     same e =
@@ -292,35 +292,35 @@ module _ (g : Gathering) (store s : List ℕ) where
   abbrev Spoils : Verdict → Type 0
   Spoils v = feeding.answer_by v ≡ NotFed Contradiction → feeding.state_by g (payload_of s) v ≡ spoiled_state g
 
-  refuses-other : (r : Refusal) → (r ≡ Contradiction → ⊥) → Spoils (Refuse r)
+  refuses_other : (r : Refusal) → (r ≡ Contradiction → ⊥) → Spoils (Refuse r)
   unfolding feeding.answer_by
-  refuses-other r n e = absurd (n (cc))
+  refuses_other r n e = absurd (n (cc))
 
-  good-spoils : possible_of g ≡ true → (h : Heading) {v : Verdict} → Decided g store h (payload_of s) v → Spoils v
+  good_spoils : possible_of g ≡ true → (h : Heading) {v : Verdict} → Decided g store h (payload_of s) v → Spoils v
   unfolding feeding.answer_by feeding.state_by
-  good-spoils p h (old c) e = refuses-other NotCurrent (differs NotCurrent refl) e
-  good-spoils p h (other c b a) e = refuses-other OtherHeading (differs OtherHeading refl) e
-  good-spoils p h (short c b r) e = refuses-other StoreTooShort (differs StoreTooShort refl) e
-  good-spoils p h (begun c b r) e = absurd_answer (cc)
-  good-spoils p h (spoiled c b a r z) e = spoiled_stays g p z
-  good-spoils p h (new d z) e = absurd_answer (cc)
-  good-spoils p h (again d z q) e = absurd_answer (cc)
-  good-spoils p h (clash d z q) e = refl
+  good_spoils p h (old c) e = refuses_other NotCurrent (differs NotCurrent refl) e
+  good_spoils p h (other c b a) e = refuses_other OtherHeading (differs OtherHeading refl) e
+  good_spoils p h (short c b r) e = refuses_other StoreTooShort (differs StoreTooShort refl) e
+  good_spoils p h (begun c b r) e = absurd_answer (cc)
+  good_spoils p h (spoiled c b a r z) e = spoiled_stays g p z
+  good_spoils p h (new d z) e = absurd_answer (cc)
+  good_spoils p h (again d z q) e = absurd_answer (cc)
+  good_spoils p h (clash d z q) e = refl
 
-  verdict-spoils : Spoils (verdict_of g store s)
-  verdict-spoils = go (possible_of g) refl (read_section s) refl
+  verdict_spoils : Spoils (verdict_of g store s)
+  verdict_spoils = go (possible_of g) refl (read_section s) refl
     where
       go : (b : Bool) → possible_of g ≡ b → (x : Sectioned) → read_section s ≡ x → Spoils (verdict_of g store s)
-      go false p x e = rw (verdict-impossible g store s p) (refuses-other ImpossibleState (differs ImpossibleState refl))
-      go true p (NotGood r) e = rw (verdict-bad g store s p r e) (refuses-other r (λ z. section_not s (e ∙ ap NotGood z)))
-      go true p (Good h n) e = rw (verdict-good g store s p h n e) (good-spoils p h (decided g store h (payload_of s)))
+      go false p x e = rw (verdict_impossible g store s p) (refuses_other ImpossibleState (differs ImpossibleState refl))
+      go true p (NotGood r) e = rw (verdict_bad g store s p r e) (refuses_other r (λ z. section_not s (e ∙ ap NotGood z)))
+      go true p (Good h n) e = rw (verdict_good g store s p h n e) (good_spoils p h (decided g store h (payload_of s)))
 
 only_spoils : OnlySpoils
 unfolding feeding.fed_of feeding.store_after packing.packing_of
 only_spoils =
     record {
       state_stays = λ g store s. state_keeps g (payload_of s) (verdict_of g store s);
-      spoiled = verdict-spoils;
+      spoiled = verdict_spoils;
       packing_stays = λ g store. packing_keeps g (packing.packed_of g store);
       repeat_stays = λ g store s. repeat_keeps g store (payload_of s) (verdict_of g store s);
     }

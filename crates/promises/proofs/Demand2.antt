@@ -22,7 +22,7 @@ use Rattle.section_cutter.specs.declared.Cut.TheVariants.{Written}
 use Rattle.section_cutter.proofs.Counting.{counted_is}
 use Rattle.section_reader.proofs.Printing.{printed_length}
 use Rattle.section_reader.proofs.RoundTrip.{good_exactly}
-use Rattle.section_cutter.proofs.Sections.{cut-writes, cut_reads, cut_joined}
+use Rattle.section_cutter.proofs.Sections.{cut_writes, cut_reads, cut_joined}
 use Rattle.body_formats.specs.Reading.{Reading, found, refused}
 use Rattle.body_formats.specs.Format.{Format, every}
 use Rattle.body_formats.specs.Answers.{step_of}
@@ -34,26 +34,26 @@ use Rattle.body_formats.proofs.Outcomes.{found_inj, and_then_found, need_found}
 use Rattle.body_formats.proofs.RoundTrips as trips
 use Rattle.certificate.specs.Certificate.{certificate_kind, certificate}
 use Rattle.certificate.proofs.RoundTrips.{certificate_trips}
-use Rattle.certificate_fields.proofs.Table.{certificate-asked}
+use Rattle.certificate_fields.proofs.Table.{certificate_asked}
 use Rattle.index.specs.Index.{index_kind, index}
 use Rattle.index.proofs.RoundTrips.{index_trips}
 use Rattle.index_fields.proofs.Asked.{index_asked}
 use Rattle.index_records.proofs.Laid.{records_are}
 use Rattle.body_extension.specs.Extension.{extension_of}
-use Rattle.body_extension.proofs.Bits.{four_ones, checked-bits}
+use Rattle.body_extension.proofs.Bits.{four_ones, checked_bits}
 use Rattle.content.specs.Content.{Content, content_kind, content, reading_of, content_read}
-use Rattle.content.proofs.Extension.{other-before}
+use Rattle.content.proofs.Extension.{other_before}
 use Rattle.content.proofs.RoundTrips.{content_trips}
-use Rattle.content.proofs.Smallest.{content-takes, smallest_body, smallest_accepted}
-use Rattle.content.proofs.Variants.{read_no, laid-no, unnamed_tape, variant-reads, variant-lays, variant-tape}
+use Rattle.content.proofs.Smallest.{content_takes, smallest_body, smallest_accepted}
+use Rattle.content.proofs.Variants.{read_no, laid_no, unnamed_tape, variant_reads, variant_lays, variant_tape_lem}
 use Rattle.content_variant.specs.Variant.{width_of}
 use Rattle.content_variant.specs.declared.Width.TheVariants.{Bytes, Refused as NoWidth}
 use Rattle.content_variant.proofs.Variant as variant
-use Rattle.content_fields.proofs.Answers.{variant-type-no, variant-type-is, variant-part-no, variant-part-is}
+use Rattle.content_fields.proofs.Answers.{variant_type_no, variant_type_is, variant_part_no, variant_part_is}
 use Rattle.content_fields.proofs.Asked.{content_asked}
 use Rattle.content_writer.specs.Written.{written_of, content_written}
 use Rattle.content_writer.specs.declared.Written.TheVariants.{Of}
-use Rattle.content_writer.proofs.Variants.{measured-no, written-no, output-no, measured-wide, written-wide, output-wide}
+use Rattle.content_writer.proofs.Variants.{measured_no, written_no, output_no, measured_wide, written_wide, output_wide}
 use Rattle.configuration.specs.Configuration.{configuration_kind, configuration}
 use Rattle.configuration.proofs.RoundTrips.{configuration_trips}
 use Rattle.configuration_fields.proofs.Asked.{configuration_asked}
@@ -72,14 +72,14 @@ module _ {A : Type 0} (F : Format A) (own : ℕ) (f : trips.RoundTrips F own) wh
   ok : (t : A) → WellFormed F t → Ok F t
   ok t w = record { writable = w.writable; small = w.small }
 
-  own-kind : (kind : ℕ) (body : List ℕ) (t : A) (n : ℕ) → reading F own kind body ≡ found t n → kind ≡ own
+  own_kind : (kind : ℕ) (body : List ℕ) (t : A) (n : ℕ) → reading F own kind body ≡ found t n → kind ≡ own
   unfolding reading
-  own-kind kind body t n e = eqb-true kind own (need_found (eqb kind own) OtherKind _ t n e).0
+  own_kind kind body t n e = eqb-true kind own (need_found (eqb kind own) OtherKind _ t n e).0
 
   -- what is read is held, and read to its end
-  read-holds : (kind : ℕ) (body : List ℕ) (t : A) (n : ℕ) → AreBytes body → reading F own kind body ≡ found t n → Holds F own kind body t × (n ≡ length body)
-  read-holds kind body t n b e =
-      let k = own-kind kind body t n e in
+  read_holds : (kind : ℕ) (body : List ℕ) (t : A) (n : ℕ) → AreBytes body → reading F own kind body ≡ found t n → Holds F own kind body t × (n ≡ length body)
+  read_holds kind body t n b e =
+      let k = own_kind kind body t n e in
       let a = f.accepted_exactly body b.byte t n (rw k at e) in (
         record {
           kind_is = k;
@@ -96,12 +96,12 @@ module _ {A : Type 0} (F : Format A) (own : ℕ) (f : trips.RoundTrips F own) wh
   unfolding body_read
   accepts kind body n b e =
       let x = step_found (reading F own kind body) n e in
-      let h = read-holds kind body x.0 n b x.1 in
+      let h = read_holds kind body x.0 n b x.1 in
       ((x.0, h.0), h.1)
 
-  held-accepts : (kind : ℕ) (body : List ℕ) (t : A) → Holds F own kind body t → body_read F own kind body ≡ At (length body)
+  held_accepts : (kind : ℕ) (body : List ℕ) (t : A) → Holds F own kind body t → body_read F own kind body ≡ At (length body)
   unfolding body_read
-  held-accepts kind body t h = ap step_of (held_reads kind body t h)
+  held_accepts kind body t h = ap step_of (held_reads kind body t h)
 
   written : (pool tape out : List ℕ) (t : A) (n : ℕ) → writing F pool tape (length out) ≡ found t n → output_written F pool tape out ≡ placed out 0 (F.print t)
   unfolding output_written
@@ -113,15 +113,15 @@ module _ {A : Type 0} (F : Format A) (own : ℕ) (f : trips.RoundTrips F own) wh
   is_laid kind body t e tape h = rw (e, le-leb (length (F.tape t 0)) (length tape) h)
 
   -- what was laid is the table's tape
-  tape-is : (kind : ℕ) (body tape : List ℕ) (t : A) (n : ℕ) → reading F own kind body ≡ found t n → leb (length (F.tape t 0)) (length tape) ≡ true
+  tape_is : (kind : ℕ) (body tape : List ℕ) (t : A) (n : ℕ) → reading F own kind body ≡ found t n → leb (length (F.tape t 0)) (length tape) ≡ true
       → laid_tape F own kind body tape ≡ placed tape 0 (F.tape t 0)
   unfolding laid_tape laying
-  tape-is kind body tape t n e l = rw (e, l)
+  tape_is kind body tape t n e l = rw (e, l)
 
-  laid-is : (kind : ℕ) (body tape : List ℕ) (m : ℕ) → body_laid F own kind body (length tape) ≡ At m
+  laid_is : (kind : ℕ) (body tape : List ℕ) (m : ℕ) → body_laid F own kind body (length tape) ≡ At m
       → (t : A) × (n : ℕ) × (reading F own kind body ≡ found t n) × (take m (laid_tape F own kind body tape) ≡ F.tape t 0)
   unfolding body_laid laying
-  laid-is kind body tape m e =
+  laid_is kind body tape m e =
       let x = step_found (laying F own kind body (length tape)) m e in
       let i = and_then_found (reading F own kind body) _ x.0 m x.1 in
       let t = i.0 in
@@ -129,7 +129,7 @@ module _ {A : Type 0} (F : Format A) (own : ℕ) (f : trips.RoundTrips F own) wh
         t,
         i.1,
         i.2,
-        ap (take m) (tape-is kind body tape t i.1 i.2 c.0) ∙ placed_start tape (F.tape t 0) m (sym (found_inj c.1).1),
+        ap (take m) (tape_is kind body tape t i.1 i.2 c.0) ∙ placed_start tape (F.tape t 0) m (sym (found_inj c.1).1),
       )
 
   writes_back : (kind : ℕ) (body : List ℕ) → AreBytes body → (tape : List ℕ) (m : ℕ) → body_laid F own kind body (length tape) ≡ At m
@@ -138,15 +138,15 @@ module _ {A : Type 0} (F : Format A) (own : ℕ) (f : trips.RoundTrips F own) wh
       × (output_written F body (take m (laid_tape F own kind body tape)) out ≡ placed out 0 body)
   unfolding body_written
   writes_back kind body b tape m e out l =
-      let x = laid-is kind body tape m e in
+      let x = laid_is kind body tape m e in
       let w = f.writes_back kind body b.byte x.0 x.1 x.2 out l in
       (ap (λ (t : List ℕ). body_written F body t (length out)) x.3 ∙ ap step_of w.0, ap (λ (t : List ℕ). output_written F body t out) x.3 ∙ w.1)
 
   round_trips : WrittenAndRead F own
   round_trips =
       record {
-        reads_exactly = λ kind body t b. (λ e. (read-holds kind body t (length body) b e).0, held_reads kind body t);
-        accepts_exactly = λ kind body b. (λ e. (accepts kind body (length body) b e).0, λ x. held-accepts kind body x.0 x.1);
+        reads_exactly = λ kind body t b. (λ e. (read_holds kind body t (length body) b e).0, held_reads kind body t);
+        accepts_exactly = λ kind body b. (λ e. (accepts kind body (length body) b e).0, λ x. held_accepts kind body x.0 x.1);
         ends = λ kind body n b e. (accepts kind body n b e).1;
         is_written = λ t w out l. (f.writes_back own (F.print t) w.bytes.byte t (length (F.print t)) (f.reads_back t (ok t w) w.short) out l).0;
         reads_back = λ pool tape out t n e. let r = f.written_reads_back pool tape (length out) t n e in (written pool tape out t n e, r.0, r.3);
@@ -164,25 +164,25 @@ module _ (w kind extension : ℕ) (body : List ℕ) where
       let c = need_found (eqb extension (extension_of i.0.identifier)) OtherChecksum _ t (length body) i.3 in
       let h : HoldsContent w kind extension body i.0 =
       record {
-        holds = (read-holds (content w) content_kind (content_trips w) kind body i.0 i.1 b i.2).0;
+        holds = (read_holds (content w) content_kind (content_trips w) kind body i.0 i.1 b i.2).0;
         extension_is = eqb-true extension (extension_of i.0.identifier) c.0;
       } in
       subst (HoldsContent w kind extension body) (found_inj c.1).0 h
 
-  content-reads : (t : Content) → HoldsContent w kind extension body t → reading_of w kind extension body ≡ found t (length body)
+  content_reads : (t : Content) → HoldsContent w kind extension body t → reading_of w kind extension body ≡ found t (length body)
   unfolding reading_of
-  content-reads t h =
+  content_reads t h =
       rw (held_reads (content w) content_kind (content_trips w) kind body t h.holds, eq-eqb extension (extension_of t.identifier) h.extension_is)
 
-  content-accepts : AreBytes body → content_read w kind extension body ≡ At (length body) → (t : Content) × HoldsContent w kind extension body t
+  content_accepts : AreBytes body → content_read w kind extension body ≡ At (length body) → (t : Content) × HoldsContent w kind extension body t
   unfolding content_read
-  content-accepts b e =
+  content_accepts b e =
       let x = step_found (reading_of w kind extension body) (length body) e in
       (x.0, content_holds x.0 b x.1)
 
-  content-accepted : (t : Content) → HoldsContent w kind extension body t → content_read w kind extension body ≡ At (length body)
+  content_accepted : (t : Content) → HoldsContent w kind extension body t → content_read w kind extension body ≡ At (length body)
   unfolding content_read
-  content-accepted t h = ap step_of (content-reads t h)
+  content_accepted t h = ap step_of (content_reads t h)
 
 -- the writer's answer is a table's, with the extension of its identifier
 given : (x : Reading Content) (n extension : ℕ) → written_of x ≡ Of n extension → (t : Content) × (x ≡ found t n) × (extension ≡ extension_of t.identifier)
@@ -205,17 +205,17 @@ old_refused : (w kind : ℕ) (body : List ℕ) (t : Content) → Holds (content 
 unfolding content_read reading_of
 old_refused w kind body t h =
     let never : crc16_of (take 18 body) ≡ extension_of t.identifier → ⊥ = λ e.
-    other-before w t (ok (content w) content_kind (content_trips w) t h.formed) (ap (λ (s : List ℕ). crc16_of (take 18 s)) (sym h.body_is) ∙ e) in
+    other_before w t (ok (content w) content_kind (content_trips w) t h.formed) (ap (λ (s : List ℕ). crc16_of (take 18 s)) (sym h.body_is) ∙ e) in
     rw (held_reads (content w) content_kind (content_trips w) kind body t h, ne_eqb (crc16_of (take 18 body)) (extension_of t.identifier) never)
 
 checked : Checked
-checked = record { whole_bytes = crc16_whole; four_ones = four_ones; no_more = checked-bits }
+checked = record { whole_bytes = crc16_whole; four_ones = four_ones; no_more = checked_bits }
 
 extended : (w : ℕ) → Extended w
 extended w =
     record {
-      reads_exactly = λ kind extension body t b. (content_holds w kind extension body t b, content-reads w kind extension body t);
-      accepts_exactly = λ kind extension body b. (content-accepts w kind extension body b, λ x. content-accepted w kind extension body x.0 x.1);
+      reads_exactly = λ kind extension body t b. (content_holds w kind extension body t b, content_reads w kind extension body t);
+      accepts_exactly = λ kind extension body b. (content_accepts w kind extension body b, λ x. content_accepted w kind extension body x.0 x.1);
       written_with = written_with w;
       old_refused = old_refused w;
     }
@@ -223,13 +223,13 @@ extended w =
 -- ---- the smallest content body
 
 module _ (w kind extension : ℕ) (body : List ℕ) where
-  content-least : (n : ℕ) → AreBytes body → content_read w kind extension body ≡ At n → 33 ≤ length body
+  content_least : (n : ℕ) → AreBytes body → content_read w kind extension body ≡ At n → 33 ≤ length body
   unfolding content_read reading_of
-  content-least n b e =
+  content_least n b e =
       let x = step_found (reading_of w kind extension body) n e in
       let i = and_then_found (reading (content w) content_kind kind body) _ x.0 n x.1 in
-      let h = (read-holds (content w) content_kind (content_trips w) kind body i.0 i.1 b i.2).0 in
-      subst (λ (s : List ℕ). 33 ≤ length s) (sym h.body_is) (content-takes w i.0 h.formed.writable)
+      let h = (read_holds (content w) content_kind (content_trips w) kind body i.0 i.1 b i.2).0 in
+      subst (λ (s : List ℕ). 33 ≤ length s) (sym h.body_is) (content_takes w i.0 h.formed.writable)
 
 all_bytes : (s : List ℕ) → every (λ x. ltb x 256) s ≡ true → (i : ℕ) → get_or s i 0 < 256
 unfolding every
@@ -246,7 +246,7 @@ unfolding content_read reading_of every smallest_body
 smallest w =
     let given = extension_of (smallest_read w).0.identifier in
     record {
-      least = content-least w;
+      least = content_least w;
       reached = (given, smallest_body, record { byte = all_bytes smallest_body refl }, refl, rw ((smallest_read w).1, eq-eqb given given refl));
     }
 
@@ -265,38 +265,38 @@ of_width w =
 is_variant : (v w : ℕ) → Bytes w ≡ width_of v → IsVariant v w
 is_variant v w e =
     record {
-      reads = λ kind extension body. variant-reads v w e kind body extension;
-      lays = λ kind body. variant-lays v w e kind body;
-      tape_left = λ kind body. variant-tape v w e kind body;
-      measures = λ pool tape. sym (measured-wide v w e pool tape);
-      writes = λ pool tape room. sym (written-wide v w e pool tape room);
-      output_left = λ pool tape out. sym (output-wide v w e pool tape out);
-      type_asked = λ body at n i. sym (variant-type-is v w e body at n i);
-      file_asked = λ body at n i. sym (variant-part-is v w e body at n i);
+      reads = λ kind extension body. variant_reads v w e kind body extension;
+      lays = λ kind body. variant_lays v w e kind body;
+      tape_left = λ kind body. variant_tape_lem v w e kind body;
+      measures = λ pool tape. sym (measured_wide v w e pool tape);
+      writes = λ pool tape room. sym (written_wide v w e pool tape room);
+      output_left = λ pool tape out. sym (output_wide v w e pool tape out);
+      type_asked = λ body at n i. sym (variant_type_is v w e body at n i);
+      file_asked = λ body at n i. sym (variant_part_is v w e body at n i);
     }
 
 no_variant : (v : ℕ) → NoWidth (OutsideSet 0) ≡ width_of v → NoVariant v
 no_variant v e =
     record {
       other_kind = λ kind extension body h. sym (read_no kind v body OtherKind (variant.other_kind kind v (length body) h) extension);
-      other_kind_laid = λ kind body room h. sym (laid-no kind v body OtherKind (variant.other_kind kind v (length body) h) room);
+      other_kind_laid = λ kind body room h. sym (laid_no kind v body OtherKind (variant.other_kind kind v (length body) h) room);
       unread = λ extension body. sym (read_no content_kind v body (OutsideSet 0) (variant.no_variant content_kind v (length body) refl (OutsideSet 0) e) extension);
-      unlaid = λ body room. sym (laid-no content_kind v body (OutsideSet 0) (variant.no_variant content_kind v (length body) refl (OutsideSet 0) e) room);
+      unlaid = λ body room. sym (laid_no content_kind v body (OutsideSet 0) (variant.no_variant content_kind v (length body) refl (OutsideSet 0) e) room);
       tape_stays = λ kind body tape. unnamed_tape kind v body (OutsideSet 0) e tape;
-      unmeasured = λ pool tape. sym (measured-no v (OutsideSet 0) e pool tape);
-      unwritten = λ pool tape room. sym (written-no v (OutsideSet 0) e pool tape room);
-      output_stays = λ pool tape out. sym (output-no v (OutsideSet 0) e pool tape out);
-      no_type = λ body at n i. sym (variant-type-no v (OutsideSet 0) e body at n i);
-      no_file = λ body at n i. sym (variant-part-no v (OutsideSet 0) e body at n i);
+      unmeasured = λ pool tape. sym (measured_no v (OutsideSet 0) e pool tape);
+      unwritten = λ pool tape room. sym (written_no v (OutsideSet 0) e pool tape room);
+      output_stays = λ pool tape out. sym (output_no v (OutsideSet 0) e pool tape out);
+      no_type = λ body at n i. sym (variant_type_no v (OutsideSet 0) e body at n i);
+      no_file = λ body at n i. sym (variant_part_no v (OutsideSet 0) e body at n i);
     }
 
 variants : Variants
 variants =
     record {
       of_width = of_width;
-      is_24 = is_variant 24 3 (variant.width-24 24 refl);
-      is_32 = is_variant 32 4 (variant.width-32 32 refl);
-      no_other = λ v a b. no_variant v (variant.no-width v a b);
+      is_24 = is_variant 24 3 (variant.width_24 24 refl);
+      is_32 = is_variant 32 4 (variant.width_32 32 refl);
+      no_other = λ v a b. no_variant v (variant.no_width v a b);
     }
 
 -- ---- sections
@@ -305,7 +305,7 @@ is_cut : (body : List ℕ) (kind extension version number : ℕ) → Askable (le
     → (out : List ℕ) → length (part_carried body number) + 12 ≤ length out → cut_answer body kind extension version number out ≡ Written (length (part_carried body number) + 12)
 unfolding section_of cut_by
 is_cut body kind extension version number a out l =
-    ap cut_by (cut-writes body kind extension version number (length out) a l)
+    ap cut_by (cut_writes body kind extension version number (length out) a l)
     ∙ ap Written (printed_length (cut_heading (length body) kind extension version number) (part_carried body number))
 
 sections : SectionsRead
@@ -347,7 +347,7 @@ demand2 =
       real_days = real_days;
       checked = checked;
       certificates_asked = λ kind body t b h.
-          certificate-asked kind body b.byte t (length body) (held_reads certificate certificate_kind certificate_trips kind body t h);
+          certificate_asked kind body b.byte t (length body) (held_reads certificate certificate_kind certificate_trips kind body t h);
       indexes_asked = λ kind body t b h.
           index_asked kind body b.byte t (length body) (held_reads index index_kind index_trips kind body t h);
       configurations_asked = λ kind body t b h.

@@ -29,9 +29,9 @@ use Rattle.gathering_account.specs.Gathers.{Box, fresh_box, ByteStrings, feed, b
 use Rattle.gathering_account.specs.Latest.{begins_after}
 use Rattle.gathering_account.specs.Arrival.{heading_at, CutInto, sections_of, sections_listed}
 use Rattle.gathering_account.proofs.Bytes.{printed_bytes}
-use Rattle.gathering_account.proofs.Hearing.{counted-first}
-use Rattle.gathering_account.proofs.Cuts.{printed-cut, printed_arrives}
-use Rattle.gathering_account.proofs.Listed.{listed-arrives}
+use Rattle.gathering_account.proofs.Hearing.{counted_first}
+use Rattle.gathering_account.proofs.Cuts.{printed_cut, printed_arrives}
+use Rattle.gathering_account.proofs.Listed.{listed_arrives}
 use Rattle.gathering_account.proofs.Demand3.{demand_3}
 
 -- ---- a table of two sections, the first empty, the second one byte
@@ -73,14 +73,14 @@ append_first [] ys e f = f
 append_first (x ∷ xs) ys e f = e
 
 module _ (s : List ℕ) (z : (i : ℕ) → get_or s i 0 ≡ 0) where
-  part-first : (at n : ℕ) → get_or (take n (drop at s)) 0 0 ≡ 0
-  part-first at zero = refl
-  part-first at (suc n) = get_or-take (suc n) (drop at s) 0 0 (omega arith) ∙ get_or-drop at s 0 0 ∙ z (at + 0)
+  part_first : (at n : ℕ) → get_or (take n (drop at s)) 0 0 ≡ 0
+  part_first at zero = refl
+  part_first at (suc n) = get_or-take (suc n) (drop at s) 0 0 (omega arith) ∙ get_or-drop at s 0 0 ∙ z (at + 0)
 
-  joined-first : (at : ℕ → ℕ) (k : ℕ) (ns : List ℕ) → get_or (joined at k ns s) 0 0 ≡ 0
+  joined_first : (at : ℕ → ℕ) (k : ℕ) (ns : List ℕ) → get_or (joined at k ns s) 0 0 ≡ 0
   unfolding joined part
-  joined-first at k [] = refl
-  joined-first at k (n ∷ ns) = append_first (take (n - 1) (drop (at k) s)) (joined at (suc k) ns s) (part-first (at k) (n - 1)) (joined-first at (suc k) ns)
+  joined_first at k [] = refl
+  joined_first at k (n ∷ ns) = append_first (take (n - 1) (drop (at k) s)) (joined at (suc k) ns s) (part_first (at k) (n - 1)) (joined_first at (suc k) ns)
 
 placed_first : (body : List ℕ) → get_or body 0 0 ≡ 0 → get_or (placed (0 ∷ []) 0 body) 0 0 ≡ 0
 unfolding placed
@@ -91,7 +91,7 @@ placed_first (x ∷ body) e = e
 handed_first : (box : Box) (body : List ℕ) → box.store ≡ store → HandsOut box (0 ∷ []) body → get_or (placed (0 ∷ []) 0 body) 0 0 ≡ 0
 unfolding out_after out_by body_held store
 handed_first box body e h =
-    ap (λ (s : List ℕ). get_or s 0 0) (sym h.writes) ∙ rw h.answers (placed_first (body_held box.state box.store) (rw e (joined-first store (zeros 8168) _ 0 _)))
+    ap (λ (s : List ℕ). get_or s 0 0) (sym h.writes) ∙ rw h.answers (placed_first (body_held box.state box.store) (rw e (joined_first store (zeros 8168) _ 0 _)))
 
 -- ---- what is stored
 
@@ -147,14 +147,14 @@ comes : HandsOut (box_after (fresh_box store) fed) (0 ∷ []) (1 ∷ [])
 unfolding flatten heading sections_listed
 comes =
     printed_arrives heading payloads well short refl store fed all_bytes
-    (listed-arrives sections (has_room (length store)) heading (printed-cut heading payloads well short) roomy) (0 ∷ []) (omega arith)
+    (listed_arrives sections (has_room (length store)) heading (printed_cut heading payloads well short) roomy) (0 ∷ []) (omega arith)
 
 -- the first one begins the gathering
 first_heard : account (has_room (length store)) idle (sections 0 ∷ []) ≡ table (heading_at heading 0) (record { number = 0; contents = payload_of (sections 0) } ∷ [])
 unfolding account CutInto heading_at begins_after
 first_heard =
-    rw (printed-cut heading payloads well short 0 (omega arith))
-    (counted-first (has_room (length store)) (heading_at heading 0) (payload_of (sections 0)) roomy idle refl)
+    rw (printed_cut heading payloads well short 0 (omega arith))
+    (counted_first (has_room (length store)) (heading_at heading 0) (payload_of (sections 0)) roomy idle refl)
 
 abbrev after_first : Gathering
 after_first = (box_after (fresh_box store) (sections 0 ∷ [])).state

@@ -19,7 +19,7 @@ use Rattle.section_reader.specs.declared.Sectioned.{Sectioned}
 use Rattle.section_reader.specs.declared.Sectioned.TheVariants.{Good, Refused as NotGood}
 use Rattle.section_cutter.specs.Cutting as cutter
 use Rattle.section_cutter.specs.declared.Cut.TheVariants.{Refused as NotCut}
-use Rattle.salvage.proofs.Calls.{refused-place as salvaged-place}
+use Rattle.salvage.proofs.Calls.{refused_place as salvaged_place}
 use Rattle.gathering_state.specs.Lists.{smallest_missing}
 use Rattle.gathering_state.specs.State.{possible_of, nothing_begun, has_room, lengths}
 use Rattle.gathering_state.specs.declared.Gathering.{Gathering}
@@ -29,7 +29,7 @@ use Rattle.gathering_verdict.specs.declared.Verdict.{Verdict}
 use Rattle.gathering_verdict.specs.declared.Verdict.TheVariants.{Refuse}
 use Rattle.gathering_feed.specs.declared.Answer.{Answer}
 use Rattle.gathering_feed.specs.declared.Answer.TheVariants.{Taken, HeldAlready, Refused as NotFed}
-use Rattle.gathering_verdict.proofs.Verdicts.{verdict-impossible, verdict-bad, verdict-good, Decided, old, other, short, begun, spoiled, new, again, clash, decided}
+use Rattle.gathering_verdict.proofs.Verdicts.{verdict_impossible, verdict_bad, verdict_good, Decided, old, other, short, begun, spoiled, new, again, clash, decided}
 use Rattle.gathering_hand_out.specs.Handing as handing
 use Rattle.gathering_pack.specs.Packing as packing
 use Rattle.gathering_hand_out.specs.declared.Completeness.{Completeness}
@@ -50,7 +50,7 @@ use Rattle.body_formats.specs.Format.{Format}
 use Rattle.body_formats.specs.Answers.{step_of}
 use Rattle.body_formats.specs.Body.{reading, measuring, measured, fitting, writing, body_written, body_laid}
 use Rattle.body_formats.specs.declared.Step.TheVariants.{At, Refused as NoStep}
-use Rattle.body_formats.proofs.Places.{Until, ends, stands, then_until, need-until, Placed, step_place, reading-until, read-place, laid-place, measured-place, writing-until, written-place}
+use Rattle.body_formats.proofs.Places.{Until, ends, stands, then_until, need_until, Placed, step_place, reading_until, read_place, laid_place, measured_place, writing_until, written_place}
 use Rattle.certificate.specs.Certificate.{certificate_kind, certificate}
 use Rattle.certificate.proofs.Places.{certificate_placed}
 use Rattle.index.specs.Index.{index_kind, index}
@@ -59,9 +59,9 @@ use Rattle.index_records.specs.Records.{recording, body_recorded}
 use Rattle.content_variant.specs.Variant.{width_of, by_width, opened}
 use Rattle.content_variant.specs.declared.Width.{Width}
 use Rattle.content_variant.specs.declared.Width.TheVariants.{Bytes, Refused as NoWidth}
-use Rattle.content_variant.proofs.Variant.{width-place, opened-place}
+use Rattle.content_variant.proofs.Variant.{width_place, opened_place}
 use Rattle.content.specs.Content.{Content, content_kind, content, variant_laid}
-use Rattle.content.proofs.Places.{content-placed}
+use Rattle.content.proofs.Places.{content_placed}
 use Rattle.content.proofs.Variants.{variant_place}
 use Rattle.content_writer.specs.Written.{written_of, content_written, variant_measured, variant_written}
 use Rattle.content_writer.specs.declared.Written.TheVariants.{Refused as NotWritten}
@@ -102,10 +102,10 @@ module _ {A : Type 0} (F : Format A) (pool tape : List ℕ) (room : ℕ) where
 of_table : {A : Type 0} (F : Format A) (own : ℕ) → Placed F → PlacesOf F own
 of_table F own f =
     record {
-      read = read-place F f own;
-      laid = laid-place F f own;
-      measured_at = measured-place F f;
-      written = written-place F;
+      read = read_place F f own;
+      laid = laid_place F f own;
+      measured_at = measured_place F f;
+      written = written_place F;
       refused_alike = refused_alike F;
       as_measured = as_measured F;
     }
@@ -114,8 +114,8 @@ recorded : (kind : ℕ) (body : List ℕ) (room : ℕ) (r : Refusal) → body_re
 unfolding body_recorded recording
 recorded kind body room =
     step_place (recording kind body room)
-    (then_until {last' = room} (reading index index_kind kind body) _ (reading-until index index_placed index_kind kind body) (λ t q m.
-    need-until (leb (length t.messages) room) _ zero-le (λ u. ends (leb-true _ _ u))))
+    (then_until {last' = room} (reading index index_kind kind body) _ (reading_until index index_placed index_kind kind body) (λ t q m.
+    need_until (leb (length t.messages) room) _ zero-le (λ u. ends (leb-true _ _ u))))
 
 -- the content table's calls, by the variant: it is refused at place 0, or its width answers
 module _ (kind v : ℕ) (body : List ℕ) where
@@ -125,10 +125,10 @@ module _ (kind v : ℕ) (body : List ℕ) where
     where
       go : (x : Width) → opened kind v (length body) ≡ x → by_width x (λ w. body_laid (content w) content_kind kind body room) NoStep ≡ NoStep r
           → refusal_place r ≤ length body
-      go (Bytes w) k f = laid-place (content w) (content-placed w) content_kind kind body room r f
+      go (Bytes w) k f = laid_place (content w) (content_placed w) content_kind kind body room r f
       go (NoWidth t) k f =
           let same : t ≡ r = cc in
-          omega (arith, ap refusal_place same, opened-place kind v (length body) t (sym k))
+          omega (arith, ap refusal_place same, opened_place kind v (length body) t (sym k))
 
 module _ (v : ℕ) (pool tape : List ℕ) where
   content_measured : (r : Refusal) → variant_measured v pool tape ≡ NoStep r → refusal_place r ≤ length tape
@@ -136,10 +136,10 @@ module _ (v : ℕ) (pool tape : List ℕ) where
   content_measured r e = go (width_of v) refl e
     where
       go : (x : Width) → width_of v ≡ x → by_width x (λ w. measured (content w) pool tape) NoStep ≡ NoStep r → refusal_place r ≤ length tape
-      go (Bytes w) k f = measured-place (content w) (content-placed w) pool tape r f
+      go (Bytes w) k f = measured_place (content w) (content_placed w) pool tape r f
       go (NoWidth t) k f =
           let same : t ≡ r = cc in
-          omega (arith, ap refusal_place same, width-place v t (sym k))
+          omega (arith, ap refusal_place same, width_place v t (sym k))
 
   content_written_lem : (room : ℕ) (r : Refusal) → variant_written v pool tape room ≡ NotWritten r → refusal_place r ≡ 0
   unfolding variant_written content_written
@@ -152,10 +152,10 @@ module _ (v : ℕ) (pool tape : List ℕ) where
           omega (arith, subst (λ (q : Refusal). refusal_place q ≤ 0) same h)
 
       go : (x : Width) → width_of v ≡ x → by_width x (λ w. written_of (writing (content w) pool tape room)) NotWritten ≡ NotWritten r → refusal_place r ≡ 0
-      go (Bytes w) k f = refusing (writing (content w) pool tape room) (writing-until (content w) pool tape room) f
+      go (Bytes w) k f = refusing (writing (content w) pool tape room) (writing_until (content w) pool tape room) f
       go (NoWidth t) k f =
           let same : t ≡ r = cc in
-          ap refusal_place (sym same) ∙ width-place v t (sym k)
+          ap refusal_place (sym same) ∙ width_place v t (sym k)
 
 -- ---- what names its refusals one after the other: each of them has Q
 
@@ -189,28 +189,28 @@ module _ (g : Gathering) (store s : List ℕ) where
   abbrev Nowhere : Verdict → Type 0
   Nowhere v = (r : Refusal) → feeding.answer_by v ≡ NotFed r → refusal_place r ≡ 0
 
-  refuse-nowhere : (r' : Refusal) → refusal_place r' ≡ 0 → Nowhere (Refuse r')
+  refuse_nowhere : (r' : Refusal) → refusal_place r' ≡ 0 → Nowhere (Refuse r')
   unfolding feeding.answer_by
-  refuse-nowhere r' h r e = let same : r' ≡ r = cc in subst (λ (q : Refusal). refusal_place q ≡ 0) same h
+  refuse_nowhere r' h r e = let same : r' ≡ r = cc in subst (λ (q : Refusal). refusal_place q ≡ 0) same h
 
-  good-nowhere : (h : Heading) {v : Verdict} → Decided g store h (payload_of s) v → Nowhere v
+  good_nowhere : (h : Heading) {v : Verdict} → Decided g store h (payload_of s) v → Nowhere v
   unfolding feeding.answer_by
-  good-nowhere h (old c) r e = refuse-nowhere NotCurrent refl r e
-  good-nowhere h (other c b a) r e = refuse-nowhere OtherHeading refl r e
-  good-nowhere h (short c b m) r e = refuse-nowhere StoreTooShort refl r e
-  good-nowhere h (begun c b m) r e = absurd_answer (cc)
-  good-nowhere h (spoiled c b a m z) r e = refuse-nowhere Contradiction refl r e
-  good-nowhere h (new d z) r e = absurd_answer (cc)
-  good-nowhere h (again d z q) r e = absurd_answer (cc)
-  good-nowhere h (clash d z q) r e = refuse-nowhere Contradiction refl r e
+  good_nowhere h (old c) r e = refuse_nowhere NotCurrent refl r e
+  good_nowhere h (other c b a) r e = refuse_nowhere OtherHeading refl r e
+  good_nowhere h (short c b m) r e = refuse_nowhere StoreTooShort refl r e
+  good_nowhere h (begun c b m) r e = absurd_answer (cc)
+  good_nowhere h (spoiled c b a m z) r e = refuse_nowhere Contradiction refl r e
+  good_nowhere h (new d z) r e = absurd_answer (cc)
+  good_nowhere h (again d z q) r e = absurd_answer (cc)
+  good_nowhere h (clash d z q) r e = refuse_nowhere Contradiction refl r e
 
-  verdict-nowhere : Nowhere (verdict_of g store s)
-  verdict-nowhere = go (possible_of g) refl (read_section s) refl
+  verdict_nowhere : Nowhere (verdict_of g store s)
+  verdict_nowhere = go (possible_of g) refl (read_section s) refl
     where
       go : (b : Bool) → possible_of g ≡ b → (x : Sectioned) → read_section s ≡ x → Nowhere (verdict_of g store s)
-      go false p x e = rw (verdict-impossible g store s p) (refuse-nowhere ImpossibleState refl)
-      go true p (NotGood r) e = rw (verdict-bad g store s p r e) (refuse-nowhere r (section_place s r e))
-      go true p (Good h n) e = rw (verdict-good g store s p h n e) (good-nowhere h (decided g store h (payload_of s)))
+      go false p x e = rw (verdict_impossible g store s p) (refuse_nowhere ImpossibleState refl)
+      go true p (NotGood r) e = rw (verdict_bad g store s p r e) (refuse_nowhere r (section_place s r e))
+      go true p (Good h n) e = rw (verdict_good g store s p h n e) (good_nowhere h (decided g store h (payload_of s)))
 
 -- ---- the slow gathering
 
@@ -218,12 +218,12 @@ module _ (g : Gathering) (store s : List ℕ) where
 module _ (Q : Refusal → Type 0) (q1 : Q SectionTooShort) (q2 : Q OtherKind) (q3 : Q FixedBitZero) (q4 : Q SectionLengthOutside) (q5 : Q OtherLength)
     (q6 : Q NumberAboveLast) (q7 : Q CheckNotZero) (q8 : Q NotCurrent) (q9 : Q OtherHeading) (q10 : Q StoreTooShort) (q11 : Q Contradiction)
     (room : ℕ → Bool) (s : List ℕ) where
-  good-refusals : (a : Account) (h : Heading) (r : Refusal) → answer_of_good room a h (payload_of s) ≡ NotFed r → Q r
+  good_refusals : (a : Account) (h : Heading) (r : Refusal) → answer_of_good room a h (payload_of s) ≡ NotFed r → Q r
   unfolding answer_of_good answer_of_first answer_of_table
-  good-refusals idle h =
+  good_refusals idle h =
       or_else NotFed (λ r r' (e : NotFed r ≡ NotFed r'). cc) Q (not (room h.last)) StoreTooShort Taken (λ t. q10)
       (λ r (e : Taken ≡ NotFed r). absurd_answer (cc))
-  good-refusals (table t S) h =
+  good_refusals (table t S) h =
       go (is_newer t h) (differs (record { number = h.number; contents = payload_of s }) S || not (agreeing S)) (present h.number S)
     where
       next : (b : Bool) (r' : Refusal) (x : Answer) → (b ≡ true → Q r') → ((r : Refusal) → x ≡ NotFed r → Q r)
@@ -242,14 +242,14 @@ module _ (Q : Refusal → Type 0) (q1 : Q SectionTooShort) (q2 : Q OtherKind) (q
       go true disputed held = next (not (room h.last)) StoreTooShort Taken (λ t. q10) (λ r (e : Taken ≡ NotFed r). absurd_answer (cc))
       go false disputed held = next (not (same_table t h)) OtherHeading _ (λ t. q9) (next disputed Contradiction _ (λ t. q11) (value held))
 
-  pub answer-refusals : (a : Account) (r : Refusal) → answer_to room a s ≡ NotFed r → Q r
+  pub answer_refusals : (a : Account) (r : Refusal) → answer_to room a s ≡ NotFed r → Q r
   unfolding answer_to answer_of_read
-  answer-refusals a r e = go (read_section s) refl e
+  answer_refusals a r e = go (read_section s) refl e
     where
       go : (x : Sectioned) → read_section s ≡ x → answer_of_read room a s x ≡ NotFed r → Q r
       go (NotGood r') f e = let same : r' ≡ r = cc in subst Q same (section_refusals Q q1 q2 q3 q4 q5 q6 q7 s r' f)
       go (Good h n) f e =
-          or_else NotFed (λ r r' (e : NotFed r ≡ NotFed r'). cc) Q (not h.current) NotCurrent _ (λ t. q8) (good-refusals a h) r e
+          or_else NotFed (λ r r' (e : NotFed r ≡ NotFed r'). cc) Q (not h.current) NotCurrent _ (λ t. q8) (good_refusals a h) r e
 
 taught_place : (buffer : List ℕ) (used store : ℕ) (s : List ℕ) (r : Refusal) → answer_of buffer used store s ≡ NotFed r → refusal_place r ≡ 0
 unfolding answer_of
@@ -257,7 +257,7 @@ taught_place buffer used store s =
     let next = or_else NotFed (λ r r' (e : NotFed r ≡ NotFed r'). cc) (λ r. refusal_place r ≡ 0) in
     next (not (row_fits (length buffer) used (length s))) TeachingBufferFull _ (λ t. refl)
     (next (not (whole_in_use buffer used)) ImpossibleState _ (λ t. refl)
-    (answer-refusals (λ r. refusal_place r ≡ 0) refl refl refl refl refl refl refl refl refl refl refl (has_room store) s (account_in store (take used buffer))))
+    (answer_refusals (λ r. refusal_place r ≡ 0) refl refl refl refl refl refl refl refl refl refl refl (has_room store) s (account_in store (take used buffer))))
 
 -- the missing number is one of the table's
 taught_handed_place : (buffer : List ℕ) (used store : ℕ) (t : Heading) → teaching.heading_of buffer used store ≡ headed.By t
@@ -284,9 +284,9 @@ taught_handed_place buffer used store t h out = go (whole_in_use buffer used) (a
 -- ---- the cutter
 
 module _ (body : List ℕ) (kind extension version number : ℕ) where
-  cutting-place : (room : ℕ) (r : Refusal) → cutter.cutting body kind extension version number room ≡ cutter.refuses r → refusal_place r ≡ 0
+  cutting_place : (room : ℕ) (r : Refusal) → cutter.cutting body kind extension version number room ≡ cutter.refuses r → refusal_place r ≡ 0
   unfolding cutter.cutting cutter.cut_if_room
-  cutting-place room =
+  cutting_place room =
       let next = or_else cutter.refuses (λ r r' (e : cutter.refuses r ≡ cutter.refuses r'). cc) (λ r. refusal_place r ≡ 0) in
       next (not (is_kind kind)) OtherKind _ (λ t. refl)
       (next (not (leb version 31 && leb extension 0xFFFF)) (OutsideSet 0) _ (λ t. refl)
@@ -296,9 +296,9 @@ module _ (body : List ℕ) (kind extension version number : ℕ) where
       (next (ltb room (length (cutter.section_of body kind extension version number))) OutputTooSmall _ (λ t. refl)
       (λ r (e : cutter.writes (cutter.section_of body kind extension version number) ≡ cutter.refuses r). absurd_answer (cc)))))))
 
-  cut-place : (out : List ℕ) (r : Refusal) → cutter.cut_answer body kind extension version number out ≡ NotCut r → refusal_place r ≡ 0
+  cut_place : (out : List ℕ) (r : Refusal) → cutter.cut_answer body kind extension version number out ≡ NotCut r → refusal_place r ≡ 0
   unfolding cutter.cut_by
-  cut-place out r e = go (cutter.cutting body kind extension version number (length out)) (cutting-place (length out)) e
+  cut_place out r e = go (cutter.cutting body kind extension version number (length out)) (cutting_place (length out)) e
     where
       go : (v : cutter.Verdict) → ((r : Refusal) → v ≡ cutter.refuses r → refusal_place r ≡ 0) → cutter.cut_by v ≡ NotCut r → refusal_place r ≡ 0
       go (cutter.refuses r') h e = let same : r' ≡ r = cc in h r (ap cutter.refuses same)
@@ -308,41 +308,41 @@ module _ (body : List ℕ) (kind extension version number : ℕ) where
 
 module _ (g : Gathering) where
   -- the missing number is one of the table's
-  missing-place : (r : Refusal) → handing.missing_of (lengths g) ≡ NotComplete r → refusal_place r ≤ g.last
+  missing_place : (r : Refusal) → handing.missing_of (lengths g) ≡ NotComplete r → refusal_place r ≤ g.last
   unfolding handing.missing_of lengths
-  missing-place =
+  missing_place =
       or_else NotComplete (λ r r' (e : NotComplete r ≡ NotComplete r'). cc) (λ r. refusal_place r ≤ g.last)
       (ltb (smallest_missing (lengths g)) (length (lengths g))) (Missing (smallest_missing (lengths g))) Complete
       (λ t. let below = simp length-take at (ltb-true (smallest_missing (lengths g)) (length (lengths g)) t) in omega arith)
       (λ r (e : Complete ≡ NotComplete r). absurd_answer (cc))
 
-  complete-place : (bytes : ℕ) (r : Refusal) → handing.complete_of g bytes ≡ NotComplete r → refusal_place r ≤ g.last
+  complete_place : (bytes : ℕ) (r : Refusal) → handing.complete_of g bytes ≡ NotComplete r → refusal_place r ≤ g.last
   unfolding handing.complete_of
-  complete-place bytes =
+  complete_place bytes =
       let next = or_else NotComplete (λ r r' (e : NotComplete r ≡ NotComplete r'). cc) (λ r. refusal_place r ≤ g.last) in
       next (not (possible_of g)) ImpossibleState _ (λ t. zero-le)
       (next (nothing_begun g) (Missing 0) _ (λ t. zero-le)
       (next (not (has_room bytes g.last)) StoreTooShort _ (λ t. zero-le)
-      (next (not (eqb g.spoiled 0)) Contradiction _ (λ t. zero-le) missing-place)))
+      (next (not (eqb g.spoiled 0)) Contradiction _ (λ t. zero-le) missing_place)))
 
-  fitting-place : (n room : ℕ) (r : Refusal) → handing.handed_if_room n room ≡ NotHanded r → refusal_place r ≤ g.last
+  fitting_place : (n room : ℕ) (r : Refusal) → handing.handed_if_room n room ≡ NotHanded r → refusal_place r ≤ g.last
   unfolding handing.handed_if_room
-  fitting-place n room =
+  fitting_place n room =
       let next = or_else NotHanded (λ r r' (e : NotHanded r ≡ NotHanded r'). cc) (λ r. refusal_place r ≤ g.last) in
       next (ltb room n) OutputTooSmall (Body n) (λ t. zero-le) (λ r (e : Body n ≡ NotHanded r). absurd_answer (cc))
 
-  handed-place : (store out : List ℕ) (r : Refusal) → handing.handed_of g store out ≡ NotHanded r → refusal_place r ≤ g.last
+  handed_place : (store out : List ℕ) (r : Refusal) → handing.handed_of g store out ≡ NotHanded r → refusal_place r ≤ g.last
   unfolding handing.handed_of handing.handed_by
-  handed-place store out r e = go (handing.complete_of g (length store)) (complete-place (length store)) e
+  handed_place store out r e = go (handing.complete_of g (length store)) (complete_place (length store)) e
     where
       go : (c : Completeness) → ((r : Refusal) → c ≡ NotComplete r → refusal_place r ≤ g.last)
           → handing.handed_by c (length (handing.body_held g store)) (length out) ≡ NotHanded r → refusal_place r ≤ g.last
       go (NotComplete r') h e = let same : r' ≡ r = cc in h r (ap NotComplete same)
-      go Complete h e = fitting-place (length (handing.body_held g store)) (length out) r e
+      go Complete h e = fitting_place (length (handing.body_held g store)) (length out) r e
 
-  packed-place : (store : List ℕ) (r : Refusal) → (packing.packing_of g store).answer ≡ NotHanded r → refusal_place r ≤ g.last
+  packed_place : (store : List ℕ) (r : Refusal) → (packing.packing_of g store).answer ≡ NotHanded r → refusal_place r ≤ g.last
   unfolding packing.packing_of packing.packed_of packing.packed_by
-  packed-place store r e = go (handing.complete_of g (length store)) (complete-place (length store)) e
+  packed_place store r e = go (handing.complete_of g (length store)) (complete_place (length store)) e
     where
       go : (c : Completeness) → ((r : Refusal) → c ≡ NotComplete r → refusal_place r ≤ g.last)
           → packing.packed_by c (length (handing.body_held g store)) ≡ NotHanded r → refusal_place r ≤ g.last
@@ -357,7 +357,7 @@ places =
     record {
       certificates = of_table certificate certificate_kind certificate_placed;
       indexes = of_table index index_kind index_placed;
-      contents = λ w. of_table (content w) content_kind (content-placed w);
+      contents = λ w. of_table (content w) content_kind (content_placed w);
       configurations = of_table configuration configuration_kind configuration_placed;
       recorded = recorded;
       extended = variant_place;
@@ -365,11 +365,11 @@ places =
       content_measured = content_measured;
       content_written_lem = content_written_lem;
       section = section_place;
-      fed = verdict-nowhere;
-      cut = cut-place;
-      salvaged = salvaged-place;
-      handed = handed-place;
-      packed = packed-place;
+      fed = verdict_nowhere;
+      cut = cut_place;
+      salvaged = salvaged_place;
+      handed = handed_place;
+      packed = packed_place;
       taught = taught_place;
       taught_handed = taught_handed_place;
     }

@@ -15,7 +15,7 @@ use Rattle.time_days.proofs.Theorems.{date_of_day, day_of_date}
 use Rattle.body_formats.specs.Reading.{unless, is_fine}
 use Rattle.body_formats.specs.Format.{decimal, only, digits}
 use Rattle.body_formats.specs.Identifier.{identifier_year, identifier_month, identifier_day, has_real_day, identifier}
-use Rattle.body_formats.proofs.Identifiers.{identifier_digits, identifier-day}
+use Rattle.body_formats.proofs.Identifiers.{identifier_digits, identifier_day_lem}
 use Rattle.promises.specs.Demand2.{RealDays}
 
 module _ (y m d : ℕ) where
@@ -23,9 +23,9 @@ module _ (y m d : ℕ) where
   unfolding day_of
   has_date e = (day_number y m d, date_of_day y m d (day_number y m d) (rw e))
 
-  of-date : (n : ℕ) → date_of n ≡ On (record { year = y; month = m; day = d }) → has_day y m d ≡ true
+  of_date : (n : ℕ) → date_of n ≡ On (record { year = y; month = m; day = d }) → has_day y m d ≡ true
   unfolding day_of
-  of-date n e = go (has_day y m d) refl
+  of_date n e = go (has_day y m d) refl
     where
       go : (t : Bool) → has_day y m d ≡ t → t ≡ true
       go true h = refl
@@ -40,8 +40,8 @@ unfolding has_real_day identifier only
 real_days =
     record {
       sent_exactly = λ ds. (
-        λ e. let right = identifier_digits ds e in (right.0, right.1, has_date _ _ _ (identifier-day ds e)),
-        λ x. sent ds x.0 x.1 (of-date _ _ _ x.2.0 x.2.1),
+        λ e. let right = identifier_digits ds e in (right.0, right.1, has_date _ _ _ (identifier_day_lem ds e)),
+        λ x. sent ds x.0 x.1 (of_date _ _ _ x.2.0 x.2.1),
       );
       read_judged = λ s l p. refl;
       form_judged = λ pool tape k. refl;

@@ -33,8 +33,8 @@ use Rattle.time_local.specs.declared.Unpacked.{Unpacked}
 use Rattle.time_local.specs.declared.Unpacked.TheVariants.{At as LocalAt, Refused as NotUnpacked}
 use Rattle.time_printing.specs.Printing as printer
 use Rattle.time_printing.specs.declared.Printed.TheVariants.{Characters}
-use Rattle.time_local.proofs.Clocks.{ClockWithin, clock_within, no_day, on-day, pack_by, unpack_by}
-use Rattle.time_local.proofs.RoundTrip.{unpack-packed, pack-unpacked}
+use Rattle.time_local.proofs.Clocks.{ClockWithin, clock_within, no_day, on_day_lem, pack_by, unpack_by}
+use Rattle.time_local.proofs.RoundTrip.{unpack_packed, pack_unpacked}
 use Rattle.time_local.proofs.Characters.{text_accepted}
 use Rattle.section_reader.specs.Section.{read_section}
 use Rattle.section_reader.specs.declared.Heading.{Heading}
@@ -45,26 +45,26 @@ use Rattle.section_cutter.specs.Cutting.{counted_of, part_carried, section_of, V
 use Rattle.section_cutter.specs.declared.Counted.TheVariants.{Sections}
 use Rattle.section_cutter.specs.declared.Cut.TheVariants.{Written}
 use Rattle.section_cutter.proofs.Counting.{counted_some, count_most, part_length}
-use Rattle.section_cutter.proofs.Sections.{cut-written}
+use Rattle.section_cutter.proofs.Sections.{cut_written}
 use Rattle.gathering_state.specs.State.{lengths}
 use Rattle.gathering_state.specs.declared.Gathering.{Gathering}
 use Rattle.gathering_state.proofs.Lists.{greatest_take, total_most}
-use Rattle.gathering_state.proofs.State.{possible-short}
+use Rattle.gathering_state.proofs.State.{possible_short}
 use Rattle.gathering_hand_out.specs.Handing.{handed_if_room, handed_by, handed_of}
 use Rattle.gathering_hand_out.specs.declared.Completeness.{Completeness}
 use Rattle.gathering_hand_out.specs.declared.Completeness.TheVariants.{Complete, Refused as NotComplete}
 use Rattle.gathering_hand_out.specs.declared.Handed.TheVariants.{Body, Refused as NotHanded}
 use Rattle.gathering_hand_out.proofs.Joining.{joined_most}
-use Rattle.gathering_hand_out.proofs.Handing.{handed-whole, body_most_lem}
+use Rattle.gathering_hand_out.proofs.Handing.{handed_whole, body_most_lem}
 use Rattle.gathering_pack.specs.Packing.{packing_of}
-use Rattle.gathering_pack.proofs.Packing.{packed-whole}
+use Rattle.gathering_pack.proofs.Packing.{packed_whole}
 use Rattle.std.specs.Prelude.{if◌then◌else◌}
 use Rattle.rooms_marks.proofs.Tests.{Seen, yes_is, no_is, seen}
 use Rattle.rooms_state.specs.State.{rooms_in, room_at, possible_of, Network, mine}
 use Rattle.rooms_state.specs.declared.Part.{Part}
 use Rattle.rooms_state.specs.declared.Networks.{Networks}
 use Rattle.rooms_state.proofs.Facts.{PartIs, networks_are, sound_of}
-use Rattle.rooms_hand_out.specs.Handing as handing-rooms
+use Rattle.rooms_hand_out.specs.Handing as handing_rooms
 use Rattle.rooms_count.specs.Counting.{held, free, held_of, free_of}
 use Rattle.rooms_count.specs.declared.Counted.TheVariants.{Rooms}
 use Rattle.rooms_count.proofs.Counting.{held_plus_free}
@@ -89,7 +89,7 @@ use Rattle.content_writer.specs.Written.{written_of, content_written, variant_wr
 use Rattle.content_writer.specs.declared.Written.TheVariants.{Of as WrittenOf, Refused as NotWritten}
 use Rattle.salvage.specs.Salvage.{salvage_of}
 use Rattle.salvage.specs.declared.Salvaged.TheVariants.{Of as SalvagedOf}
-use Rattle.salvage.proofs.Standing.{sections-most, runs_most}
+use Rattle.salvage.proofs.Standing.{sections_most, runs_most}
 use Rattle.salvage.proofs.Calls.{answered}
 use Rattle.packet_frames.specs.Framing.{joined}
 use Rattle.packet_writer.specs.Answers.{packed_of}
@@ -101,7 +101,7 @@ use Rattle.packet_arrival.proofs.Most.{packs_most, gives_most}
 use Rattle.teaching_hand_out.specs.Asking as teaching
 use Rattle.teaching_hand_out.specs.declared.Headed.TheVariants as headed
 use Rattle.teaching_hand_out.specs.declared.Lacking.TheVariants as lacking
-use Rattle.teaching_account.proofs.Bounds.{heading-formed, missing-most, taught-most}
+use Rattle.teaching_account.proofs.Bounds.{heading_formed, missing_most, taught_most}
 use Rattle.c_teaching_answers.specs.Answers.{headed_answer}
 use Rattle.c_answers.specs.Answers.{answer_of, local_answer, section_answer, content_answer, local_field_answer, salvaged_answer, pack_answer, unpack_answer}
 use Rattle.c_answers.specs.Taking.{TellsValue, TellsTime, TellsHeading, TellsContent, TellsSalvaged}
@@ -124,7 +124,7 @@ time_within t offset f e = by (is_offset offset) refl (day_of t.year t.month t.d
     by : (b : Bool) → is_offset offset ≡ b → (a : DayAnswer) → day_of t.year t.month t.day ≡ a → (c : Bool) → is_clock t ≡ c → TimeWithin t
     by true o (Day n) d true c =
         record { date = date_within n _ (date_of_day t.year t.month t.day n d); clock = clock_within t c }
-    by true o (Day n) d false c = no_field _ f (sym (ap (packed_at offset) (on-day t d c)) ∙ sym (pack_by t offset o) ∙ e)
+    by true o (Day n) d false c = no_field _ f (sym (ap (packed_at offset) (on_day_lem t d c)) ∙ sym (pack_by t offset o) ∙ e)
     by true o (NoDay r) d c i = no_field r f (sym (ap (packed_at offset) (no_day t d)) ∙ sym (pack_by t offset o) ∙ e)
     by false o a d c i = no_field _ f (sym (pack_by t offset o) ∙ e)
 
@@ -146,10 +146,10 @@ unpacks f offset t e = by (is_offset offset) refl (read_time f 0) refl
     by false o x r = no_time _ t (sym (unpack_by f offset o) ∙ e)
 
 field_told : (t : LocalTime) (offset : ℤ) (f : ℕ) → pack_of t offset ≡ Field f → TellsValue (answer_of 0 f) f
-field_told t offset f e = let u = unpacks f offset t (unpack-packed t offset f e) in value_told f (omega arith)
+field_told t offset f e = let u = unpacks f offset t (unpack_packed t offset f e) in value_told f (omega arith)
 
 local_told : (f : ℕ) (offset : ℤ) (t : LocalTime) → unpack_of f offset ≡ LocalAt t → TellsTime (local_answer (LocalAt t)) t
-local_told f offset t e = let w = time_within t offset f (pack-unpacked t offset f e) in time_told t w.date w.clock
+local_told f offset t e = let w = time_within t offset f (pack_unpacked t offset f e) in time_told t w.date w.clock
 
 local_field_told : (f after : ℕ) (offset : ℤ) (t : LocalTime) → unpack_of f offset ≡ LocalAt t → TellsTime (local_field_answer offset (Is f after)) t
 unfolding local_field_answer
@@ -214,7 +214,7 @@ cut_told body kind extension version number out n e = go (cutting body kind exte
     go : (v : Verdict) → cutting body kind extension version number (length out) ≡ v → cut_by v ≡ Written n → TellsValue (answer_of 0 n) n
     go (refuses r) f e = let z : ◌≡◌ {A = ℕ} 0 1 = cc in absurd (omega arith)
     go (writes s) f e =
-        let long = ap length (cut-written body kind extension version number (length out) s f).1 ∙ printed_length _ (part_carried body number) in
+        let long = ap length (cut_written body kind extension version number (length out) s f).1 ∙ printed_length _ (part_carried body number) in
         let short = part_length body number in
         let z : length s ≡ n = cc in
         value_told n (omega arith)
@@ -223,7 +223,7 @@ salvaged_back : (capture : List ℕ) (room entries bytes runs : ℕ) → salvage
     → TellsSalvaged (salvaged_answer (SalvagedOf bytes runs)) runs bytes
 salvaged_back capture room entries bytes runs e =
     let a = answered capture room entries bytes runs e in
-    salvaged_told runs bytes (omega (arith, runs_most capture, a.runs_are, a.short)) (omega (arith, sections-most capture, a.bytes_are, a.short))
+    salvaged_told runs bytes (omega (arith, runs_most capture, a.runs_are, a.short)) (omega (arith, sections_most capture, a.bytes_are, a.short))
 
 packets_back : (counter : ℕ) (section out : List ℕ) (n : ℕ) → packed_of counter section out ≡ Packets n → TellsValue (pack_answer (Packets n)) n
 packets_back counter section out n e = value_told n (omega (arith, (packs_most counter section out n e).1))
@@ -241,18 +241,18 @@ completed_back s p out n e = go (verdict_for s p out) refl e
 
 handed_told : (g : Gathering) (store out : List ℕ) (n : ℕ) → length g.held ≡ 256 → handed_of g store out ≡ Body n → TellsValue (answer_of 0 n) n
 handed_told g store out n l e =
-    let whole = handed-whole g store out n e in
+    let whole = handed_whole g store out n e in
     let most = body_most_lem g store (omega arith) whole.0.possible in
     value_told n (omega arith)
 
 -- two networks: a body out of its rooms is no longer than one of 256 numbers, and there are 512 rooms at most
-rooms_body_most : (n : ℕ) (p : Part) (store : List ℕ) → PartIs n p → length (handing-rooms.body_in p store) ≤ 256 * 4084
-unfolding handing-rooms.body_in lengths
+rooms_body_most : (n : ℕ) (p : Part) (store : List ℕ) → PartIs n p → length (handing_rooms.body_in p store) ≤ 256 * 4084
+unfolding handing_rooms.body_in lengths
 rooms_body_most n p store x =
     let long = x.held_long in
     let few = length-take (p.gathering.last + 1) p.gathering.held in
     let taken = greatest_take (p.gathering.last + 1) p.gathering.held in
-    let short = possible-short p.gathering x.possible in
+    let short = possible_short p.gathering x.possible in
     let joins = joined_most (room_at p.rooms) store 0 (lengths p.gathering) in
     let most = total_most (lengths p.gathering) (omega arith) in
     omega arith
@@ -266,8 +266,8 @@ handed_length Complete bytes room n e = go (ltb room bytes) e
     go true f = absurd (let z : ◌≡◌ {A = ℕ} 0 1 = cc in omega arith)
     go false f = cc
 
-networks_handed : (o : Option Network) (x : Networks) (store out : List ℕ) (n : ℕ) → handing-rooms.handed_of o x store out ≡ Body n → TellsValue (answer_of 0 n) n
-unfolding handing-rooms.handed_of handing-rooms.handed_for handing-rooms.part_handed
+networks_handed : (o : Option Network) (x : Networks) (store out : List ℕ) (n : ℕ) → handing_rooms.handed_of o x store out ≡ Body n → TellsValue (answer_of 0 n) n
+unfolding handing_rooms.handed_of handing_rooms.handed_for handing_rooms.part_handed
 networks_handed none x store out n e = absurd (let z : ◌≡◌ {A = ℕ} 0 1 = cc in omega arith)
 networks_handed (some i) x store out n e = go (seen (possible_of x (length store)))
   where
@@ -300,7 +300,7 @@ free_back x bytes n e = go (seen (possible_of x bytes))
 
 packed_told : (g : Gathering) (store : List ℕ) (n : ℕ) → length g.held ≡ 256 → (packing_of g store).answer ≡ Body n → TellsValue (answer_of 0 n) n
 packed_told g store n l e =
-    let whole = packed-whole g store n e in
+    let whole = packed_whole g store n e in
     let most = body_most_lem g store (omega arith) whole.0.possible in
     value_told n (omega arith)
 
@@ -308,13 +308,13 @@ packed_told g store n l e =
 
 module _ (buffer : List ℕ) (used store : ℕ) (are_bytes : AreBytes buffer) where
   taught_heading : (t : Heading) → teaching.heading_of buffer used store ≡ headed.By t → TellsHeading (headed_answer (headed.By t)) t
-  taught_heading t e = heading_told t (heading-formed buffer used store are_bytes t e)
+  taught_heading t e = heading_told t (heading_formed buffer used store are_bytes t e)
 
   taught_missing : (n k : ℕ) → teaching.lacking_of buffer used store ≡ lacking.Of n k → TellsValue (answer_of 0 n) n
-  taught_missing n k e = value_told n (omega (arith, missing-most buffer used store are_bytes n k e))
+  taught_missing n k e = value_told n (omega (arith, missing_most buffer used store are_bytes n k e))
 
   taught_out : (out : List ℕ) (n : ℕ) → teaching.handed_of buffer used store out ≡ Body n → TellsValue (answer_of 0 n) n
-  taught_out out n e = value_told n (omega (arith, taught-most buffer used store are_bytes out n e))
+  taught_out out n e = value_told n (omega (arith, taught_most buffer used store are_bytes out n e))
 
 -- ---- tables
 

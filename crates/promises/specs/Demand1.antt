@@ -28,8 +28,8 @@ use Rattle.gathering_hand_out.specs.declared.Handed.TheVariants.{Refused as NotH
 use Rattle.gathering_pack.specs.Packing.{packing_of, store_packed}
 use Rattle.rooms_state.specs.State.{Network}
 use Rattle.rooms_state.specs.declared.Networks.{Networks}
-use Rattle.rooms_feed.specs.Feeding as feeding-rooms
-use Rattle.rooms_hand_out.specs.Handing as handing-rooms
+use Rattle.rooms_feed.specs.Feeding as feeding_rooms
+use Rattle.rooms_hand_out.specs.Handing as handing_rooms
 use Rattle.teaching_feed.specs.Feeding.{answer_of, used_after, buffer_after}
 use Rattle.teaching_hand_out.specs.Asking as teaching
 use Rattle.body_formats.specs.Format.{Format}
@@ -56,8 +56,8 @@ pub record Numbered : Type 0 where
 
 -- "[..] given exactly when the list says": for sections, the gathering, two networks, the cutter, salvaging, packets, local times and text `Lists` states it, list by list. For
 -- bodies and writers the order is that of the fields, and the list is the definition that the answer is equal to (`Offered`): `reading` and the
--- tables' formats, for content `variantRead`; `writing`, for content `variantWritten`. So it is for days and instants, which have 18 to 20 alone: `dayOf`, `dateOf`, `showing`;
--- and for printed times (`startText`, `endText`, then 21) and both times of a form (`typedTimes`).
+-- tables' formats, for content `variant_read`; `writing`, for content `variant_written`. So it is for days and instants, which have 18 to 20 alone: `day_of`, `date_of`, `showing`;
+-- and for printed times (`start_text`, `end_text`, then 21) and both times of a form (`typed_times`).
 
 -- "[..] and a refused call writes nothing": whatever the refusal r, the output, the store, the tape and the list of records or runs are left as they were
 pub record WritesNothing : Type 1 where
@@ -69,16 +69,16 @@ pub record WritesNothing : Type 1 where
   -- "A refused packet changes nothing, not even the counter"
   pub unpacker : (s p out : List ℕ) (r : Refusal) → length s ≡ state_bytes → completed_of s p out ≡ NotCompleted r
       → (sections_over s p out ≡ out) × (state_after s p out ≡ s)
-  -- of a start and of an end, `startText` and `endText`; and of both times of a form, the numbers lent for their fields
+  -- of a start and of an end, `start_text` and `end_text`; and of both times of a form, the numbers lent for their fields
   pub printers : (v : Verdict) (out : List ℕ) (r : Refusal) → printed_of v out ≡ NotPrinted r → output_of v out ≡ out
   pub typing : (a : TypedTimes) (fields : List ℕ) (r : Refusal) → a ≡ NotTyped r → fields_after a fields ≡ fields
   pub feed : (g : Gathering) (store s : List ℕ) (r : Refusal) → (fed_of g store s).answer ≡ NotFed r → store_after g store s ≡ store
   pub hand_out : (g : Gathering) (store out : List ℕ) (r : Refusal) → handed_of g store out ≡ NotHanded r → out_after g store out ≡ out
   pub pack : (g : Gathering) (store : List ℕ) (r : Refusal) → (packing_of g store).answer ≡ NotHanded r → store_packed g store ≡ store
-  pub networks_feed : (o : Option Network) (x : Networks) (store s : List ℕ) (r : Refusal) → (feeding-rooms.fed_of o x store s).answer ≡ NotFed r
-      → feeding-rooms.store_after o x store s ≡ store
-  pub networks_hand_out : (o : Option Network) (x : Networks) (store out : List ℕ) (r : Refusal) → handing-rooms.handed_of o x store out ≡ NotHanded r
-      → handing-rooms.out_after o x store out ≡ out
+  pub networks_feed : (o : Option Network) (x : Networks) (store s : List ℕ) (r : Refusal) → (feeding_rooms.fed_of o x store s).answer ≡ NotFed r
+      → feeding_rooms.store_after o x store s ≡ store
+  pub networks_hand_out : (o : Option Network) (x : Networks) (store out : List ℕ) (r : Refusal) → handing_rooms.handed_of o x store out ≡ NotHanded r
+      → handing_rooms.out_after o x store out ≡ out
   -- M-112: "one answered 37 is not kept", nor is one answered 12; with any other answer the slow gathering keeps the string
   pub teaching_full : (buffer : List ℕ) (used store : ℕ) (s : List ℕ) → answer_of buffer used store s ≡ NotFed TeachingBufferFull
       → (buffer_after buffer used s ≡ buffer) × (used_after buffer used s ≡ used)

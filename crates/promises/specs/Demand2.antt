@@ -41,7 +41,7 @@ use Rattle.configuration_fields.specs.Agreement.{ConfigurationAsked}
 use Rattle.promises.specs.LocalTimes.{LocalTimes}
 
 -- "Written and read as the standard has it, doubtful places settled in 01": a table's definition lists its fields in wire order beside 01's words
--- (`certificate`, `index`, `content`, `configuration`), and so do `readSection` and `printed` for a section, `readTime` for a time field and
+-- (`certificate`, `index`, `content`, `configuration`), and so do `read_section` and `printed` for a section, `read_time` for a time field and
 -- `Calendar` for days. What follows says that the readers and writers agree with them.
 
 -- ---- tables

@@ -1,6 +1,6 @@
 -- Demand 3: the gathering, over any byte strings that are fed to a fresh state and any store. Its words are defined in `Account`, `Latest` and `Answering`
 -- of `gathering_account`, with no state and no store: `account` is the fixed table with its good, current sections from the latest takeover on,
--- `Complete` that they "cover every number and no two of one number differ", `body_of` "their contents in number order", and `answerTo` what a feed answers.
+-- `Complete` that they "cover every number and no two of one number differ", `body_of` "their contents in number order", and `answer_to` what a feed answers.
 use Rattle.std.specs.Prelude.{ℕ, ◌+◌, ◌≤◌, ◌<◌, ◌≡◌, true, length, get_or}
 use mathlib.Core.List.{List, [], ◌∷◌, ◌++◌, map, flatten}
 use Rattle.section_cutter.specs.Cutting.{parts_joined, section_count, cut_heading, section_of, Allowed}

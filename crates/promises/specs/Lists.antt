@@ -29,8 +29,8 @@ use Rattle.packet_reader.specs.declared.Completed.TheVariants.{Refused as NotCom
 use Rattle.gathering_feed.specs.declared.Answer.TheVariants.{Refused as NotFed}
 use Rattle.rooms_state.specs.State.{Network}
 use Rattle.rooms_state.specs.declared.Networks.{Networks}
-use Rattle.rooms_feed.specs.Feeding as feeding-rooms
-use Rattle.rooms_hand_out.specs.Handing as handing-rooms
+use Rattle.rooms_feed.specs.Feeding as feeding_rooms
+use Rattle.rooms_hand_out.specs.Handing as handing_rooms
 use Rattle.rooms_end.specs.Ending.{ended_of}
 use Rattle.rooms_end.specs.declared.Ended.TheVariants.{Done, Refused as NotEnded}
 use Rattle.rooms_count.specs.Counting.{held, free, held_of, free_of}
@@ -62,11 +62,11 @@ pub record GivenExactly : Type 0 where
       → AsListed NotHanded (λ a. a ≡ Body (length (body_held g store))) (complete_lines g (length store)) (packing_of g store).answer
   -- M-109: "first 19 for a network other than 1 or 2; 12 [..]; 35 no free room, after 11; 10 is not given"
   pub networks_feeding : (o : Option Network) (x : Networks) (store s : List ℕ)
-      → AsListed NotFed (λ a. a ≡ fed_value o x s) (networks_feeding_lines o x store s) (feeding-rooms.fed_of o x store s).answer
+      → AsListed NotFed (λ a. a ≡ fed_value o x s) (networks_feeding_lines o x store s) (feeding_rooms.fed_of o x store s).answer
   -- a state's last number is a byte
   pub networks_handing_out : (o : Option Network) (x : Networks) (store out : List ℕ) → (part_for o x).gathering.last ≤ 255
-      → AsListed NotHanded (λ a. a ≡ Body (length (handing-rooms.body_in (part_for o x) store))) (networks_handing_lines o x store out)
-      (handing-rooms.handed_of o x store out)
+      → AsListed NotHanded (λ a. a ≡ Body (length (handing_rooms.body_in (part_for o x) store))) (networks_handing_lines o x store out)
+      (handing_rooms.handed_of o x store out)
   -- "ending a gathering, begun or not, complete or not, refuses for 19 and 12 only"
   pub networks_ending : (o : Option Network) (x : Networks) (bytes : ℕ)
       → AsListed NotEnded (λ a. a ≡ Done) (network_lines o x bytes) (ended_of o x bytes).answer

@@ -38,7 +38,7 @@ use Rattle.gathering_hand_out.specs.declared.Handed.TheVariants.{Body, Refused a
 use Rattle.gathering_pack.specs.Packing.{packing_of}
 use Rattle.rooms_state.specs.State.{Network}
 use Rattle.rooms_state.specs.declared.Networks.{Networks}
-use Rattle.rooms_hand_out.specs.Handing as handing-rooms
+use Rattle.rooms_hand_out.specs.Handing as handing_rooms
 use Rattle.rooms_end.specs.declared.Ended.TheVariants.{Done, Refused as NotEnded}
 use Rattle.rooms_count.specs.Counting.{held_of, free_of}
 use Rattle.rooms_count.specs.declared.Counted.TheVariants.{Rooms, Refused as RoomsNotCounted}
@@ -134,7 +134,7 @@ pub record Told : Type 1 where
   pub handed_out : (g : Gathering) (store out : List ℕ) (n : ℕ) → length g.held ≡ 256 → handed_of g store out ≡ Body n → TellsValue (hand_answer (Body n)) n
   pub packed_store : (g : Gathering) (store : List ℕ) (n : ℕ) → length g.held ≡ 256 → (packing_of g store).answer ≡ Body n → TellsValue (hand_answer (Body n)) n
   -- two networks: feeding is told as it is of one gathering; a body, 0 for an ended gathering, and how many rooms are held and free
-  pub networks_handed_out : (o : Option Network) (x : Networks) (store out : List ℕ) (n : ℕ) → handing-rooms.handed_of o x store out ≡ Body n
+  pub networks_handed_out : (o : Option Network) (x : Networks) (store out : List ℕ) (n : ℕ) → handing_rooms.handed_of o x store out ≡ Body n
       → TellsValue (hand_answer (Body n)) n
   pub network_ended : TellsValue (ended_answer Done) 0
   pub rooms_held : (x : Networks) (bytes n : ℕ) → held_of x bytes ≡ Rooms n → TellsValue (rooms_answer (Rooms n)) n

@@ -31,6 +31,6 @@ module _ (body : List ℕ) (kind extension version number : ℕ) (out : List ℕ
       outcome_told cut_by refuses NotCut (λ r. refl) (cutter_lines body kind extension version number out)
       (writes (section_of body kind extension version number))
 
-  pub cutter-as-listed : AsListed NotCut (λ a. a ≡ Written (length (section_of body kind extension version number)))
+  pub cutter_as_listed : AsListed NotCut (λ a. a ≡ Written (length (section_of body kind extension version number)))
       (cutter_lines body kind extension version number out) (cut_answer body kind extension version number out)
-  cutter-as-listed = rw cuts (by_lines NotCut _ (cut_told _) (cutter_lines body kind extension version number out) _ refl)
+  cutter_as_listed = rw cuts (by_lines NotCut _ (cut_told _) (cutter_lines body kind extension version number out) _ refl)

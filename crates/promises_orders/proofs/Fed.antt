@@ -32,11 +32,11 @@ module _ (lines : List Line) (held : Bool) (answer : Answer) (is : answer ≡ ou
       go (one r given) = absurd (apart r (sym ((listed.refused_exactly r).1 given) ∙ e))
       go (none n) = (n, sym (listed.value_exactly.1 n) ∙ e)
 
-  pub fed-refused : (r : Refusal) → (answer ≡ NotFed r) ↔ Given r lines
-  fed-refused = listed.refused_exactly
+  pub fed_refused : (r : Refusal) → (answer ≡ NotFed r) ↔ Given r lines
+  fed_refused = listed.refused_exactly
 
-  pub fed-taken : (answer ≡ Taken) ↔ (None lines × (held ≡ false))
-  fed-taken = (
+  pub fed_taken : (answer ≡ Taken) ↔ (None lines × (held ≡ false))
+  fed_taken = (
     λ e. let a = answered Taken (λ r q. let z : ◌≡◌ {A = ℕ} 0 1 = cc in omega arith) e in (a.0, new held a.1),
     λ n. listed.value_exactly.1 n.0 ∙ rw n.1,
   )
@@ -45,8 +45,8 @@ module _ (lines : List Line) (held : Bool) (answer : Answer) (is : answer ≡ ou
       new true e = let z : ◌≡◌ {A = ℕ} 0 1 = cc in absurd (omega arith)
       new false e = refl
 
-  pub fed-held : (answer ≡ HeldAlready) ↔ (None lines × (held ≡ true))
-  fed-held = (
+  pub fed_held : (answer ≡ HeldAlready) ↔ (None lines × (held ≡ true))
+  fed_held = (
     λ e. let a = answered HeldAlready (λ r q. let z : ◌≡◌ {A = ℕ} 0 1 = cc in omega arith) e in (a.0, repeated held a.1),
     λ n. listed.value_exactly.1 n.0 ∙ rw n.1,
   )

@@ -16,9 +16,9 @@ use Rattle.section_reader.specs.Section.{heading_of, payload_of, read_section}
 use Rattle.section_reader.specs.declared.Sectioned.TheVariants.{Good, Refused as NotGood}
 use Rattle.gathering_state.specs.State.{possible_of, nothing_begun, has_room, held_payload}
 use Rattle.gathering_state.specs.declared.Gathering.{Gathering}
-use Rattle.gathering_state.proofs.State.{possible-fresh, possible-begun}
+use Rattle.gathering_state.proofs.State.{possible_fresh, possible_begun}
 use Rattle.gathering_tables.specs.Tables.{is_other}
-use Rattle.gathering_tables.proofs.Tables.{other-exactly}
+use Rattle.gathering_tables.proofs.Tables.{other_exactly}
 use Rattle.gathering_verdict.specs.Deciding.{fixed_heading, agrees, begins, number_verdict, good_verdict, section_verdict, verdict_of}
 use Rattle.gathering_feed.specs.Feeding.{answer_by, fed_of}
 use Rattle.gathering_verdict.specs.declared.Verdict.{Verdict}
@@ -34,15 +34,15 @@ use Rattle.promises_orders.specs.Order.{Line, ◌when◌, None, AsListed}
 use Rattle.promises_orders.specs.Sections.{section_lines}
 use Rattle.gathering_pack.specs.Packing.{packed_by, packed_of, packing_of}
 use Rattle.promises_orders.specs.Gathering.{is_held, contradicts_held, feeding_lines, FedAsListed, complete_lines, handing_lines}
-use Rattle.promises_orders.proofs.Order.{Told, outcome, outcome_told, outcome-behind, first_not, rest_not, none_append, by_lines}
-use Rattle.promises_orders.proofs.Fed.{fed_value, fed-refused, fed-taken, fed-held}
+use Rattle.promises_orders.proofs.Order.{Told, outcome, outcome_told, outcome_behind, first_not, rest_not, none_append, by_lines}
+use Rattle.promises_orders.proofs.Fed.{fed_value, fed_refused, fed_taken, fed_held}
 
 -- ---- feeding
 
 module _ (g : Gathering) (store s : List ℕ) where
   -- the lines before 11, where 9 has this condition
-  abbrev linesWith : Bool → List Line
-  linesWith other =
+  abbrev lines_with : Bool → List Line
+  lines_with other =
       ImpossibleState when not (possible_of g)
       ∷ section_lines s
       ++ NotCurrent when not (heading_of s).current
@@ -50,8 +50,8 @@ module _ (g : Gathering) (store s : List ℕ) where
       ∷ StoreTooShort when not (has_room (length store) (heading_of s).last)
       ∷ []
 
-  abbrev beforeLast : List Line
-  beforeLast = linesWith (not (nothing_begun g) && is_other (fixed_heading g) (heading_of s))
+  abbrev before_last : List Line
+  before_last = lines_with (not (nothing_begun g) && is_other (fixed_heading g) (heading_of s))
 
   -- 11, and what is answered behind it
   abbrev last : Line
@@ -72,39 +72,39 @@ module _ (g : Gathering) (store s : List ℕ) where
   version_low p = go (nothing_begun g) refl
     where
       go : (b : Bool) → nothing_begun g ≡ b → g.version ≤ 31
-      go true k = let f = possible-fresh g p k in omega arith
-      go false k = (possible-begun g p k).of_table.version
+      go true k = let f = possible_fresh g p k in omega arith
+      go false k = (possible_begun g p k).of_table.version
 
-  section-low : (heading_of s).version ≤ 31
+  section_low : (heading_of s).version ≤ 31
   unfolding heading_of
-  section-low = omega arith
+  section_low = omega arith
 
-  pub other-line : possible_of g ≡ true → not (begins g (heading_of s) || agrees g (heading_of s)) ≡ (not (nothing_begun g) && is_other (fixed_heading g) (heading_of s))
+  pub other_line : possible_of g ≡ true → not (begins g (heading_of s) || agrees g (heading_of s)) ≡ (not (nothing_begun g) && is_other (fixed_heading g) (heading_of s))
   unfolding begins agrees
-  other-line p = rw (other-exactly (fixed_heading g) (heading_of s) (version_low p) section-low) (go (nothing_begun g) _ _)
+  other_line p = rw (other_exactly (fixed_heading g) (heading_of s) (version_low p) section_low) (go (nothing_begun g) _ _)
     where
       go : (none newer same : Bool) → not (none || newer || same) ≡ (not none && not (newer || same))
       go true newer same = refl
       go false newer same = refl
 
-  section-decides : section_verdict g store s (read_section s) ≡ outcome Refuse (section_lines s) (good_verdict g store (heading_of s) (payload_of s))
+  section_decides : section_verdict g store s (read_section s) ≡ outcome Refuse (section_lines s) (good_verdict g store (heading_of s) (payload_of s))
   unfolding read_section section_lines section_verdict outcome heading_of
-  section-decides = outcome_told (section_verdict g store s) NotGood Refuse (λ r. refl) (section_lines s) (Good (heading_of s) _)
+  section_decides = outcome_told (section_verdict g store s) NotGood Refuse (λ r. refl) (section_lines s) (Good (heading_of s) _)
 
-  decides-by : verdict_of g store s ≡ outcome Refuse (linesWith (not (begins g (heading_of s) || agrees g (heading_of s)))) behind
+  decides_by : verdict_of g store s ≡ outcome Refuse (lines_with (not (begins g (heading_of s) || agrees g (heading_of s)))) behind
   unfolding verdict_of good_verdict section_lines outcome
-  decides-by = ap (λ v. if not (possible_of g) then Refuse ImpossibleState else v) section-decides
+  decides_by = ap (λ v. if not (possible_of g) then Refuse ImpossibleState else v) section_decides
 
-  decides : verdict_of g store s ≡ outcome Refuse beforeLast behind
+  decides : verdict_of g store s ≡ outcome Refuse before_last behind
   unfolding outcome
-  decides = decides-by ∙ go (possible_of g) refl
+  decides = decides_by ∙ go (possible_of g) refl
     where
       go : (b : Bool) → possible_of g ≡ b
-          → outcome Refuse (linesWith (not (begins g (heading_of s) || agrees g (heading_of s)))) behind ≡ outcome Refuse beforeLast behind
-      go true p = ap (λ other. outcome Refuse (linesWith other) behind) (other-line p)
+          → outcome Refuse (lines_with (not (begins g (heading_of s) || agrees g (heading_of s)))) behind ≡ outcome Refuse before_last behind
+      go true p = ap (λ other. outcome Refuse (lines_with other) behind) (other_line p)
       go false p = rw p
 
-  last_line : None beforeLast → answer_by behind ≡ outcome NotFed (last ∷ []) value
+  last_line : None before_last → answer_by behind ≡ outcome NotFed (last ∷ []) value
   unfolding outcome answer_by number_verdict contradicts_held is_held
   last_line n =
       let p = not-false _ (first_not n) in
@@ -112,7 +112,7 @@ module _ (g : Gathering) (store s : List ℕ) where
       let number = (heading_of s).number in
       go (begins g (heading_of s)) (agrees g (heading_of s)) (eqb g.spoiled 0) (eqb (get_or g.held number 0) 0)
       (same_bytes (held_payload g store number) (payload_of s))
-      (other-line p ∙ first_not (rest_not t))
+      (other_line p ∙ first_not (rest_not t))
     where
       go : (first same calm new equal : Bool) → not (first || same) ≡ false
           → answer_by
@@ -136,15 +136,15 @@ module _ (g : Gathering) (store s : List ℕ) where
   unfolding fed_of feeding_lines section_lines outcome answer_by
   feeds =
       ap answer_by decides
-      ∙ outcome_told answer_by Refuse NotFed (λ r. refl) beforeLast behind
-      ∙ outcome-behind NotFed beforeLast last_line
+      ∙ outcome_told answer_by Refuse NotFed (λ r. refl) before_last behind
+      ∙ outcome_behind NotFed before_last last_line
 
-  pub feeding-as-listed : FedAsListed g store s
-  feeding-as-listed =
+  pub feeding_as_listed : FedAsListed g store s
+  feeding_as_listed =
       record {
-        refused_exactly = fed-refused (feeding_lines g store s) (is_held g s) _ feeds;
-        taken_exactly = fed-taken (feeding_lines g store s) (is_held g s) _ feeds;
-        held_exactly = fed-held (feeding_lines g store s) (is_held g s) _ feeds;
+        refused_exactly = fed_refused (feeding_lines g store s) (is_held g s) _ feeds;
+        taken_exactly = fed_taken (feeding_lines g store s) (is_held g s) _ feeds;
+        held_exactly = fed_held (feeding_lines g store s) (is_held g s) _ feeds;
       }
 
 -- ---- handing out
@@ -166,8 +166,8 @@ module _ (g : Gathering) (store out : List ℕ) where
       outcome_told (λ c. handed_by c (length (body_held g store)) (length out)) NotComplete NotHanded (λ r. refl)
       (complete_lines g (length store)) Complete
 
-  pub handing-as-listed : AsListed NotHanded (λ a. a ≡ Body (length (body_held g store))) (handing_lines g store out) (handed_of g store out)
-  handing-as-listed = rw hands (by_lines NotHanded _ (handing_told _) (handing_lines g store out) _ refl)
+  pub handing_as_listed : AsListed NotHanded (λ a. a ≡ Body (length (body_held g store))) (handing_lines g store out) (handed_of g store out)
+  handing_as_listed = rw hands (by_lines NotHanded _ (handing_told _) (handing_lines g store out) _ refl)
 
 module _ (g : Gathering) (store : List ℕ) where
   packs : (packing_of g store).answer ≡ outcome NotHanded (complete_lines g (length store)) (Body (length (body_held g store)))
@@ -176,5 +176,5 @@ module _ (g : Gathering) (store : List ℕ) where
       outcome_told (λ c. packed_by c (length (body_held g store))) NotComplete NotHanded (λ r. refl)
       (complete_lines g (length store)) Complete
 
-  pub packing-as-listed : AsListed NotHanded (λ a. a ≡ Body (length (body_held g store))) (complete_lines g (length store)) (packing_of g store).answer
-  packing-as-listed = rw packs (by_lines NotHanded _ (handing_told _) (complete_lines g (length store)) _ refl)
+  pub packing_as_listed : AsListed NotHanded (λ a. a ≡ Body (length (body_held g store))) (complete_lines g (length store)) (packing_of g store).answer
+  packing_as_listed = rw packs (by_lines NotHanded _ (handing_told _) (complete_lines g (length store)) _ refl)

@@ -17,23 +17,23 @@ module _ {A : Type 0} (refused : Refusal → A) where
   outcome [] value = value
   outcome (r when b ∷ lines) value = if b then refused r else outcome lines value
 
-  pub outcome-given : (lines : List Line) (value : A) (r : Refusal) → Given r lines → outcome lines value ≡ refused r
+  pub outcome_given : (lines : List Line) (value : A) (r : Refusal) → Given r lines → outcome lines value ≡ refused r
   unfolding outcome
-  outcome-given [] value r x = elim x [ ]
-  outcome-given (r' when b ∷ lines) value r (here e) = rw e
-  outcome-given (r' when b ∷ lines) value r (later e g) = rw e (outcome-given lines value r g)
+  outcome_given [] value r x = elim x [ ]
+  outcome_given (r' when b ∷ lines) value r (here e) = rw e
+  outcome_given (r' when b ∷ lines) value r (later e g) = rw e (outcome_given lines value r g)
 
-  pub outcome-none : (lines : List Line) (value : A) → None lines → outcome lines value ≡ value
+  pub outcome_none : (lines : List Line) (value : A) → None lines → outcome lines value ≡ value
   unfolding outcome
-  outcome-none [] value end = refl
-  outcome-none (r when b ∷ lines) value (next e n) = rw e (outcome-none lines value n)
+  outcome_none [] value end = refl
+  outcome_none (r when b ∷ lines) value (next e n) = rw e (outcome_none lines value n)
 
   -- what stands behind the lines counts only where none of them holds
-  pub outcome-behind : (lines : List Line) {value value' : A} → (None lines → value ≡ value') → outcome lines value ≡ outcome lines value'
+  pub outcome_behind : (lines : List Line) {value value' : A} → (None lines → value ≡ value') → outcome lines value ≡ outcome lines value'
   unfolding outcome
-  outcome-behind [] f = f end
-  outcome-behind (r when true ∷ lines) f = refl
-  outcome-behind (r when false ∷ lines) f = outcome-behind lines (λ n. f (next refl n))
+  outcome_behind [] f = f end
+  outcome_behind (r when true ∷ lines) f = refl
+  outcome_behind (r when false ∷ lines) f = outcome_behind lines (λ n. f (next refl n))
 
 -- an outcome told in other words
 pub outcome_told : {A B : Type 0} (tell : A → B) (refused : Refusal → A) (refused' : Refusal → B) → ((r : Refusal) → tell (refused r) ≡ refused' r)
@@ -70,23 +70,23 @@ decided (r when false ∷ lines) = go (decided lines)
 
 module _ {A : Type 0} (refused : Refusal → A) (Value : A → Type 0) (told : Told refused Value) where
   -- an answer that has what each line and their end ask for is given as the lines say
-  pub as-listed : (lines : List Line) (answer : A) → ((r : Refusal) → Given r lines → answer ≡ refused r) → (None lines → Value answer)
+  pub as_listed : (lines : List Line) (answer : A) → ((r : Refusal) → Given r lines → answer ≡ refused r) → (None lines → Value answer)
       → AsListed refused Value lines answer
-  as-listed lines answer gives ends =
+  as_listed lines answer gives ends =
       record {
         refused_exactly = λ r. (only r (decided lines), gives r);
-        value_exactly = (value-only (decided lines), ends);
+        value_exactly = (value_only (decided lines), ends);
       }
     where
       only : (r : Refusal) → Decided lines → answer ≡ refused r → Given r lines
       only r (one r' g) e = subst (λ (x : Refusal). Given x lines) (told.same r' r (sym (gives r' g) ∙ e)) g
       only r (none n) e = absurd (told.apart r (subst Value e (ends n)))
 
-      value-only : Decided lines → Value answer → None lines
-      value-only (one r g) v = absurd (told.apart r (subst Value (gives r g) v))
-      value-only (none n) v = n
+      value_only : Decided lines → Value answer → None lines
+      value_only (one r g) v = absurd (told.apart r (subst Value (gives r g) v))
+      value_only (none n) v = n
 
   -- one that goes through the lines to a value
   pub by_lines : (lines : List Line) (value : A) → Value value → AsListed refused Value lines (outcome refused lines value)
   by_lines lines value v =
-      as-listed lines (outcome refused lines value) (outcome-given refused lines value) (λ n. subst Value (sym (outcome-none refused lines value n)) v)
+      as_listed lines (outcome refused lines value) (outcome_given refused lines value) (λ n. subst Value (sym (outcome_none refused lines value n)) v)

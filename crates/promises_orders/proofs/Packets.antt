@@ -51,10 +51,10 @@ module _ (counter : ℕ) (section out : List ℕ) where
       ap packing.packed_by decides
       ∙ outcome_told packing.packed_by packer.refuses NotPacked (λ r. refl) (packer_lines counter section out) (packer.writes bytes)
 
-  pub packer-as-listed : AsListed NotPacked (λ a. a ≡ Packets (length (packer.laid (packer.packed counter section))))
+  pub packer_as_listed : AsListed NotPacked (λ a. a ≡ Packets (length (packer.laid (packer.packed counter section))))
       (packer_lines counter section out) (packing.packed_of counter section out)
   unfolding bytes
-  packer-as-listed = rw packs (by_lines NotPacked _ (pack_told _) (packer_lines counter section out) _ refl)
+  packer_as_listed = rw packs (by_lines NotPacked _ (pack_told _) (packer_lines counter section out) _ refl)
 
 -- ---- the unpacker
 
@@ -73,9 +73,9 @@ module _ (s p out : List ℕ) where
       if is_repeat (memory_of s) p then Sections 0 else
       Sections (length (joined r.sections))
 
-  value-is : IsSections value
+  value_is : IsSections value
   unfolding value
-  value-is = go (has_error p) (eqb (control p) 2) (is_repeat (memory_of s) p)
+  value_is = go (has_error p) (eqb (control p) 2) (is_repeat (memory_of s) p)
     where
       go : (a b c : Bool)
           → IsSections (if a then Sections 0 else if b then Sections 0 else if c then Sections 0 else Sections (length (joined r.sections)))
@@ -143,5 +143,5 @@ module _ (s p out : List ℕ) where
       go false false false false false false true = refl
       go false false false false false false false = taken
 
-  pub unpacker-as-listed : AsListed NotCompleted IsSections (unpacker_lines s p out) (completing.completed_of s p out)
-  unpacker-as-listed = rw tells (by_lines NotCompleted IsSections unpack_told (unpacker_lines s p out) value value-is)
+  pub unpacker_as_listed : AsListed NotCompleted IsSections (unpacker_lines s p out) (completing.completed_of s p out)
+  unpacker_as_listed = rw tells (by_lines NotCompleted IsSections unpack_told (unpacker_lines s p out) value value_is)

@@ -15,7 +15,7 @@ use Rattle.ground_equal.specs.Same.{same_bytes}
 use Rattle.section_reader.specs.Section.{heading_of, payload_of, read_section}
 use Rattle.section_reader.specs.declared.Sectioned.TheVariants.{Good, Refused as NotGood}
 use Rattle.gathering_state.specs.Lists.{smallest_missing}
-use Rattle.gathering_state.specs.State.{nothing_begun, lengths, possible_of as gatheringPossible}
+use Rattle.gathering_state.specs.State.{nothing_begun, lengths, possible_of as gathering_possible}
 use Rattle.gathering_tables.specs.Tables.{is_other}
 use Rattle.gathering_verdict.specs.Deciding.{fixed_heading, agrees, begins}
 use Rattle.gathering_verdict.specs.declared.Verdict.{Verdict}
@@ -47,21 +47,21 @@ use Rattle.promises_orders.specs.Sections.{section_lines}
 use Rattle.promises_orders.specs.Gathering.{is_held}
 use Rattle.promises_orders.specs.Rooms.{part_for, other_for, network_lines, contradicts_room, is_full, part_lines, networks_feeding_lines, fed_value}
 use Rattle.promises_orders.specs.Rooms.{networks_handing_lines, counting_lines}
-use Rattle.promises_orders.proofs.Order.{Told, outcome, outcome_told, outcome-behind, first_not, rest_not, none_append, by_lines}
-use Rattle.promises_orders.proofs.Gathering.{other-line}
+use Rattle.promises_orders.proofs.Order.{Told, outcome, outcome_told, outcome_behind, first_not, rest_not, none_append, by_lines}
+use Rattle.promises_orders.proofs.Gathering.{other_line}
 
 -- ---- feeding one network's part, where it is possible as a gathering by itself
 
-module _ (n : ℕ) (p q : Part) (store s : List ℕ) (ok : gatheringPossible p.gathering ≡ true) where
-  abbrev linesWith : Bool → List Line
-  linesWith other = section_lines s ++ NotCurrent when not (heading_of s).current ∷ OtherHeading when other ∷ []
+module _ (n : ℕ) (p q : Part) (store s : List ℕ) (ok : gathering_possible p.gathering ≡ true) where
+  abbrev lines_with : Bool → List Line
+  lines_with other = section_lines s ++ NotCurrent when not (heading_of s).current ∷ OtherHeading when other ∷ []
 
-  abbrev beforeLast : List Line
-  beforeLast = linesWith (not (nothing_begun p.gathering) && is_other (fixed_heading p.gathering) (heading_of s))
+  abbrev before_last : List Line
+  before_last = lines_with (not (nothing_begun p.gathering) && is_other (fixed_heading p.gathering) (heading_of s))
 
   -- 11 and 35, and what is answered behind them
-  abbrev lastLines : List Line
-  lastLines =
+  abbrev last_lines : List Line
+  last_lines =
       Contradiction when (contradicts_room p store s || not (begins p.gathering (heading_of s)) && not (eqb p.gathering.spoiled 0))
       ∷ NoFreeRoom when (not (is_held p.gathering s) && is_full n p q s)
       ∷ []
@@ -80,22 +80,22 @@ module _ (n : ℕ) (p q : Part) (store s : List ℕ) (ok : gatheringPossible p.g
   abbrev told : Verdict → Answer
   told v = answer_by (roomed v (room_for n p q.rooms v))
 
-  section-decides : section_verdict p store s (read_section s) ≡ outcome Refuse (section_lines s) (good_verdict p store (heading_of s) (payload_of s))
+  section_decides : section_verdict p store s (read_section s) ≡ outcome Refuse (section_lines s) (good_verdict p store (heading_of s) (payload_of s))
   unfolding read_section section_lines section_verdict outcome heading_of
-  section-decides = outcome_told (section_verdict p store s) NotGood Refuse (λ r. refl) (section_lines s) (Good (heading_of s) _)
+  section_decides = outcome_told (section_verdict p store s) NotGood Refuse (λ r. refl) (section_lines s) (Good (heading_of s) _)
 
-  decides : verdict_of p store s ≡ outcome Refuse beforeLast behind
+  decides : verdict_of p store s ≡ outcome Refuse before_last behind
   unfolding verdict_of good_verdict section_lines outcome
-  decides = section-decides ∙ ap (λ other. outcome Refuse (linesWith other) behind) (other-line p.gathering store s ok)
+  decides = section_decides ∙ ap (λ other. outcome Refuse (lines_with other) behind) (other_line p.gathering store s ok)
 
-  last-lines : None beforeLast → told behind ≡ outcome NotFed lastLines value
+  last_lines_lem : None before_last → told behind ≡ outcome NotFed last_lines value
   unfolding outcome answer_by number_verdict contradicts_room is_held roomed room_for base opened_part is_full
-  last-lines passed =
+  last_lines_lem passed =
       let t = (none_append (section_lines s) _ passed).1 in
       let number = (heading_of s).number in
       go (begins p.gathering (heading_of s)) (agrees p.gathering (heading_of s)) (eqb p.gathering.spoiled 0)
       (eqb (get_or p.gathering.held number 0) 0) (same_bytes (room_payload p store number) (payload_of s))
-      (other-line p.gathering store s ok ∙ first_not (rest_not t))
+      (other_line p.gathering store s ok ∙ first_not (rest_not t))
     where
       begun : (full : Bool) → answer_by (if full then Refuse NoFreeRoom else Begin (heading_of s)) ≡ (if full then NotFed NoFreeRoom else Taken)
       begun true = refl
@@ -128,8 +128,8 @@ module _ (n : ℕ) (p q : Part) (store s : List ℕ) (ok : gatheringPossible p.g
   unfolding part_fed room_verdict part_lines section_lines outcome roomed answer_by
   feeds =
       ap told decides
-      ∙ outcome_told told Refuse NotFed (λ r. refl) beforeLast behind
-      ∙ outcome-behind NotFed beforeLast last-lines
+      ∙ outcome_told told Refuse NotFed (λ r. refl) before_last behind
+      ∙ outcome_behind NotFed before_last last_lines_lem
 
 -- ---- feeding
 
@@ -138,7 +138,7 @@ fed_apart r true e = let z : ◌≡◌ {A = ℕ} 0 1 = cc in omega arith
 fed_apart r false e = let z : ◌≡◌ {A = ℕ} 0 1 = cc in omega arith
 
 -- the state is possible, and then each part is by itself
-own_possible : (i : Network) (x : Networks) (bytes : ℕ) → possible_of x bytes ≡ true → gatheringPossible (mine i x).gathering ≡ true
+own_possible : (i : Network) (x : Networks) (bytes : ℕ) → possible_of x bytes ≡ true → gathering_possible (mine i x).gathering ≡ true
 own_possible i x bytes ok = (sound_of i x (networks_are x bytes ok)).own.possible
 
 module _ (x : Networks) (store s : List ℕ) where
@@ -154,10 +154,10 @@ module _ (x : Networks) (store s : List ℕ) where
       go true e = rw e (feeds (rooms_in (length store)) (mine i x) (theirs i x) store s (own_possible i x (length store) e))
       go false e = rw e
 
-  pub networks-feeding-as-listed : (o : Option Network)
+  pub networks_feeding_as_listed : (o : Option Network)
       → AsListed NotFed (λ a. a ≡ fed_value o x s) (networks_feeding_lines o x store s) (fed_of o x store s).answer
   unfolding fed_value
-  networks-feeding-as-listed o =
+  networks_feeding_as_listed o =
       rw (networks_feed o)
       (by_lines NotFed _ (record { same = λ r r' e. cc; apart = λ r. fed_apart r (is_held (part_for o x).gathering s) })
       (networks_feeding_lines o x store s) (fed_value o x s) refl)
@@ -168,11 +168,11 @@ handing_told : (n : ℕ) → Told NotHanded (λ (a : Handed). a ≡ Body n)
 handing_told n = record { same = λ r r' e. cc; apart = λ r e. let z : ◌≡◌ {A = ℕ} 0 1 = cc in omega arith }
 
 module _ (x : Networks) (store out : List ℕ) where
-  networks-hand : (o : Option Network) → (part_for o x).gathering.last ≤ 255
+  networks_hand : (o : Option Network) → (part_for o x).gathering.last ≤ 255
       → handed_of o x store out ≡ outcome NotHanded (networks_handing_lines o x store out) (Body (length (body_in (part_for o x) store)))
   unfolding handed_of handed_for part_handed handed_by complete_of missing_of handed_if_room networks_handing_lines network_lines is_some part_for outcome
-  networks-hand none l = refl
-  networks-hand (some i) l = go (possible_of x (length store)) refl
+  networks_hand none l = refl
+  networks_hand (some i) l = go (possible_of x (length store)) refl
     where
       go : (b : Bool) → possible_of x (length store) ≡ b
           → handed_for i x store out
@@ -205,35 +205,35 @@ module _ (x : Networks) (store out : List ℕ) where
           by_tests false false false = refl
       go false e = rw e
 
-  pub networks-handing-as-listed : (o : Option Network) → (part_for o x).gathering.last ≤ 255
+  pub networks_handing_as_listed : (o : Option Network) → (part_for o x).gathering.last ≤ 255
       → AsListed NotHanded (λ a. a ≡ Body (length (body_in (part_for o x) store))) (networks_handing_lines o x store out) (handed_of o x store out)
-  networks-handing-as-listed o l =
-      rw (networks-hand o l) (by_lines NotHanded _ (handing_told _) (networks_handing_lines o x store out) _ refl)
+  networks_handing_as_listed o l =
+      rw (networks_hand o l) (by_lines NotHanded _ (handing_told _) (networks_handing_lines o x store out) _ refl)
 
 -- ---- ending and counting
 
 module _ (x : Networks) (bytes : ℕ) where
-  networks-end : (o : Option Network) → (ended_of o x bytes).answer ≡ outcome NotEnded (network_lines o x bytes) Done
+  networks_end : (o : Option Network) → (ended_of o x bytes).answer ≡ outcome NotEnded (network_lines o x bytes) Done
   unfolding ended_of ended_for network_lines is_some outcome
-  networks-end none = refl
-  networks-end (some i) = go (possible_of x bytes) refl
+  networks_end none = refl
+  networks_end (some i) = go (possible_of x bytes) refl
     where
       go : (b : Bool) → possible_of x bytes ≡ b → (ended_for i x bytes).answer ≡ (if not (possible_of x bytes) then NotEnded ImpossibleState else Done)
       go true e = rw e
       go false e = rw e
 
-  pub networks-ending-as-listed : (o : Option Network) → AsListed NotEnded (λ a. a ≡ Done) (network_lines o x bytes) (ended_of o x bytes).answer
-  networks-ending-as-listed o =
-      rw (networks-end o)
+  pub networks_ending_as_listed : (o : Option Network) → AsListed NotEnded (λ a. a ≡ Done) (network_lines o x bytes) (ended_of o x bytes).answer
+  networks_ending_as_listed o =
+      rw (networks_end o)
       (by_lines NotEnded _ (record { same = λ r r' e. cc; apart = λ r e. let z : ◌≡◌ {A = ℕ} 0 1 = cc in omega arith }) (network_lines o x bytes) Done refl)
 
-  counting-told : (n : ℕ) → Told NotCounted (λ (a : Counted). a ≡ Rooms n)
-  counting-told n = record { same = λ r r' e. cc; apart = λ r e. let z : ◌≡◌ {A = ℕ} 0 1 = cc in omega arith }
+  counting_told : (n : ℕ) → Told NotCounted (λ (a : Counted). a ≡ Rooms n)
+  counting_told n = record { same = λ r r' e. cc; apart = λ r e. let z : ◌≡◌ {A = ℕ} 0 1 = cc in omega arith }
 
-  pub held-as-listed : AsListed NotCounted (λ a. a ≡ Rooms (held x)) (counting_lines x bytes) (held_of x bytes)
+  pub held_as_listed : AsListed NotCounted (λ a. a ≡ Rooms (held x)) (counting_lines x bytes) (held_of x bytes)
   unfolding held_of counting_lines outcome
-  held-as-listed = by_lines NotCounted _ (counting-told _) (counting_lines x bytes) (Rooms (held x)) refl
+  held_as_listed = by_lines NotCounted _ (counting_told _) (counting_lines x bytes) (Rooms (held x)) refl
 
-  pub free-as-listed : AsListed NotCounted (λ a. a ≡ Rooms (free x bytes)) (counting_lines x bytes) (free_of x bytes)
+  pub free_as_listed : AsListed NotCounted (λ a. a ≡ Rooms (free x bytes)) (counting_lines x bytes) (free_of x bytes)
   unfolding free_of counting_lines outcome
-  free-as-listed = by_lines NotCounted _ (counting-told _) (counting_lines x bytes) (Rooms (free x bytes)) refl
+  free_as_listed = by_lines NotCounted _ (counting_told _) (counting_lines x bytes) (Rooms (free x bytes)) refl

@@ -21,6 +21,6 @@ module _ (capture : List ℕ) (room entries : ℕ) where
   unfolding salvage_of salvaging salvage_lines outcome
   salvages = outcome_told (λ v. answer_by v capture) refuses NotSalvaged (λ r. refl) (salvage_lines capture room entries) writes
 
-  pub salvage-as-listed : AsListed NotSalvaged (λ a. a ≡ Of (length (sections capture)) (length (runs_of capture)))
+  pub salvage_as_listed : AsListed NotSalvaged (λ a. a ≡ Of (length (sections capture)) (length (runs_of capture)))
       (salvage_lines capture room entries) (salvage_of capture room entries)
-  salvage-as-listed = rw salvages (by_lines NotSalvaged _ (salvaged_told _ _) (salvage_lines capture room entries) _ refl)
+  salvage_as_listed = rw salvages (by_lines NotSalvaged _ (salvaged_told _ _) (salvage_lines capture room entries) _ refl)

@@ -28,15 +28,15 @@ use Rattle.promises_orders.specs.Order.{Line, ◌when◌, AsListed}
 use Rattle.promises_orders.specs.Sections.{section_lines}
 use Rattle.promises_orders.specs.Teaching.{good_lines, is_repeated, teaching_lines, TaughtAsListed, account_lines, teaching_handing_lines}
 use Rattle.promises_orders.proofs.Order.{Told, outcome, outcome_told, by_lines}
-use Rattle.promises_orders.proofs.Fed.{fed_value, fed-refused, fed-taken, fed-held}
+use Rattle.promises_orders.proofs.Fed.{fed_value, fed_refused, fed_taken, fed_held}
 
 -- ---- feeding
 
 module _ (room : ℕ → Bool) (h : Heading) (p : List ℕ) where
-  good-answers : (a : Account) → answer_of_good room a h p ≡ outcome NotFed (good_lines room a h p) (fed_value (is_repeated a h))
+  good_answers : (a : Account) → answer_of_good room a h p ≡ outcome NotFed (good_lines room a h p) (fed_value (is_repeated a h))
   unfolding answer_of_good answer_of_first answer_of_table good_lines is_repeated outcome
-  good-answers idle = refl
-  good-answers (table t S) =
+  good_answers idle = refl
+  good_answers (table t S) =
       go (is_newer t h) (same_table t h) (room h.last) (differs (record { number = h.number; contents = p }) S || not (agreeing S)) (present h.number S)
     where
       go : (newer same roomy clash repeat : Bool)
@@ -63,51 +63,51 @@ module _ (buffer : List ℕ) (used store : ℕ) (s : List ℕ) where
   held = is_repeated a (heading_of s)
 
   -- 1 to 7, then 8, then the rest
-  section-answers : answer_to (has_room store) a s
+  section_answers : answer_to (has_room store) a s
       ≡ outcome NotFed (section_lines s)
       (if not (heading_of s).current then NotFed refusal.NotCurrent else answer_of_good (has_room store) a (heading_of s) (payload_of s))
   unfolding answer_to answer_of_read read_section section_lines outcome heading_of
-  section-answers = outcome_told (answer_of_read (has_room store) a s) NotGood NotFed (λ r. refl) (section_lines s) (Good (heading_of s) _)
+  section_answers = outcome_told (answer_of_read (has_room store) a s) NotGood NotFed (λ r. refl) (section_lines s) (Good (heading_of s) _)
 
-  kept-answers : answer_to (has_room store) a s
+  kept_answers : answer_to (has_room store) a s
       ≡ outcome NotFed (section_lines s ++ refusal.NotCurrent when not (heading_of s).current ∷ good_lines (has_room store) a (heading_of s) (payload_of s))
       (fed_value held)
   unfolding section_lines outcome
-  kept-answers =
-      section-answers
+  kept_answers =
+      section_answers
       ∙ ap (λ x. outcome NotFed (section_lines s) (if not (heading_of s).current then NotFed refusal.NotCurrent else x))
-      (good-answers (has_room store) (heading_of s) (payload_of s) a)
+      (good_answers (has_room store) (heading_of s) (payload_of s) a)
 
   answers : answer_of buffer used store s ≡ outcome NotFed (teaching_lines buffer used store s) (fed_value held)
   unfolding answer_of teaching_lines outcome
   answers =
       ap (λ x. if not (row_fits (length buffer) used (length s)) then NotFed refusal.TeachingBufferFull else
-      if not (whole_in_use buffer used) then NotFed refusal.ImpossibleState else x) kept-answers
+      if not (whole_in_use buffer used) then NotFed refusal.ImpossibleState else x) kept_answers
 
-  pub teaching-as-listed : TaughtAsListed buffer used store s
-  teaching-as-listed =
+  pub teaching_as_listed : TaughtAsListed buffer used store s
+  teaching_as_listed =
       record {
-        refused_exactly = fed-refused (teaching_lines buffer used store s) held _ answers;
-        taken_exactly = fed-taken (teaching_lines buffer used store s) held _ answers;
-        held_exactly = fed-held (teaching_lines buffer used store s) held _ answers;
+        refused_exactly = fed_refused (teaching_lines buffer used store s) held _ answers;
+        taken_exactly = fed_taken (teaching_lines buffer used store s) held _ answers;
+        held_exactly = fed_held (teaching_lines buffer used store s) held _ answers;
       }
 
 -- ---- handing out
 
 module _ (buffer : List ℕ) (used store : ℕ) (out : List ℕ) where
-  account-hands : (a : Account) → handed_to a (length out) ≡ outcome NotHanded (account_lines a (length out)) (Body (length (body_of a)))
+  account_hands : (a : Account) → handed_to a (length out) ≡ outcome NotHanded (account_lines a (length out)) (Body (length (body_of a)))
   unfolding handed_to handed_table handed_if_room account_lines body_of outcome
-  account-hands idle = refl
-  account-hands (table t S) = refl
+  account_hands idle = refl
+  account_hands (table t S) = refl
 
   hands : handed_of buffer used store out
       ≡ outcome NotHanded (teaching_handing_lines buffer used store (length out)) (Body (length (body_of (account_in store (take used buffer)))))
   unfolding handed_of teaching_handing_lines outcome
-  hands = ap (λ x. if not (whole_in_use buffer used) then NotHanded refusal.ImpossibleState else x) (account-hands (account_in store (take used buffer)))
+  hands = ap (λ x. if not (whole_in_use buffer used) then NotHanded refusal.ImpossibleState else x) (account_hands (account_in store (take used buffer)))
 
   told : (n : ℕ) → Told NotHanded (λ (a : Handed). a ≡ Body n)
   told n = record { same = λ r r' e. cc; apart = λ r e. let z : ◌≡◌ {A = ℕ} 0 1 = cc in omega arith }
 
-  pub teaching-handing-as-listed : AsListed NotHanded (λ x. x ≡ Body (length (body_of (account_in store (take used buffer)))))
+  pub teaching_handing_as_listed : AsListed NotHanded (λ x. x ≡ Body (length (body_of (account_in store (take used buffer)))))
       (teaching_handing_lines buffer used store (length out)) (handed_of buffer used store out)
-  teaching-handing-as-listed = rw hands (by_lines NotHanded _ (told _) (teaching_handing_lines buffer used store (length out)) _ refl)
+  teaching_handing_as_listed = rw hands (by_lines NotHanded _ (told _) (teaching_handing_lines buffer used store (length out)) _ refl)

@@ -21,8 +21,8 @@ use Rattle.time_fields.specs.declared.Timed.TheVariants.{At, Refused}
 use Rattle.time_fields.specs.declared.Fielded.TheVariants.{Refused as NotFielded}
 use Rattle.time_fields.specs.Field.{is_decimal, possible, moment_of, is_instant, field_of, write_time}
 use Rattle.time_fields.proofs.Instants.{Instant, instant, day_in_range, is_instant_lem}
-use Rattle.time_fields.proofs.Reading.{reads-too-wide, reads-no-digit, reads-impossible, reads-time}
-use Rattle.time_fields.proofs.Inverse.{accepted-instant}
+use Rattle.time_fields.proofs.Reading.{reads_too_wide, reads_no_digit, reads_impossible, reads_time}
+use Rattle.time_fields.proofs.Inverse.{accepted_instant}
 use Rattle.time_offset.specs.Offset.{is_offset, day_moved, second_moved, minute_moved, moved}
 use Rattle.time_offset.proofs.Floors.{left_below}
 use Rattle.time_offset.proofs.Moving.{arrived, moved_before, moved_to, utc_by, local_by}
@@ -30,11 +30,11 @@ use Rattle.time_local.specs.declared.LocalTime.{LocalTime}
 use Rattle.time_local.specs.declared.Unpacked.TheVariants.{Refused as NotUnpacked}
 use Rattle.time_local.specs.Clock.{is_clock, second_of, written, packed_at, pack_of, at_second, dated, unpacked_at, unpack_of}
 use Rattle.time_local.specs.Text.{typed, read_text}
-use Rattle.time_local.proofs.Clocks.{clock_within, no_day, on-day, pack_by, unpack_by}
+use Rattle.time_local.proofs.Clocks.{clock_within, no_day, on_day_lem, pack_by, unpack_by}
 use Rattle.time_local.proofs.Forms.{no_offset, by_form}
 use Rattle.promises_orders.specs.Order.{Given, here, later, None, next, AsListed}
 use Rattle.promises_orders.specs.Times.{offset_outside, moment_at, utc_day, local_day, impossible, IsField, packing_lines, IsLocalTime, unpacking_lines, text_lines}
-use Rattle.promises_orders.proofs.Order.{Told, as-listed}
+use Rattle.promises_orders.proofs.Order.{Told, as_listed}
 
 -- ---- a condition that decides between a refusal and a value
 
@@ -43,13 +43,13 @@ data Decides {A : Type 0} (refusal : A) (Value : A → Type 0) (answer : A) : Bo
   gives : Value answer → Decides refusal Value answer false
 
 module _ {A : Type 0} {refusal : A} {Value : A → Type 0} {answer : A} where
-  where-true : {b : Bool} → Decides refusal Value answer b → b ≡ true → answer ≡ refusal
-  where-true (refuses e) t = e
-  where-true (gives v) t = absurd (false≢true t)
+  where_true : {b : Bool} → Decides refusal Value answer b → b ≡ true → answer ≡ refusal
+  where_true (refuses e) t = e
+  where_true (gives v) t = absurd (false≢true t)
 
-  where-false : {b : Bool} → Decides refusal Value answer b → b ≡ false → Value answer
-  where-false (refuses e) f = absurd (false≢true (sym f))
-  where-false (gives v) f = v
+  where_false : {b : Bool} → Decides refusal Value answer b → b ≡ false → Value answer
+  where_false (refuses e) f = absurd (false≢true (sym f))
+  where_false (gives v) f = v
 
 -- so it does of what is told of the answer
 decides_told : {A B : Type 0} (tell : A → B) {refusal : A} {refusal' : B} {Value : A → Type 0} {Value' : B → Type 0} {answer : A} {answer' : B} {b : Bool}
@@ -64,25 +64,25 @@ IsMoment : Timed → Type 0
 IsMoment a = (m : Moment) × (is_instant m ≡ true) × (a ≡ At m)
 
 module _ (m : Moment) (minutes : ℤ) (i : is_instant m ≡ true) where
-  second-most : second_moved m minutes ≤ 86399
+  second_most : second_moved m minutes ≤ 86399
   unfolding second_moved
-  second-most = let b = left_below (minute_moved m minutes) in omega arith
+  second_most = let b = left_below (minute_moved m minutes) in omega arith
 
-  arrives-on : (d : ℕ) → day_moved m minutes ≡ pos d → (b : Bool) → in_range d ≡ b
+  arrives_on : (d : ℕ) → day_moved m minutes ≡ pos d → (b : Bool) → in_range d ≡ b
       → Decides (Refused (ImpossibleDay 0)) IsMoment (moved m minutes) (not b)
   unfolding is_instant IsMoment
-  arrives-on d e true r =
-      let there = and_of r (le-leb (second_moved m minutes) 86399 second-most) in
+  arrives_on d e true r =
+      let there = and_of r (le-leb (second_moved m minutes) 86399 second_most) in
       gives (arrived d (second_moved m minutes), there, moved_to m minutes d i e there)
-  arrives-on d e false r = refuses (moved_to m minutes d {t = false} i e (rw r))
+  arrives_on d e false r = refuses (moved_to m minutes d {t = false} i e (rw r))
 
   arrives : (z : ℤ) → day_moved m minutes ≡ z → Decides (Refused (ImpossibleDay 0)) IsMoment (moved m minutes) (offset_outside z)
   unfolding offset_outside in_range
   arrives (negsuc d) e = refuses (moved_before m minutes d i e)
-  arrives (pos d) e = arrives-on d e (in_range d) refl
+  arrives (pos d) e = arrives_on d e (in_range d) refl
 
-  moved-decides : Decides (Refused (ImpossibleDay 0)) IsMoment (moved m minutes) (offset_outside (day_moved m minutes))
-  moved-decides = arrives (day_moved m minutes) refl
+  moved_decides : Decides (Refused (ImpossibleDay 0)) IsMoment (moved m minutes) (offset_outside (day_moved m minutes))
+  moved_decides = arrives (day_moved m minutes) refl
 
 -- ---- packing
 
@@ -95,34 +95,34 @@ module _ (t : LocalTime) where
   unfolding day_of
   day_is d = rw d
 
-  no-day-is : has_day t.year t.month t.day ≡ false → day_of t.year t.month t.day ≡ NoDay (ImpossibleDay 0)
+  no_day_is : has_day t.year t.month t.day ≡ false → day_of t.year t.month t.day ≡ NoDay (ImpossibleDay 0)
   unfolding day_of
-  no-day-is d = rw d
+  no_day_is d = rw d
 
   -- a date and time of the calendar is an instant
-  real-instant : has_day t.year t.month t.day ≡ true → is_clock t ≡ true → is_instant (moment_at t) ≡ true
+  real_instant : has_day t.year t.month t.day ≡ true → is_clock t ≡ true → is_instant (moment_at t) ≡ true
   unfolding moment_at second_of
-  real-instant d c =
+  real_instant d c =
       let w = day_within _ _ _ _ (day_is d) in
       let k = clock_within t c in
       is_instant_lem _ (record { from = w.0; until = w.1; within = omega arith })
 
   module _ (offset : ℤ) (o : is_offset offset ≡ true) where
-    real-packs : has_day t.year t.month t.day ≡ true → is_clock t ≡ true → pack_of t offset ≡ written (moved (moment_at t) (neg_ℤ offset))
+    real_packs : has_day t.year t.month t.day ≡ true → is_clock t ≡ true → pack_of t offset ≡ written (moved (moment_at t) (neg_ℤ offset))
     unfolding moment_at packed_at
-    real-packs d c = pack_by t offset o ∙ ap (packed_at offset) (on-day t (day_is d) c) ∙ ap written (utc_by (moment_at t) offset o)
+    real_packs d c = pack_by t offset o ∙ ap (packed_at offset) (on_day_lem t (day_is d) c) ∙ ap written (utc_by (moment_at t) offset o)
 
-    field-decides : (d : Bool) → has_day t.year t.month t.day ≡ d → (c : Bool) → is_clock t ≡ c
+    field_decides : (d : Bool) → has_day t.year t.month t.day ≡ d → (c : Bool) → is_clock t ≡ c
         → Decides (NotFielded (ImpossibleDay 0)) IsField (pack_of t offset) (not d || not c || offset_outside (utc_day t offset))
     unfolding packed_at utc_day written
-    field-decides false d c k = refuses (pack_by t offset o ∙ ap (packed_at offset) (no_day t (no-day-is d)))
-    field-decides true d false c = refuses (pack_by t offset o ∙ ap (packed_at offset) (on-day t (day_is d) c))
-    field-decides true d true c =
-        decides_told written (real-packs d c) refl written_moment (moved-decides (moment_at t) (neg_ℤ offset) (real-instant d c))
+    field_decides false d c k = refuses (pack_by t offset o ∙ ap (packed_at offset) (no_day t (no_day_is d)))
+    field_decides true d false c = refuses (pack_by t offset o ∙ ap (packed_at offset) (on_day_lem t (day_is d) c))
+    field_decides true d true c =
+        decides_told written (real_packs d c) refl written_moment (moved_decides (moment_at t) (neg_ℤ offset) (real_instant d c))
 
-    pack-decides : Decides (NotFielded (ImpossibleDay 0)) IsField (pack_of t offset) (impossible t offset)
+    pack_decides : Decides (NotFielded (ImpossibleDay 0)) IsField (pack_of t offset) (impossible t offset)
     unfolding impossible
-    pack-decides = field-decides (has_day t.year t.month t.day) refl (is_clock t) refl
+    pack_decides = field_decides (has_day t.year t.month t.day) refl (is_clock t) refl
 
 field_told : Told NotFielded IsField
 field_told = record { same = λ r r' e. cc; apart = λ r v. let e = v.1 in let z : ◌≡◌ {A = ℕ} 0 1 = cc in omega arith }
@@ -131,33 +131,33 @@ module _ (t : LocalTime) (offset : ℤ) where
   pack_refused : (r : Refusal) → Given r (packing_lines t offset) → pack_of t offset ≡ NotFielded r
   unfolding packing_lines
   pack_refused r (here o) = pack_by t offset (not-true _ o)
-  pack_refused r (later o (here d)) = where-true (pack-decides t offset (not-false _ o)) d
+  pack_refused r (later o (here d)) = where_true (pack_decides t offset (not-false _ o)) d
   pack_refused r (later o (later _ x)) = elim x [ ]
 
-  pack-answered : None (packing_lines t offset) → IsField (pack_of t offset)
+  pack_answered : None (packing_lines t offset) → IsField (pack_of t offset)
   unfolding packing_lines
-  pack-answered (next o (next d n)) = where-false (pack-decides t offset (not-false _ o)) d
+  pack_answered (next o (next d n)) = where_false (pack_decides t offset (not-false _ o)) d
 
-  pub packing-as-listed : AsListed NotFielded IsField (packing_lines t offset) (pack_of t offset)
-  packing-as-listed = as-listed NotFielded IsField field_told (packing_lines t offset) (pack_of t offset) pack_refused pack-answered
+  pub packing_as_listed : AsListed NotFielded IsField (packing_lines t offset) (pack_of t offset)
+  packing_as_listed = as_listed NotFielded IsField field_told (packing_lines t offset) (pack_of t offset) pack_refused pack_answered
 
 -- ---- text
 
 module _ (s : List ℕ) (offset : ℤ) where
-  text-refused : (r : Refusal) → Given r (text_lines s offset) → read_text s offset ≡ NotFielded r
+  text_refused : (r : Refusal) → Given r (text_lines s offset) → read_text s offset ≡ NotFielded r
   unfolding text_lines
-  text-refused r (here o) = no_offset s offset (not-true _ o)
-  text-refused r (later o (here f)) = by_form s offset (not-false _ o) (not-true _ f)
-  text-refused r (later o (later f (here d))) = by_form s offset (not-false _ o) (not-false _ f) ∙ where-true (pack-decides (typed s) offset (not-false _ o)) d
-  text-refused r (later o (later f (later _ x))) = elim x [ ]
+  text_refused r (here o) = no_offset s offset (not-true _ o)
+  text_refused r (later o (here f)) = by_form s offset (not-false _ o) (not-true _ f)
+  text_refused r (later o (later f (here d))) = by_form s offset (not-false _ o) (not-false _ f) ∙ where_true (pack_decides (typed s) offset (not-false _ o)) d
+  text_refused r (later o (later f (later _ x))) = elim x [ ]
 
-  text-answered : None (text_lines s offset) → IsField (read_text s offset)
+  text_answered : None (text_lines s offset) → IsField (read_text s offset)
   unfolding text_lines
-  text-answered (next o (next f (next d n))) =
-      rw (by_form s offset (not-false _ o) (not-false _ f)) (where-false (pack-decides (typed s) offset (not-false _ o)) d)
+  text_answered (next o (next f (next d n))) =
+      rw (by_form s offset (not-false _ o) (not-false _ f)) (where_false (pack_decides (typed s) offset (not-false _ o)) d)
 
-  pub text-as-listed : AsListed NotFielded IsField (text_lines s offset) (read_text s offset)
-  text-as-listed = as-listed NotFielded IsField field_told (text_lines s offset) (read_text s offset) text-refused text-answered
+  pub text_as_listed : AsListed NotFielded IsField (text_lines s offset) (read_text s offset)
+  text_as_listed = as_listed NotFielded IsField field_told (text_lines s offset) (read_text s offset) text_refused text_answered
 
 -- ---- unpacking
 
@@ -180,36 +180,36 @@ dated_moment a (m, i, e) =
     rw (e, d.1) (at_second_lem m.second d.0)
 
 module _ (field : ℕ) (offset : ℤ) (o : is_offset offset ≡ true) (w : leb (2 ^ 40) field ≡ false) (d : is_decimal field ≡ true) where
-  time-unpacks : possible field ≡ true → unpack_of field offset ≡ dated (moved (moment_of field) offset)
+  time_unpacks : possible field ≡ true → unpack_of field offset ≡ dated (moved (moment_of field) offset)
   unfolding unpacked_at
-  time-unpacks p =
+  time_unpacks p =
       unpack_by field offset o
-      ∙ ap (unpacked_at offset) (reads-time field 0 (leb-false _ _ w) d p)
+      ∙ ap (unpacked_at offset) (reads_time field 0 (leb-false _ _ w) d p)
       ∙ ap dated (local_by (moment_of field) offset o)
 
-  time-decides : (p : Bool) → possible field ≡ p
+  time_decides : (p : Bool) → possible field ≡ p
       → Decides (NotUnpacked (ImpossibleDay 0)) IsLocalTime (unpack_of field offset) (not p || offset_outside (local_day field offset))
   unfolding unpacked_at local_day dated
-  time-decides false p = refuses (unpack_by field offset o ∙ ap (unpacked_at offset) (reads-impossible field 0 (leb-false _ _ w) d p))
-  time-decides true p =
-      decides_told dated (time-unpacks p) refl dated_moment (moved-decides (moment_of field) offset (is_instant_lem _ (field-instant p)))
+  time_decides false p = refuses (unpack_by field offset o ∙ ap (unpacked_at offset) (reads_impossible field 0 (leb-false _ _ w) d p))
+  time_decides true p =
+      decides_told dated (time_unpacks p) refl dated_moment (moved_decides (moment_of field) offset (is_instant_lem _ (field_instant p)))
     where
-      field-instant : possible field ≡ true → Instant (moment_of field)
-      field-instant p = accepted-instant field (moment_of field) (record { fits = leb-false _ _ w; digits = d; time = p; is = refl })
+      field_instant : possible field ≡ true → Instant (moment_of field)
+      field_instant p = accepted_instant field (moment_of field) (record { fits = leb-false _ _ w; digits = d; time = p; is = refl })
 
 module _ (field : ℕ) (offset : ℤ) where
   unpack_refused : (r : Refusal) → Given r (unpacking_lines field offset) → unpack_of field offset ≡ NotUnpacked r
   unfolding unpacking_lines unpacked_at
   unpack_refused r (here o) = unpack_by field offset (not-true _ o)
-  unpack_refused r (later o (here w)) = unpack_by field offset (not-false _ o) ∙ ap (unpacked_at offset) (reads-too-wide field 0 (leb-true _ _ w))
+  unpack_refused r (later o (here w)) = unpack_by field offset (not-false _ o) ∙ ap (unpacked_at offset) (reads_too_wide field 0 (leb-true _ _ w))
   unpack_refused r (later o (later w (here d))) =
-      unpack_by field offset (not-false _ o) ∙ ap (unpacked_at offset) (reads-no-digit field 0 (leb-false _ _ w) (not-true _ d))
-  unpack_refused r (later o (later w (later d (here p)))) = where-true (time-decides field offset (not-false _ o) w (not-false _ d) _ refl) p
+      unpack_by field offset (not-false _ o) ∙ ap (unpacked_at offset) (reads_no_digit field 0 (leb-false _ _ w) (not-true _ d))
+  unpack_refused r (later o (later w (later d (here p)))) = where_true (time_decides field offset (not-false _ o) w (not-false _ d) _ refl) p
   unpack_refused r (later o (later w (later d (later _ x)))) = elim x [ ]
 
-  unpack-answered : None (unpacking_lines field offset) → IsLocalTime (unpack_of field offset)
+  unpack_answered : None (unpacking_lines field offset) → IsLocalTime (unpack_of field offset)
   unfolding unpacking_lines
-  unpack-answered (next o (next w (next d (next p n)))) = where-false (time-decides field offset (not-false _ o) w (not-false _ d) _ refl) p
+  unpack_answered (next o (next w (next d (next p n)))) = where_false (time_decides field offset (not-false _ o) w (not-false _ d) _ refl) p
 
-  pub unpacking-as-listed : AsListed NotUnpacked IsLocalTime (unpacking_lines field offset) (unpack_of field offset)
-  unpacking-as-listed = as-listed NotUnpacked IsLocalTime time_told (unpacking_lines field offset) (unpack_of field offset) unpack_refused unpack-answered
+  pub unpacking_as_listed : AsListed NotUnpacked IsLocalTime (unpacking_lines field offset) (unpack_of field offset)
+  unpacking_as_listed = as_listed NotUnpacked IsLocalTime time_told (unpacking_lines field offset) (unpack_of field offset) unpack_refused unpack_answered

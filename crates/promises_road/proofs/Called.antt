@@ -8,7 +8,7 @@ use lib.Dec.{ltb}
 use lib.ListN.{length, take, set, replicate, length-append, length-replicate, length-set}
 use lib.Seq.{take_at, drop_at}
 use Rattle.std.specs.Prelude.{if◌then◌else◌}
-use Rattle.ground_placing.proofs.Placing.{placed-length}
+use Rattle.ground_placing.proofs.Placing.{placed_length}
 use Rattle.section_reader.proofs.Accepting.{good_states}
 use Rattle.packet.specs.Sizes.{packet_bytes, counter_most}
 use Rattle.packet.specs.Judging.{judged}
@@ -28,7 +28,7 @@ use Rattle.packet_reader.specs.Answers.{answer_by, output_by, state_read, state_
 use Rattle.packet_reader.proofs.States.{state_means}
 use Rattle.packet_writer.specs.Packing.{packed, packed_all, laid, writes, packing}
 use Rattle.packet_writer.specs.Answers.{packed_by, packets_over}
-use Rattle.packet_writer.proofs.Calls.{packs, packing-good}
+use Rattle.packet_writer.proofs.Calls.{packs, packing_good}
 use Rattle.packet_writer.proofs.Packets.{packed_long}
 use Rattle.packet_arrival.specs.Packed.{AllGood}
 use Rattle.packet_arrival.specs.Served.{Served}
@@ -45,7 +45,7 @@ can_pack c [] l g = ([], refl)
 can_pack c (s ∷ ss) l g =
     let out = laid (packed c s) in
     let w : packing (length out) c s ≡ writes out =
-    packing-good (length out) c s g.0.0 g.0.1 g.0.2 l ∙ packs out s c (length out) (packed_long c s) (omega arith) in
+    packing_good (length out) c s g.0.0 g.0.1 g.0.2 l ∙ packs out s c (length out) (packed_long c s) (omega arith) in
     let rest = can_pack ((c + length out / packet_bytes) % 16) ss (omega arith) g.1 in
     (take (length out) (packets_over c s out) ++ rest.0, (out, length out, rest.0, ap packed_by w, refl, rest.1))
 
@@ -58,27 +58,27 @@ module _ (s p : List ℕ) (room : ℕ) (n : length s ≡ state_bytes) where
       let u = (read_on (going_on (memory_of s) p) p).unfinished in
       let short = begun_short u (left_begun (going_on (memory_of s) p) p (going_begun (memory_of s) p (memory_begun s))) in
       let size = (carried p c).size in
-      placed-length s 0 (1 ∷ length u / 256 % 256 ∷ length u % 256 ∷ (p ++ u)) (omega (arith, length-append p u)) ∙ n
+      placed_length s 0 (1 ∷ length u / 256 % 256 ∷ length u % 256 ∷ (p ++ u)) (omega (arith, length-append p u)) ∙ n
 
-  taken-long : judged p ≡ Carrying → length (state_taken s room p) ≡ state_bytes
+  taken_long : judged p ≡ Carrying → length (state_taken s room p) ≡ state_bytes
   unfolding state_taken state_read marked
-  taken-long c = go (is_repeat (memory_of s) p) (ltb room (length (joined (read_on (going_on (memory_of s) p) p).sections)))
+  taken_long c = go (is_repeat (memory_of s) p) (ltb room (length (joined (read_on (going_on (memory_of s) p) p).sections)))
     where
       go : (b d : Bool) → length (if b then set s 0 2 else if d then s else holding s (read_on (going_on (memory_of s) p) p).unfinished p) ≡ state_bytes
       go true d = length-set s 0 2 ∙ n
       go false true = n
       go false false = held_long c
 
-  long-on : (j : Judged) → judged p ≡ j → length (state_on j s room p) ≡ state_bytes
+  long_on : (j : Judged) → judged p ≡ j → length (state_on j s room p) ≡ state_bytes
   unfolding state_on marked
-  long-on (NotTaken why) e = n
-  long-on Damaged e = length-set s 0 0 ∙ n
-  long-on Skipped e = n
-  long-on Carrying e = taken-long e
+  long_on (NotTaken why) e = n
+  long_on Damaged e = length-set s 0 0 ∙ n
+  long_on Skipped e = n
+  long_on Carrying e = taken_long e
 
 state_long : (s p out : List ℕ) → length s ≡ state_bytes → length (state_after s p out) ≡ state_bytes
 unfolding state_after
-state_long s p out n = long-on s p (length out) n (judged p) refl
+state_long s p out n = long_on s p (length out) n (judged p) refl
 
 -- ---- the unpacker
 
@@ -88,11 +88,11 @@ rest ss ts m (refuses r) e = absurd (let z : ◌≡◌ {A = ℕ} 0 1 = cc in ome
 rest ss ts m (gives us k) e = (us, ap (gives us) (let t : k ≡ m = cc in t))
 
 module _ (room : ℕ) where
-  can-serve : (ps : List (List ℕ)) (s : List ℕ) (ss : List (List ℕ)) (m : Memory) → length s ≡ state_bytes
+  can_serve : (ps : List (List ℕ)) (s : List ℕ) (ss : List (List ℕ)) (m : Memory) → length s ≡ state_bytes
       → unpacking_all room (memory_of s) ps ≡ gives ss m → (got : List ℕ) × Served room s ps got
   unfolding unpacking_all and_then answer_by StateBy
-  can-serve [] s ss m n e = ([], refl)
-  can-serve (p ∷ ps) s ss m n e = go (unpacking room (memory_of s) p) refl e (λ left ts l f. can-serve ps left ts m l f)
+  can_serve [] s ss m n e = ([], refl)
+  can_serve (p ∷ ps) s ss m n e = go (unpacking room (memory_of s) p) refl e (λ left ts l f. can_serve ps left ts m l f)
     where
       size : length (replicate {A = ℕ} room 0) ≡ room
       size = length-replicate {A = ℕ} room 0
@@ -144,7 +144,7 @@ can_call sent good =
     let same : packets_of p.0 ≡ ps = ap packets_of a.1 ∙ stream_packets ps (all_each 0 sent) in
     let x = arrives 4096 0 sent (omega arith) (omega arith) good in
     let zeros : List ℕ = replicate state_bytes 0 in
-    let u = can-serve 4096 ps zeros sent x.0 (length-replicate {A = ℕ} state_bytes 0) (ap (λ (m : Memory). unpacking_all 4096 m ps) zeros_fresh ∙ x.1) in
+    let u = can_serve 4096 ps zeros sent x.0 (length-replicate {A = ℕ} state_bytes 0) (ap (λ (m : Memory). unpacking_all 4096 m ps) zeros_fresh ∙ x.1) in
     let given = served 4096 0 sent zeros u.0 (omega arith) (omega arith) good zeros_fresh u.1 in
     record {
       counter = 0;

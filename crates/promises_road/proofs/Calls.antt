@@ -18,7 +18,7 @@ use Rattle.section_reader.proofs.Accepting.{accepted, good_states}
 use Rattle.section_cutter.specs.Cutting.{section_of, Askable, cut_answer, cut_output}
 use Rattle.section_cutter.specs.declared.Cut.TheVariants.{Written}
 use Rattle.section_cutter.proofs.Cuts.{written_is}
-use Rattle.section_cutter.proofs.Sections.{cut-written}
+use Rattle.section_cutter.proofs.Sections.{cut_written}
 use Rattle.packet.specs.Sizes.{packet_bytes, counter_most}
 use Rattle.packet_frames.specs.Framing.{joined}
 use Rattle.packet_writer.specs.Packing.{first_room, next_room, next, continued, packed, after, packed_all}
@@ -40,15 +40,15 @@ pub cut_by_call : (body : List ℕ) (kind extension version number : ℕ) (out :
     → Askable (length body) kind extension version number
     × (take n (cut_output body kind extension version number out) ≡ section_of body kind extension version number)
 cut_by_call body kind extension version number out n e =
-    cut-written body kind extension version number (length out) (take n (cut_output body kind extension version number out)) (written_is _ out _ n (sym e, refl))
+    cut_written body kind extension version number (length out) (take n (cut_output body kind extension version number out)) (written_is _ out _ n (sym e, refl))
 
 -- ---- the packer
 
 module _ (c : ℕ) (s out : List ℕ) (n : ℕ) where
   -- a call that is answered with a length was for a good section, and wrote its packets
-  one-packed : packed_of c s out ≡ Packets n → GoodSection s × (packing (length out) c s ≡ writes (laid (packed c s)))
+  one_packed : packed_of c s out ≡ Packets n → GoodSection s × (packing (length out) c s ≡ writes (laid (packed c s)))
   unfolding packing packing_of packing_if_room packed_by
-  one-packed e = go (read_section s) refl e
+  one_packed e = go (read_section s) refl e
     where
       by : (b d : Bool)
           → packed_by (if b then refuses (OutsideSet 0) else if d then refuses OutputTooSmall else writes (laid (packed c s))) ≡ Packets n
@@ -62,13 +62,13 @@ module _ (c : ℕ) (s out : List ℕ) (n : ℕ) where
       go (NotGood why) q x = absurd (let z : ◌≡◌ {A = ℕ} 0 1 = cc in omega arith)
       go (Good h m) q x = ((h, m, q), by (ltb counter_most c) (ltb (length out) (length (laid (packed c s)))) x)
 
-  one-long : packed_of c s out ≡ Packets n → n ≡ length (laid (packed c s))
+  one_long : packed_of c s out ≡ Packets n → n ≡ length (laid (packed c s))
   unfolding packed_by
-  one-long e = let t = sym (ap packed_by (one-packed e).1) ∙ e in cc
+  one_long e = let t = sym (ap packed_by (one_packed e).1) ∙ e in cc
 
-  one-bytes : packed_of c s out ≡ Packets n → take n (packets_over c s out) ≡ laid (packed c s)
+  one_bytes : packed_of c s out ≡ Packets n → take n (packets_over c s out) ≡ laid (packed c s)
   unfolding output_by
-  one-bytes e = ap (λ (v : Verdict). take n (output_by v out)) (one-packed e).1 ∙ placed_start out (laid (packed c s)) n (one-long e)
+  one_bytes e = ap (λ (v : Verdict). take n (output_by v out)) (one_packed e).1 ∙ placed_start out (laid (packed c s)) n (one_long e)
 
 continued_count : (k c : ℕ) (bytes : List ℕ) → length (continued k c bytes) ≡ k
 unfolding continued
@@ -88,7 +88,7 @@ after_is (suc n) c l = after_is n (next c) (next_low c) ∙ omega arith
 counted : (c : ℕ) (s out : List ℕ) (n : ℕ) → c ≤ counter_most → packed_of c s out ≡ Packets n
     → (c + n / packet_bytes) % 16 ≡ after (length (packed c s)) c
 counted c s out n l e =
-    let a = one-long c s out n e in
+    let a = one_long c s out n e in
     let b = packed_long c s in
     let d = packed_count c s in
     let k : n / packet_bytes ≡ length (packed c s) = omega arith in
@@ -105,8 +105,8 @@ all_packed c [] stream l v = (tt, v)
 all_packed c (s ∷ ss) stream l v =
     let e = v.3 in
     let rest = all_packed ((c + v.1 / packet_bytes) % 16) ss v.2 (omega arith) v.5 in (
-      ((one-packed c s v.0 v.1 e).0, rest.0),
-      v.4 ∙ ap₂ ◌++◌ (one-bytes c s v.0 v.1 e) (rest.1 ∙ ap (λ (x : ℕ). laid (packed_all x ss)) (counted c s v.0 v.1 l e))
+      ((one_packed c s v.0 v.1 e).0, rest.0),
+      v.4 ∙ ap₂ ◌++◌ (one_bytes c s v.0 v.1 e) (rest.1 ∙ ap (λ (x : ℕ). laid (packed_all x ss)) (counted c s v.0 v.1 l e))
           ∙ sym (laid_append (packed c s) (packed_all (after (length (packed c s)) c) ss)),
     )
 

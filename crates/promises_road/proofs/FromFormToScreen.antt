@@ -14,7 +14,7 @@ use Rattle.content_fields.proofs.Asked.{content_asked}
 use Rattle.promises_road.specs.Road.{FormTimes, IndexWritten, ContentWritten, Road, handed_bytes, IndexShown, ContentShown, FoundBy}
 use Rattle.promises_road.specs.FromFormToScreen.{FromFormToScreen}
 use Rattle.promises_road.proofs.Calls.{cut_by_call, by_calls}
-use Rattle.promises_road.proofs.Written.{index_read, index-accepted, content-read, given_is, content-accepted}
+use Rattle.promises_road.proofs.Written.{index_read, index_accepted, content_read_lem, given_is, content_accepted}
 use Rattle.promises_road.proofs.Arrived.{handed_out, arrived}
 use Rattle.promises_road.proofs.Shown.{all_shown, stands}
 
@@ -22,10 +22,10 @@ module _ (offset : ℤ) (times : List FormTimes) (t : Index) (body : List ℕ) (
   asked : IndexAsked body t
   asked = index_asked index_kind body w.bytes.byte t (length body) (index_read offset times t body w)
 
-  index-shown : IndexShown offset times t body
-  index-shown =
+  index_shown : IndexShown offset times t body
+  index_shown =
       record {
-        accepted = index-accepted offset times t body w;
+        accepted = index_accepted offset times t body w;
         times_shown = all_shown offset body 0 times t.messages 1 asked.messages_end w.typed asked.messages_asked;
         fields_asked = asked;
       }
@@ -49,8 +49,8 @@ module _ (offset : ℤ) (times : List FormTimes) (t : Index) (body : List ℕ) (
 content_shown : (v w : ℕ) (t : Content) (given : ℕ) (body : List ℕ) → ContentWritten v w t given body → ContentShown v w t given body
 content_shown v w t given body c =
     record {
-      accepted = content-accepted v w t given body c;
-      fields_asked = content_asked w content_kind body c.bytes.byte t (length body) (content-read v w t given body c);
+      accepted = content_accepted v w t given body c;
+      fields_asked = content_asked w content_kind body c.bytes.byte t (length body) (content_read_lem v w t given body c);
     }
 
 -- what is said of a body is so of the bytes that are handed out
@@ -63,7 +63,7 @@ from_form_to_screen =
       cut_by_call = cut_by_call;
       packed_by_calls = by_calls;
       comes_out = handed_out;
-      indexes = λ offset times t body w extension version r. on (IndexShown offset times t) r (index-shown offset times t body w);
+      indexes = λ offset times t body w extension version r. on (IndexShown offset times t) r (index_shown offset times t body w);
       contents = λ v w t given body c version r. on (ContentShown v w t given) r (content_shown v w t given body c);
       found_by = λ offset times t body w extension version r v w' c given text x m n e.
           on (λ (s : List ℕ). FoundBy s m given) r (found_by offset times t body w v w' c given text x m n e);

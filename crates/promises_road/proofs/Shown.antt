@@ -16,7 +16,7 @@ use Rattle.time_printing.specs.Printing.{live_text, prints, start_text, end_text
 use Rattle.time_printing.specs.Typing.{end_typed, typed_times}
 use Rattle.time_printing.specs.declared.TypedTimes.TheVariants.{Fields}
 use Rattle.time_printing.proofs.Calls.{end_live}
-use Rattle.time_printing.proofs.Laws.{typed-prints, typed-prints-end, typed_both}
+use Rattle.time_printing.proofs.Laws.{typed_prints, typed_prints_end, typed_both}
 use Rattle.body_asking.specs.Agreement.{InTurn}
 use Rattle.index.specs.Index.{Message}
 use Rattle.index_fields.specs.Agreement.{MessageAsked}
@@ -31,28 +31,28 @@ module _ (offset : ℤ) where
       by true o = o
       by false o = absurd (let z : ◌≡◌ {A = ℕ} 0 1 = cc (no_offset s offset o) in omega arith)
 
-  same-field : {a b : ℕ} → Field a ≡ Field b → b ≡ a
-  same-field e = cc
+  same_field : {a b : ℕ} → Field a ≡ Field b → b ≡ a
+  same_field e = cc
 
-  end-prints : (live : Bool) (s : List ℕ) (field : ℕ) → is_offset offset ≡ true → end_typed live s offset ≡ Field field
+  end_prints : (live : Bool) (s : List ℕ) (field : ℕ) → is_offset offset ≡ true → end_typed live s offset ≡ Field field
       → end_text field offset ≡ prints (if live then live_text else s)
   unfolding end_typed
-  end-prints true s field o e = end_live field offset o (same-field e)
-  end-prints false s field o e = typed-prints-end offset field s e
+  end_prints true s field o e = end_live field offset o (same_field e)
+  end_prints false s field o e = typed_prints_end offset field s e
 
   module _ (s : List ℕ) where
-    one-shown : (i : ℕ) (x : FormTimes) (m : Message) (p q : ℕ) → typed_times x.start x.live x.end offset ≡ Fields m.start m.end
+    one_shown : (i : ℕ) (x : FormTimes) (m : Message) (p q : ℕ) → typed_times x.start x.live x.end offset ≡ Fields m.start m.end
         → MessageAsked s i m p q → MessageShown s offset i x
     unfolding shown end_shown
-    one-shown i x m p q e a =
+    one_shown i x m p q e a =
         let b = typed_both x.start x.end x.live offset m.start m.end e in
         record {
           at = p + 2;
           size = a.size;
           part = a.part_follows.is;
-          start_shown = ap (shown start_text offset) a.fields_asked.start_is ∙ typed-prints offset m.start x.start b.0;
+          start_shown = ap (shown start_text offset) a.fields_asked.start_is ∙ typed_prints offset m.start x.start b.0;
           end_shown_lem =
-              ap (shown end_text offset) a.fields_asked.end_is ∙ end-prints x.live x.end m.end (allowed x.start m.start b.0) b.1;
+              ap (shown end_text offset) a.fields_asked.end_is ∙ end_prints x.live x.end m.end (allowed x.start m.start b.0) b.1;
         }
 
     pub all_shown : (i : ℕ) (xs : List FormTimes) (ms : List Message) (p q : ℕ) → AllTyped offset xs ms → InTurn (MessageAsked s) i ms p q
@@ -61,7 +61,7 @@ module _ (offset : ℤ) where
     all_shown i [] [] p q t a = tt
     all_shown i [] (m ∷ ms) p q t a = tt
     all_shown i (x ∷ xs) [] p q t a = absurd t
-    all_shown i (x ∷ xs) (m ∷ ms) p q t a = (one-shown i x m p a.0 t.0 a.1, all_shown (suc i) xs ms a.0 q t.1 a.2)
+    all_shown i (x ∷ xs) (m ∷ ms) p q t a = (one_shown i x m p a.0 t.0 a.1, all_shown (suc i) xs ms a.0 q t.1 a.2)
 
 -- a message of the table stands in the body, under its number
 pub stands : (s : List ℕ) (i : ℕ) (ms : List Message) (p q : ℕ) → InTurn (MessageAsked s) i ms p q → (m : Message) → In m ms

@@ -18,13 +18,13 @@ use Rattle.time_fields.specs.Field.{live_mark}
 use Rattle.time_printing.specs.Printing.{prints, start_text}
 use Rattle.time_printing.specs.Typing.{with_end, together, typed_times}
 use Rattle.time_printing.specs.declared.TypedTimes.TheVariants.{Fields}
-use Rattle.time_printing.proofs.Laws.{printed-reads, live_typed, text_typed, typed_as}
+use Rattle.time_printing.proofs.Laws.{printed_reads, live_typed, text_typed, typed_as}
 use Rattle.section_reader.specs.Section.{WellFormed}
 use Rattle.section_reader.specs.declared.Heading.{Heading}
 use Rattle.section_reader.proofs.Reading.{kind_within}
 use Rattle.section_cutter.specs.Cutting.{section_count, part_carried, cut_heading, section_of, Askable}
 use Rattle.section_cutter.proofs.Counting.{count_most}
-use Rattle.section_cutter.proofs.Sections.{cut-good}
+use Rattle.section_cutter.proofs.Sections.{cut_good}
 use Rattle.packet_arrival.specs.Packed.{GoodSection, AllGood}
 use Rattle.packet_arrival.proofs.Arrival.{arrives}
 use Rattle.gathering_state.specs.State.{has_room}
@@ -33,11 +33,11 @@ use Rattle.gathering_account.specs.Account.{good_current, heard}
 use Rattle.gathering_account.specs.Gathers.{ByteStrings}
 use Rattle.gathering_account.specs.Arrival.{heading_at, CutInto, Arrives, ArrivesFirst, sections_listed}
 use Rattle.gathering_account.proofs.Bytes.{part_bytes, printed_bytes}
-use Rattle.gathering_account.proofs.Cuts.{cut-count, cutter-cut}
-use Rattle.gathering_account.proofs.Growing.{heard_same, own-not-newer}
-use Rattle.gathering_account.proofs.Listed.{listed-arrives}
+use Rattle.gathering_account.proofs.Cuts.{cut_count, cutter_cut}
+use Rattle.gathering_account.proofs.Growing.{heard_same, own_not_newer}
+use Rattle.gathering_account.proofs.Listed.{listed_arrives}
 use Rattle.gathering_account.proofs.Standing.{never}
-use Rattle.gathering_account.proofs.Whole.{first-arrives}
+use Rattle.gathering_account.proofs.Whole.{first_arrives}
 use Rattle.body_extension.specs.Extension.{extension_of}
 use Rattle.body_formats.specs.Reading.{found}
 use Rattle.body_formats.specs.Format.{Format}
@@ -51,7 +51,7 @@ use Rattle.content.specs.Content.{Content, content_kind, content}
 use Rattle.content.proofs.RoundTrips.{content_trips}
 use Rattle.content_writer.specs.Written.{content_written}
 use Rattle.content_writer.specs.declared.Written.TheVariants.{Of}
-use Rattle.content_writer.proofs.Variants.{written-wide, output-wide}
+use Rattle.content_writer.proofs.Variants.{written_wide, output_wide}
 use Rattle.promises_road.specs.Road.{FormTimes, AllTyped, IndexWritten, ContentWritten, OverPackets, Gathered, Road}
 use Rattle.promises_road.specs.Travelled.{all_sections, Roomy, Travelled}
 use Rattle.promises_road.proofs.Called.{can_call}
@@ -65,8 +65,8 @@ module _ {A : Type 0} (F : Format A) (own : ℕ) (f : RoundTrips F own) (t : A) 
   abbrev body : List ℕ
   body = F.print t
 
-  own-form : (writing F body (F.tape t 0) (length body) ≡ found t (length body)) × (body ≡ take (length body) (output_written F body (F.tape t 0) body))
-  own-form =
+  own_form : (writing F body (F.tape t 0) (length body) ≡ found t (length body)) × (body ≡ take (length body) (output_written F body (F.tape t 0) body))
+  own_form =
       let r = f.reads_back t (record { writable = writable; small = small }) short in
       let w = f.writes_back own body bytes.byte t (length body) r body (omega arith) in
       (w.0, sym (ap (take (length body)) w.1 ∙ placed_start body body (length body) refl))
@@ -75,7 +75,7 @@ index_forms : (offset : ℤ) (times : List FormTimes) (t : Index) → AllTyped o
     → index.writable t ≡ true → index.too_large t ≡ false → AreBytes (index.print t) → length (index.print t) ≤ body_most
     → IndexWritten offset times t (index.print t)
 index_forms offset times t typed writable small bytes short =
-    let o = own-form index index_kind index_trips t writable small bytes short in
+    let o = own_form index index_kind index_trips t writable small bytes short in
     record { typed = typed; pool = index.print t; tape = index.tape t 0; out = index.print t; filled = o.0; body_is = o.1; bytes = bytes }
 
 content_forms : (v w : ℕ) (t : Content) → Bytes w ≡ width_of v
@@ -85,7 +85,7 @@ unfolding content_written
 content_forms v w t variant writable small bytes short =
     let body = (content w).print t in
     let tape = (content w).tape t 0 in
-    let o = own-form (content w) content_kind (content_trips w) t writable small bytes short in
+    let o = own_form (content w) content_kind (content_trips w) t writable small bytes short in
     let answered : content_written w body tape (length body) ≡ Of (length body) (extension_of t.identifier) = rw o.0 in
     record {
       variant = variant;
@@ -93,19 +93,19 @@ content_forms v w t variant writable small bytes short =
       tape = tape;
       out = body;
       filled = o.0;
-      answered = sym (written-wide v w variant body tape (length body)) ∙ answered;
-      body_is = o.1 ∙ ap (take (length body)) (output-wide v w variant body tape body);
+      answered = sym (written_wide v w variant body tape (length body)) ∙ answered;
+      body_is = o.1 ∙ ap (take (length body)) (output_wide v w variant body tape body);
       bytes = bytes;
     }
 
 module _ (offset : ℤ) (a : ℕ) (s e : List ℕ) (p : start_text a offset ≡ prints s) where
   typable : (b : ℕ) → start_text b offset ≡ prints e → typed_times s false e offset ≡ Fields a b
   unfolding together with_end
-  typable b q = typed_as s e false offset _ _ (printed-reads offset a s p) (text_typed false e offset refl ∙ printed-reads offset b e q)
+  typable b q = typed_as s e false offset _ _ (printed_reads offset a s p) (text_typed false e offset refl ∙ printed_reads offset b e q)
 
   live_typable : typed_times s true e offset ≡ Fields a live_mark
   unfolding together with_end
-  live_typable = typed_as s e true offset _ _ (printed-reads offset a s p) (live_typed true e offset refl)
+  live_typable = typed_as s e true offset _ _ (printed_reads offset a s p) (live_typed true e offset refl)
 
 -- ---- sections one after the other
 
@@ -122,10 +122,10 @@ module _ (P : List ℕ → Type 0) where
       go (inl j) = f s j
       go (inr j) = g s j
 
-  listed-each : (sections : ℕ → List ℕ) (k n : ℕ) → ((i : ℕ) → i < k + n → P (sections i)) → (s : List ℕ) → In s (sections_listed sections k n) → P s
+  listed_each : (sections : ℕ → List ℕ) (k n : ℕ) → ((i : ℕ) → i < k + n → P (sections i)) → (s : List ℕ) → In s (sections_listed sections k n) → P s
   unfolding sections_listed
-  listed-each sections k zero f s i = absurd (Memᴰ.not-nil i)
-  listed-each sections k (suc n) f s i = go (Memᴰ.cases_cons i) (listed-each sections (suc k) n (λ j l. f j (omega arith)) s)
+  listed_each sections k zero f s i = absurd (Memᴰ.not-nil i)
+  listed_each sections k (suc n) f s i = go (Memᴰ.cases_cons i) (listed_each sections (suc k) n (λ j l. f j (omega arith)) s)
     where
       go : (s ≡ sections k) ⊎ In s (sections_listed sections (suc k) n) → (In s (sections_listed sections (suc k) n) → P s) → P s
       go (inl e) later = subst P (sym e) (f k (omega arith))
@@ -143,11 +143,11 @@ module _ (body : List ℕ) (kind extension version : ℕ) (a : Askable (length b
   askable : (number : ℕ) → number < section_count (length body) → Askable (length body) kind extension version number
   askable number within = record { allowed = a.allowed; some = a.some; most = a.most; within = within }
 
-  sections-good : AllGood (all_sections body kind extension version)
-  sections-good =
+  sections_good : AllGood (all_sections body kind extension version)
+  sections_good =
       listed_good (section_of body kind extension version) 0 (section_count (length body))
       (λ i l.
-      (cut_heading (length body) kind extension version i, length (part_carried body i), (cut-good body kind extension version i (askable i (omega arith))).reads))
+      (cut_heading (length body) kind extension version i, length (part_carried body i), (cut_good body kind extension version i (askable i (omega arith))).reads))
 
   formed : (number : ℕ) → number < section_count (length body) → WellFormed (cut_heading (length body) kind extension version number)
   unfolding cut_heading
@@ -163,41 +163,41 @@ module _ (body : List ℕ) (kind extension version : ℕ) (a : Askable (length b
         last_high = omega arith;
       }
 
-  sections-bytes : AreBytes body → (s : List ℕ) → In s (all_sections body kind extension version) → AreBytes s
+  sections_bytes : AreBytes body → (s : List ℕ) → In s (all_sections body kind extension version) → AreBytes s
   unfolding section_of
-  sections-bytes b =
-      listed-each AreBytes (section_of body kind extension version) 0 (section_count (length body))
+  sections_bytes b =
+      listed_each AreBytes (section_of body kind extension version) 0 (section_count (length body))
       (λ i l. printed_bytes (cut_heading (length body) kind extension version i) (part_carried body i) (formed i (omega arith)) (part_bytes body i b))
 
   is_cut : CutInto heading (section_of body kind extension version)
-  is_cut = cutter-cut body kind extension version a.allowed a.some a.most
+  is_cut = cutter_cut body kind extension version a.allowed a.some a.most
 
-  own-arrives : (store : List ℕ) → Roomy store body kind extension version
+  own_arrives : (store : List ℕ) → Roomy store body kind extension version
       → Arrives (has_room (length store)) heading (section_of body kind extension version) (all_sections body kind extension version)
-  own-arrives store r =
-      rw (cut-count body kind extension version a.allowed a.some a.most) at
-      (listed-arrives (section_of body kind extension version) (has_room (length store)) heading is_cut r)
+  own_arrives store r =
+      rw (cut_count body kind extension version a.allowed a.some a.most) at
+      (listed_arrives (section_of body kind extension version) (has_room (length store)) heading is_cut r)
 
   -- what is heard of one of them: its heading is the table's but for the number
-  heard-own : (s : List ℕ) → In s (all_sections body kind extension version)
+  heard_own : (s : List ℕ) → In s (all_sections body kind extension version)
       → (k : ℕ) × (k ≤ heading.last) × (s ≡ section_of body kind extension version k)
       × ((g : Heading) (p : List ℕ) → heard s ≡ good_current g p → g ≡ heading_at heading k)
   unfolding CutInto
-  heard-own =
-      let c = cut-count body kind extension version a.allowed a.some a.most in
-      listed-each _ (section_of body kind extension version) 0 (section_count (length body))
+  heard_own =
+      let c = cut_count body kind extension version a.allowed a.some a.most in
+      listed_each _ (section_of body kind extension version) 0 (section_count (length body))
       (λ i l. (i, omega arith, refl, λ g p e. (heard_same _ _ _ _ _ e (is_cut i (omega arith))).0))
 
   alone : (got : List (List ℕ)) → ((s : List ℕ) → In s (all_sections body kind extension version) → In s got)
       → (store : List ℕ) → Roomy store body kind extension version
       → Gathered body kind extension version got store (all_sections body kind extension version)
-  alone got f store r = record { cut = a; received = f; arrives = own-arrives store r }
+  alone got f store r = record { cut = a; received = f; arrives = own_arrives store r }
 
   none_first : (got : List (List ℕ)) (store : List ℕ) (fed : List (List ℕ)) → ((s : List ℕ) → In s fed → In s got)
       → ArrivesFirst (has_room (length store)) heading (section_of body kind extension version) fed
       → Gathered body kind extension version got store fed
   none_first got store fed f x =
-      record { cut = a; received = f; arrives = first-arrives (has_room (length store)) heading (section_of body kind extension version) is_cut fed x }
+      record { cut = a; received = f; arrives = first_arrives (has_room (length store)) heading (section_of body kind extension version) is_cut fed x }
 
 -- ---- strangers and repeats
 
@@ -207,8 +207,8 @@ record Harmless (h : Heading) (sections : ℕ → List ℕ) (s : List ℕ) : Typ
   none_ahead : (g : Heading) (p : List ℕ) → heard s ≡ good_current g p → is_newer h g ≡ false
 
 module _ (room : ℕ → Bool) (h : Heading) (sections : ℕ → List ℕ) (fed more : List (List ℕ)) (f : (s : List ℕ) → In s more → Harmless h sections s) where
-  still-arrives : Arrives room h sections fed → Arrives room h sections (fed ++ more)
-  still-arrives x =
+  still_arrives : Arrives room h sections fed → Arrives room h sections (fed ++ more)
+  still_arrives x =
       record {
         roomy = x.roomy;
         before = x.before;
@@ -224,17 +224,17 @@ module _ (room : ℕ → Bool) (h : Heading) (sections : ℕ → List ℕ) (fed 
 
 -- headings of another kind or another extension
 module _ (h g : Heading) (other : h.kind ≡ g.kind → h.extension ≡ g.extension → ⊥) where
-  both-same : eqb h.kind g.kind ≡ true → eqb h.extension g.extension ≡ true → ⊥
-  both-same a b = other (eqb-true h.kind g.kind a) (eqb-true h.extension g.extension b)
+  both_same : eqb h.kind g.kind ≡ true → eqb h.extension g.extension ≡ true → ⊥
+  both_same a b = other (eqb-true h.kind g.kind a) (eqb-true h.extension g.extension b)
 
   not_same : same_table h g ≡ true → ⊥
   unfolding same_table
-  not_same e = let a = both _ _ (both _ _ (both _ _ e).0).0 in both-same a.0 a.1
+  not_same e = let a = both _ _ (both _ _ (both _ _ e).0).0 in both_same a.0 a.1
 
-  not-newer : (b : Bool) → is_newer h g ≡ b → is_newer h g ≡ false
+  not_newer : (b : Bool) → is_newer h g ≡ b → is_newer h g ≡ false
   unfolding is_newer
-  not-newer true e = let a = both _ _ (both _ _ (both _ _ e).0).0 in absurd (both-same a.0 a.1)
-  not-newer false e = e
+  not_newer true e = let a = both _ _ (both _ _ (both _ _ e).0).0 in absurd (both_same a.0 a.1)
+  not_newer false e = e
 
 module _ (body text : List ℕ) (kind extension version kind' extension' version' : ℕ) (differ : kind ≡ kind' → extension ≡ extension' → ⊥)
     (a : Askable (length body) kind extension version 0) (a' : Askable (length text) kind' extension' version' 0) where
@@ -247,18 +247,18 @@ module _ (body text : List ℕ) (kind extension version kind' extension' version
 
   theirs : (s : List ℕ) → In s (all_sections text kind' extension' version') → Harmless h (section_of body kind extension version) s
   theirs s i =
-      let o = heard-own text kind' extension' version' a' s i in
+      let o = heard_own text kind' extension' version' a' s i in
       record {
         no_stranger = λ g p e same. absurd (not_same h g (apart o.0 g (o.3 g p e)) same);
-        none_ahead = λ g p e. not-newer h g (apart o.0 g (o.3 g p e)) (is_newer h g) refl;
+        none_ahead = λ g p e. not_newer h g (apart o.0 g (o.3 g p e)) (is_newer h g) refl;
       }
 
   ours : (s : List ℕ) → In s (all_sections body kind extension version) → Harmless h (section_of body kind extension version) s
   ours s i =
-      let o = heard-own body kind extension version a s i in
+      let o = heard_own body kind extension version a s i in
       record {
         no_stranger = λ g p e same. (o.0, o.1, o.2);
-        none_ahead = λ g p e. ap (is_newer h) (o.3 g p e) ∙ own-not-newer h o.0;
+        none_ahead = λ g p e. ap (is_newer h) (o.3 g p e) ∙ own_not_newer h o.0;
       }
 
   among_others : (store : List ℕ) → Roomy store body kind extension version
@@ -269,9 +269,9 @@ module _ (body text : List ℕ) (kind extension version kind' extension' version
         cut = a;
         received = λ s i. i;
         arrives =
-            still-arrives (has_room (length store)) h (section_of body kind extension version) (all_sections body kind extension version) _
+            still_arrives (has_room (length store)) h (section_of body kind extension version) (all_sections body kind extension version) _
             (each_append _ (all_sections text kind' extension' version') _ theirs ours)
-            (own-arrives body kind extension version a store r);
+            (own_arrives body kind extension version a store r);
       }
 
 -- ---- a stream
@@ -291,7 +291,7 @@ module _ (body : List ℕ) (kind extension version : ℕ) (bytes : AreBytes body
       record {
         sent = all;
         got = all;
-        over_packets = over_packets all (sections-good body kind extension version a) (sections-bytes body kind extension version a bytes);
+        over_packets = over_packets all (sections_good body kind extension version a) (sections_bytes body kind extension version a bytes);
         store = store;
         fed = all;
         gathered = alone body kind extension version a all (λ s i. i) store r;
@@ -312,11 +312,11 @@ travelled =
       stream = λ body text kind extension version kind' extension' version' b b' a a'.
           let ss = all_sections body kind extension version in
           let ts = all_sections text kind' extension' version' in
-          let good = sections-good body kind extension version a in
-          let bytes = sections-bytes body kind extension version a b in
+          let good = sections_good body kind extension version a in
+          let bytes = sections_bytes body kind extension version a b in
           over_packets (ss ++ (ts ++ ss))
-          (good_append ss (ts ++ ss) good (good_append ts ss (sections-good text kind' extension' version' a') good))
-          (each_append AreBytes ss (ts ++ ss) bytes (each_append AreBytes ts ss (sections-bytes text kind' extension' version' a' b') bytes));
+          (good_append ss (ts ++ ss) good (good_append ts ss (sections_good text kind' extension' version' a') good))
+          (each_append AreBytes ss (ts ++ ss) bytes (each_append AreBytes ts ss (sections_bytes text kind' extension' version' a' b') bytes));
       roads = roads;
       alone = alone;
       among_others = among_others;

@@ -18,38 +18,38 @@ use Rattle.index.specs.Index.{Index, index_kind, index}
 use Rattle.index.proofs.RoundTrips.{index_trips}
 use Rattle.content.specs.Content.{Content, content_kind, content, reading_of, content_read, variant_read}
 use Rattle.content.proofs.RoundTrips.{content_trips}
-use Rattle.content.proofs.Variants.{variant-reads}
+use Rattle.content.proofs.Variants.{variant_reads}
 use Rattle.content_writer.specs.Written.{content_written}
 use Rattle.content_writer.specs.declared.Written.TheVariants.{Of}
-use Rattle.content_writer.proofs.Variants.{written-wide, output-wide}
+use Rattle.content_writer.proofs.Variants.{written_wide, output_wide}
 use Rattle.promises_road.specs.Road.{FormTimes, IndexWritten, ContentWritten}
 
 module _ {A : Type 0} (F : Format A) (own : ℕ) (f : RoundTrips F own) (pool tape out : List ℕ) (t : A) (n : ℕ)
     (e : writing F pool tape (length out) ≡ found t n) where
-  laid-over : output_written F pool tape out ≡ placed out 0 (F.print t)
+  laid_over_lem : output_written F pool tape out ≡ placed out 0 (F.print t)
   unfolding output_written
-  laid-over = rw e
+  laid_over_lem = rw e
 
-  print-written : take n (output_written F pool tape out) ≡ F.print t
-  print-written = ap (take n) laid-over ∙ placed_start out (F.print t) n (f.written_reads_back pool tape (length out) t n e).0
+  print_written : take n (output_written F pool tape out) ≡ F.print t
+  print_written = ap (take n) laid_over_lem ∙ placed_start out (F.print t) n (f.written_reads_back pool tape (length out) t n e).0
 
   pub written_read : (body : List ℕ) → body ≡ take n (output_written F pool tape out) → reading F own own body ≡ found t n
   written_read body b =
-      subst (λ (s : List ℕ). reading F own own s ≡ found t n) (sym (b ∙ print-written)) (f.written_reads_back pool tape (length out) t n e).3
+      subst (λ (s : List ℕ). reading F own own s ≡ found t n) (sym (b ∙ print_written)) (f.written_reads_back pool tape (length out) t n e).3
 
 module _ (offset : ℤ) (times : List FormTimes) (t : Index) (body : List ℕ) (w : IndexWritten offset times t body) where
   pub index_read : reading index index_kind index_kind body ≡ found t (length body)
   index_read = written_read index index_kind index_trips w.pool w.tape w.out t (length body) w.filled body w.body_is
 
-  pub index-accepted : body_read index index_kind index_kind body ≡ At (length body)
+  pub index_accepted : body_read index index_kind index_kind body ≡ At (length body)
   unfolding body_read
-  index-accepted = ap step_of index_read
+  index_accepted = ap step_of index_read
 
 module _ (v w : ℕ) (t : Content) (given : ℕ) (body : List ℕ) (c : ContentWritten v w t given body) where
-  pub content-read : reading (content w) content_kind content_kind body ≡ found t (length body)
-  content-read =
+  pub content_read_lem : reading (content w) content_kind content_kind body ≡ found t (length body)
+  content_read_lem =
       written_read (content w) content_kind (content_trips w) c.pool c.tape c.out t (length body) c.filled body
-      (c.body_is ∙ ap (take (length body)) (sym (output-wide v w c.variant c.pool c.tape c.out)))
+      (c.body_is ∙ ap (take (length body)) (sym (output_wide v w c.variant c.pool c.tape c.out)))
 
   written_of : content_written w c.pool c.tape (length c.out) ≡ Of (length body) (extension_of t.identifier)
   unfolding content_written
@@ -57,12 +57,12 @@ module _ (v w : ℕ) (t : Content) (given : ℕ) (body : List ℕ) (c : ContentW
 
   pub given_is : given ≡ extension_of t.identifier
   given_is =
-      let e = sym c.answered ∙ sym (written-wide v w c.variant c.pool c.tape (length c.out)) ∙ written_of in
+      let e = sym c.answered ∙ sym (written_wide v w c.variant c.pool c.tape (length c.out)) ∙ written_of in
       cc
 
-  read-given : content_read w content_kind given body ≡ At (length body)
+  read_given : content_read w content_kind given body ≡ At (length body)
   unfolding content_read reading_of
-  read-given = rw (content-read, eq-eqb given (extension_of t.identifier) given_is)
+  read_given = rw (content_read_lem, eq-eqb given (extension_of t.identifier) given_is)
 
-  pub content-accepted : variant_read content_kind v given body ≡ At (length body)
-  content-accepted = variant-reads v w c.variant content_kind body given ∙ read-given
+  pub content_accepted : variant_read content_kind v given body ≡ At (length body)
+  content_accepted = variant_reads v w c.variant content_kind body given ∙ read_given

@@ -26,33 +26,33 @@ pub good_last : (s : List ℕ) → AreBytes s → (h : Heading) (n : ℕ) → re
 good_last s b h n e = (good_printed s h n b e).formed.last_high
 
 module _ (h : Heading) (p : List ℕ) (l : h.last ≤ 255) where
-  begun-same : (a : Account) → begun (has_room 1045504) a h p ≡ begun always a h p
+  begun_same : (a : Account) → begun (has_room 1045504) a h p ≡ begun always a h p
   unfolding begun always
-  begun-same a = rw (own_room h.last l)
+  begun_same a = rw (own_room h.last l)
 
-  after-good : (a : Account) → account_after (has_room 1045504) a (good_current h p) ≡ account_after always a (good_current h p)
+  after_good : (a : Account) → account_after (has_room 1045504) a (good_current h p) ≡ account_after always a (good_current h p)
   unfolding account_after
-  after-good idle = begun-same idle
-  after-good (table t S) = rw (begun-same (table t S))
+  after_good idle = begun_same idle
+  after_good (table t S) = rw (begun_same (table t S))
 
-  first-same : answer_of_first (has_room 1045504) h ≡ answer_of_first always h
+  first_same : answer_of_first (has_room 1045504) h ≡ answer_of_first always h
   unfolding answer_of_first always
-  first-same = rw (own_room h.last l)
+  first_same = rw (own_room h.last l)
 
-  answer-good : (a : Account) → answer_of_good (has_room 1045504) a h p ≡ answer_of_good always a h p
+  answer_good : (a : Account) → answer_of_good (has_room 1045504) a h p ≡ answer_of_good always a h p
   unfolding answer_of_good
-  answer-good idle = first-same
-  answer-good (table t S) = rw first-same
+  answer_good idle = first_same
+  answer_good (table t S) = rw first_same
 
 module _ (a : Account) (s : List ℕ) (b : AreBytes s) where
-  after-heard : (x : Heard) → ((h : Heading) (p : List ℕ) → x ≡ good_current h p → h.last ≤ 255) → account_after (has_room 1045504) a x ≡ account_after always a x
+  after_heard : (x : Heard) → ((h : Heading) (p : List ℕ) → x ≡ good_current h p → h.last ≤ 255) → account_after (has_room 1045504) a x ≡ account_after always a x
   unfolding account_after
-  after-heard nothing f = refl
-  after-heard (good_current h p) f = after-good h p (f h p refl) a
+  after_heard nothing f = refl
+  after_heard (good_current h p) f = after_good h p (f h p refl) a
 
-  heard-last : (h : Heading) (p : List ℕ) → heard s ≡ good_current h p → h.last ≤ 255
+  heard_last : (h : Heading) (p : List ℕ) → heard s ≡ good_current h p → h.last ≤ 255
   unfolding heard heard_as
-  heard-last h p e = go (read_as s)
+  heard_last h p e = go (read_as s)
     where
       current : (i : Heading) → i.last ≤ 255 → (c : Bool) → (if c then good_current i (payload_of s) else nothing) ≡ good_current h p → h.last ≤ 255
       current i l true f = let q : i ≡ h = cc in rw (← q) l
@@ -62,13 +62,13 @@ module _ (a : Account) (s : List ℕ) (b : AreBytes s) where
       go (as_good i n f) = current i (good_last s b i n f) i.current (rw f at e)
       go (as_bad r f) = let q = rw f at e in let z : ◌≡◌ {A = ℕ} 0 1 = cc in absurd (omega arith)
 
-  pub always-after : account_after (has_room 1045504) a (heard s) ≡ account_after always a (heard s)
-  always-after = after-heard (heard s) heard-last
+  pub always_after : account_after (has_room 1045504) a (heard s) ≡ account_after always a (heard s)
+  always_after = after_heard (heard s) heard_last
 
-  pub always-answer : answer_to (has_room 1045504) a s ≡ answer_to always a s
+  pub always_answer : answer_to (has_room 1045504) a s ≡ answer_to always a s
   unfolding answer_to answer_of_read
-  always-answer = go (read_as s)
+  always_answer = go (read_as s)
     where
       go : ReadAs s → answer_of_read (has_room 1045504) a s (read_section s) ≡ answer_of_read always a s (read_section s)
-      go (as_good h n e) = rw (e, answer-good h (payload_of s) (good_last s b h n e) a)
+      go (as_good h n e) = rw (e, answer_good h (payload_of s) (good_last s b h n e) a)
       go (as_bad r e) = rw e

@@ -24,8 +24,8 @@ use Rattle.rooms_end.specs.Ending.{ended_for, ended_of}
 use Rattle.rooms_end.specs.declared.Ended.TheVariants.{Done}
 use Rattle.rooms_account.specs.Alone.{Call, feeding, handing_out, ending, fed, handed, ended, tells, after, handed_to, out_to, needs}
 use Rattle.rooms_account.specs.Runs.{Box, told, box_after, same_network, free_for, needs_at}
-use Rattle.rooms_account.proofs.Feeding.{Own, Leaves, leaves_all, needs-is, left_by, goes_by}
-use Rattle.rooms_account.proofs.Handing.{own-handed, own_out}
+use Rattle.rooms_account.proofs.Feeding.{Own, Leaves, leaves_all, needs_is, left_by, goes_by}
+use Rattle.rooms_account.proofs.Handing.{own_handed, own_out}
 
 -- the test for a box
 abbrev pub possible : Box → Bool
@@ -115,74 +115,74 @@ module _ (i : Network) (x : Box) (ok : possible x ≡ true) where
     abbrev room : ℕ
     room = room_for n (part i x) (theirs i x.state).rooms v
 
-    pub fed-next : box_after (some i) x (feeding s)
+    pub fed_next : box_after (some i) x (feeding s)
         ≡ record {
           state = with_mine i x.state (part_by (part i x) (payload_of s) room (roomed v room));
           store = store_by x.store (payload_of s) room (roomed v room);
         }
     unfolding box_after fed_of store_after fed_for store_for part_fed part_store room_verdict
-    fed-next = rw ok
+    fed_next = rw ok
 
-    pub fed-told : told (some i) x (feeding s) ≡ fed (answer_by (roomed v room))
+    pub fed_told : told (some i) x (feeding s) ≡ fed (answer_by (roomed v room))
     unfolding told fed_of fed_for part_fed room_verdict
-    fed-told = rw ok
+    fed_told = rw ok
 
-    fed-step : AreBytes s → Step i x (feeding s)
+    fed_step : AreBytes s → Step i x (feeding s)
     unfolding after tells free_for needs needs_at
-    fed-step are_bytes =
+    fed_step are_bytes =
         record {
           part' = part_by (part i x) (payload_of s) room (roomed v room);
           store' = store_by x.store (payload_of s) room (roomed v room);
-          next_is = fed-next;
+          next_is = fed_next;
           leaves = left_by n (part i x) (theirs i x.state) x.store sound s are_bytes room v refl refl;
           goes = λ a own.
               (let g = goes_by n (part i x) (theirs i x.state) x.store sound s are_bytes room own v refl refl in
-              (g.0, fed-told ∙ ap fed g.1, needs-is n (part i x) (theirs i x.state) x.store sound s are_bytes own));
+              (g.0, fed_told ∙ ap fed g.1, needs_is n (part i x) (theirs i x.state) x.store sound s are_bytes own));
         }
 
   module _ (out : List ℕ) where
-    pub handed-next : box_after (some i) x (handing_out out) ≡ record { state = with_mine i x.state (part i x); store = x.store }
+    pub handed_next : box_after (some i) x (handing_out out) ≡ record { state = with_mine i x.state (part i x); store = x.store }
     unfolding box_after
-    handed-next = ap (λ (y : Networks). record { state = y; store = x.store }) (same_with i x.state)
+    handed_next = ap (λ (y : Networks). record { state = y; store = x.store }) (same_with i x.state)
 
     handed_told : {a : Account} → Owns i x a → told (some i) x (handing_out out) ≡ handed (handed_to a (length out)) (out_to a out)
     unfolding told handed_of out_after handed_for out_for
-    handed_told own = rw (ok, own-handed (part i x) x.store own out, own_out (part i x) x.store own out)
+    handed_told own = rw (ok, own_handed (part i x) x.store own out, own_out (part i x) x.store own out)
 
-    handed-step : Step i x (handing_out out)
+    handed_step : Step i x (handing_out out)
     unfolding after tells free_for needs needs_at
-    handed-step =
+    handed_step =
         record {
           part' = part i x;
           store' = x.store;
-          next_is = handed-next;
+          next_is = handed_next;
           leaves = leaves_all sound;
           goes = λ a own. (own, handed_told own, refl);
         }
 
-  pub ended-next : box_after (some i) x ending ≡ record { state = with_mine i x.state fresh_part; store = x.store }
+  pub ended_next : box_after (some i) x ending ≡ record { state = with_mine i x.state fresh_part; store = x.store }
   unfolding box_after ended_of ended_for
-  ended-next = rw ok
+  ended_next = rw ok
 
-  ended-told : told (some i) x ending ≡ ended Done
+  ended_told : told (some i) x ending ≡ ended Done
   unfolding told ended_of ended_for
-  ended-told = rw ok
+  ended_told = rw ok
 
-  ended-step : Step i x ending
+  ended_step : Step i x ending
   unfolding after tells free_for needs needs_at
-  ended-step =
+  ended_step =
       record {
         part' = fresh_part;
         store' = x.store;
-        next_is = ended-next;
+        next_is = ended_next;
         leaves = leaves_all (fresh_sound sound);
-        goes = λ a own. (fresh_own x.store, ended-told, refl);
+        goes = λ a own. (fresh_own x.store, ended_told, refl);
       }
 
   pub step : (c : Call) → ((s : List ℕ) → c ≡ feeding s → AreBytes s) → Step i x c
-  step (feeding s) b = fed-step s (b s refl)
-  step (handing_out out) b = handed-step out
-  step ending b = ended-step
+  step (feeding s) b = fed_step s (b s refl)
+  step (handing_out out) b = handed_step out
+  step ending b = ended_step
 
   module _ (c : Call) (b : (s : List ℕ) → c ≡ feeding s → AreBytes s) where
     -- a possible box stays possible
@@ -193,11 +193,11 @@ module _ (i : Network) (x : Box) (ok : possible x ≡ true) where
         let k = (networks_are x.state (length x.store) ok).long in
         rw (t.next_is, l) (networks_test _ (length x.store) (with_is i x.state t.part' k (rw l at t.leaves.sound)))
 
-    pub own-goes : {a : Account} → Owns i x a → Owns i (box_after (some i) x c) (after a c (free_for i x c))
-    own-goes own = let t = step c b in rw (t.next_is, mine_with i x.state t.part') (t.goes _ own).0
+    pub own_goes : {a : Account} → Owns i x a → Owns i (box_after (some i) x c) (after a c (free_for i x c))
+    own_goes own = let t = step c b in rw (t.next_is, mine_with i x.state t.part') (t.goes _ own).0
 
-    pub other-stays : (j : Network) → same_network j i ≡ false → {a : Account} → Owns j x a → Owns j (box_after (some i) x c) a
-    other-stays j d own =
+    pub other_stays : (j : Network) → same_network j i ≡ false → {a : Account} → Owns j x a → Owns j (box_after (some i) x c) a
+    other_stays j d own =
         let t = step c b in
         let f = rw (theirs_other i j d x.state) at t.leaves.others in
         rw (t.next_is, other_with i j d x.state t.part')

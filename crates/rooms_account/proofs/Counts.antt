@@ -18,8 +18,8 @@ use Rattle.rooms_count.proofs.Counting.{held_plus_free}
 use Rattle.rooms_account.specs.Alone.{Call, feeding, handing_out, ending}
 use Rattle.rooms_account.specs.Runs.{Box, fresh_box, Asked, box_after, next, run, ByteCalls, same_network, is_of, owns}
 use Rattle.rooms_account.specs.Counts.{Tally, tallied, tally_of, no_tally, CountedBy}
-use Rattle.rooms_account.proofs.Feeding.{balanced-by}
-use Rattle.rooms_account.proofs.Calls.{possible, part, sound, mine_with, other_with, fed-next, handed-next, ended-next, step}
+use Rattle.rooms_account.proofs.Feeding.{balanced_by}
+use Rattle.rooms_account.proofs.Calls.{possible, part, sound, mine_with, other_with, fed_next, handed_next, ended_next, step}
 use Rattle.rooms_account.proofs.Runs.{Whose, own_call, other_call, nobodys, whose, same_self, nobody_next, ByteCall, first_bytes, rest_bytes}
 use Rattle.rooms_account.proofs.Runs.{next_possible, run_possible, fresh_possible}
 
@@ -34,27 +34,27 @@ fresh_holds = held_zeros 256
 -- ---- one call
 
 module _ (i : Network) (x : Box) (ok : possible x ≡ true) (t : Tally) (b : Balanced i x t) where
-  own-balanced : (c : Call) → ((s : List ℕ) → c ≡ feeding s → AreBytes s) → Balanced i (box_after (some i) x c) (tallied i x c t)
+  own_balanced : (c : Call) → ((s : List ℕ) → c ≡ feeding s → AreBytes s) → Balanced i (box_after (some i) x c) (tallied i x c t)
   unfolding tallied room_verdict
-  own-balanced (feeding s) are_bytes =
-      rw (fed-next i x ok s, mine_with i x.state _)
-      (balanced-by (rooms_in (length x.store)) (part i x) (theirs i x.state) x.store (sound i x ok) s (are_bytes s refl)
+  own_balanced (feeding s) are_bytes =
+      rw (fed_next i x ok s, mine_with i x.state _)
+      (balanced_by (rooms_in (length x.store)) (part i x) (theirs i x.state) x.store (sound i x ok) s (are_bytes s refl)
       (room_for (rooms_in (length x.store)) (part i x) (theirs i x.state).rooms (verdict_of (part i x) x.store s)) t b
       (verdict_of (part i x) x.store s) refl refl)
-  own-balanced (handing_out out) are_bytes = rw (handed-next i x ok out, mine_with i x.state (part i x)) b
-  own-balanced ending are_bytes = rw (ended-next i x ok, mine_with i x.state fresh_part) (let f = fresh_holds in omega arith)
+  own_balanced (handing_out out) are_bytes = rw (handed_next i x ok out, mine_with i x.state (part i x)) b
+  own_balanced ending are_bytes = rw (ended_next i x ok, mine_with i x.state fresh_part) (let f = fresh_holds in omega arith)
 
-  other-balanced : (j : Network) → same_network i j ≡ false → (c : Call) → ((s : List ℕ) → c ≡ feeding s → AreBytes s) → Balanced i (box_after (some j) x c) t
-  other-balanced j d c are_bytes = let u = step j x ok c are_bytes in rw (u.next_is, other_with j i d x.state u.part') b
+  other_balanced : (j : Network) → same_network i j ≡ false → (c : Call) → ((s : List ℕ) → c ≡ feeding s → AreBytes s) → Balanced i (box_after (some j) x c) t
+  other_balanced j d c are_bytes = let u = step j x ok c are_bytes in rw (u.next_is, other_with j i d x.state u.part') b
 
-  next-balanced : (c : Asked) → ByteCall c → Balanced i (next x c) (if owns i c then tallied i x c.call t else t)
+  next_balanced : (c : Asked) → ByteCall c → Balanced i (next x c) (if owns i c then tallied i x c.call t else t)
   unfolding owns is_of next
-  next-balanced c are_bytes = go (whose i (network_of c.network))
+  next_balanced c are_bytes = go (whose i (network_of c.network))
     where
       go : Whose i (network_of c.network)
           → Balanced i (box_after (network_of c.network) x c.call) (if is_of i (network_of c.network) then tallied i x c.call t else t)
-      go (own_call e) = rw (e, same_self i) (own-balanced c.call are_bytes)
-      go (other_call j e d) = rw (e, d) (other-balanced j d c.call are_bytes)
+      go (own_call e) = rw (e, same_self i) (own_balanced c.call are_bytes)
+      go (other_call j e d) = rw (e, d) (other_balanced j d c.call are_bytes)
       go (nobodys e) = rw (e, nobody_next x c.call) b
 
 -- ---- a run
@@ -65,7 +65,7 @@ unfolding run tally_of
 run_balanced i [] x ok b t h = h
 run_balanced i (c ∷ asked) x ok b t h =
     let first = first_bytes c asked b in
-    run_balanced i asked (next x c) (next_possible x ok c first) (rest_bytes c asked b) _ (next-balanced i x ok t h c first)
+    run_balanced i asked (next x c) (next_possible x ok c first) (rest_bytes c asked b) _ (next_balanced i x ok t h c first)
 
 fresh_balanced : (i : Network) (store : List ℕ) → Balanced i (fresh_box store) no_tally
 unfolding mine fresh_box fresh_networks no_tally
@@ -109,7 +109,7 @@ counted store asked b =
     made (run (fresh_box store) asked) (length store) _ _
     (run_balanced network1 asked (fresh_box store) ok b no_tally (fresh_balanced network1 store))
     (run_balanced network2 asked (fresh_box store) ok b no_tally (fresh_balanced network2 store))
-    (rw (long-is store asked b) at (run_possible asked (fresh_box store) ok b))
+    (rw (long_is store asked b) at (run_possible asked (fresh_box store) ok b))
   where
-    long-is : (store : List ℕ) (asked : List Asked) → ByteCalls asked → length (run (fresh_box store) asked).store ≡ length store
-    long-is store asked b = run_long asked (fresh_box store) (fresh_possible store) b ∙ fresh_long store
+    long_is : (store : List ℕ) (asked : List Asked) → ByteCalls asked → length (run (fresh_box store) asked).store ≡ length store
+    long_is store asked b = run_long asked (fresh_box store) (fresh_possible store) b ∙ fresh_long store

@@ -19,8 +19,8 @@ use Rattle.rooms_hand_out.specs.Handing.{handed_of, out_after, handed_for, out_f
 use Rattle.rooms_account.specs.Alone.{Call, feeding, handing_out, ending, after}
 use Rattle.rooms_account.specs.Runs.{Box, fresh_box, Asked, next, run, ByteCalls, owns, free_for}
 use Rattle.rooms_account.specs.Demand.{account_at, account_of, HandsOut, Gathers}
-use Rattle.rooms_account.proofs.Shadow.{shadow-handed, shadow-out}
-use Rattle.rooms_account.proofs.Handing.{own-answers}
+use Rattle.rooms_account.proofs.Shadow.{shadow_handed, shadow_out}
+use Rattle.rooms_account.proofs.Handing.{own_answers}
 use Rattle.rooms_account.proofs.Calls.{possible, part, Owns}
 use Rattle.rooms_account.proofs.Runs.{Turn, own_turn, other_turn, turn, ByteCall, first_bytes, rest_bytes, next_possible, run_possible}
 use Rattle.rooms_account.proofs.Runs.{fresh_possible, fresh_owns}
@@ -54,50 +54,50 @@ module _ (i : Network) (x : Box) (ok : possible x ≡ true) {a : Account} (own :
   abbrev box : G.Box
   box = record { state = (part i x).gathering; store = own.shadow }
 
-  handed-is : handed_of (some i) x.state x.store out ≡ G.handing box out
+  handed_is : handed_of (some i) x.state x.store out ≡ G.handing box out
   unfolding handed_of handed_for
-  handed-is = rw ok (shadow-handed (part i x) x.store own.shadow own.shadows out)
+  handed_is = rw ok (shadow_handed (part i x) x.store own.shadow own.shadows out)
 
-  out-is : out_after (some i) x.state x.store out ≡ G.handed_output box out
+  out_is : out_after (some i) x.state x.store out ≡ G.handed_output box out
   unfolding out_after out_for
-  out-is = rw ok (shadow-out (part i x) x.store own.shadow own.shadows out)
+  out_is = rw ok (shadow_out (part i x) x.store own.shadow own.shadows out)
 
   no_body : {A : Type 0} {r : Refusal} → Refuses box out r → (n : ℕ) → G.handing box out ≡ Body n → A
   no_body e n f = let z : ◌≡◌ {A = ℕ} 0 1 = cc in absurd (omega arith)
 
   hands : G.HandsOut box out (body_of a) → HandsOut i x out (body_of a)
-  hands h = record { answers = handed-is ∙ h.answers; writes = out-is ∙ h.writes }
+  hands h = record { answers = handed_is ∙ h.answers; writes = out_is ∙ h.writes }
 
-  only-complete : {d : Account} → Answers box out d → (n : ℕ) → G.handing box out ≡ Body n → Complete d
-  only-complete (nothing_begun_lem e) n b = no_body e n b
-  only-complete (two_differ d e) n b = no_body e n b
-  only-complete (one_missing k a m e) n b = no_body e n b
-  only-complete (too_small c l e) n b = no_body e n b
-  only-complete (handed_out c l e) n b = c
+  only_complete : {d : Account} → Answers box out d → (n : ℕ) → G.handing box out ≡ Body n → Complete d
+  only_complete (nothing_begun_lem e) n b = no_body e n b
+  only_complete (two_differ d e) n b = no_body e n b
+  only_complete (one_missing k a m e) n b = no_body e n b
+  only_complete (too_small c l e) n b = no_body e n b
+  only_complete (handed_out c l e) n b = c
 
-  when-complete : {d : Account} → Answers box out d → Complete d → length (body_of d) ≤ length out → G.HandsOut box out (body_of d)
+  when_complete : {d : Account} → Answers box out d → Complete d → length (body_of d) ≤ length out → G.HandsOut box out (body_of d)
   unfolding Complete Covered
-  when-complete (nothing_begun_lem e) c l = absurd c
-  when-complete (two_differ d e) c l = absurd (d c.1)
-  when-complete (one_missing k a m e) c l = absurd (m.missing (c.0 k m.of_table))
-  when-complete (too_small c m e) d l = absurd (omega arith)
-  when-complete (handed_out c m e) d l = e
+  when_complete (nothing_begun_lem e) c l = absurd c
+  when_complete (two_differ d e) c l = absurd (d c.1)
+  when_complete (one_missing k a m e) c l = absurd (m.missing (c.0 k m.of_table))
+  when_complete (too_small c m e) d l = absurd (omega arith)
+  when_complete (handed_out c m e) d l = e
 
-  what-body : {d : Account} → Answers box out d → (n : ℕ) → G.handing box out ≡ Body n → G.HandsOut box out (body_of d)
-  what-body (nothing_begun_lem e) n b = no_body e n b
-  what-body (two_differ d e) n b = no_body e n b
-  what-body (one_missing k a m e) n b = no_body e n b
-  what-body (too_small c l e) n b = no_body e n b
-  what-body (handed_out c l e) n b = e
+  what_body : {d : Account} → Answers box out d → (n : ℕ) → G.handing box out ≡ Body n → G.HandsOut box out (body_of d)
+  what_body (nothing_begun_lem e) n b = no_body e n b
+  what_body (two_differ d e) n b = no_body e n b
+  what_body (one_missing k a m e) n b = no_body e n b
+  what_body (too_small c l e) n b = no_body e n b
+  what_body (handed_out c l e) n b = e
 
   pub gathers : Gathers i a x out
   gathers =
-      let answers = own-answers (part i x) x.store own out in
+      let answers = own_answers (part i x) x.store own out in
       record {
         fixed = fixes own.stands;
-        only_when = λ n e. only-complete answers n (sym handed-is ∙ e);
-        when = λ c l. hands (when-complete answers c l);
-        body_is = λ n e. hands (what-body answers n (sym handed-is ∙ e));
+        only_when = λ n e. only_complete answers n (sym handed_is ∙ e);
+        when = λ c l. hands (when_complete answers c l);
+        body_is = λ n e. hands (what_body answers n (sym handed_is ∙ e));
       }
 
 -- ---- the theorem

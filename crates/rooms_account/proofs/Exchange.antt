@@ -64,16 +64,16 @@ module _ (i : Network) (x : Box) where
       go (yes_is e) = rw (possible_same x.state (length x.store), e)
       go (no_is e) = rw (possible_same x.state (length x.store), e)
 
-  next-same : (c : Call) → box_after (some (other i)) (exchanged_box x) c ≡ exchanged_box (box_after (some i) x c)
+  next_same : (c : Call) → box_after (some (other i)) (exchanged_box x) c ≡ exchanged_box (box_after (some i) x c)
   unfolding box_after exchanged_box fed_of fed_for store_after store_for ended_of ended_for
-  next-same (feeding s) = go (seen (possible_of x.state (length x.store)))
+  next_same (feeding s) = go (seen (possible_of x.state (length x.store)))
     where
       go : Seen (possible_of x.state (length x.store))
           → box_after (some (other i)) (exchanged_box x) (feeding s) ≡ exchanged_box (box_after (some i) x (feeding s))
       go (yes_is e) = rw (possible_same x.state (length x.store), e, mine_same i x.state, theirs_same i x.state, with_same i x.state)
       go (no_is e) = rw (possible_same x.state (length x.store), e)
-  next-same (handing_out out) = refl
-  next-same ending = go (seen (possible_of x.state (length x.store)))
+  next_same (handing_out out) = refl
+  next_same ending = go (seen (possible_of x.state (length x.store)))
     where
       go : Seen (possible_of x.state (length x.store)) → box_after (some (other i)) (exchanged_box x) ending ≡ exchanged_box (box_after (some i) x ending)
       go (yes_is e) = rw (possible_same x.state (length x.store), e, with_same i x.state)
@@ -124,7 +124,7 @@ asked_next x c = go (naming c.network)
   where
     go : Named c.network
         → box_after (network_of (exchanged_number c.network)) (exchanged_box x) c.call ≡ exchanged_box (box_after (network_of c.network) x c.call)
-    go (named i e f) = rw (e, f) (next-same i x c.call)
+    go (named i e f) = rw (e, f) (next_same i x c.call)
     go (unnamed e f) = rw (e, f) (nobody_next x c.call)
 
 -- the theorem: every answer of a run is that of the run with both networks exchanged, possible box or not

@@ -17,7 +17,7 @@ use Rattle.section_reader.specs.declared.Sectioned.TheVariants.{Good}
 use Rattle.section_reader.proofs.RoundTrip.{good_printed}
 use Rattle.gathering_state.specs.State.{opened, spoiled_state, held_payload}
 use Rattle.gathering_state.proofs.Lists.{zeros_at}
-use Rattle.gathering_state.proofs.State.{opened_table, spoiled_begun, begun-possible}
+use Rattle.gathering_state.proofs.State.{opened_table, spoiled_begun, begun_possible}
 use Rattle.gathering_verdict.specs.Deciding as G
 use Rattle.gathering_verdict.specs.declared.Verdict.{Verdict}
 use Rattle.gathering_verdict.specs.declared.Verdict.TheVariants.{Refuse, Repeat, Contradict, Begin, Take}
@@ -28,8 +28,8 @@ use Rattle.gathering_account.specs.Account.{heard, Account, account_after}
 use Rattle.gathering_account.specs.Answering.{answer_to}
 use Rattle.gathering_account.proofs.Hearing.{feed_by}
 use Rattle.gathering_account.proofs.Standing.{Stands, formed_kind}
-use Rattle.gathering_account.proofs.Feeds.{feed-stands}
-use Rattle.gathering_account.proofs.Answering.{stands-answers}
+use Rattle.gathering_account.proofs.Feeds.{feed_stands}
+use Rattle.gathering_account.proofs.Answering.{stands_answers}
 use Rattle.rooms_marks.specs.Rooms.{held_rooms, uses, free_room}
 use Rattle.rooms_marks.proofs.Counting.{count_zeros, held_zeros}
 use Rattle.rooms_marks.proofs.Free.{FreeIs, free_is}
@@ -38,14 +38,14 @@ use Rattle.rooms_state.specs.State.{room_place, room_payload}
 use Rattle.rooms_state.specs.declared.Part.{Part}
 use Rattle.rooms_state.proofs.Facts.{unheld, PartIs, Sound, short_at}
 use Rattle.rooms_verdict.specs.Deciding.{verdict_of}
-use Rattle.rooms_verdict.proofs.Taken.{take-is, clash-begun}
+use Rattle.rooms_verdict.proofs.Taken.{take_is, clash_begun}
 use Rattle.rooms_feed.specs.Feeding.{opened_part, base, room_for, roomed, with_room, part_by, store_by}
 use Rattle.rooms_account.specs.Alone.{always, is_taken, needs_room, refused_for_room, answer_fed, account_fed}
 use Rattle.rooms_account.specs.Runs.{takes}
 use Rattle.rooms_account.specs.Counts.{Tally, tally_fed}
-use Rattle.rooms_account.proofs.Always.{always-after, always-answer}
+use Rattle.rooms_account.proofs.Always.{always_after, always_answer}
 use Rattle.rooms_account.proofs.Shadow.{Shadow, shadow_verdict}
-use Rattle.rooms_account.proofs.Taking.{Matched, Ready, store_long, kept-shadow, part-with, once-with, unused-other, held_with, shadow-with}
+use Rattle.rooms_account.proofs.Taking.{Matched, Ready, store_long, kept_shadow, part_with, once_with, unused_other, held_with, shadow_with}
 
 -- a network's part stands for an account, as the single gathering over a store of its own does
 pub record Own (p : Part) (store : List ℕ) (a : Account) : Type 0 where
@@ -68,13 +68,13 @@ leaves_all x = record { sound = x; long = refl; others = λ u s. s }
 -- ---- the machine's answer and account, by whether a room is needed and free
 
 module _ (a : Account) (s : List ℕ) where
-  pub refused-not : needs_room a s ≡ false → (f : Bool) → refused_for_room a s f ≡ false
+  pub refused_not : needs_room a s ≡ false → (f : Bool) → refused_for_room a s f ≡ false
   unfolding refused_for_room
-  refused-not e f = rw e
+  refused_not e f = rw e
 
-  refused-free : refused_for_room a s true ≡ false
+  refused_free : refused_for_room a s true ≡ false
   unfolding refused_for_room
-  refused-free = go (needs_room a s)
+  refused_free = go (needs_room a s)
     where
       go : (b : Bool) → (b && not true) ≡ false
       go true = refl
@@ -84,13 +84,13 @@ module _ (a : Account) (s : List ℕ) where
   unfolding refused_for_room
   refused_full e = rw e
 
-  pub fed-so : (f : Bool) → refused_for_room a s f ≡ false → (answer_fed a s f ≡ answer_to always a s) × (account_fed a s f ≡ account_after always a (heard s))
+  pub fed_so : (f : Bool) → refused_for_room a s f ≡ false → (answer_fed a s f ≡ answer_to always a s) × (account_fed a s f ≡ account_after always a (heard s))
   unfolding answer_fed account_fed
-  fed-so f e = (rw e, rw e)
+  fed_so f e = (rw e, rw e)
 
-  pub fed-not : (f : Bool) → refused_for_room a s f ≡ true → (answer_fed a s f ≡ Refused NoFreeRoom) × (account_fed a s f ≡ a)
+  pub fed_not : (f : Bool) → refused_for_room a s f ≡ true → (answer_fed a s f ≡ Refused NoFreeRoom) × (account_fed a s f ≡ a)
   unfolding answer_fed account_fed
-  fed-not f e = (rw e, rw e)
+  fed_not f e = (rw e, rw e)
 
 taken_takes : (v : Verdict) → is_taken (F.answer_by v) ≡ takes v
 unfolding is_taken takes F.answer_by
@@ -117,33 +117,33 @@ module _ (n : ℕ) (p q : Part) (store : List ℕ) (x : Sound n p q (length stor
   -- ---- by the account
 
   module _ {a : Account} (own : Own p store a) where
-    same-verdict : verdict_of p store s ≡ G.verdict_of p.gathering own.shadow s
-    same-verdict = shadow_verdict p store own.shadow s own.shadows are_bytes x.own.possible
+    same_verdict : verdict_of p store s ≡ G.verdict_of p.gathering own.shadow s
+    same_verdict = shadow_verdict p store own.shadow s own.shadows are_bytes x.own.possible
 
     pub answers_by : answer_to always a s ≡ F.answer_by (verdict_of p store s)
     unfolding F.fed_of
     answers_by =
-        sym (always-answer a s are_bytes) ∙ sym (stands-answers 1045504 (record { state = p.gathering; store = own.shadow }) s own.stands)
-        ∙ ap F.answer_by (sym same-verdict)
+        sym (always_answer a s are_bytes) ∙ sym (stands_answers 1045504 (record { state = p.gathering; store = own.shadow }) s own.stands)
+        ∙ ap F.answer_by (sym same_verdict)
 
-    pub needs-is : needs_room a s ≡ takes (verdict_of p store s)
+    pub needs_is : needs_room a s ≡ takes (verdict_of p store s)
     unfolding needs_room
-    needs-is = ap is_taken answers_by ∙ taken_takes (verdict_of p store s)
+    needs_is = ap is_taken answers_by ∙ taken_takes (verdict_of p store s)
 
     stands_by : (v : Verdict) → verdict_of p store s ≡ v
         → Stands 1045504 (record { state = F.state_by p.gathering pl v; store = F.store_by own.shadow pl v }) (account_after always a (heard s))
     stands_by v e =
-        rw (← always-after a s are_bytes, ← feed_by (record { state = p.gathering; store = own.shadow }) s v (sym same-verdict ∙ e))
-        (feed-stands 1045504 (record { state = p.gathering; store = own.shadow }) s are_bytes own.stands)
+        rw (← always_after a s are_bytes, ← feed_by (record { state = p.gathering; store = own.shadow }) s v (sym same_verdict ∙ e))
+        (feed_stands 1045504 (record { state = p.gathering; store = own.shadow }) s are_bytes own.stands)
 
   -- ---- what is known where it is taken
 
-  pl-short : (h : Heading) (m : ℕ) → read_section s ≡ Good h m → length pl ≤ 4084
-  pl-short h m e = (good_printed s h m are_bytes e).short
+  pl_short : (h : Heading) (m : ℕ) → read_section s ≡ Good h m → length pl ≤ 4084
+  pl_short h m e = (good_printed s h m are_bytes e).short
 
-  first-ready : (h : Heading) (m : ℕ) → read_section s ≡ Good h m → Ready n (opened_part h) h.number
+  first_ready : (h : Heading) (m : ℕ) → read_section s ≡ Good h m → Ready n (opened_part h) h.number
   unfolding opened_part opened
-  first-ready h m e =
+  first_ready h m e =
       let w = (good_printed s h m are_bytes e).formed in
       record {
         held_long = refl;
@@ -155,18 +155,18 @@ module _ (n : ℕ) (p q : Part) (store : List ℕ) (x : Sound n p q (length stor
         new = zeros_at 256 h.number;
       }
 
-  first-once : (h : Heading) (t : ℕ) → 1 ≤ t → t ≤ n → uses t (opened_part h).rooms q.rooms ≤ 1
+  first_once : (h : Heading) (t : ℕ) → 1 ≤ t → t ≤ n → uses t (opened_part h).rooms q.rooms ≤ 1
   unfolding uses opened_part
-  first-once h t l m = let a = x.once t l m in let b = count_zeros t 256 l in omega arith
+  first_once h t l m = let a = x.once t l m in let b = count_zeros t 256 l in omega arith
 
-  first-shadow : (h : Heading) (u : List ℕ) → length u ≡ 1045504 → Shadow (opened_part h) store u
+  first_shadow : (h : Heading) (u : List ℕ) → length u ≡ 1045504 → Shadow (opened_part h) store u
   unfolding opened_part opened
-  first-shadow h u l = record { long = l; same = λ k d. absurd (d (zeros_at 256 k)) }
+  first_shadow h u l = record { long = l; same = λ k d. absurd (d (zeros_at 256 k)) }
 
-  further-ready : (h : Heading) (m : ℕ) → read_section s ≡ Good h m → verdict_of p store s ≡ Take h → Ready n p h.number
-  further-ready h m r e =
+  further_ready : (h : Heading) (m : ℕ) → read_section s ≡ Good h m → verdict_of p store s ≡ Take h → Ready n p h.number
+  further_ready h m r e =
       let w = (good_printed s h m are_bytes r).formed in
-      let f = (take-is p store s x.own.possible h (as_further e)).further e in
+      let f = (take_is p store s x.own.possible h (as_further e)).further e in
       record {
         held_long = x.own.held_long;
         rooms_long = x.own.rooms_long;
@@ -186,19 +186,19 @@ module _ (n : ℕ) (p q : Part) (store : List ℕ) (x : Sound n p q (length stor
       record {
         sound =
             record {
-              own = part-with n b k ready store store pl few q.rooms room free x.roomy;
+              own = part_with n b k ready store store pl few q.rooms room free x.roomy;
               others = x.others;
-              once = once-with n b k ready store store pl few q.rooms room free x.roomy once;
+              once = once_with n b k ready store store pl few q.rooms room free x.roomy once;
               roomy = rw long x.roomy;
             };
         long = long;
-        others = λ u. kept-shadow n store pl room free.low free.high x.roomy few q u (part_matched n q x.others)
-            (unused-other n b k ready store store pl few q.rooms room free x.roomy);
+        others = λ u. kept_shadow n store pl room free.low free.high x.roomy few q u (part_matched n q x.others)
+            (unused_other n b k ready store store pl few q.rooms room free x.roomy);
       }
 
-  spoilt-leaves : verdict_of p store s ≡ Contradict → Leaves n q store (record { gathering = spoiled_state p.gathering; rooms = p.rooms }) store
+  spoilt_leaves : verdict_of p store s ≡ Contradict → Leaves n q store (record { gathering = spoiled_state p.gathering; rooms = p.rooms }) store
   unfolding spoiled_state
-  spoilt-leaves e =
+  spoilt_leaves e =
       record {
         sound =
             record {
@@ -206,7 +206,7 @@ module _ (n : ℕ) (p q : Part) (store : List ℕ) (x : Sound n p q (length stor
                   record {
                     held_long = x.own.held_long;
                     rooms_long = x.own.rooms_long;
-                    possible = begun-possible (spoiled_state p.gathering) (spoiled_begun p.gathering (clash-begun p store s x.own.possible e));
+                    possible = begun_possible (spoiled_state p.gathering) (spoiled_begun p.gathering (clash_begun p store s x.own.possible e));
                     paired = x.own.paired;
                   };
               others = x.others;
@@ -223,63 +223,63 @@ module _ (n : ℕ) (p q : Part) (store : List ℕ) (x : Sound n p q (length stor
     abbrev Left : Verdict → Type 0
     Left v = Leaves n q store (part_by p pl room (roomed v room)) (store_by store pl room (roomed v room))
 
-    free-room : (b : Part) → room ≡ free_room n b.rooms q.rooms → (room ≡ 0 → ⊥) → FreeIs n b.rooms q.rooms room
-    free-room b f d = rw f (free_is n b.rooms q.rooms (rw (← f) (omega arith)))
+    free_room_lem : (b : Part) → room ≡ free_room n b.rooms q.rooms → (room ≡ 0 → ⊥) → FreeIs n b.rooms q.rooms room
+    free_room_lem b f d = rw f (free_is n b.rooms q.rooms (rw (← f) (omega arith)))
 
     pub left_by : (v : Verdict) → verdict_of p store s ≡ v → room ≡ room_for n p q.rooms v → Left v
     unfolding part_by store_by roomed room_for base
     left_by (Refuse r) e f = leaves_all x
     left_by Repeat e f = leaves_all x
-    left_by Contradict e f = spoilt-leaves e
+    left_by Contradict e f = spoilt_leaves e
     left_by (Begin h) e f = go (seen (eqb room 0))
       where
         go : Seen (eqb room 0) → Left (Begin h)
         go (yes_is z) = rw z (leaves_all x)
         go (no_is z) =
-            let i = take-is p store s x.own.possible h (as_first e) in
-            rw z (took (opened_part h) h.number (first-ready h i.length_of i.reads) (first-once h) (pl-short h i.length_of i.reads) room
-            (free-room (opened_part h) f (eqb-false room 0 z)))
+            let i = take_is p store s x.own.possible h (as_first e) in
+            rw z (took (opened_part h) h.number (first_ready h i.length_of i.reads) (first_once h) (pl_short h i.length_of i.reads) room
+            (free_room_lem (opened_part h) f (eqb-false room 0 z)))
     left_by (Take h) e f = go (seen (eqb room 0))
       where
         go : Seen (eqb room 0) → Left (Take h)
         go (yes_is z) = rw z (leaves_all x)
         go (no_is z) =
-            let i = take-is p store s x.own.possible h (as_further e) in
-            rw z (took p h.number (further-ready h i.length_of i.reads e) x.once (pl-short h i.length_of i.reads) room
-            (free-room p f (eqb-false room 0 z)))
+            let i = take_is p store s x.own.possible h (as_further e) in
+            rw z (took p h.number (further_ready h i.length_of i.reads e) x.once (pl_short h i.length_of i.reads) room
+            (free_room_lem p f (eqb-false room 0 z)))
 
     -- the takes and returns so far
-    pub balanced-by : (t : Tally) → held_rooms p.rooms + t.returns ≡ t.takes → (v : Verdict) → verdict_of p store s ≡ v → room ≡ room_for n p q.rooms v
+    pub balanced_by : (t : Tally) → held_rooms p.rooms + t.returns ≡ t.takes → (v : Verdict) → verdict_of p store s ≡ v → room ≡ room_for n p q.rooms v
         → let t' = tally_fed t (held_rooms p.rooms) (roomed v room) in
         held_rooms (part_by p pl room (roomed v room)).rooms + t'.returns ≡ t'.takes
     unfolding part_by roomed room_for base tally_fed
-    balanced-by t b (Refuse r) e f = b
-    balanced-by t b Repeat e f = b
-    balanced-by t b Contradict e f = b
-    balanced-by t b (Begin h) e f = go (seen (eqb room 0))
+    balanced_by t b (Refuse r) e f = b
+    balanced_by t b Repeat e f = b
+    balanced_by t b Contradict e f = b
+    balanced_by t b (Begin h) e f = go (seen (eqb room 0))
       where
         go : Seen (eqb room 0)
             → let w = if eqb room 0 then Refuse NoFreeRoom else Begin h in
             held_rooms (part_by p pl room w).rooms + (tally_fed t (held_rooms p.rooms) w).returns ≡ (tally_fed t (held_rooms p.rooms) w).takes
         go (yes_is z) = rw z b
         go (no_is z) =
-            let i = take-is p store s x.own.possible h (as_first e) in
-            let few = pl-short h i.length_of i.reads in
-            let k = held_with n (opened_part h) h.number (first-ready h i.length_of i.reads) store store pl few q.rooms room
-            (free-room (opened_part h) f (eqb-false room 0 z)) x.roomy in
+            let i = take_is p store s x.own.possible h (as_first e) in
+            let few = pl_short h i.length_of i.reads in
+            let k = held_with n (opened_part h) h.number (first_ready h i.length_of i.reads) store store pl few q.rooms room
+            (free_room_lem (opened_part h) f (eqb-false room 0 z)) x.roomy in
             let none = opened_holds h in
             rw z (omega arith)
-    balanced-by t b (Take h) e f = go (seen (eqb room 0))
+    balanced_by t b (Take h) e f = go (seen (eqb room 0))
       where
         go : Seen (eqb room 0)
             → let w = if eqb room 0 then Refuse NoFreeRoom else Take h in
             held_rooms (part_by p pl room w).rooms + (tally_fed t (held_rooms p.rooms) w).returns ≡ (tally_fed t (held_rooms p.rooms) w).takes
         go (yes_is z) = rw z b
         go (no_is z) =
-            let i = take-is p store s x.own.possible h (as_further e) in
-            let few = pl-short h i.length_of i.reads in
-            let k = held_with n p h.number (further-ready h i.length_of i.reads e) store store pl few q.rooms room
-            (free-room p f (eqb-false room 0 z)) x.roomy in
+            let i = take_is p store s x.own.possible h (as_further e) in
+            let few = pl_short h i.length_of i.reads in
+            let k = held_with n p h.number (further_ready h i.length_of i.reads e) store store pl few q.rooms room
+            (free_room_lem p f (eqb-false room 0 z)) x.roomy in
             rw z (omega arith)
 
     -- the account, and the answer
@@ -292,19 +292,19 @@ module _ (n : ℕ) (p q : Part) (store : List ℕ) (x : Sound n p q (length stor
       unneeded : (v : Verdict) → verdict_of p store s ≡ v → takes v ≡ false
           → (account_fed a s (ltb 0 room) ≡ account_after always a (heard s)) × (F.answer_by v ≡ answer_fed a s (ltb 0 room))
       unneeded v e t =
-          let k = fed-so a s (ltb 0 room) (refused-not a s (needs-is own ∙ ap takes e ∙ t) (ltb 0 room)) in
+          let k = fed_so a s (ltb 0 room) (refused_not a s (needs_is own ∙ ap takes e ∙ t) (ltb 0 room)) in
           (k.1, sym (k.0 ∙ answers_by own ∙ ap F.answer_by e))
 
       full : (v : Verdict) → verdict_of p store s ≡ v → takes v ≡ true → room ≡ 0
           → (account_fed a s (ltb 0 room) ≡ a) × (Refused NoFreeRoom ≡ answer_fed a s (ltb 0 room))
       full v e t z =
-          let k = fed-not a s (ltb 0 room) (ap (refused_for_room a s) (free_zero room z) ∙ refused_full a s (needs-is own ∙ ap takes e ∙ t)) in
+          let k = fed_not a s (ltb 0 room) (ap (refused_for_room a s) (free_zero room z) ∙ refused_full a s (needs_is own ∙ ap takes e ∙ t)) in
           (k.1, sym k.0)
 
       roomy : (v : Verdict) → verdict_of p store s ≡ v → (room ≡ 0 → ⊥)
           → (account_fed a s (ltb 0 room) ≡ account_after always a (heard s)) × (F.answer_by v ≡ answer_fed a s (ltb 0 room))
       roomy v e d =
-          let k = fed-so a s (ltb 0 room) (ap (refused_for_room a s) (free_some room d) ∙ refused-free a s) in
+          let k = fed_so a s (ltb 0 room) (ap (refused_for_room a s) (free_some room d) ∙ refused_free a s) in
           (k.1, sym (k.0 ∙ answers_by own ∙ ap F.answer_by e))
 
       -- the state that the single gathering would have, over the store that it would have
@@ -330,13 +330,13 @@ module _ (n : ℕ) (p q : Part) (store : List ℕ) (x : Sound n p q (length stor
           go (no_is z) =
               let d = eqb-false room 0 z in
               let k = roomy (Begin h) e d in
-              let i = take-is p store s x.own.possible h (as_first e) in
-              let few = pl-short h i.length_of i.reads in
-              let ready = first-ready h i.length_of i.reads in
+              let i = take_is p store s x.own.possible h (as_first e) in
+              let few = pl_short h i.length_of i.reads in
+              let ready = first_ready h i.length_of i.reads in
               rw z (
                 rw k.0 (owned (with_room (opened_part h) h.number (length pl) room) (placed store (room_place room) pl) (Begin h) e refl
-                    (shadow-with n (opened_part h) h.number ready store own.shadow pl few q.rooms room (free-room (opened_part h) f d) x.roomy
-                    (first-shadow h own.shadow own.shadows.long))),
+                    (shadow_with n (opened_part h) h.number ready store own.shadow pl few q.rooms room (free_room_lem (opened_part h) f d) x.roomy
+                    (first_shadow h own.shadow own.shadows.long))),
                 k.1,
               )
       goes_by (Take h) e f = go (seen (eqb room 0))
@@ -346,11 +346,11 @@ module _ (n : ℕ) (p q : Part) (store : List ℕ) (x : Sound n p q (length stor
           go (no_is z) =
               let d = eqb-false room 0 z in
               let k = roomy (Take h) e d in
-              let i = take-is p store s x.own.possible h (as_further e) in
-              let few = pl-short h i.length_of i.reads in
-              let ready = further-ready h i.length_of i.reads e in
+              let i = take_is p store s x.own.possible h (as_further e) in
+              let few = pl_short h i.length_of i.reads in
+              let ready = further_ready h i.length_of i.reads e in
               rw z (
                 rw k.0 (owned (with_room p h.number (length pl) room) (placed store (room_place room) pl) (Take h) e refl
-                    (shadow-with n p h.number ready store own.shadow pl few q.rooms room (free-room p f d) x.roomy own.shadows)),
+                    (shadow_with n p h.number ready store own.shadow pl few q.rooms room (free_room_lem p f d) x.roomy own.shadows)),
                 k.1,
               )

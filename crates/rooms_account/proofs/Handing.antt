@@ -15,7 +15,7 @@ use Rattle.section_reader.specs.declared.Heading.{Heading}
 use Rattle.gathering_hand_out.specs.Handing.{handed_if_room, out_by}
 use Rattle.gathering_hand_out.specs.declared.Handed.{Handed}
 use Rattle.gathering_hand_out.specs.declared.Handed.TheVariants.{Body, Refused}
-use Rattle.gathering_hand_out.proofs.Handing.{fitting-small, fitting-body}
+use Rattle.gathering_hand_out.proofs.Handing.{fitting_small, fitting_body}
 use Rattle.gathering_account.specs.Account.{Section, Account, idle, table, Present, Covered, Complete, body_of}
 use Rattle.gathering_account.specs.Answering.{present, agreeing}
 use Rattle.gathering_account.specs.Gathers.{Box, SmallestMissing, Answers, nothing_begun_lem, two_differ, one_missing, too_small, handed_out, handing, handed_output}
@@ -26,7 +26,7 @@ use Rattle.gathering_account.proofs.Handing.{answers_by}
 use Rattle.rooms_state.specs.declared.Part.{Part}
 use Rattle.rooms_hand_out.specs.Handing.{part_handed, part_out}
 use Rattle.rooms_account.specs.Alone.{absent_from, handed_to, out_to}
-use Rattle.rooms_account.proofs.Shadow.{shadow-handed, shadow-out}
+use Rattle.rooms_account.proofs.Shadow.{shadow_handed, shadow_out}
 use Rattle.rooms_account.proofs.Feeding.{Own}
 
 -- ---- the tests of an account
@@ -72,18 +72,18 @@ absent_smallest S last k m =
 -- ---- what is handed by the account
 
 module _ (h : Heading) (S : List Section) (room : ℕ) where
-  hands-differing : agreeing S ≡ false → handed_to (table h S) room ≡ Refused Contradiction
+  hands_differing : agreeing S ≡ false → handed_to (table h S) room ≡ Refused Contradiction
   unfolding handed_to
-  hands-differing a = rw a
+  hands_differing a = rw a
 
   module _ (a : agreeing S ≡ true) where
-    hands-missing : covering (h.last + 1) S ≡ false → (k : ℕ) → absent_from S 0 (h.last + 1) ≡ k → handed_to (table h S) room ≡ Refused (Missing k)
+    hands_missing : covering (h.last + 1) S ≡ false → (k : ℕ) → absent_from S 0 (h.last + 1) ≡ k → handed_to (table h S) room ≡ Refused (Missing k)
     unfolding handed_to
-    hands-missing c k e = rw (a, c, e)
+    hands_missing c k e = rw (a, c, e)
 
-    hands-whole : covering (h.last + 1) S ≡ true → handed_to (table h S) room ≡ handed_if_room (length (body_of (table h S))) room
+    hands_whole : covering (h.last + 1) S ≡ true → handed_to (table h S) room ≡ handed_if_room (length (body_of (table h S))) room
     unfolding handed_to
-    hands-whole c = rw (a, c)
+    hands_whole c = rw (a, c)
 
 complete_tests : (h : Heading) (S : List Section) → Complete (table h S) → (agreeing S ≡ true) × (covering (h.last + 1) S ≡ true)
 unfolding Complete Covered
@@ -106,37 +106,37 @@ unfolding out_by
 body_hands a out m e = (e, out_by_lem a out (Body m) e)
 
 module _ (box : Box) (out : List ℕ) where
-  hands-by : {a : Account} → Answers box out a → Hands a out (handing box out) (handed_output box out)
+  hands_by : {a : Account} → Answers box out a → Hands a out (handing box out) (handed_output box out)
   unfolding handed_to Present Covered
-  hands-by (nothing_begun_lem r) = rw (r.answers, r.writes) (refused_hands idle out (Missing 0) refl)
-  hands-by (two_differ {h} {S} d r) =
+  hands_by (nothing_begun_lem r) = rw (r.answers, r.writes) (refused_hands idle out (Missing 0) refl)
+  hands_by (two_differ {h} {S} d r) =
       rw (r.answers, r.writes)
-      (refused_hands (table h S) out Contradiction (sym (hands-differing h S (length out) (sym (refuted (agreeing S) (λ i. d (agreeing_is S i)))))))
-  hands-by (one_missing {h} {S} k agree m r) =
+      (refused_hands (table h S) out Contradiction (sym (hands_differing h S (length out) (sym (refuted (agreeing S) (λ i. d (agreeing_is S i)))))))
+  hands_by (one_missing {h} {S} k agree m r) =
       let top = m.of_table in
-      let not-all = sym (refuted (covering (h.last + 1) S) (λ e. m.missing (covering_is (h.last + 1) S e k (omega arith)))) in
+      let not_all = sym (refuted (covering (h.last + 1) S) (λ e. m.missing (covering_is (h.last + 1) S e k (omega arith)))) in
       rw (r.answers, r.writes)
       (refused_hands (table h S) out (Missing k)
-      (sym (hands-missing h S (length out) (agree_agreeing S agree) not-all k (absent_smallest S h.last k m))))
-  hands-by (too_small {h} {S} c l r) =
+      (sym (hands_missing h S (length out) (agree_agreeing S agree) not_all k (absent_smallest S h.last k m))))
+  hands_by (too_small {h} {S} c l r) =
       let t = complete_tests h S c in
       rw (r.answers, r.writes)
-      (refused_hands (table h S) out OutputTooSmall (fitting-small _ _ l ∙ sym (hands-whole h S (length out) t.0 t.1)))
-  hands-by (handed_out {h} {S} c l r) =
+      (refused_hands (table h S) out OutputTooSmall (fitting_small _ _ l ∙ sym (hands_whole h S (length out) t.0 t.1)))
+  hands_by (handed_out {h} {S} c l r) =
       let t = complete_tests h S c in
       rw (r.answers, r.writes)
-      (body_hands (table h S) out (length (body_of (table h S))) (fitting-body _ _ l ∙ sym (hands-whole h S (length out) t.0 t.1)))
+      (body_hands (table h S) out (length (body_of (table h S))) (fitting_body _ _ l ∙ sym (hands_whole h S (length out) t.0 t.1)))
 
 module _ (p : Part) (store : List ℕ) {a : Account} (own : Own p store a) (out : List ℕ) where
   abbrev box : Box
   box = record { state = p.gathering; store = own.shadow }
 
   -- what the single gathering over a store of its own would answer
-  pub own-answers : Answers box out a
-  own-answers = answers_by box out (finds 1045504 box own.stands)
+  pub own_answers : Answers box out a
+  own_answers = answers_by box out (finds 1045504 box own.stands)
 
-  pub own-handed : part_handed p store out ≡ handed_to a (length out)
-  own-handed = shadow-handed p store own.shadow own.shadows out ∙ (hands-by box out own-answers).0
+  pub own_handed : part_handed p store out ≡ handed_to a (length out)
+  own_handed = shadow_handed p store own.shadow own.shadows out ∙ (hands_by box out own_answers).0
 
   pub own_out : part_out p store out ≡ out_to a out
-  own_out = shadow-out p store own.shadow own.shadows out ∙ (hands-by box out own-answers).1
+  own_out = shadow_out p store own.shadow own.shadows out ∙ (hands_by box out own_answers).1

@@ -25,7 +25,7 @@ use Rattle.section_reader.specs.declared.Sectioned.TheVariants.{Good, Refused as
 use Rattle.crc.specs.Crc.{crc32_of}
 use Rattle.gathering_state.specs.Lists.{greatest}
 use Rattle.gathering_state.specs.State.{nothing_begun}
-use Rattle.gathering_state.proofs.State.{possible-begun}
+use Rattle.gathering_state.proofs.State.{possible_begun}
 use Rattle.gathering_verdict.specs.Deciding.{begins, agrees}
 use Rattle.gathering_verdict.specs.declared.Verdict.{Verdict}
 use Rattle.gathering_verdict.specs.declared.Verdict.TheVariants.{Refuse, Repeat, Contradict, Begin, Take}
@@ -41,12 +41,12 @@ use Rattle.rooms_state.specs.declared.Part.{Part}
 use Rattle.rooms_state.specs.declared.Networks.{Networks}
 use Rattle.rooms_state.proofs.Facts.{Pair, unheld, holds, Sound}
 use Rattle.rooms_verdict.specs.Deciding.{number_verdict, good_verdict, verdict_of}
-use Rattle.rooms_verdict.proofs.Verdicts.{verdict-bad, verdict-good}
+use Rattle.rooms_verdict.proofs.Verdicts.{verdict_bad, verdict_good}
 use Rattle.rooms_feed.specs.Feeding.{opened_part, base, room_for, roomed, room_verdict, part_by, store_by, part_fed, part_store, fed_for, store_for, fed_of, store_after}
 use Rattle.rooms_account.specs.Alone.{feeding, ending, fed, ended}
 use Rattle.rooms_account.specs.Runs.{Box, told, box_after, takes, needs_at, FullFor}
 use Rattle.rooms_account.proofs.Taking.{held_counted}
-use Rattle.rooms_account.proofs.Calls.{possible, part, sound, fed-told, same_with}
+use Rattle.rooms_account.proofs.Calls.{possible, part, sound, fed_told, same_with}
 
 -- ---- which refusals a verdict can have, without its room: 1 to 7, 8, 9 and 11
 
@@ -99,10 +99,10 @@ verdict_early p store s r e = go (read_section s) refl
   where
     go : (a : Sectioned) → read_section s ≡ a → Early (refusal_number r)
     go (NotGood t) f =
-        let q : t ≡ r = (let w = sym (verdict-bad p store s t f) ∙ e in cc) in
+        let q : t ≡ r = (let w = sym (verdict_bad p store s t f) ∙ e in cc) in
         let l = read_early s r (f ∙ ap NotGood q) in
         low (omega arith)
-    go (Good h n) f = good_early p store h (payload_of s) r (sym (verdict-good p store s h n f) ∙ e)
+    go (Good h n) f = good_early p store h (payload_of s) r (sym (verdict_good p store s h n f) ∙ e)
 
 -- so none is 35 or 10
 late : (n : ℕ) → Early n → (9 < n) → (n ≡ 11 → ⊥) → ⊥
@@ -173,8 +173,8 @@ module _ (i : Network) (x : Box) (ok : possible x ≡ true) (s : List ℕ) where
   pub refused_for_room_lem : (told (some i) x (feeding s) ≡ fed (Refused NoFreeRoom)) ↔ ((needs_at i x (feeding s) ≡ true) × FullFor i x s)
   unfolding needs_at answer_by
   refused_for_room_lem = (
-    (λ e. let f = full_roomed v room (verdict_room (part i x) x.store s) (same_fed _ _ (sym (fed-told i x ok s) ∙ e)) in (f.0, found_none f.1)),
-    (λ f. fed-told i x ok s ∙ ap (λ (w : Verdict). fed (answer_by w)) (roomed_full v room f.0 (none_found f.1))),
+    (λ e. let f = full_roomed v room (verdict_room (part i x) x.store s) (same_fed _ _ (sym (fed_told i x ok s) ∙ e)) in (f.0, found_none f.1)),
+    (λ f. fed_told i x ok s ∙ ap (λ (w : Verdict). fed (answer_by w)) (roomed_full v room f.0 (none_found f.1))),
   )
 
 -- "10 is not given"
@@ -197,7 +197,7 @@ no_ten (Take h) room d e = go (seen (eqb room 0))
 pub never_ten : (i : Network) (x : Box) → possible x ≡ true → (s : List ℕ) → told (some i) x (feeding s) ≡ fed (Refused StoreTooShort) → ⊥
 never_ten i x ok s e =
     no_ten (verdict_of (part i x) x.store s) _ (λ q. late 10 (verdict_early (part i x) x.store s StoreTooShort q) (omega arith) (λ z. omega arith))
-    (same_fed _ _ (sym (fed-told i x ok s) ∙ e))
+    (same_fed _ _ (sym (fed_told i x ok s) ∙ e))
 
 -- ---- a takeover
 
@@ -218,7 +218,7 @@ given_free : (n bytes : ℕ) (p q : Part) → Sound n p q bytes → nothing_begu
     → (h : Heading) → 1 ≤ free_room n (opened_part h).rooms q.rooms
 unfolding uses opened_part
 given_free n bytes p q x b h =
-    let g = possible-begun p.gathering x.own.possible b in
+    let g = possible_begun p.gathering x.own.possible b in
     let k = some_held p.gathering.held g.some in
     go k.0 k.1 (x.own.paired k.0)
   where
@@ -239,7 +239,7 @@ unfolding room_for roomed base answer_by
 takeover_taken i x ok s h e b =
     let n = rooms_in (length x.store) in
     let l = given_free n (length x.store) (part i x) (theirs i x.state) (sound i x ok) b h in
-    fed-told i x ok s ∙ rw (e, ne_eqb (free_room n (opened_part h).rooms (theirs i x.state).rooms) 0 (λ z. omega arith))
+    fed_told i x ok s ∙ rw (e, ne_eqb (free_room n (opened_part h).rooms (theirs i x.state).rooms) 0 (λ z. omega arith))
 
 -- ---- what a refused call leaves
 

@@ -16,8 +16,8 @@ use Rattle.rooms_end.specs.Ending.{ended_of}
 use Rattle.rooms_account.specs.Alone.{Call, feeding, handing_out, ending, fed, tells, after, needs, free_now, frees_left, alone}
 use Rattle.rooms_account.specs.Runs.{Box, fresh_box, Asked, box_after, answer, next, run, ByteCalls, same_network, is_of, owns, free_for, needs_at}
 use Rattle.rooms_account.specs.Runs.{calls_of, answers_of, frees_of}
-use Rattle.rooms_account.proofs.Feeding.{fed-so, refused-not}
-use Rattle.rooms_account.proofs.Calls.{possible, Owns, fresh_own, step, stays_possible, own-goes, other-stays}
+use Rattle.rooms_account.proofs.Feeding.{fed_so, refused_not}
+use Rattle.rooms_account.proofs.Calls.{possible, Owns, fresh_own, step, stays_possible, own_goes, other_stays}
 
 -- ---- whose call it is
 
@@ -73,8 +73,8 @@ turn i x ok c b {a} own = go (whose i (network_of c.network))
     go : Whose i (network_of c.network) → Turn i x c a
     go (own_call e) =
         let t = (step i x ok c.call b).goes a own in
-        own_turn (rw e (same_self i)) (rw e t.1) t.2 (rw e (own-goes i x ok c.call b own))
-    go (other_call j e d) = other_turn (rw e d) (rw e (other-stays j x ok c.call b i d own))
+        own_turn (rw e (same_self i)) (rw e t.1) t.2 (rw e (own_goes i x ok c.call b own))
+    go (other_call j e d) = other_turn (rw e d) (rw e (other_stays j x ok c.call b i d own))
     go (nobodys e) = other_turn (rw e) (rw (e, nobody_next x c.call) own)
 
 -- one call of any network, or of none, leaves a possible box possible
@@ -98,73 +98,73 @@ run_possible (c ∷ asked) x ok b =
 needless_tells : (a : Account) (c : Call) → needs a c ≡ false → (f g : Bool) → tells a c f ≡ tells a c g
 unfolding needs tells
 needless_tells a (feeding s) e f g =
-    ap fed ((fed-so a s f (refused-not a s e f)).0 ∙ sym (fed-so a s g (refused-not a s e g)).0)
+    ap fed ((fed_so a s f (refused_not a s e f)).0 ∙ sym (fed_so a s g (refused_not a s e g)).0)
 needless_tells a (handing_out out) e f g = refl
 needless_tells a ending e f g = refl
 
 needless_after : (a : Account) (c : Call) → needs a c ≡ false → (f g : Bool) → after a c f ≡ after a c g
 unfolding needs after
-needless_after a (feeding s) e f g = (fed-so a s f (refused-not a s e f)).1 ∙ sym (fed-so a s g (refused-not a s e g)).1
+needless_after a (feeding s) e f g = (fed_so a s f (refused_not a s e f)).1 ∙ sym (fed_so a s g (refused_not a s e g)).1
 needless_after a (handing_out out) e f g = refl
 needless_after a ending e f g = refl
 
 module _ (a : Account) (c : Call) (calls : List Call) (f : Bool) (frees : List Bool) where
-  alone-needing : needs a c ≡ true → alone a (c ∷ calls) (f ∷ frees) ≡ tells a c f ∷ alone (after a c f) calls frees
+  alone_needing : needs a c ≡ true → alone a (c ∷ calls) (f ∷ frees) ≡ tells a c f ∷ alone (after a c f) calls frees
   unfolding alone free_now frees_left
-  alone-needing e = rw e
+  alone_needing e = rw e
 
-  alone-needless : needs a c ≡ false → alone a (c ∷ calls) frees ≡ tells a c f ∷ alone (after a c f) calls frees
+  alone_needless : needs a c ≡ false → alone a (c ∷ calls) frees ≡ tells a c f ∷ alone (after a c f) calls frees
   unfolding alone free_now frees_left
-  alone-needless e = rw (e, needless_tells a c e true f, needless_after a c e true f)
+  alone_needless e = rw (e, needless_tells a c e true f, needless_after a c e true f)
 
 -- ---- a run, a call at a time
 
 module _ (i : Network) (x : Box) (c : Asked) (asked : List Asked) where
-  answers-own : owns i c ≡ true → answers_of i x (c ∷ asked) ≡ answer x c ∷ answers_of i (next x c) asked
+  answers_own : owns i c ≡ true → answers_of i x (c ∷ asked) ≡ answer x c ∷ answers_of i (next x c) asked
   unfolding answers_of
-  answers-own e = rw e
+  answers_own e = rw e
 
-  answers-other : owns i c ≡ false → answers_of i x (c ∷ asked) ≡ answers_of i (next x c) asked
+  answers_other : owns i c ≡ false → answers_of i x (c ∷ asked) ≡ answers_of i (next x c) asked
   unfolding answers_of
-  answers-other e = rw e
+  answers_other e = rw e
 
-  calls-own : owns i c ≡ true → calls_of i (c ∷ asked) ≡ c.call ∷ calls_of i asked
+  calls_own : owns i c ≡ true → calls_of i (c ∷ asked) ≡ c.call ∷ calls_of i asked
   unfolding calls_of
-  calls-own e = rw e
+  calls_own e = rw e
 
-  calls-other : owns i c ≡ false → calls_of i (c ∷ asked) ≡ calls_of i asked
+  calls_other : owns i c ≡ false → calls_of i (c ∷ asked) ≡ calls_of i asked
   unfolding calls_of
-  calls-other e = rw e
+  calls_other e = rw e
 
-  frees-needing : owns i c ≡ true → needs_at i x c.call ≡ true → frees_of i x (c ∷ asked) ≡ free_for i x c.call ∷ frees_of i (next x c) asked
+  frees_needing : owns i c ≡ true → needs_at i x c.call ≡ true → frees_of i x (c ∷ asked) ≡ free_for i x c.call ∷ frees_of i (next x c) asked
   unfolding frees_of
-  frees-needing e n = rw (e, n)
+  frees_needing e n = rw (e, n)
 
-  frees-needless : owns i c ≡ true → needs_at i x c.call ≡ false → frees_of i x (c ∷ asked) ≡ frees_of i (next x c) asked
+  frees_needless : owns i c ≡ true → needs_at i x c.call ≡ false → frees_of i x (c ∷ asked) ≡ frees_of i (next x c) asked
   unfolding frees_of
-  frees-needless e n = rw (e, n)
+  frees_needless e n = rw (e, n)
 
-  frees-other : owns i c ≡ false → frees_of i x (c ∷ asked) ≡ frees_of i (next x c) asked
+  frees_other : owns i c ≡ false → frees_of i x (c ∷ asked) ≡ frees_of i (next x c) asked
   unfolding frees_of
-  frees-other e = rw e
+  frees_other e = rw e
 
   -- a call of its own goes as it would alone, if the rest does
   module _ (a : Account) (o : owns i c ≡ true) (t : answer x c ≡ tells a c.call (free_for i x c.call)) (n : needs a c.call ≡ needs_at i x c.call)
       (rest : answers_of i (next x c) asked ≡ alone (after a c.call (free_for i x c.call)) (calls_of i asked) (frees_of i (next x c) asked)) where
-    goes-alone : Seen (needs_at i x c.call) → answers_of i x (c ∷ asked) ≡ alone a (calls_of i (c ∷ asked)) (frees_of i x (c ∷ asked))
-    goes-alone (yes_is e) =
+    goes_alone : Seen (needs_at i x c.call) → answers_of i x (c ∷ asked) ≡ alone a (calls_of i (c ∷ asked)) (frees_of i x (c ∷ asked))
+    goes_alone (yes_is e) =
         rw (
-          answers-own o,
-          calls-own o,
-          frees-needing o e,
-          alone-needing a c.call (calls_of i asked) (free_for i x c.call) (frees_of i (next x c) asked) (n ∙ e),
+          answers_own o,
+          calls_own o,
+          frees_needing o e,
+          alone_needing a c.call (calls_of i asked) (free_for i x c.call) (frees_of i (next x c) asked) (n ∙ e),
         ) (ap₂ ◌∷◌ t rest)
-    goes-alone (no_is e) =
+    goes_alone (no_is e) =
         rw (
-          answers-own o,
-          calls-own o,
-          frees-needless o e,
-          alone-needless a c.call (calls_of i asked) (free_for i x c.call) (frees_of i (next x c) asked) (n ∙ e),
+          answers_own o,
+          calls_own o,
+          frees_needless o e,
+          alone_needless a c.call (calls_of i asked) (free_for i x c.call) (frees_of i (next x c) asked) (n ∙ e),
         ) (ap₂ ◌∷◌ t rest)
 
 nothing_asked : (i : Network) (x : Box) (a : Account) → answers_of i x [] ≡ alone a (calls_of i []) (frees_of i x [])
@@ -184,8 +184,8 @@ independent i (c ∷ asked) x ok b a own =
   where
     go : Turn i x c a → ((a' : Account) → Owns i (next x c) a' → answers_of i (next x c) asked ≡ alone a' (calls_of i asked) (frees_of i (next x c) asked))
         → answers_of i x (c ∷ asked) ≡ alone a (calls_of i (c ∷ asked)) (frees_of i x (c ∷ asked))
-    go (other_turn o own') rest = rw (answers-other i x c asked o, calls-other i x c asked o, frees-other i x c asked o) (rest a own')
-    go (own_turn o t n own') rest = goes-alone i x c asked a o t n (rest _ own') (seen (needs_at i x c.call))
+    go (other_turn o own') rest = rw (answers_other i x c asked o, calls_other i x c asked o, frees_other i x c asked o) (rest a own')
+    go (own_turn o t n own') rest = goes_alone i x c asked a o t n (rest _ own') (seen (needs_at i x c.call))
 
 -- from the start
 pub fresh_possible : (store : List ℕ) → possible (fresh_box store) ≡ true

@@ -23,7 +23,7 @@ use Rattle.rooms_state.specs.State.{room_at, room_payload}
 use Rattle.rooms_state.specs.declared.Part.{Part}
 use Rattle.rooms_marks.proofs.Tests.{Seen, yes_is, no_is, seen}
 use Rattle.rooms_verdict.specs.Deciding.{number_verdict, good_verdict, verdict_of}
-use Rattle.rooms_verdict.proofs.Verdicts.{verdict-bad, verdict-good}
+use Rattle.rooms_verdict.proofs.Verdicts.{verdict_bad, verdict_good}
 use Rattle.rooms_hand_out.specs.Handing.{body_in, part_handed, part_out}
 use Rattle.rooms_account.proofs.Always.{own_room, good_last}
 
@@ -34,14 +34,14 @@ pub record Shadow (p : Part) (store v : List ℕ) : Type 0 where
 -- ---- the verdict
 
 module _ (p : Part) (store v : List ℕ) (x : Shadow p store v) (h : Heading) (payload : List ℕ) where
-  numbers-same : Seen (eqb (get_or p.gathering.held h.number 0) 0) → number_verdict p store h payload ≡ G.number_verdict p.gathering v h payload
+  numbers_same : Seen (eqb (get_or p.gathering.held h.number 0) 0) → number_verdict p store h payload ≡ G.number_verdict p.gathering v h payload
   unfolding number_verdict G.number_verdict
-  numbers-same (yes_is e) = rw e
-  numbers-same (no_is e) = rw (e, ← (x.same h.number (eqb-false _ _ e)))
+  numbers_same (yes_is e) = rw e
+  numbers_same (no_is e) = rw (e, ← (x.same h.number (eqb-false _ _ e)))
 
-  good-same : has_room (length v) h.last ≡ true → good_verdict p store h payload ≡ G.good_verdict p.gathering v h payload
+  good_same : has_room (length v) h.last ≡ true → good_verdict p store h payload ≡ G.good_verdict p.gathering v h payload
   unfolding good_verdict G.good_verdict
-  good-same r = rw (r, numbers-same (seen (eqb (get_or p.gathering.held h.number 0) 0)))
+  good_same r = rw (r, numbers_same (seen (eqb (get_or p.gathering.held h.number 0) 0)))
 
 pub shadow_verdict : (p : Part) (store v s : List ℕ) → Shadow p store v → AreBytes s → possible_of p.gathering ≡ true
     → verdict_of p store s ≡ G.verdict_of p.gathering v s
@@ -49,10 +49,10 @@ shadow_verdict p store v s x b ok = go (read_as s)
   where
     go : ReadAs s → verdict_of p store s ≡ G.verdict_of p.gathering v s
     go (as_good h n e) =
-        verdict-good p store s h n e
-        ∙ good-same p store v x h (payload_of s) (ap (λ (m : ℕ). has_room m h.last) x.long ∙ own_room h.last (good_last s b h n e))
-        ∙ sym (GV.verdict-good p.gathering v s ok h n e)
-    go (as_bad r e) = verdict-bad p store s r e ∙ sym (GV.verdict-bad p.gathering v s ok r e)
+        verdict_good p store s h n e
+        ∙ good_same p store v x h (payload_of s) (ap (λ (m : ℕ). has_room m h.last) x.long ∙ own_room h.last (good_last s b h n e))
+        ∙ sym (GV.verdict_good p.gathering v s ok h n e)
+    go (as_bad r e) = verdict_bad p store s r e ∙ sym (GV.verdict_bad p.gathering v s ok r e)
 
 -- ---- handing out
 
@@ -86,14 +86,14 @@ module _ (p : Part) (store v : List ℕ) (x : Shadow p store v) where
       let t = length-take (p.gathering.last + 1) p.gathering.held in
       rw (get_or-take (p.gathering.last + 1) p.gathering.held i 0 (omega arith)) (payload_same i)
 
-  pub bodies-same : body_in p store ≡ body_held p.gathering v
+  pub bodies_same : body_in p store ≡ body_held p.gathering v
   unfolding body_in body_held
-  bodies-same = joined_same (room_at p.rooms) place 0 (lengths p.gathering) store v (λ i l. rw (zero-add i) (listed_same i l))
+  bodies_same = joined_same (room_at p.rooms) place 0 (lengths p.gathering) store v (λ i l. rw (zero-add i) (listed_same i l))
 
-  pub shadow-handed : (out : List ℕ) → part_handed p store out ≡ handed_of p.gathering v out
+  pub shadow_handed : (out : List ℕ) → part_handed p store out ≡ handed_of p.gathering v out
   unfolding part_handed handed_of
-  shadow-handed out = rw (bodies-same, x.long)
+  shadow_handed out = rw (bodies_same, x.long)
 
-  pub shadow-out : (out : List ℕ) → part_out p store out ≡ out_after p.gathering v out
+  pub shadow_out : (out : List ℕ) → part_out p store out ≡ out_after p.gathering v out
   unfolding part_out out_after
-  shadow-out out = rw (bodies-same, shadow-handed out)
+  shadow_out out = rw (bodies_same, shadow_handed out)

@@ -20,13 +20,13 @@ held_plus_free x bytes ok =
     held_and_free (rooms_in bytes) x.one.rooms x.two.rooms (rooms_most _ x.one s.own) (rooms_most _ x.two s.others) s.once
 
 module _ (x : Networks) (bytes : ℕ) where
-  pub held-impossible : possible_of x bytes ≡ false → Refused ImpossibleState ≡ held_of x bytes
+  pub held_impossible : possible_of x bytes ≡ false → Refused ImpossibleState ≡ held_of x bytes
   unfolding held_of
-  held-impossible f = rw f
+  held_impossible f = rw f
 
-  pub free-impossible : possible_of x bytes ≡ false → Refused ImpossibleState ≡ free_of x bytes
+  pub free_impossible : possible_of x bytes ≡ false → Refused ImpossibleState ≡ free_of x bytes
   unfolding free_of
-  free-impossible f = rw f
+  free_impossible f = rw f
 
   module _ (ok : possible_of x bytes ≡ true) (a b : ℕ) (e : a ≡ held_rooms x.one.rooms) (f : b ≡ held_rooms x.two.rooms) where
     sum_is : a + b ≡ held x
@@ -40,10 +40,10 @@ module _ (x : Networks) (bytes : ℕ) where
     pub held_most : (n : ℕ) → n ≡ rooms_in bytes → a + b ≤ n
     held_most n g = let s = sum_is in let h = held_plus_free x bytes ok in omega arith
 
-    pub held-few : a + b ≤ 512
+    pub held_few : a + b ≤ 512
     unfolding rooms_in
-    held-few = let m = held_most (rooms_in bytes) refl in omega arith
+    held_few = let m = held_most (rooms_in bytes) refl in omega arith
 
-    pub free-counted : (n : ℕ) → n ≡ rooms_in bytes → Rooms (n - (a + b)) ≡ free_of x bytes
+    pub free_counted : (n : ℕ) → n ≡ rooms_in bytes → Rooms (n - (a + b)) ≡ free_of x bytes
     unfolding free_of
-    free-counted n g = rw ok (ap Rooms (let s = sum_is in let h = held_plus_free x bytes ok in omega arith))
+    free_counted n g = rw ok (ap Rooms (let s = sum_is in let h = held_plus_free x bytes ok in omega arith))

@@ -15,11 +15,11 @@ module _ (x : Networks) (bytes : ℕ) where
   unfolding ended_of
   ends_nowhere o e = rw e
 
-  pub ends-impossible : (o : Option Network) → is_some o ≡ true → possible_of x bytes ≡ false
+  pub ends_impossible : (o : Option Network) → is_some o ≡ true → possible_of x bytes ≡ false
       → record { answer = Refused ImpossibleState; state = x } ≡ ended_of o x bytes
   unfolding ended_of ended_for is_some
-  ends-impossible none t f = absurd (false≢true t)
-  ends-impossible (some i) t f = rw f
+  ends_impossible none t f = absurd (false≢true t)
+  ends_impossible (some i) t f = rw f
 
   pub ends : (o : Option Network) (i : Network) → o ≡ some i → possible_of x bytes ≡ true → (p : Part) → p ≡ fresh_part
       → record { answer = Done; state = with_mine i x p } ≡ ended_of o x bytes

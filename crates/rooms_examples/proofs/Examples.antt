@@ -5,7 +5,7 @@ use mathlib.Core.Bool.{xor}
 use mathlib.Core.List.{List, [], ◌∷◌}
 use mathlib.Core.Path.{◌≡◌, refl}
 use lib.ListN.{replicate}
-use Rattle.crc_register.specs.Register.{odd, bits_of, digit, value, bytes_bits, plus, fed as fedBit, step, run as runBits, crc}
+use Rattle.crc_register.specs.Register.{odd, bits_of, digit, value, bytes_bits, plus, fed as fed_bit, step, run as run_bits, crc}
 use Rattle.crc.specs.Crc.{crc32_of}
 use Rattle.ground_placing.specs.Placed.{placed}
 use Rattle.ground_refusal.specs.Numbers.{refusal_number}
@@ -22,7 +22,7 @@ use Rattle.gathering_hand_out.specs.declared.Handed.TheVariants.{Body, Refused a
 use Rattle.rooms_marks.specs.Rooms.{count, uses, none_twice, free_from, free_room}
 use Rattle.rooms_state.specs.State as rooms
 use Rattle.rooms_verdict.specs.Deciding as verdicts
-use Rattle.rooms_feed.specs.Feeding as feeding-of
+use Rattle.rooms_feed.specs.Feeding as feeding_of
 use Rattle.rooms_hand_out.specs.Handing as handing
 use Rattle.rooms_end.specs.Ending.{ended_for, ended_of}
 use Rattle.rooms_end.specs.declared.Ended.TheVariants.{Done, Refused as NotEnded}
@@ -107,14 +107,14 @@ answers = 100 ∷ 100 ∷ 8 ∷ 35 ∷ 101 ∷ 7 ∷ 19 ∷ 13 ∷ 9 ∷ 100 ∷
 -- ---- the checker's answers are these
 
 pub computed : answered (fresh_box (replicate 8268 0)) asked ≡ answers
-unfolding odd bits_of digit value bytes_bits plus fedBit step runBits crc crc32_of xor placed is_kind word section_length fixed_bits heading_of payload_of read_section
+unfolding odd bits_of digit value bytes_bits plus fed_bit step run_bits crc crc32_of xor placed is_kind word section_length fixed_bits heading_of payload_of read_section
     greatest smallest_missing total held_count part same_bytes fresh_state is_fresh lengths is_begun possible_of nothing_begun has_room opened with_section spoiled_state
     steps_ahead same_table is_newer agrees begins answer_by joined missing_of complete_of handed_if_room handed_by out_by count uses none_twice free_from free_room
     rooms.fresh_part rooms.fresh_networks rooms.rooms_in rooms.room_place rooms.room_at rooms.room_payload rooms.pair_test rooms.matched rooms.part_possible
     rooms.possible_of
     rooms.network_of rooms.mine rooms.theirs rooms.with_mine verdicts.number_verdict verdicts.good_verdict verdicts.section_verdict verdicts.verdict_of
-    feeding-of.opened_part feeding-of.base feeding-of.room_for feeding-of.roomed feeding-of.room_verdict feeding-of.with_room feeding-of.part_by feeding-of.store_by
-    feeding-of.part_fed feeding-of.part_store feeding-of.fed_for feeding-of.store_for feeding-of.fed_of feeding-of.store_after
+    feeding_of.opened_part feeding_of.base feeding_of.room_for feeding_of.roomed feeding_of.room_verdict feeding_of.with_room feeding_of.part_by feeding_of.store_by
+    feeding_of.part_fed feeding_of.part_store feeding_of.fed_for feeding_of.store_for feeding_of.fed_of feeding_of.store_after
     handing.body_in handing.part_handed handing.part_out handing.handed_for handing.out_for handing.handed_of handing.out_after ended_for ended_of
     fresh_box told box_after answer next
 computed = refl

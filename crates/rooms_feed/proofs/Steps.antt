@@ -17,7 +17,7 @@ use Rattle.section_reader.specs.declared.Heading.{Heading}
 use Rattle.gathering_state.specs.State.{numbers_of, opened, spoiled_state}
 use Rattle.gathering_state.specs.declared.Numbers.{Numbers}
 use Rattle.gathering_state.specs.declared.Gathering.{Gathering}
-use Rattle.gathering_state.proofs.State.{parts_make, unheld-counts}
+use Rattle.gathering_state.proofs.State.{parts_make, unheld_counts}
 use Rattle.gathering_verdict.specs.declared.Verdict.{Verdict}
 use Rattle.gathering_verdict.specs.declared.Verdict.TheVariants.{Refuse, Repeat, Contradict, Begin, Take}
 use Rattle.gathering_verdict.proofs.Verdicts.{sized, TakenBy, as_first, as_further}
@@ -31,7 +31,7 @@ use Rattle.rooms_state.specs.declared.Part.{Part}
 use Rattle.rooms_state.specs.declared.Networks.{Networks}
 use Rattle.rooms_state.proofs.Facts.{part_is, part_test, networks_are, sound_of, room_fits, in_rooms}
 use Rattle.rooms_verdict.specs.Deciding.{verdict_of}
-use Rattle.rooms_verdict.proofs.Taken.{take-is}
+use Rattle.rooms_verdict.proofs.Taken.{take_is}
 use Rattle.rooms_feed.specs.Feeding.{opened_part, base, room_for, roomed, room_verdict, with_room, part_by, store_by, part_fed, part_store, fed_for}
 use Rattle.rooms_feed.specs.Feeding.{store_for, fed_of, store_after, taken_fed, taken_store, Roomy, Fits}
 use Rattle.rooms_feed.specs.declared.FedPart.{FedPart}
@@ -52,10 +52,10 @@ unfolding payload_of room_place
 puts room store s fits store' q =
     let short = fits.short in
     let l = length-take-le (length s - 12) (drop 8 s) (simp length-drop (omega arith)) in
-    ((sub-twice (length s) ∙ sym l, omega arith), rw (← sub-twice (length s)) q)
+    ((sub_twice (length s) ∙ sym l, omega arith), rw (← sub_twice (length s)) q)
   where
-    sub-twice : (n : ℕ) → n - 4 - 8 ≡ n - 12
-    sub-twice n = omega arith
+    sub_twice : (n : ℕ) → n - 4 - 8 ≡ n - 12
+    sub_twice n = omega arith
 
 pub fits_at : (room : ℕ) (store s : List ℕ) → Fits room store s → (room - 1) * 4084 + 4084 ≤ length store
 unfolding room_place
@@ -73,28 +73,28 @@ free_fits n store s r room found most =
 
 module _ (n : ℕ) (p : Part) (store s : List ℕ) (few : n ≤ 512) (roomy : n * 4084 ≤ length store) (ok : part_possible n p ≡ true) where
   module _ (h : Heading) where
-    taken-roomy : TakenBy h (verdict_of p store s) → Roomy n store s
-    taken-roomy t =
-        let i = take-is p store s (part_is n p ok).possible h t in
+    taken_roomy : TakenBy h (verdict_of p store s) → Roomy n store s
+    taken_roomy t =
+        let i = take_is p store s (part_is n p ok).possible h t in
         let q = sized s h i.length_of i.reads in
         record { long = omega arith; short = omega arith; few = few; within = roomy }
 
     -- it begins its table;
-    pub first-versioned : verdict_of p store s ≡ Begin h → h.version ≤ 31
-    first-versioned e = let i = take-is p store s (part_is n p ok).possible h (as_first e) in (sized s h i.length_of i.reads).versioned
+    pub first_versioned : verdict_of p store s ≡ Begin h → h.version ≤ 31
+    first_versioned e = let i = take_is p store s (part_is n p ok).possible h (as_first e) in (sized s h i.length_of i.reads).versioned
 
-    pub first-roomy : verdict_of p store s ≡ Begin h → Roomy n store s
-    first-roomy e = taken-roomy (as_first e)
+    pub first_roomy : verdict_of p store s ≡ Begin h → Roomy n store s
+    first_roomy e = taken_roomy (as_first e)
 
     -- or it is one of those that the gathering's table misses, and there is room to count its bytes
-    pub further-roomy : verdict_of p store s ≡ Take h → Roomy n store s
-    further-roomy e = taken-roomy (as_further e)
+    pub further_roomy : verdict_of p store s ≡ Take h → Roomy n store s
+    further_roomy e = taken_roomy (as_further e)
 
-    pub further-counts : verdict_of p store s ≡ Take h → h.number ≤ 255 → (1 ≤ p.gathering.missing) × (p.gathering.bytes ≤ 1045504)
-    further-counts e low =
+    pub further_counts : verdict_of p store s ≡ Take h → h.number ≤ 255 → (1 ≤ p.gathering.missing) × (p.gathering.bytes ≤ 1045504)
+    further_counts e low =
         let x = part_is n p ok in
-        let f = (take-is p store s x.possible h (as_further e)).further e in
-        unheld-counts p.gathering h.number f.begun.of_table x.held_long low f.within f.new
+        let f = (take_is p store s x.possible h (as_further e)).further e in
+        unheld_counts p.gathering h.number f.begun.of_table x.held_long low f.within f.new
 
 -- a table that is opened has counted nothing
 pub first_counts : (h : Heading) (b : Part) → b ≡ opened_part h → (1 ≤ b.gathering.missing) × (b.gathering.bytes ≤ 1045504)
@@ -108,30 +108,30 @@ module _ (n : ℕ) (p : Part) (others store s : List ℕ) where
   Fits-all answer part store' = (record { answer = answer; part = part } ≡ part_fed n p others store s) × (store' ≡ part_store n p others store s)
 
   -- by the verdict without its room, v, the room, and the verdict with it, w
-  feeds-by : (v w : Verdict) (room : ℕ) → verdict_of p store s ≡ v → room ≡ room_for n p others v → roomed v room ≡ w
+  feeds_by : (v w : Verdict) (room : ℕ) → verdict_of p store s ≡ v → room ≡ room_for n p others v → roomed v room ≡ w
       → Fits-all (answer_by w) (part_by p (payload_of s) room w) (store_by store (payload_of s) room w)
   unfolding part_fed part_store room_verdict
-  feeds-by v w room e f g = rw (e, ← f, g) (refl, refl)
+  feeds_by v w room e f g = rw (e, ← f, g) (refl, refl)
 
-  pub feeds-stop : (r : Refusal) → verdict_of p store s ≡ Refuse r → Fits-all (Refused r) p store
+  pub feeds_stop : (r : Refusal) → verdict_of p store s ≡ Refuse r → Fits-all (Refused r) p store
   unfolding answer_by part_by store_by roomed
-  feeds-stop r e = feeds-by (Refuse r) (Refuse r) (room_for n p others (Refuse r)) e refl refl
+  feeds_stop r e = feeds_by (Refuse r) (Refuse r) (room_for n p others (Refuse r)) e refl refl
 
-  pub feeds-repeat : verdict_of p store s ≡ Repeat → Fits-all HeldAlready p store
+  pub feeds_repeat : verdict_of p store s ≡ Repeat → Fits-all HeldAlready p store
   unfolding answer_by part_by store_by roomed
-  feeds-repeat e = feeds-by Repeat Repeat (room_for n p others Repeat) e refl refl
+  feeds_repeat e = feeds_by Repeat Repeat (room_for n p others Repeat) e refl refl
 
-  pub feeds-clash : verdict_of p store s ≡ Contradict
+  pub feeds_clash : verdict_of p store s ≡ Contradict
       → Fits-all (Refused Contradiction) (record { gathering = spoiled_state p.gathering; rooms = p.rooms }) store
   unfolding answer_by part_by store_by roomed
-  feeds-clash e = feeds-by Contradict Contradict (room_for n p others Contradict) e refl refl
+  feeds_clash e = feeds_by Contradict Contradict (room_for n p others Contradict) e refl refl
 
   -- what needs a room is taken into the part that its verdict says, and 35 where none is free
   module _ (h : Heading) (fed : FedPart) (store' : List ℕ) where
-    pub feeds-first : verdict_of p store s ≡ Begin h → (b : Part) → b ≡ opened_part h → fed ≡ taken_fed n p b h.number others s
+    pub feeds_first : verdict_of p store s ≡ Begin h → (b : Part) → b ≡ opened_part h → fed ≡ taken_fed n p b h.number others s
         → store' ≡ taken_store n b others store s → (fed ≡ part_fed n p others store s) × (store' ≡ part_store n p others store s)
     unfolding taken_fed taken_store part_fed part_store room_verdict room_for base roomed answer_by part_by store_by
-    feeds-first e b o f q = rw (f, q, o) (go (seen (eqb (free_room n (opened_part h).rooms others) 0)))
+    feeds_first e b o f q = rw (f, q, o) (go (seen (eqb (free_room n (opened_part h).rooms others) 0)))
       where
         go : Seen (eqb (free_room n (opened_part h).rooms others) 0)
             → (taken_fed n p (opened_part h) h.number others s ≡ part_fed n p others store s)
@@ -139,10 +139,10 @@ module _ (n : ℕ) (p : Part) (others store s : List ℕ) where
         go (yes_is z) = rw (e, z) (refl, refl)
         go (no_is z) = rw (e, z) (refl, refl)
 
-    pub feeds-further : verdict_of p store s ≡ Take h → fed ≡ taken_fed n p p h.number others s → store' ≡ taken_store n p others store s
+    pub feeds_further : verdict_of p store s ≡ Take h → fed ≡ taken_fed n p p h.number others s → store' ≡ taken_store n p others store s
         → (fed ≡ part_fed n p others store s) × (store' ≡ part_store n p others store s)
     unfolding taken_fed taken_store part_fed part_store room_verdict room_for base roomed answer_by part_by store_by
-    feeds-further e f q = rw (f, q) (go (seen (eqb (free_room n p.rooms others) 0)))
+    feeds_further e f q = rw (f, q) (go (seen (eqb (free_room n p.rooms others) 0)))
       where
         go : Seen (eqb (free_room n p.rooms others) 0)
             → (taken_fed n p p h.number others s ≡ part_fed n p others store s) × (taken_store n p others store s ≡ part_store n p others store s)
@@ -157,11 +157,11 @@ module _ (n : ℕ) (p b : Part) (k : ℕ) (others store s : List ℕ) (room : �
   unfolding taken_fed taken_store
   takes_none z = rw (← e, eq-eqb room 0 z) (refl, refl)
 
-  pub takes-free : (room ≡ 0 → ⊥) → (part' : Part) → part' ≡ with_room b k (length (payload_of s)) room
+  pub takes_free : (room ≡ 0 → ⊥) → (part' : Part) → part' ≡ with_room b k (length (payload_of s)) room
       → (store' : List ℕ) → store' ≡ placed store (room_place room) (payload_of s)
       → (record { answer = Taken; part = part' } ≡ taken_fed n p b k others s) × (store' ≡ taken_store n b others store s)
   unfolding taken_fed taken_store
-  takes-free found part' w store' q = rw (w, q, ← e, ne_eqb room 0 found) (refl, refl)
+  takes_free found part' w store' q = rw (w, q, ← e, ne_eqb room 0 found) (refl, refl)
 
 -- ---- both networks
 
@@ -171,20 +171,20 @@ pub parts_possible : (i : Network) (x : Networks) (bytes n : ℕ) → n ≡ room
 parts_possible i x bytes n e ok = let s = sound_of i x (networks_are x bytes ok) in rw e (s.roomy, part_test _ (mine i x) s.own)
 
 module _ (x : Networks) (store s : List ℕ) where
-  pub fed-nowhere : (o : Option Network) → o ≡ none
+  pub fed_nowhere : (o : Option Network) → o ≡ none
       → (record { answer = Refused (OutsideSet 0); state = x } ≡ fed_of o x store s) × (store ≡ store_after o x store s)
   unfolding fed_of store_after
-  fed-nowhere o e = rw e (refl, refl)
+  fed_nowhere o e = rw e (refl, refl)
 
-  pub fed-impossible : (o : Option Network) → is_some o ≡ true → possible_of x (length store) ≡ false
+  pub fed_impossible : (o : Option Network) → is_some o ≡ true → possible_of x (length store) ≡ false
       → (record { answer = Refused ImpossibleState; state = x } ≡ fed_of o x store s) × (store ≡ store_after o x store s)
   unfolding fed_of store_after fed_for store_for is_some
-  fed-impossible none t f = absurd (false≢true t)
-  fed-impossible (some i) t f = rw f (refl, refl)
+  fed_impossible none t f = absurd (false≢true t)
+  fed_impossible (some i) t f = rw f (refl, refl)
 
-  pub fed-part : (o : Option Network) (i : Network) → o ≡ some i → possible_of x (length store) ≡ true → (n : ℕ) → n ≡ rooms_in (length store)
+  pub fed_part : (o : Option Network) (i : Network) → o ≡ some i → possible_of x (length store) ≡ true → (n : ℕ) → n ≡ rooms_in (length store)
       → (fed : FedPart) → fed ≡ part_fed n (mine i x) (theirs i x).rooms store s
       → (store' : List ℕ) → store' ≡ part_store n (mine i x) (theirs i x).rooms store s
       → (record { answer = fed.answer; state = with_mine i x fed.part } ≡ fed_of o x store s) × (store' ≡ store_after o x store s)
   unfolding fed_of store_after fed_for store_for
-  fed-part o i e f n g fed h store' q = rw (e, f, h, q, g) (refl, refl)
+  fed_part o i e f n g fed h store' q = rw (e, f, h, q, g) (refl, refl)

@@ -18,7 +18,7 @@ use Rattle.gathering_hand_out.specs.Handing.{joined, complete_of, handed_if_room
 use Rattle.gathering_hand_out.specs.declared.Completeness.TheVariants.{Complete, Refused as NotComplete}
 use Rattle.gathering_hand_out.specs.declared.Handed.{Handed}
 use Rattle.gathering_hand_out.specs.declared.Handed.TheVariants.{Body, Refused}
-use Rattle.gathering_hand_out.proofs.Handing.{fitting-small, fitting-body}
+use Rattle.gathering_hand_out.proofs.Handing.{fitting_small, fitting_body}
 use Rattle.gathering_hand_out.proofs.Joining.{joined_length}
 use Rattle.rooms_state.specs.State.{room_at, InRooms, possible_of, Network, is_some, mine}
 use Rattle.rooms_state.specs.declared.Part.{Part}
@@ -31,17 +31,17 @@ module _ (held rooms store out : List ℕ) (i : InRooms held rooms store) (n : �
   abbrev body : List ℕ
   body = joined (room_at rooms) 0 held store
 
-  body-long : length body ≡ n
-  body-long = joined_length (room_at rooms) store 0 held (λ k h. rw (zero-add k) (i.within k)) ∙ sym e
+  body_long : length body ≡ n
+  body_long = joined_length (room_at rooms) store 0 held (λ k h. rw (zero-add k) (i.within k)) ∙ sym e
 
   pub held_small : length out < n → (Refused OutputTooSmall ≡ handed_if_room (length body) (length out)) × (out ≡ out_by body out (Refused OutputTooSmall))
   unfolding out_by
-  held_small r = (rw body-long (fitting-small n (length out) r), refl)
+  held_small r = (rw body_long (fitting_small n (length out) r), refl)
 
-  pub held-body : n ≤ length out → (out' : List ℕ) → out' ≡ placed out 0 body
+  pub held_body : n ≤ length out → (out' : List ℕ) → out' ≡ placed out 0 body
       → (Body n ≡ handed_if_room (length body) (length out)) × (out' ≡ out_by body out (Body n))
   unfolding out_by
-  held-body r out' q = (rw body-long (fitting-body n (length out) r), q)
+  held_body r out' q = (rw body_long (fitting_body n (length out) r), q)
 
 -- the first numbers' payloads lie in the store as all do
 pub first_in_rooms : (held rooms store : List ℕ) (count : ℕ) → InRooms held rooms store → InRooms (take count held) rooms store
@@ -57,33 +57,33 @@ first_in_rooms held rooms store count i = record { within = λ k. go k (ltb k co
 -- ---- one network's part
 
 module _ (p : Part) (store out : List ℕ) where
-  pub hands-refused : (r : Refusal) → complete_of p.gathering 1045504 ≡ NotComplete r
+  pub hands_refused : (r : Refusal) → complete_of p.gathering 1045504 ≡ NotComplete r
       → (Refused r ≡ part_handed p store out) × (out ≡ part_out p store out)
   unfolding part_handed handed_by part_out out_by
-  hands-refused r e = (rw e, rw e)
+  hands_refused r e = (rw e, rw e)
 
-  pub hands-complete : complete_of p.gathering 1045504 ≡ Complete → (r : Handed) → r ≡ handed_if_room (length (body_in p store)) (length out)
+  pub hands_complete : complete_of p.gathering 1045504 ≡ Complete → (r : Handed) → r ≡ handed_if_room (length (body_in p store)) (length out)
       → (out' : List ℕ) → out' ≡ out_by (body_in p store) out r → (r ≡ part_handed p store out) × (out' ≡ part_out p store out)
   unfolding part_handed handed_by part_out
-  hands-complete e r f out' q = (rw e f, rw e (q ∙ ap (out_by (body_in p store) out) f))
+  hands_complete e r f out' q = (rw e f, rw e (q ∙ ap (out_by (body_in p store) out) f))
 
 -- ---- both networks
 
 module _ (x : Networks) (store out : List ℕ) where
-  pub hands-nowhere : (o : Option Network) → o ≡ none → (Refused (OutsideSet 0) ≡ handed_of o x store out) × (out ≡ out_after o x store out)
+  pub hands_nowhere : (o : Option Network) → o ≡ none → (Refused (OutsideSet 0) ≡ handed_of o x store out) × (out ≡ out_after o x store out)
   unfolding handed_of out_after
-  hands-nowhere o e = rw e (refl, refl)
+  hands_nowhere o e = rw e (refl, refl)
 
-  pub hands-impossible : (o : Option Network) → is_some o ≡ true → possible_of x (length store) ≡ false
+  pub hands_impossible : (o : Option Network) → is_some o ≡ true → possible_of x (length store) ≡ false
       → (Refused ImpossibleState ≡ handed_of o x store out) × (out ≡ out_after o x store out)
   unfolding handed_of out_after handed_for out_for is_some
-  hands-impossible none t f = absurd (false≢true t)
-  hands-impossible (some i) t f = rw f (refl, refl)
+  hands_impossible none t f = absurd (false≢true t)
+  hands_impossible (some i) t f = rw f (refl, refl)
 
-  pub hands-part : (o : Option Network) (i : Network) → o ≡ some i → possible_of x (length store) ≡ true → (r : Handed) → r ≡ part_handed (mine i x) store out
+  pub hands_part : (o : Option Network) (i : Network) → o ≡ some i → possible_of x (length store) ≡ true → (r : Handed) → r ≡ part_handed (mine i x) store out
       → (out' : List ℕ) → out' ≡ part_out (mine i x) store out → (r ≡ handed_of o x store out) × (out' ≡ out_after o x store out)
   unfolding handed_of out_after handed_for out_for
-  hands-part o i e f r g out' q = rw (e, f, g, q) (refl, refl)
+  hands_part o i e f r g out' q = rw (e, f, g, q) (refl, refl)
 
 pub part_lies : (x : Networks) (store : List ℕ) (i : Network) → possible_of x (length store) ≡ true → InRooms (mine i x).gathering.held (mine i x).rooms store
 part_lies x store i f = let s = sound_of i x (networks_are x (length store) f) in in_rooms _ (mine i x) store s.own s.roomy

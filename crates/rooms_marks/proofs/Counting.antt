@@ -138,13 +138,13 @@ sum_counts (y ∷ ys) n f = go (seen (eqb y 0)) (sum_counts ys n (λ k. f (suc k
 -- ---- held and free
 
 module _ (ps qs : List ℕ) (n : ℕ) where
-  free-here : uses (suc n) ps qs ≡ 0 → free_rooms (suc n) ps qs ≡ suc (free_rooms n ps qs)
+  free_here : uses (suc n) ps qs ≡ 0 → free_rooms (suc n) ps qs ≡ suc (free_rooms n ps qs)
   unfolding free_rooms
-  free-here e = rw (eq-eqb (uses (suc n) ps qs) 0 e)
+  free_here e = rw (eq-eqb (uses (suc n) ps qs) 0 e)
 
-  free-not : (uses (suc n) ps qs ≡ 0 → ⊥) → free_rooms (suc n) ps qs ≡ free_rooms n ps qs
+  free_not : (uses (suc n) ps qs ≡ 0 → ⊥) → free_rooms (suc n) ps qs ≡ free_rooms n ps qs
   unfolding free_rooms
-  free-not e = rw (ne_eqb (uses (suc n) ps qs) 0 e)
+  free_not e = rw (ne_eqb (uses (suc n) ps qs) 0 e)
 
 -- each of n rooms is held once or free
 held_or_free : (n : ℕ) (ps qs : List ℕ) → ((r : ℕ) → 1 ≤ r → r ≤ n → uses r ps qs ≤ 1) → sum_to (λ r. uses r ps qs) n + free_rooms n ps qs ≡ n
@@ -154,10 +154,10 @@ held_or_free (suc n) ps qs f = go (seen (eqb (uses (suc n) ps qs) 0)) (held_or_f
   where
     go : Seen (eqb (uses (suc n) ps qs) 0) → sum_to (λ r. uses r ps qs) n + free_rooms n ps qs ≡ n
         → uses (suc n) ps qs + sum_to (λ r. uses r ps qs) n + free_rooms (suc n) ps qs ≡ suc n
-    go (yes_is e) i = let u = eqb-true (uses (suc n) ps qs) 0 e in let a = free-here ps qs n u in omega arith
+    go (yes_is e) i = let u = eqb-true (uses (suc n) ps qs) 0 e in let a = free_here ps qs n u in omega arith
     go (no_is e) i =
         let u = eqb-false (uses (suc n) ps qs) 0 e in
-        let a = free-not ps qs n u in
+        let a = free_not ps qs n u in
         let b = f (suc n) (omega arith) (omega arith) in
         omega arith
 
@@ -178,12 +178,12 @@ held_and_free n ps qs f g once = let a = uses_sum n ps qs f g in let b = held_or
 -- ---- how many are held, one at a time
 
 module _ (s : List ℕ) (i : ℕ) where
-  pub held-step : i < length s → (get_or s i 0 ≡ 0 → ⊥) → held_rooms (drop i s) ≡ suc (held_rooms (drop (i + 1) s))
-  held-step h e = rw (add-one, drop-cons s i 0 h) (held_here (get_or s i 0) (drop (suc i) s) e)
+  pub held_step : i < length s → (get_or s i 0 ≡ 0 → ⊥) → held_rooms (drop i s) ≡ suc (held_rooms (drop (i + 1) s))
+  held_step h e = rw (add-one, drop-cons s i 0 h) (held_here (get_or s i 0) (drop (suc i) s) e)
 
-  pub held-skip : i < length s → get_or s i 0 ≡ 0 → held_rooms (drop i s) ≡ held_rooms (drop (i + 1) s)
-  held-skip h e = rw (add-one, drop-cons s i 0 h) (held_later (get_or s i 0) (drop (suc i) s) e)
+  pub held_skip : i < length s → get_or s i 0 ≡ 0 → held_rooms (drop i s) ≡ held_rooms (drop (i + 1) s)
+  held_skip h e = rw (add-one, drop-cons s i 0 h) (held_later (get_or s i 0) (drop (suc i) s) e)
 
-  pub held-end : length s ≤ i → held_rooms (drop i s) ≡ 0
+  pub held_end : length s ≤ i → held_rooms (drop i s) ≡ 0
   unfolding held_rooms
-  held-end h = rw (drop_of_length-le s h)
+  held_end h = rw (drop_of_length-le s h)

@@ -17,17 +17,17 @@ module _ (ps qs : List ℕ) where
   unfolding free_from
   found_here r n e = rw (eq-eqb (uses r ps qs) 0 e)
 
-  found-later : (r n : ℕ) → (uses r ps qs ≡ 0 → ⊥) → free_from ps qs r (suc n) ≡ free_from ps qs (suc r) n
+  found_later : (r n : ℕ) → (uses r ps qs ≡ 0 → ⊥) → free_from ps qs r (suc n) ≡ free_from ps qs (suc r) n
   unfolding free_from
-  found-later r n e = rw (ne_eqb (uses r ps qs) 0 e)
+  found_later r n e = rw (ne_eqb (uses r ps qs) 0 e)
 
-  from-none : (r : ℕ) → free_from ps qs r zero ≡ 0
+  from_none : (r : ℕ) → free_from ps qs r zero ≡ 0
   unfolding free_from
-  from-none r = refl
+  from_none r = refl
 
-  free-from : (n r : ℕ) → 1 ≤ free_from ps qs r n → (r ≤ free_from ps qs r n) × (free_from ps qs r n < r + n) × (uses (free_from ps qs r n) ps qs ≡ 0)
-  free-from zero r l = let a = from-none r in absurd (omega arith)
-  free-from (suc n) r l = go (seen (eqb (uses r ps qs) 0)) (λ m. free-from n (suc r) m)
+  free_from_lem : (n r : ℕ) → 1 ≤ free_from ps qs r n → (r ≤ free_from ps qs r n) × (free_from ps qs r n < r + n) × (uses (free_from ps qs r n) ps qs ≡ 0)
+  free_from_lem zero r l = let a = from_none r in absurd (omega arith)
+  free_from_lem (suc n) r l = go (seen (eqb (uses r ps qs) 0)) (λ m. free_from_lem n (suc r) m)
     where
       go : Seen (eqb (uses r ps qs) 0)
           → (1 ≤ free_from ps qs (suc r) n
@@ -38,7 +38,7 @@ module _ (ps qs : List ℕ) where
           let a = found_here r n u in
           (omega arith, omega arith, ap (λ (t : ℕ). uses t ps qs) a ∙ u)
       go (no_is e) next =
-          let a = found-later r n (eqb-false (uses r ps qs) 0 e) in
+          let a = found_later r n (eqb-false (uses r ps qs) 0 e) in
           let b = next (rw a at l) in
           (omega arith, omega arith, ap (λ (t : ℕ). uses t ps qs) a ∙ b.2)
 
@@ -49,7 +49,7 @@ module _ (ps qs : List ℕ) where
       go : Seen (eqb (uses r ps qs) 0) → Seen (eqb t r) → (free_from ps qs (suc r) n ≡ 0 → suc r ≤ t → 1 ≤ uses t ps qs) → 1 ≤ uses t ps qs
       go (yes_is u) w next = let x = found_here r n (eqb-true (uses r ps qs) 0 u) in absurd (omega arith)
       go (no_is u) (yes_is w) next = let d = eqb-false (uses r ps qs) 0 u in let i : 1 ≤ uses r ps qs = omega arith in rw (eqb-true t r w) i
-      go (no_is u) (no_is w) next = let d = eqb-false t r w in next (sym (found-later r n (eqb-false (uses r ps qs) 0 u)) ∙ e) (omega arith)
+      go (no_is u) (no_is w) next = let d = eqb-false t r w in next (sym (found_later r n (eqb-false (uses r ps qs) 0 u)) ∙ e) (omega arith)
 
 -- a room that is found is one of the n, and free
 pub record FreeIs (n : ℕ) (ps qs : List ℕ) (r : ℕ) : Type 0 where
@@ -59,7 +59,7 @@ pub record FreeIs (n : ℕ) (ps qs : List ℕ) (r : ℕ) : Type 0 where
 
 pub free_is : (n : ℕ) (ps qs : List ℕ) → 1 ≤ free_room n ps qs → FreeIs n ps qs (free_room n ps qs)
 unfolding free_room
-free_is n ps qs l = let a = free-from ps qs n 1 l in record { low = l; high = omega arith; unused = a.2 }
+free_is n ps qs l = let a = free_from_lem ps qs n 1 l in record { low = l; high = omega arith; unused = a.2 }
 
 pub free_most : (n : ℕ) (ps qs : List ℕ) → free_room n ps qs ≤ n
 free_most n ps qs = go (seen (eqb (free_room n ps qs) 0))

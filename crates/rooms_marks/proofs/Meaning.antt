@@ -86,22 +86,22 @@ module _ (ps qs : List ℕ) where
       go (yes_is e) m = let u = eqb-true (uses r ps qs) 0 e in eq-eqb (get_or marks r 0) 0 (omega arith) ∙ sym e
       go (no_is e) m = let u = eqb-false (uses r ps qs) 0 e in ne_eqb (get_or marks r 0) 0 (λ z. omega arith) ∙ sym e
 
-  free-same : (n r : ℕ) → 0 < r → r + n ≤ 513 → free_mark marks r n ≡ free_from ps qs r n
+  free_same : (n r : ℕ) → 0 < r → r + n ≤ 513 → free_mark marks r n ≡ free_from ps qs r n
   unfolding free_mark free_from
-  free-same zero r p h = refl
-  free-same (suc n) r p h = let a = free-same n (suc r) (omega arith) (omega arith) in rw (same_test r p (omega arith), a)
+  free_same zero r p h = refl
+  free_same (suc n) r p h = let a = free_same n (suc r) (omega arith) (omega arith) in rw (same_test r p (omega arith), a)
 
-  pub free-means : (n : ℕ) → n ≤ 512 → free_mark marks 1 n ≡ free_room n ps qs
+  pub free_means : (n : ℕ) → n ≤ 512 → free_mark marks 1 n ≡ free_room n ps qs
   unfolding free_room
-  free-means n h = free-same n 1 (omega arith) (omega arith)
+  free_means n h = free_same n 1 (omega arith) (omega arith)
 
   -- ---- no room twice
 
-  once-means-at : (n r : ℕ) → all_once marks r n ≡ true → (t : ℕ) → r ≤ t → t < r + n → get_or marks t 0 ≤ 1
+  once_means_at : (n r : ℕ) → all_once marks r n ≡ true → (t : ℕ) → r ≤ t → t < r + n → get_or marks t 0 ≤ 1
   unfolding all_once
-  once-means-at zero r e t a b = absurd (omega arith)
-  once-means-at (suc n) r e t a b =
-      go (seen (eqb t r)) (both (leb (get_or marks r 0) 1) (all_once marks (suc r) n) e) (λ f c. once-means-at n (suc r) f t c (omega arith))
+  once_means_at zero r e t a b = absurd (omega arith)
+  once_means_at (suc n) r e t a b =
+      go (seen (eqb t r)) (both (leb (get_or marks r 0) 1) (all_once marks (suc r) n) e) (λ f c. once_means_at n (suc r) f t c (omega arith))
     where
       go : Seen (eqb t r) → (leb (get_or marks r 0) 1 ≡ true) × (all_once marks (suc r) n ≡ true)
           → (all_once marks (suc r) n ≡ true → suc r ≤ t → get_or marks t 0 ≤ 1) → get_or marks t 0 ≤ 1
@@ -113,7 +113,7 @@ module _ (ps qs : List ℕ) where
   all_once_lem zero r f = refl
   all_once_lem (suc n) r f = and_of (le-leb (get_or marks r 0) 1 (f r (omega arith) (omega arith))) (all_once_lem n (suc r) (λ t a b. f t (omega arith) (omega arith)))
 
-  pub once-means : (n : ℕ) → n ≤ 512 → all_once marks 1 n ≡ none_twice n ps qs
-  once-means n h = same_answer (all_once marks 1 n) (none_twice n ps qs)
-      (λ e. none_twice_lem n ps qs (λ r l m. (let a = once-means-at n 1 e r l (omega arith) in let b = mark_is ps qs r l (omega arith) in omega arith)))
+  pub once_means : (n : ℕ) → n ≤ 512 → all_once marks 1 n ≡ none_twice n ps qs
+  once_means n h = same_answer (all_once marks 1 n) (none_twice n ps qs)
+      (λ e. none_twice_lem n ps qs (λ r l m. (let a = once_means_at n 1 e r l (omega arith) in let b = mark_is ps qs r l (omega arith) in omega arith)))
       (λ e. all_once_lem n 1 (λ r l m. (let a = once_at n ps qs e r l (omega arith) in let b = mark_is ps qs r l (omega arith) in omega arith)))

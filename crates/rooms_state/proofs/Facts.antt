@@ -10,8 +10,8 @@ use lib.Dec.{eqb, leb, ltb}
 use lib.ListN.{length, get_or}
 use Rattle.std.specs.Prelude.{if◌then◌else◌}
 use Rattle.ground_choices.proofs.Tests.{both, and_of}
-use Rattle.gathering_state.specs.State.{fresh_state, possible_of as gatheringPossible}
-use Rattle.gathering_state.proofs.State.{possible-short, fresh_possible as fresh-gathering}
+use Rattle.gathering_state.specs.State.{fresh_state, possible_of as gathering_possible}
+use Rattle.gathering_state.proofs.State.{possible_short, fresh_possible as fresh_gathering}
 use Rattle.gathering_state.proofs.Lists.{greatest_at}
 use Rattle.rooms_marks.specs.Rooms.{count, uses, none_twice}
 use Rattle.rooms_marks.proofs.Tests.{Seen, yes_is, no_is, seen}
@@ -63,14 +63,14 @@ all_matched n (h ∷ hs) (r ∷ rs) f = and_of (pair_test_lem n h r (f 0)) (all_
 pub record PartIs (n : ℕ) (p : Part) : Type 0 where
   pub held_long : length p.gathering.held ≡ 256
   pub rooms_long : length p.rooms ≡ 256
-  pub possible : gatheringPossible p.gathering ≡ true
+  pub possible : gathering_possible p.gathering ≡ true
   pub paired : (k : ℕ) → Pair n (get_or p.gathering.held k 0) (get_or p.rooms k 0)
 
 pub part_is : (n : ℕ) (p : Part) → part_possible n p ≡ true → PartIs n p
 unfolding part_possible
 part_is n p e =
     let three = both _ (matched n p.gathering.held p.rooms) e in
-    let two = both _ (gatheringPossible p.gathering) three.0 in
+    let two = both _ (gathering_possible p.gathering) three.0 in
     let one = both (eqb (length p.gathering.held) 256) (eqb (length p.rooms) 256) two.0 in
     let hl = eqb-true _ 256 one.0 in
     let rl = eqb-true _ 256 one.1 in
@@ -84,18 +84,18 @@ part_test n p x =
 
 -- the lists have their 256 numbers: the rest decides
 pub part_by : (n : ℕ) (p : Part) → length p.gathering.held ≡ 256 → length p.rooms ≡ 256
-    → gatheringPossible p.gathering ≡ true → matched n p.gathering.held p.rooms ≡ part_possible n p
+    → gathering_possible p.gathering ≡ true → matched n p.gathering.held p.rooms ≡ part_possible n p
 unfolding part_possible
 part_by n p h r g = rw (eq-eqb _ 256 h, eq-eqb _ 256 r, g)
 
 pub part_not : (n : ℕ) (p : Part) → length p.gathering.held ≡ 256 → length p.rooms ≡ 256
-    → gatheringPossible p.gathering ≡ false → false ≡ part_possible n p
+    → gathering_possible p.gathering ≡ false → false ≡ part_possible n p
 unfolding part_possible
 part_not n p h r g = rw (eq-eqb _ 256 h, eq-eqb _ 256 r, g)
 
 -- lengths are short in every part
 pub short_at : (n : ℕ) (p : Part) → PartIs n p → (k : ℕ) → get_or p.gathering.held k 0 ≤ 4085
-short_at n p x k = let a = possible-short p.gathering x.possible in let b = greatest_at p.gathering.held k in omega arith
+short_at n p x k = let a = possible_short p.gathering x.possible in let b = greatest_at p.gathering.held k in omega arith
 
 pub rooms_most : (n : ℕ) (p : Part) → PartIs n p → (k : ℕ) → get_or p.rooms k 0 ≤ n
 rooms_most n p x k = go (x.paired k)
@@ -118,7 +118,7 @@ fresh_count r l = count_zeros r 256 l
 
 pub fresh_part_lem : (n : ℕ) → PartIs n fresh_part
 unfolding fresh_part fresh_state
-fresh_part_lem n = record { held_long = refl; rooms_long = refl; possible = fresh-gathering; paired = λ k. unheld (zeros_at 256 k) (zeros_at 256 k) }
+fresh_part_lem n = record { held_long = refl; rooms_long = refl; possible = fresh_gathering; paired = λ k. unheld (zeros_at 256 k) (zeros_at 256 k) }
 
 -- ---- a state
 
@@ -173,18 +173,18 @@ module _ (x : Networks) (bytes : ℕ) where
   other_length d = rw (ne_eqb _ _ d)
 
   module _ (l : x.bytes ≡ bytes) (n : ℕ) (e : n ≡ rooms_in bytes) where
-    pub one-not : part_possible n x.one ≡ false → false ≡ possible_of x bytes
+    pub one_not : part_possible n x.one ≡ false → false ≡ possible_of x bytes
     unfolding possible_of
-    one-not f = rw (eq-eqb _ _ l, ← e, f)
+    one_not f = rw (eq-eqb _ _ l, ← e, f)
 
     module _ (o : part_possible n x.one ≡ true) where
-      pub two-not : part_possible n x.two ≡ false → false ≡ possible_of x bytes
+      pub two_not : part_possible n x.two ≡ false → false ≡ possible_of x bytes
       unfolding possible_of
-      two-not f = rw (eq-eqb _ _ l, ← e, o, f)
+      two_not f = rw (eq-eqb _ _ l, ← e, o, f)
 
-      pub both-are : part_possible n x.two ≡ true → none_twice n x.one.rooms x.two.rooms ≡ possible_of x bytes
+      pub both_are : part_possible n x.two ≡ true → none_twice n x.one.rooms x.two.rooms ≡ possible_of x bytes
       unfolding possible_of
-      both-are t = rw (eq-eqb _ _ l, ← e, o, t)
+      both_are t = rw (eq-eqb _ _ l, ← e, o, t)
 
 -- ---- seen from one network
 
@@ -241,25 +241,25 @@ in_rooms n p store x b = record { within = λ k. go k (x.paired k) (short_at n p
 -- ---- a network's number
 
 module _ (n : ℕ) where
-  pub first-network : n ≡ 1 → network_of n ≡ some network1
+  pub first_network : n ≡ 1 → network_of n ≡ some network1
   unfolding network_of
-  first-network e = rw (eq-eqb n 1 e)
+  first_network e = rw (eq-eqb n 1 e)
 
-  pub second-network : (n ≡ 1 → ⊥) → is_some (network_of n) ≡ true → network_of n ≡ some network2
+  pub second_network : (n ≡ 1 → ⊥) → is_some (network_of n) ≡ true → network_of n ≡ some network2
   unfolding network_of is_some
-  second-network d e = go (seen (eqb n 2))
+  second_network d e = go (seen (eqb n 2))
     where
       go : Seen (eqb n 2) → network_of n ≡ some network2
       go (yes_is f) = rw (ne_eqb n 1 d, f)
       go (no_is f) = let z = rw (ne_eqb n 1 d, f) at e in absurd (false≢true z)
 
-  pub network-one : n ≡ 1 → true ≡ is_some (network_of n)
+  pub network_one : n ≡ 1 → true ≡ is_some (network_of n)
   unfolding network_of is_some
-  network-one e = rw (eq-eqb n 1 e)
+  network_one e = rw (eq-eqb n 1 e)
 
-  pub network-two : (n ≡ 1 → ⊥) → eqb n 2 ≡ is_some (network_of n)
+  pub network_two : (n ≡ 1 → ⊥) → eqb n 2 ≡ is_some (network_of n)
   unfolding network_of is_some
-  network-two d = rw (ne_eqb n 1 d) (go (eqb n 2))
+  network_two d = rw (ne_eqb n 1 d) (go (eqb n 2))
     where
       go : (b : Bool) → b ≡ is_some (if b then some network2 else none)
       go true = refl

@@ -12,15 +12,15 @@ use lib.Seq.{drop-cons}
 use Rattle.rooms_state.specs.State.{pair_test, matched}
 
 module _ (n : ℕ) (s t : List ℕ) (i : ℕ) (l : length s ≡ length t) where
-  matched-turn : i < length s → matched n (drop i s) (drop i t) ≡ pair_test n (get_or s i 0) (get_or t i 0) && matched n (drop (suc i) s) (drop (suc i) t)
+  matched_turn : i < length s → matched n (drop i s) (drop i t) ≡ pair_test n (get_or s i 0) (get_or t i 0) && matched n (drop (suc i) s) (drop (suc i) t)
   unfolding matched
-  matched-turn h = rw (drop-cons s i 0 h, drop-cons t i 0 (rw l at h))
+  matched_turn h = rw (drop-cons s i 0 h, drop-cons t i 0 (rw l at h))
 
-  pub pair-stop : i < length s → pair_test n (get_or s i 0) (get_or t i 0) ≡ false → matched n (drop i s) (drop i t) ≡ false
-  pair-stop h e = matched-turn h ∙ ap (λ (b : Bool). b && matched n (drop (suc i) s) (drop (suc i) t)) e
+  pub pair_stop : i < length s → pair_test n (get_or s i 0) (get_or t i 0) ≡ false → matched n (drop i s) (drop i t) ≡ false
+  pair_stop h e = matched_turn h ∙ ap (λ (b : Bool). b && matched n (drop (suc i) s) (drop (suc i) t)) e
 
   pub pair_step : i < length s → pair_test n (get_or s i 0) (get_or t i 0) ≡ true → matched n (drop i s) (drop i t) ≡ matched n (drop (i + 1) s) (drop (i + 1) t)
-  pair_step h e = matched-turn h ∙ ap (λ (b : Bool). b && matched n (drop (suc i) s) (drop (suc i) t)) e ∙ rw (add-one i)
+  pair_step h e = matched_turn h ∙ ap (λ (b : Bool). b && matched n (drop (suc i) s) (drop (suc i) t)) e ∙ rw (add-one i)
 
   pub pair_end : length s ≤ i → matched n (drop i s) (drop i t) ≡ true
   unfolding matched
@@ -29,14 +29,14 @@ module _ (n : ℕ) (s t : List ℕ) (i : ℕ) (l : length s ≡ length t) where
 -- ---- one number and its room
 
 module _ (n h r : ℕ) where
-  pub unheld-pair : h ≡ 0 → eqb r 0 ≡ pair_test n h r
+  pub unheld_pair : h ≡ 0 → eqb r 0 ≡ pair_test n h r
   unfolding pair_test
-  unheld-pair e = rw (eq-eqb h 0 e)
+  unheld_pair e = rw (eq-eqb h 0 e)
 
-  pub no-room-pair : (h ≡ 0 → ⊥) → r ≡ 0 → false ≡ pair_test n h r
+  pub no_room_pair : (h ≡ 0 → ⊥) → r ≡ 0 → false ≡ pair_test n h r
   unfolding pair_test
-  no-room-pair d e = rw (ne_eqb h 0 d, e)
+  no_room_pair d e = rw (ne_eqb h 0 d, e)
 
-  pub room-pair : (h ≡ 0 → ⊥) → (r ≡ 0 → ⊥) → leb r n ≡ pair_test n h r
+  pub room_pair : (h ≡ 0 → ⊥) → (r ≡ 0 → ⊥) → leb r n ≡ pair_test n h r
   unfolding pair_test
-  room-pair d e = rw (ne_eqb h 0 d, lt-ltb 0 r (omega arith))
+  room_pair d e = rw (ne_eqb h 0 d, lt-ltb 0 r (omega arith))

@@ -3,7 +3,7 @@ use Rattle.std.specs.Prelude.{ℕ, ◌+◌, ◌-◌, ◌*◌, ◌/◌, ◌≤◌
 use Rattle.std.proofs.Math.Option.{Option, none, some}
 use Rattle.ground_numbers.specs.Sizes.{payload_most}
 use Rattle.gathering_state.specs.Lists.{part}
-use Rattle.gathering_state.specs.State.{state_of, fresh_state, possible_of as gatheringPossible}
+use Rattle.gathering_state.specs.State.{state_of, fresh_state, possible_of as gathering_possible}
 use Rattle.gathering_state.specs.declared.Numbers.{Numbers}
 use Rattle.rooms_marks.specs.Rooms.{none_twice}
 use Rattle.rooms_state.specs.declared.Part.{Part}
@@ -63,7 +63,7 @@ matched n (h ∷ hs) (r ∷ rs) = pair_test n h r && matched n hs rs
 unfoldable pub part_possible : ℕ → Part → Bool
 part_possible n p =
     eqb (length p.gathering.held) 256 && eqb (length p.rooms) 256
-    && gatheringPossible p.gathering && matched n p.gathering.held p.rooms
+    && gathering_possible p.gathering && matched n p.gathering.held p.rooms
 
 -- 12 is for a state that is not so: "12 also for a store not as long as at the start, and for a state in which a network's own part isn't possible, a held
 -- number has no room of the store, an unheld one has a room, or two have the same room"

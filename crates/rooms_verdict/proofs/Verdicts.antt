@@ -27,18 +27,18 @@ unfolding room_payload room_at
 compared p store k payload at n a e r f = rw (← a, ← e, ← part_between store at n) (sym f)
 
 module _ (p : Part) (store : List ℕ) (h : Heading) (payload : List ℕ) where
-  pub number-new : get_or p.gathering.held h.number 0 ≡ 0 → number_verdict p store h payload ≡ Take h
+  pub number_new : get_or p.gathering.held h.number 0 ≡ 0 → number_verdict p store h payload ≡ Take h
   unfolding number_verdict
-  number-new e = rw (eq-eqb _ _ e)
+  number_new e = rw (eq-eqb _ _ e)
 
   module _ (e : get_or p.gathering.held h.number 0 ≡ 0 → ⊥) where
     pub number_same : same_bytes (room_payload p store h.number) payload ≡ true → number_verdict p store h payload ≡ Repeat
     unfolding number_verdict
     number_same t = rw (ne_eqb _ _ e, t)
 
-    pub number-other : same_bytes (room_payload p store h.number) payload ≡ false → number_verdict p store h payload ≡ Contradict
+    pub number_other : same_bytes (room_payload p store h.number) payload ≡ false → number_verdict p store h payload ≡ Contradict
     unfolding number_verdict
-    number-other t = rw (ne_eqb _ _ e, t)
+    number_other t = rw (ne_eqb _ _ e, t)
 
   -- by the tests, in their order
   pub good_old : not h.current ≡ true → good_verdict p store h payload ≡ Refuse NotCurrent
@@ -46,9 +46,9 @@ module _ (p : Part) (store : List ℕ) (h : Heading) (payload : List ℕ) where
   good_old c = rw c
 
   module _ (c : not h.current ≡ false) where
-    pub good-other : not (begins p.gathering h || agrees p.gathering h) ≡ true → good_verdict p store h payload ≡ Refuse OtherHeading
+    pub good_other : not (begins p.gathering h || agrees p.gathering h) ≡ true → good_verdict p store h payload ≡ Refuse OtherHeading
     unfolding good_verdict
-    good-other a = rw (c, a)
+    good_other a = rw (c, a)
 
     module _ (k : not (begins p.gathering h || agrees p.gathering h) ≡ false) where
       pub good_begins : begins p.gathering h ≡ true → good_verdict p store h payload ≡ Begin h
@@ -56,19 +56,19 @@ module _ (p : Part) (store : List ℕ) (h : Heading) (payload : List ℕ) where
       good_begins b = rw (c, k, b)
 
       module _ (b : begins p.gathering h ≡ false) where
-        pub good-spoiled : (p.gathering.spoiled ≡ 0 → ⊥) → good_verdict p store h payload ≡ Refuse Contradiction
+        pub good_spoiled : (p.gathering.spoiled ≡ 0 → ⊥) → good_verdict p store h payload ≡ Refuse Contradiction
         unfolding good_verdict
-        good-spoiled s = rw (c, k, b, ne_eqb _ _ s)
+        good_spoiled s = rw (c, k, b, ne_eqb _ _ s)
 
-        pub good-further : p.gathering.spoiled ≡ 0 → good_verdict p store h payload ≡ number_verdict p store h payload
+        pub good_further : p.gathering.spoiled ≡ 0 → good_verdict p store h payload ≡ number_verdict p store h payload
         unfolding good_verdict
-        good-further s = rw (c, k, b, eq-eqb _ _ s)
+        good_further s = rw (c, k, b, eq-eqb _ _ s)
 
 module _ (p : Part) (store s : List ℕ) where
-  pub verdict-bad : (r : Refusal) → read_section s ≡ NotGood r → verdict_of p store s ≡ Refuse r
+  pub verdict_bad : (r : Refusal) → read_section s ≡ NotGood r → verdict_of p store s ≡ Refuse r
   unfolding verdict_of section_verdict
-  verdict-bad r e = rw e
+  verdict_bad r e = rw e
 
-  pub verdict-good : (h : Heading) (n : ℕ) → read_section s ≡ Good h n → verdict_of p store s ≡ good_verdict p store h (payload_of s)
+  pub verdict_good : (h : Heading) (n : ℕ) → read_section s ≡ Good h n → verdict_of p store s ≡ good_verdict p store h (payload_of s)
   unfolding verdict_of section_verdict
-  verdict-good h n e = rw e
+  verdict_good h n e = rw e

@@ -80,7 +80,7 @@ good_begins s t e = (own, begins_is (s ++ t) ∙ ap (λ l. is_good (read_section
     own = stated_take (s ++ t) (length s) (good_stated s t e) ∙ take_at s t (length s) refl
 
 pub none_good : (s : List ℕ) (n : ℕ) → begins s ≡ false → is_good (read_section (take n s)) ≡ false
-none_good s n no-section = sym (refuted _ (λ e. clash (good_begins (take n s) (drop n s) e).1))
+none_good s n no_section = sym (refuted _ (λ e. clash (good_begins (take n s) (drop n s) e).1))
   where
     clash : begins (take n s ++ drop n s) ≡ true → ⊥
     clash e = let b = rw (take-append-drop n s) at e in let z : ◌≡◌ {A = ℕ} 0 1 = cc in omega arith

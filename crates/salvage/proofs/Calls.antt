@@ -76,17 +76,17 @@ pub record Answered (s : List ℕ) (room entries bytes runs : ℕ) : Type 0 wher
   pub fits : bytes ≤ room
 
 module _ (s : List ℕ) (room entries : ℕ) where
-  abbrev tooSmall : Bool
-  tooSmall = ltb room (length (sections s)) || ltb entries (length (numbers s))
+  abbrev small_room : Bool
+  small_room = ltb room (length (sections s)) || ltb entries (length (numbers s))
 
   abbrev chosen : Bool → Bool → Verdict
   chosen x y = if x then refuses CaptureTooLong else if y then refuses OutputTooSmall else writes
 
-  answered-by : (x y : Bool) → ltb capture_most (length s) ≡ x → tooSmall ≡ y → (bytes runs : ℕ) → answer_by (chosen x y) s ≡ Of bytes runs
+  answered_by : (x y : Bool) → ltb capture_most (length s) ≡ x → small_room ≡ y → (bytes runs : ℕ) → answer_by (chosen x y) s ≡ Of bytes runs
       → Answered s room entries bytes runs
-  answered-by true y k m bytes runs e = absurd (let z : ◌≡◌ {A = ℕ} 0 1 = cc in omega arith)
-  answered-by false true k m bytes runs e = absurd (let z : ◌≡◌ {A = ℕ} 0 1 = cc in omega arith)
-  answered-by false false k m bytes runs e =
+  answered_by true y k m bytes runs e = absurd (let z : ◌≡◌ {A = ℕ} 0 1 = cc in omega arith)
+  answered_by false true k m bytes runs e = absurd (let z : ◌≡◌ {A = ℕ} 0 1 = cc in omega arith)
+  answered_by false false k m bytes runs e =
       let b : bytes ≡ length (sections s) = cc in
       let n : runs ≡ length (runs_of s) = cc in
       let r = ltb-false room (length (sections s)) (neither _ _ m).0 in
@@ -94,7 +94,7 @@ module _ (s : List ℕ) (room entries : ℕ) where
 
   pub answered : (bytes runs : ℕ) → salvage_of s room entries ≡ Of bytes runs → Answered s room entries bytes runs
   unfolding salvage_of salvaging
-  answered = answered-by (ltb capture_most (length s)) tooSmall refl refl
+  answered = answered_by (ltb capture_most (length s)) small_room refl refl
 
   refused_by : (x y : Bool) (r : Refusal) → answer_by (chosen x y) s ≡ Refused r → refusal_place r ≡ 0
   refused_by true y r e = let z : CaptureTooLong ≡ r = cc in ap refusal_place (sym z)
@@ -102,6 +102,6 @@ module _ (s : List ℕ) (room entries : ℕ) where
   refused_by false false r e = absurd (let z : ◌≡◌ {A = ℕ} 0 1 = cc in omega arith)
 
   -- no refusal has a place
-  pub refused-place : (r : Refusal) → salvage_of s room entries ≡ Refused r → refusal_place r ≡ 0
+  pub refused_place : (r : Refusal) → salvage_of s room entries ≡ Refused r → refusal_place r ≡ 0
   unfolding salvage_of salvaging
-  refused-place = refused_by (ltb capture_most (length s)) tooSmall
+  refused_place = refused_by (ltb capture_most (length s)) small_room

@@ -50,15 +50,15 @@ skipped_some (b ∷ t) ps h = refl
 
 module _ (s : List ℕ) where
   -- at a place where a section begins, from what follows it
-  stand-keeps : (at : ℕ) → begins (drop at s) ≡ true
+  stand_keeps : (at : ℕ) → begins (drop at s) ≡ true
       → Standing s (at + length (stated (drop at s))) (pieces (drop (at + length (stated (drop at s))) s)) → Standing s at (pieces (drop at s))
-  stand-keeps at e rest =
+  stand_keeps at e rest =
       rw (kept_first (drop at s) e, drop-drop (length (stated (drop at s))) at s)
       (keeps (stated (drop at s)) (sym (stated_part (drop at s))) (sym (begins_is (drop at s)) ∙ e) (begins_long (drop at s) e).0 rest)
 
   -- and where none does, from what follows the gap
-  stand-skips : (at : ℕ) → 0 < gap (drop at s) → Standing s (at + gap (drop at s)) (pieces (drop (at + gap (drop at s)) s)) → Standing s at (pieces (drop at s))
-  stand-skips at some rest =
+  stand_skips : (at : ℕ) → 0 < gap (drop at s) → Standing s (at + gap (drop at s)) (pieces (drop (at + gap (drop at s)) s)) → Standing s at (pieces (drop at s))
+  stand_skips at some rest =
       rw (gap_pieces (drop at s), skipped_some part _ (omega (arith, long)), drop-drop (gap (drop at s)) at s)
       (skips part (ap (λ (n : ℕ). take n (drop at s)) (sym long)) (omega (arith, long)) none kept_next after)
     where
@@ -79,30 +79,30 @@ module _ (s : List ℕ) where
       kept_next : first_kept (pieces (drop (at + gap (drop at s)) s)) ≡ true
       kept_next = first_kept_lem _ (ap gap (sym (drop-drop (gap (drop at s)) at s)) ∙ gap_gone (drop at s))
 
-  stand-ended : (at : ℕ) → at ≡ length s → Standing s at (pieces (drop at s))
-  stand-ended at e = let h : length s ≤ at = omega arith in rw (drop_of_length-le s h, pieces_none) (ended e)
+  stand_ended : (at : ℕ) → at ≡ length s → Standing s at (pieces (drop at s))
+  stand_ended at e = let h : length s ≤ at = omega arith in rw (drop_of_length-le s h, pieces_none) (ended e)
 
   -- at a place before the end, from what is known of all places after it
-  stand-before : (at : ℕ) → at < length s → ((k : ℕ) → at < k → k ≤ length s → Standing s k (pieces (drop k s)))
+  stand_before : (at : ℕ) → at < length s → ((k : ℕ) → at < k → k ≤ length s → Standing s k (pieces (drop k s)))
       → (x : Bool) → begins (drop at s) ≡ x → Standing s at (pieces (drop at s))
-  stand-before at before go true e =
+  stand_before at before go true e =
       let l = begins_long (drop at s) e in
-      stand-keeps at e (go _ (omega arith) (omega (arith, length-drop at s)))
-  stand-before at before go false e =
+      stand_keeps at e (go _ (omega arith) (omega (arith, length-drop at s)))
+  stand_before at before go false e =
       let some = gap_at_other s at before e in
-      stand-skips at (omega arith) (go _ (omega arith) (omega (arith, gap_within (drop at s), length-drop at s)))
+      stand_skips at (omega arith) (go _ (omega arith) (omega (arith, gap_within (drop at s), length-drop at s)))
 
-  standing-within : (n at : ℕ) → at ≤ length s → length s ≤ at + n → Standing s at (pieces (drop at s))
-  standing-within zero at h k = stand-ended at (omega arith)
-  standing-within (suc n) at h k = by (ltb at (length s)) refl (standing-within n)
+  standing_within : (n at : ℕ) → at ≤ length s → length s ≤ at + n → Standing s at (pieces (drop at s))
+  standing_within zero at h k = stand_ended at (omega arith)
+  standing_within (suc n) at h k = by (ltb at (length s)) refl (standing_within n)
     where
       by : (x : Bool) → ltb at (length s) ≡ x → ((at : ℕ) → at ≤ length s → length s ≤ at + n → Standing s at (pieces (drop at s)))
           → Standing s at (pieces (drop at s))
-      by true e go = stand-before at (ltb-true at (length s) e) (λ j l m. go j m (omega arith)) (begins (drop at s)) refl
-      by false e go = stand-ended at (omega (arith, ltb-false at (length s) e))
+      by true e go = stand_before at (ltb-true at (length s) e) (λ j l m. go j m (omega arith)) (begins (drop at s)) refl
+      by false e go = stand_ended at (omega (arith, ltb-false at (length s) e))
 
   pub standing : Standing s 0 (pieces s)
-  standing = standing-within (length s) 0 (omega arith) (omega arith)
+  standing = standing_within (length s) 0 (omega arith) (omega arith)
 
 -- ---- what it says of the runs
 
@@ -128,45 +128,45 @@ module _ {s : List ℕ} where
   apart_all (skips {at} {ps} t part some none first rest) =
       apart_first (at + length t) (record { is_kept = false; first = at; size = length t }) ps first (apart_all rest)
 
-  pub kept-written : {at : ℕ} {ps : List Piece} → Standing s at ps → kept_bytes s (runs_from at ps) ≡ sections_of ps
+  pub kept_written : {at : ℕ} {ps : List Piece} → Standing s at ps → kept_bytes s (runs_from at ps) ≡ sections_of ps
   unfolding runs_from kept_bytes bytes_of sections_of
-  kept-written (ended e) = refl
-  kept-written (keeps t part good long rest) = rw (sym part, kept-written rest)
-  kept-written (skips t part some none first rest) = kept-written rest
+  kept_written (ended e) = refl
+  kept_written (keeps t part good long rest) = rw (sym part, kept_written rest)
+  kept_written (skips t part some none first rest) = kept_written rest
 
-  pub keeps-good : {at : ℕ} {ps : List Piece} → Standing s at ps → Each (KeepsGood s) (runs_from at ps)
+  pub keeps_good : {at : ℕ} {ps : List Piece} → Standing s at ps → Each (KeepsGood s) (runs_from at ps)
   unfolding runs_from bytes_of
-  keeps-good (ended e) = tt
-  keeps-good (keeps t part good long rest) = ((λ k. rw (sym part) good), keeps-good rest)
-  keeps-good (skips t part some none first rest) = ((λ k. absurd (let z : ◌≡◌ {A = ℕ} 0 1 = cc in omega arith)), keeps-good rest)
+  keeps_good (ended e) = tt
+  keeps_good (keeps t part good long rest) = ((λ k. rw (sym part) good), keeps_good rest)
+  keeps_good (skips t part some none first rest) = ((λ k. absurd (let z : ◌≡◌ {A = ℕ} 0 1 = cc in omega arith)), keeps_good rest)
 
-  pub skips-none : {at : ℕ} {ps : List Piece} → Standing s at ps → Each (SkipsNone s) (runs_from at ps)
+  pub skips_none : {at : ℕ} {ps : List Piece} → Standing s at ps → Each (SkipsNone s) (runs_from at ps)
   unfolding runs_from
-  skips-none (ended e) = tt
-  skips-none (keeps t part good long rest) = ((λ k. absurd (let z : ◌≡◌ {A = ℕ} 0 1 = cc in omega arith)), skips-none rest)
-  skips-none (skips t part some none first rest) = ((λ k i low high n. none_good (drop i s) n (none i low high)), skips-none rest)
+  skips_none (ended e) = tt
+  skips_none (keeps t part good long rest) = ((λ k. absurd (let z : ◌≡◌ {A = ℕ} 0 1 = cc in omega arith)), skips_none rest)
+  skips_none (skips t part some none first rest) = ((λ k i low high n. none_good (drop i s) n (none i low high)), skips_none rest)
 
   -- ---- how many there are
 
-  stands-within : {at : ℕ} {ps : List Piece} → Standing s at ps → at ≤ length s
-  stands-within (ended e) = omega arith
-  stands-within (keeps t part good long rest) = omega (arith, stands-within rest)
-  stands-within (skips t part some none first rest) = omega (arith, stands-within rest)
+  stands_within : {at : ℕ} {ps : List Piece} → Standing s at ps → at ≤ length s
+  stands_within (ended e) = omega arith
+  stands_within (keeps t part good long rest) = omega (arith, stands_within rest)
+  stands_within (skips t part some none first rest) = omega (arith, stands_within rest)
 
-  pub sections-within : {at : ℕ} {ps : List Piece} → Standing s at ps → at + length (sections_of ps) ≤ length s
+  pub sections_within : {at : ℕ} {ps : List Piece} → Standing s at ps → at + length (sections_of ps) ≤ length s
   unfolding sections_of
-  sections-within (ended e) = omega arith
-  sections-within (keeps {ps = ps} t part good long rest) = omega (arith, sections-within rest, length-append t (sections_of ps))
-  sections-within (skips t part some none first rest) = omega (arith, sections-within rest)
+  sections_within (ended e) = omega arith
+  sections_within (keeps {ps = ps} t part good long rest) = omega (arith, sections_within rest, length-append t (sections_of ps))
+  sections_within (skips t part some none first rest) = omega (arith, sections_within rest)
 
   -- a kept run has 12 bytes, and before each but the first a skipped one may stand, of one byte
-  pub runs-few : {at : ℕ} {ps : List Piece} → Standing s at ps
+  pub runs_few : {at : ℕ} {ps : List Piece} → Standing s at ps
       → (13 * length (runs_from at ps) + 2 * at ≤ 2 * length s + 11) × (first_kept ps ≡ true → 13 * length (runs_from at ps) + 2 * at ≤ 2 * length s)
   unfolding runs_from
-  runs-few (ended e) = (omega arith, λ k. omega arith)
-  runs-few (keeps t part good long rest) = let few = (runs-few rest).0 in (omega arith, λ k. omega arith)
-  runs-few (skips t part some none first rest) =
-      let few = (runs-few rest).1 first in
+  runs_few (ended e) = (omega arith, λ k. omega arith)
+  runs_few (keeps t part good long rest) = let few = (runs_few rest).0 in (omega arith, λ k. omega arith)
+  runs_few (skips t part some none first rest) =
+      let few = (runs_few rest).1 first in
       (omega arith, λ k. absurd (let z : ◌≡◌ {A = ℕ} 0 1 = cc in omega arith))
 
 -- ---- each byte is held once
@@ -176,9 +176,9 @@ module _ (i : ℕ) where
   unfolding holders digit
   holds r rs low high = rw (le-leb r.first i low, lt-ltb i (r.first + r.size) high) (omega arith)
 
-  holds-before : (r : Run) (rs : List Run) → i < r.first → holders i (r ∷ rs) ≡ holders i rs
+  holds_before : (r : Run) (rs : List Run) → i < r.first → holders i (r ∷ rs) ≡ holders i rs
   unfolding holders digit
-  holds-before r rs h = rw (lt-leb r.first i h) (omega arith)
+  holds_before r rs h = rw (lt-leb r.first i h) (omega arith)
 
   holds_after : (r : Run) (rs : List Run) → r.first ≤ i → r.first + r.size ≤ i → holders i (r ∷ rs) ≡ holders i rs
   unfolding holders digit
@@ -190,11 +190,11 @@ module _ (i : ℕ) where
 
   held_later : (at end : ℕ) (rs : List Run) → Follow at rs end → i < at → holders i rs ≡ 0
   held_later at end [] f h = held_none
-  held_later at end (r ∷ rs) f h = holds-before r rs (omega (arith, f.0)) ∙ held_later (at + r.size) end rs f.2 (omega arith)
+  held_later at end (r ∷ rs) f h = holds_before r rs (omega (arith, f.0)) ∙ held_later (at + r.size) end rs f.2 (omega arith)
 
-  pub held-once : (at end : ℕ) (rs : List Run) → Follow at rs end → at ≤ i → i < end → holders i rs ≡ 1
-  held-once at end [] f low high = absurd (omega arith)
-  held-once at end (r ∷ rs) f low high = by (ltb i (at + r.size)) refl (held-once (at + r.size) end rs f.2)
+  pub held_once : (at end : ℕ) (rs : List Run) → Follow at rs end → at ≤ i → i < end → holders i rs ≡ 1
+  held_once at end [] f low high = absurd (omega arith)
+  held_once at end (r ∷ rs) f low high = by (ltb i (at + r.size)) refl (held_once (at + r.size) end rs f.2)
     where
       by : (x : Bool) → ltb i (at + r.size) ≡ x → (at + r.size ≤ i → i < end → holders i rs ≡ 1) → holders i (r ∷ rs) ≡ 1
       by true e go =
@@ -207,27 +207,27 @@ module _ (i : ℕ) where
 -- ---- of a whole capture
 
 module _ (s : List ℕ) where
-  pub sections-most : length (sections s) ≤ length s
+  pub sections_most : length (sections s) ≤ length s
   unfolding sections
-  sections-most = omega (arith, sections-within (standing s))
+  sections_most = omega (arith, sections_within (standing s))
 
   pub runs_most : 13 * length (runs_of s) ≤ 2 * length s + 11
   unfolding runs_of
-  runs_most = omega (arith, (runs-few (standing s)).0)
+  runs_most = omega (arith, (runs_few (standing s)).0)
 
-  numbers-most : length (numbers s) ≡ length (runs_of s) * 3
+  numbers_most : length (numbers s) ≡ length (runs_of s) * 3
   unfolding numbers
-  numbers-most = numbers_length (runs_of s)
+  numbers_most = numbers_length (runs_of s)
 
   -- what has room for the longest output and the longest list has room
-  pub always-room : (room entries : ℕ) → leb (length s) room && leb ((2 * length s + 11) / 13 * 3) entries ≡ true
+  pub always_room : (room entries : ℕ) → leb (length s) room && leb ((2 * length s + 11) / 13 * 3) entries ≡ true
       → true ≡ (leb (length (sections s)) room && leb (length (numbers s)) entries)
-  always-room room entries e =
+  always_room room entries e =
       let t = both (leb (length s) room) (leb ((2 * length s + 11) / 13 * 3) entries) e in
       let a = leb-true (length s) room t.0 in
       let b = leb-true ((2 * length s + 11) / 13 * 3) entries t.1 in
-      rw (le-leb (length (sections s)) room (omega (arith, sections-most)), le-leb (length (numbers s)) entries (omega (arith, numbers-most, runs_most)))
+      rw (le-leb (length (sections s)) room (omega (arith, sections_most)), le-leb (length (numbers s)) entries (omega (arith, numbers_most, runs_most)))
 
   pub counted_room : (bytes runs room entries : ℕ) (r : Bool) → bytes ≡ length (sections s) → runs ≡ length (runs_of s)
       → r ≡ (leb bytes room && leb (runs * 3) entries) → r ≡ (leb (length (sections s)) room && leb (length (numbers s)) entries)
-  counted_room bytes runs room entries r b n e = rw (numbers-most, sym b, sym n) e
+  counted_room bytes runs room entries r b n e = rw (numbers_most, sym b, sym n) e

@@ -88,14 +88,14 @@ put_section s d e b at n within room is =
 
 -- a section that begins
 module _ (s : List ℕ) (e : begins s ≡ true) where
-  kept-now : (at : ℕ) → runs_from at (pieces s) ≡ run_at true at (good_length s) ++ runs_from (at + good_length s) (pieces (drop (good_length s) s))
+  kept_now : (at : ℕ) → runs_from at (pieces s) ≡ run_at true at (good_length s) ++ runs_from (at + good_length s) (pieces (drop (good_length s) s))
   unfolding runs_from
-  kept-now at =
+  kept_now at =
       rw (length_some s e, run_some true at (length (stated s)) (λ h. omega (arith, begins_long s e))) (ap (runs_from at) (kept_first s e))
 
-  section-now : sections_of (pieces s) ≡ take (good_length s) s ++ sections_of (pieces (drop (good_length s) s))
+  section_now : sections_of (pieces s) ≡ take (good_length s) s ++ sections_of (pieces (drop (good_length s) s))
   unfolding sections_of
-  section-now = rw (length_some s e, stated_part s) (ap sections_of (kept_first s e))
+  section_now = rw (length_some s e, stated_part s) (ap sections_of (kept_first s e))
 
 -- where no bytes stand before the first section, it comes next, or nothing is left
 by_next : (A : List ℕ → Type 0) → A [] → ((t : List ℕ) → begins t ≡ true → A t) → (s : List ℕ) → gap s ≡ 0 → A s
@@ -111,13 +111,13 @@ kept_next : (at : ℕ) (s : List ℕ) → gap s ≡ 0
 kept_next at =
     by_next (λ t. runs_from at (pieces t) ≡ run_at true at (good_length t) ++ runs_from (at + good_length t) (pieces (drop (good_length t) t)))
     (rw (length_none [] begins_none, run_none true at, add-zero))
-    (λ t e. kept-now t e at)
+    (λ t e. kept_now t e at)
 
 kept_sections : (s : List ℕ) → gap s ≡ 0 → sections_of (pieces s) ≡ take (good_length s) s ++ sections_of (pieces (drop (good_length s) s))
 kept_sections =
     by_next (λ t. sections_of (pieces t) ≡ take (good_length t) t ++ sections_of (pieces (drop (good_length t) t)))
     (rw (length_none [] begins_none))
-    section-now
+    section_now
 
 gap_runs : (at : ℕ) (t : List ℕ) (ps : List Piece) → runs_from at (skipped_of t ++ ps) ≡ run_at false at (length t) ++ runs_from (at + length t) ps
 unfolding runs_from
@@ -143,8 +143,8 @@ module _ (s : List ℕ) (from at size : ℕ) (next : Next s from at size) where
   rest : drop (gap (drop from s)) (drop from s) ≡ drop at s
   rest = drop-drop (gap (drop from s)) from s ∙ ap (λ (n : ℕ). drop n s) (sym next.after)
 
-  passed-by : length (take (gap (drop from s)) (drop from s)) ≡ at - from
-  passed-by = length-take-le (gap (drop from s)) (drop from s) (gap_within (drop from s)) ∙ omega (arith, next.after)
+  passed_by : length (take (gap (drop from s)) (drop from s)) ≡ at - from
+  passed_by = length-take-le (gap (drop from s)) (drop from s) (gap_within (drop from s)) ∙ omega (arith, next.after)
 
   none_before : gap (drop at s) ≡ 0
   none_before = ap gap (sym rest) ∙ gap_gone (drop from s)
@@ -158,63 +158,63 @@ module _ (s : List ℕ) (from at size : ℕ) (next : Next s from at size) where
   kept_run : runs_left s at ≡ run_at true at size ++ runs_left s (at + size)
   kept_run = kept_next at (drop at s) none_before ∙ rw (sym next.long, behind)
 
-  pub runs-turn : runs_left s from ≡ run_at false from (at - from) ++ (run_at true at size ++ runs_left s (at + size))
-  runs-turn =
+  pub runs_turn : runs_left s from ≡ run_at false from (at - from) ++ (run_at true at size ++ runs_left s (at + size))
+  runs_turn =
       ap (runs_from from) (gap_pieces (drop from s))
       ∙ gap_runs from (take (gap (drop from s)) (drop from s)) (pieces (drop (gap (drop from s)) (drop from s)))
-      ∙ rw (passed-by, rest, seam) (ap (λ l. run_at false from (at - from) ++ l) kept_run)
+      ∙ rw (passed_by, rest, seam) (ap (λ l. run_at false from (at - from) ++ l) kept_run)
 
-  pub sections-turn : sections_left s from ≡ take size (drop at s) ++ sections_left s (at + size)
-  sections-turn =
+  pub sections_turn : sections_left s from ≡ take size (drop at s) ++ sections_left s (at + size)
+  sections_turn =
       ap sections_of (gap_pieces (drop from s))
       ∙ gap_sections (take (gap (drop from s)) (drop from s)) (pieces (drop (gap (drop from s)) (drop from s)))
       ∙ rw rest (kept_sections (drop at s) none_before ∙ rw (sym next.long, behind))
 
-  pub numbers-turn : numbers_left s from ≡ numbers_of (run_at false from (at - from)) ++ (numbers_of (run_at true at size) ++ numbers_left s (at + size))
-  numbers-turn =
-      ap numbers_of runs-turn ∙ numbers_append (run_at false from (at - from)) _
+  pub numbers_turn : numbers_left s from ≡ numbers_of (run_at false from (at - from)) ++ (numbers_of (run_at true at size) ++ numbers_left s (at + size))
+  numbers_turn =
+      ap numbers_of runs_turn ∙ numbers_append (run_at false from (at - from)) _
       ∙ ap (λ l. numbers_of (run_at false from (at - from)) ++ l) (numbers_append (run_at true at size) _)
 
   pub count_turn : length (runs_left s from) ≡ length (run_at true 0 (at - from)) + (length (run_at true 0 size) + length (runs_left s (at + size)))
   count_turn =
-      ap length runs-turn ∙ length-append (run_at false from (at - from)) _
+      ap length runs_turn ∙ length-append (run_at false from (at - from)) _
       ∙ rw (length-append (run_at true at size) (runs_left s (at + size)), run_counted false from (at - from), run_counted true at size)
 
-  pub sections-length : length (sections_left s from) ≡ size + length (sections_left s (at + size))
-  sections-length =
-      ap length sections-turn ∙ length-append (take size (drop at s)) _
+  pub sections_length : length (sections_left s from) ≡ size + length (sections_left s (at + size))
+  sections_length =
+      ap length sections_turn ∙ length-append (take size (drop at s)) _
       ∙ ap (λ (n : ℕ). n + length (sections_left s (at + size)))
       (length-take-le size (drop at s) (rw length-drop (omega (arith, next.within))))
 
 -- at the end nothing is left
 module _ (s : List ℕ) (from : ℕ) (h : length s ≤ from) where
-  pub runs-end : runs_left s from ≡ []
+  pub runs_end : runs_left s from ≡ []
   unfolding runs_from
-  runs-end = rw (drop_of_length-le s h, pieces_none)
+  runs_end = rw (drop_of_length-le s h, pieces_none)
 
-  pub sections-end : sections_left s from ≡ []
+  pub sections_end : sections_left s from ≡ []
   unfolding sections_of
-  sections-end = rw (drop_of_length-le s h, pieces_none)
+  sections_end = rw (drop_of_length-le s h, pieces_none)
 
-  pub numbers-end : numbers_left s from ≡ []
+  pub numbers_end : numbers_left s from ≡ []
   unfolding numbers_of
-  numbers-end = rw runs-end
+  numbers_end = rw runs_end
 
 -- and from the start on all is
 module _ (s : List ℕ) where
-  pub runs-whole : runs_left s 0 ≡ runs_of s
+  pub runs_whole : runs_left s 0 ≡ runs_of s
   unfolding runs_of
-  runs-whole = refl
+  runs_whole = refl
 
-  pub sections-whole : sections_left s 0 ≡ sections s
+  pub sections_whole : sections_left s 0 ≡ sections s
   unfolding sections
-  sections-whole = refl
+  sections_whole = refl
 
-  pub numbers-whole : numbers_left s 0 ≡ numbers s
+  pub numbers_whole : numbers_left s 0 ≡ numbers s
   unfolding numbers runs_of
-  numbers-whole = refl
+  numbers_whole = refl
 
   -- three numbers tell a run
-  pub runs-told : (n : ℕ) → n ≡ length (numbers s) → n / 3 ≡ length (runs_of s)
+  pub runs_told : (n : ℕ) → n ≡ length (numbers s) → n / 3 ≡ length (runs_of s)
   unfolding numbers
-  runs-told n e = omega (arith, numbers_length (runs_of s))
+  runs_told n e = omega (arith, numbers_length (runs_of s))

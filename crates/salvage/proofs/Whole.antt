@@ -13,31 +13,31 @@ use Rattle.salvage.specs.Salvage.{sections}
 use Rattle.salvage.specs.Said.{Follow, holders, apart, kept_bytes, Each, KeepsGood, SkipsNone, joined, AllGood, kept_runs}
 use Rattle.salvage.proofs.Begins.{good_begins}
 use Rattle.salvage.proofs.Pieces.{kept_first, pieces_none}
-use Rattle.salvage.proofs.Standing.{standing, follows, held-once, apart_all, kept-written, keeps-good, skips-none}
+use Rattle.salvage.proofs.Standing.{standing, follows, held_once, apart_all, kept_written, keeps_good, skips_none}
 
 module _ (s : List ℕ) where
-  pub runs-follow : Follow 0 (runs_of s) (length s)
+  pub runs_follow : Follow 0 (runs_of s) (length s)
   unfolding runs_of
-  runs-follow = follows (standing s)
+  runs_follow = follows (standing s)
 
   pub covered_once : (i : ℕ) → i < length s → holders i (runs_of s) ≡ 1
-  covered_once i h = held-once i 0 (length s) (runs_of s) runs-follow (omega arith) h
+  covered_once i h = held_once i 0 (length s) (runs_of s) runs_follow (omega arith) h
 
-  pub runs-apart : apart (runs_of s) ≡ true
+  pub runs_apart : apart (runs_of s) ≡ true
   unfolding runs_of
-  runs-apart = apart_all (standing s)
+  runs_apart = apart_all (standing s)
 
-  pub written-are-kept : sections s ≡ kept_bytes s (runs_of s)
+  pub written_are_kept : sections s ≡ kept_bytes s (runs_of s)
   unfolding sections runs_of
-  written-are-kept = sym (kept-written (standing s))
+  written_are_kept = sym (kept_written (standing s))
 
-  pub kept-are-good : Each (KeepsGood s) (runs_of s)
+  pub kept_are_good : Each (KeepsGood s) (runs_of s)
   unfolding runs_of
-  kept-are-good = keeps-good (standing s)
+  kept_are_good = keeps_good (standing s)
 
   pub none_passed_over : Each (SkipsNone s) (runs_of s)
   unfolding runs_of
-  none_passed_over = skips-none (standing s)
+  none_passed_over = skips_none (standing s)
 
 pub no_runs : runs_of [] ≡ []
 unfolding runs_of runs_from

@@ -15,15 +15,15 @@ writing_starts d at whole h = ([], put_none d at h, refl)
 
 module _ {d : List ℕ} {at : ℕ} {e : List ℕ} {a : ℕ} {rest whole : List ℕ} where
   -- what comes next has room
-  pub writing-room : (xs ys : List ℕ) → Writing d at e a rest whole → rest ≡ xs ++ ys → at + length whole ≤ length d → a + length xs ≤ length e
-  writing-room xs ys w k h =
+  pub writing_room : (xs ys : List ℕ) → Writing d at e a rest whole → rest ≡ xs ++ ys → at + length whole ≤ length d → a + length xs ≤ length e
+  writing_room xs ys w k h =
       omega (arith, put_length w.1, w.1.after, ap length w.2, length-append w.0 rest, ap length k, length-append xs ys)
 
-  pub writing-goes : (xs ys : List ℕ) {f : List ℕ} {b : ℕ} → Writing d at e a rest whole → rest ≡ xs ++ ys → Put e a xs f b → Writing d at f b ys whole
-  writing-goes xs ys w k p = (w.0 ++ xs, put_then w.1 p, append_assoc w.0 xs ys ∙ ap (λ l. w.0 ++ l) (sym k) ∙ w.2)
+  pub writing_goes : (xs ys : List ℕ) {f : List ℕ} {b : ℕ} → Writing d at e a rest whole → rest ≡ xs ++ ys → Put e a xs f b → Writing d at f b ys whole
+  writing_goes xs ys w k p = (w.0 ++ xs, put_then w.1 p, append_assoc w.0 xs ys ∙ ap (λ l. w.0 ++ l) (sym k) ∙ w.2)
 
-  pub writing-ends : Writing d at e a rest whole → rest ≡ [] → Put d at whole e a
-  writing-ends w k = rw (sym (append-nil w.0) ∙ sym (ap (λ l. w.0 ++ l) k) ∙ w.2) at w.1
+  pub writing_ends : Writing d at e a rest whole → rest ≡ [] → Put d at whole e a
+  writing_ends w k = rw (sym (append-nil w.0) ∙ sym (ap (λ l. w.0 ++ l) k) ∙ w.2) at w.1
 
 -- how far it has come
 pub writing_count : {d : List ℕ} {at : ℕ} {e : List ℕ} {a : ℕ} {whole : List ℕ} (rest : List ℕ) → Writing d at e a rest whole

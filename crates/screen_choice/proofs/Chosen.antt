@@ -78,24 +78,24 @@ module _ (kind : ℕ) (s : List ℕ) (b : AreBytes s) where
 -- ---- each way out
 
 module _ (kind : ℕ) (s code : List ℕ) (present : Moment) where
-  pub choice-no-code : is_code code ≡ false → Refused (DigitAboveNine 0) ≡ choice_of kind s code present
+  pub choice_no_code : is_code code ≡ false → Refused (DigitAboveNine 0) ≡ choice_of kind s code present
   unfolding choice_of
-  choice-no-code e = rw e
+  choice_no_code e = rw e
 
   module _ (c : is_code code ≡ true) where
-    pub choice-no-instant : is_instant present ≡ false → Refused (ImpossibleDay 0) ≡ choice_of kind s code present
+    pub choice_no_instant : is_instant present ≡ false → Refused (ImpossibleDay 0) ≡ choice_of kind s code present
     unfolding choice_of
-    choice-no-instant e = rw (c, e)
+    choice_no_instant e = rw (c, e)
 
     module _ (i : is_instant present ≡ true) where
-      pub choice-refused : (r : Refusal) → NoStep r ≡ body_read index index_kind kind s → Refused r ≡ choice_of kind s code present
+      pub choice_refused : (r : Refusal) → NoStep r ≡ body_read index index_kind kind s → Refused r ≡ choice_of kind s code present
       unfolding choice_of body_read
-      choice-refused r e = rw (c, i, step_refused (reading index index_kind kind s) r (sym e))
+      choice_refused r e = rw (c, i, step_refused (reading index index_kind kind s) r (sym e))
 
-      pub choice-walked : AreBytes s → (q : ℕ) → At q ≡ body_read index index_kind kind s → (own : List ℕ) (n : ℕ) → own ≡ resource.print code
+      pub choice_walked : AreBytes s → (q : ℕ) → At q ≡ body_read index index_kind kind s → (own : List ℕ) (n : ℕ) → own ≡ resource.print code
           → n ≡ worth_of (message_count s) → (best : Best) → Walked s n own present best → (r : Choice) → r ≡ choice_told best → r ≡ choice_of kind s code present
       unfolding choice_of
-      choice-walked b q e own n o f best w r g =
+      choice_walked b q e own n o f best w r g =
           let h = holds kind s b q e in
           let t = tabled kind s b code own n h.0 h.2 f c o in
           g ∙ told_answer s best (leader code present nobody 0 h.0.messages) (w code h.0.messages t) ∙ rw (c, i, h.1)

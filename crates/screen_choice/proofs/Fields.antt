@@ -45,8 +45,8 @@ taken_within : (s : List ℕ) (q k : ℕ) → 0 < k → length (take k (drop q s
 taken_within s q k h e = omega (arith, simp (length-take, length-drop) at e)
 
 module _ (s : List ℕ) (at n : ℕ) (own code : List ℕ) (m : Message) (st : Stands s at n own code m) where
-  pub own-long : length own ≡ resource_bytes
-  own-long = ap length st.own_is ∙ print_long code st.is_code_lem
+  pub own_long : length own ≡ resource_bytes
+  own_long = ap length st.own_is ∙ print_long code st.is_code_lem
 
   module _ (count p : ℕ) (e : Is count p ≡ resource_count s at n) where
     answer : Is count p ≡ Is (length m.resources) (at + resources_place)
@@ -58,8 +58,8 @@ module _ (s : List ℕ) (at n : ℕ) (own code : List ℕ) (m : Message) (st : S
     place : p ≡ at + resources_place
     place = let a = answer in cc
 
-    pub codes-in-body : InBody s p count
-    codes-in-body k h =
+    pub codes_in_body : InBody s p count
+    codes_in_body k h =
         let l : k < length m.resources = omega (arith, many) in
         let c = sym (writable_code (get_or m.resources k [])) ∙ every_at resource.writable m.resources k st.codes l in
         let t = ap length (st.asked.resource_bytes_lem k l) ∙ print_long (get_or m.resources k []) c in
@@ -73,8 +73,8 @@ module _ (s : List ℕ) (at n : ℕ) (own code : List ℕ) (m : Message) (st : S
         ∙ ap (λ (k : ℕ). listed s k (length m.resources) (resource.print code)) place
         ∙ listed_has s code st.is_code_lem m.resources (at + resources_place) st.codes st.asked.resource_bytes_lem
 
-  pub codes-counted : (why : Refusal) → NoNumber why ≡ resource_count s at n → ⊥
-  codes-counted why e =
+  pub codes_counted : (why : Refusal) → NoNumber why ≡ resource_count s at n → ⊥
+  codes_counted why e =
       let a : NoNumber why ≡ Is (length m.resources) (at + resources_place) = e ∙ st.asked.resources_counted in
       let z : ◌≡◌ {A = ℕ} 0 1 = cc in omega arith
 

@@ -47,22 +47,22 @@ module _ (s : List ℕ) (at n i : ℕ) (own : List ℕ) (present : Moment) (best
   passed_over : eligible code present m ≡ false → Told s best (cond (eligible code present m) (passed_by so_far i m) so_far)
   passed_over e = rw e told
 
-  and-false : (b : Bool) → b && false ≡ false
-  and-false true = refl
-  and-false false = refl
+  and_false : (b : Bool) → b && false ≡ false
+  and_false true = refl
+  and_false false = refl
 
   pub not_on : (r : Bool) → Timely s at n present r → r ≡ false → Told s best (cond (eligible code present m) (passed_by so_far i m) so_far)
   unfolding eligible
-  not_on r t e = passed_over (ap (λ b. concerns code m && b) (sym (t m st.asked) ∙ e) ∙ and-false (concerns code m))
+  not_on r t e = passed_over (ap (λ b. concerns code m && b) (sym (t m st.asked) ∙ e) ∙ and_false (concerns code m))
 
-  pub not-concerned : (r : Bool) → Concerning s at n own r → r ≡ false → Told s best (cond (eligible code present m) (passed_by so_far i m) so_far)
+  pub not_concerned : (r : Bool) → Concerning s at n own r → r ≡ false → Told s best (cond (eligible code present m) (passed_by so_far i m) so_far)
   unfolding eligible
-  not-concerned r t e = passed_over (ap (λ b. b && is_on (showing m.start m.end present)) (sym (t code m st) ∙ e))
+  not_concerned r t e = passed_over (ap (λ b. b && is_on (showing m.start m.end present)) (sym (t code m st) ∙ e))
 
-  pub may-show : (r q : Bool) → Timely s at n present r → r ≡ true → Concerning s at n own q → q ≡ true → (c : Candidate) → c ≡ candidate_of s at n i
+  pub may_show : (r q : Bool) → Timely s at n present r → r ≡ true → Concerning s at n own q → q ≡ true → (c : Candidate) → c ≡ candidate_of s at n i
       → (x : Best) → x ≡ better_of best c → Told s x (cond (eligible code present m) (passed_by so_far i m) so_far)
   unfolding eligible
-  may-show r q t e u f c g x h =
+  may_show r q t e u f c g x h =
       let on = sym (t m st.asked) ∙ e in
       let con = sym (u code m st) ∙ f in
       rw (con, on, h, g) (told_better s best so_far (candidate_of s at n i) i m told (keeps s at n i m present st.asked on part))

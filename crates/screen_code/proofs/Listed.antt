@@ -23,17 +23,17 @@ module _ (s : List ℕ) (at left : ℕ) (own : List ℕ) (d : Bool) (so_far : d 
       go zero h f = absurd (omega arith)
       go (suc n) h f = sym (f ∙ rw e)
 
-  pub listed-on : 0 < left → same_at s at own ≡ false → d ≡ listed s (at + resource_bytes) (left - 1) own
+  pub listed_on : 0 < left → same_at s at own ≡ false → d ≡ listed s (at + resource_bytes) (left - 1) own
   unfolding listed
-  listed-on h e = go left h so_far
+  listed_on h e = go left h so_far
     where
       go : (n : ℕ) → 0 < n → d ≡ listed s at n own → d ≡ listed s (at + resource_bytes) (n - 1) own
       go zero h f = absurd (omega arith)
       go (suc n) h f = let z : n ≡ suc n - 1 = omega arith in f ∙ rw e (ap (λ (k : ℕ). listed s (at + resource_bytes) k own) z)
 
-  pub listed-none : left ≤ 0 → false ≡ d
+  pub listed_none : left ≤ 0 → false ≡ d
   unfolding listed
-  listed-none h = let z : left ≡ 0 = omega arith in sym (so_far ∙ rw z)
+  listed_none h = let z : left ≡ 0 = omega arith in sym (so_far ∙ rw z)
 
 -- ---- what is listed
 

@@ -54,10 +54,10 @@ module _ (code : List ℕ) (e : is_code code ≡ true) where
       let d = decimal_at code 0 (code_decimal code e) in
       paired_at (15 ∷ code) 0 0 (omega arith) (omega arith) ∙ omega arith
 
-  pub next-byte : (i : ℕ) → 1 ≤ i → i < 12 → get_or (resource.print code) i 0 ≡ get_or code (2 * i - 1) 0 % 16 * 16 + get_or code (2 * i) 0 % 16
+  pub next_byte : (i : ℕ) → 1 ≤ i → i < 12 → get_or (resource.print code) i 0 ≡ get_or code (2 * i - 1) 0 % 16 * 16 + get_or code (2 * i) 0 % 16
   unfolding digits
-  next-byte zero g h = elim g [ ]
-  next-byte (suc j) g h =
+  next_byte zero g h = elim g [ ]
+  next_byte (suc j) g h =
       let l = code_long code e in
       let here : suc (2 * j + 1) ≡ 2 * suc j = omega arith in
       let at : 2 * suc j - 1 ≡ 2 * j + 1 = omega arith in

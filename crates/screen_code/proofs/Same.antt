@@ -40,9 +40,9 @@ module _ (a b : List ℕ) (i : ℕ) (d : Bool) (left : d ≡ same (drop i a) (dr
   same_end g h = sym (left ∙ rw (drop_of_length-le a g, drop_of_length-le b h))
 
   module _ (g : i < length a) (h : i < length b) where
-    pub same-on : get_or a i 0 ≡ get_or b i 0 → d ≡ same (drop (i + 1) a) (drop (i + 1) b)
+    pub same_on : get_or a i 0 ≡ get_or b i 0 → d ≡ same (drop (i + 1) a) (drop (i + 1) b)
     unfolding same
-    same-on e = left ∙ rw (drop-cons a i 0 g, drop-cons b i 0 h, eq-eqb (get_or a i 0) (get_or b i 0) e, add-one)
+    same_on e = left ∙ rw (drop-cons a i 0 g, drop-cons b i 0 h, eq-eqb (get_or a i 0) (get_or b i 0) e, add-one)
 
     pub same_stop : (get_or a i 0 ≡ get_or b i 0 → ⊥) → false ≡ d
     unfolding same
@@ -63,10 +63,10 @@ module _ (s : List ℕ) (p : ℕ) (own : List ℕ) (i : ℕ) (long : length own 
 
     module _ (h : i < 12) where
       pub at_on : get_or s (p + i) 0 ≡ get_or own i 0 → same_at s p own ≡ same (drop (i + 1) (take 12 (drop p s))) (drop (i + 1) own)
-      at_on e = let l = twelve in same-on (take 12 (drop p s)) own i _ left (omega arith) (omega arith) (standing h ∙ e)
+      at_on e = let l = twelve in same_on (take 12 (drop p s)) own i _ left (omega arith) (omega arith) (standing h ∙ e)
 
-      pub at-stop : (get_or s (p + i) 0 ≡ get_or own i 0 → ⊥) → false ≡ same_at s p own
-      at-stop n = let l = twelve in same_stop (take 12 (drop p s)) own i _ left (omega arith) (omega arith) (λ e. n (sym (standing h) ∙ e))
+      pub at_stop : (get_or s (p + i) 0 ≡ get_or own i 0 → ⊥) → false ≡ same_at s p own
+      at_stop n = let l = twelve in same_stop (take 12 (drop p s)) own i _ left (omega arith) (omega arith) (λ e. n (sym (standing h) ∙ e))
 
 -- ---- digits
 
@@ -83,17 +83,17 @@ unfolding is_code
 code_short code n = rw (ne_eqb (length code) 23 n)
 
 module _ (code : List ℕ) (long : length code ≡ 23) (i : ℕ) (left : decimal code ≡ decimal (drop i code)) where
-  pub code-end : 23 ≤ i → true ≡ is_code code
+  pub code_end : 23 ≤ i → true ≡ is_code code
   unfolding is_code decimal
-  code-end h =
+  code_end h =
       let past : length code ≤ i = omega arith in
       sym (rw (eq-eqb (length code) 23 long) (left ∙ rw (drop_of_length-le code past)))
 
   module _ (h : i < length code) where
-    pub code-on : get_or code i 0 ≤ 9 → decimal code ≡ decimal (drop (i + 1) code)
+    pub code_on : get_or code i 0 ≤ 9 → decimal code ≡ decimal (drop (i + 1) code)
     unfolding decimal
-    code-on d = left ∙ rw (drop-cons code i 0 h, lt-ltb (get_or code i 0) 10 (omega arith), add-one)
+    code_on d = left ∙ rw (drop-cons code i 0 h, lt-ltb (get_or code i 0) 10 (omega arith), add-one)
 
-    pub code-stop : 9 < get_or code i 0 → false ≡ is_code code
+    pub code_stop : 9 < get_or code i 0 → false ≡ is_code code
     unfolding is_code decimal
-    code-stop d = sym (rw (eq-eqb (length code) 23 long) (left ∙ rw (drop-cons code i 0 h, le-ltb (get_or code i 0) 10 (omega arith))))
+    code_stop d = sym (rw (eq-eqb (length code) 23 long) (left ∙ rw (drop-cons code i 0 h, le-ltb (get_or code i 0) 10 (omega arith))))

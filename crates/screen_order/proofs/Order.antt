@@ -97,14 +97,14 @@ module _ (l l' d d' s s' n n' : ℕ) where
   by_level h = differs _ _ _ _ h
 
   module _ (level : l ≡ l') where
-    pub by-day : (d ≡ d' → ⊥) → ltb d d' ≡ comes_first (rank_by l d s n) (rank_by l' d' s' n')
+    pub by_day : (d ≡ d' → ⊥) → ltb d d' ≡ comes_first (rank_by l d s n) (rank_by l' d' s' n')
     unfolding rank_by
-    by-day h = differs _ _ _ _ h ∙ agrees _ _ _ _ level
+    by_day h = differs _ _ _ _ h ∙ agrees _ _ _ _ level
 
     module _ (day : d ≡ d') where
-      pub by-second : (s ≡ s' → ⊥) → ltb s s' ≡ comes_first (rank_by l d s n) (rank_by l' d' s' n')
+      pub by_second : (s ≡ s' → ⊥) → ltb s s' ≡ comes_first (rank_by l d s n) (rank_by l' d' s' n')
       unfolding rank_by
-      by-second h = differs _ _ _ _ h ∙ agrees _ _ _ _ day ∙ agrees _ _ _ _ level
+      by_second h = differs _ _ _ _ h ∙ agrees _ _ _ _ day ∙ agrees _ _ _ _ level
 
       pub by_number : s ≡ s' → ltb n n' ≡ comes_first (rank_by l d s n) (rank_by l' d' s' n')
       unfolding rank_by
@@ -117,10 +117,10 @@ unfolding better_of
 better_first best next e = rw e
 
 module _ (best : Best) (held next : Candidate) (e : best ≡ Message held) where
-  pub better-next : comes_first (rank_of next) (rank_of held) ≡ true → Message next ≡ better_of best next
+  pub better_next : comes_first (rank_of next) (rank_of held) ≡ true → Message next ≡ better_of best next
   unfolding better_of
-  better-next f = rw (e, f)
+  better_next f = rw (e, f)
 
-  pub better-held : comes_first (rank_of next) (rank_of held) ≡ false → Message held ≡ better_of best next
+  pub better_held : comes_first (rank_of next) (rank_of held) ≡ false → Message held ≡ better_of best next
   unfolding better_of
-  better-held f = rw (e, f)
+  better_held f = rw (e, f)

@@ -134,22 +134,22 @@ module _ (code : List ℕ) (present : Moment) (all : List Message) where
     λ j m s ne. let k = s.below in b.1 j m (record { is_there = s.is_there; may = s.may; below = omega arith }) ne,
   )
 
-  leads-on : (rest : List Message) (n : ℕ) (l : Leader) → drop n all ≡ rest → LeadsOf code present all n l
+  leads_on : (rest : List Message) (n : ℕ) (l : Leader) → drop n all ≡ rest → LeadsOf code present all n l
       → LeadsOf code present all (length all) (leader code present l n rest)
   unfolding leader
-  leads-on [] n l e b = past n (numbered_end all n e) l b
-  leads-on (x ∷ xs) n l e b =
+  leads_on [] n l e b = past n (numbered_end all n e) l b
+  leads_on (x ∷ xs) n l e b =
       let f = numbered_next all n x xs e in
-      leads-on xs (suc n) (cond (eligible code present x) (passed_by l n x) l) f.1 (step n x f.0 l b)
+      leads_on xs (suc n) (cond (eligible code present x) (passed_by l n x) l) f.1 (step n x f.0 l b)
 
-  pub leads-all : LeadsOf code present all (length all) (leader code present nobody 0 all)
-  leads-all = leads-on all 0 nobody refl (λ j m s. let k = s.below in omega arith)
+  pub leads_all : LeadsOf code present all (length all) (leader code present nobody 0 all)
+  leads_all = leads_on all 0 nobody refl (λ j m s. let k = s.below in omega arith)
 
   pub seen : (j : ℕ) (m : Message) → Numbered all j m → eligible code present m ≡ true → Seen code present all (length all) j m
   seen j m p e = record { is_there = p; may = e; below = numbered_below all j m p }
 
-  pub leads-shown : (i : ℕ) (m : Message) → LeadsOf code present all (length all) (leads i m) → Shown code present all i
-  leads-shown i m b =
+  pub leads_shown : (i : ℕ) (m : Message) → LeadsOf code present all (length all) (leads i m) → Shown code present all i
+  leads_shown i m b =
       record { message = m; is_there = b.0.is_there; may = b.0.may; least = λ j other p e ne. b.1 j other (seen j other p e) ne }
 
   pub only_one : (i j : ℕ) → Shown code present all i → Shown code present all j → i ≡ j

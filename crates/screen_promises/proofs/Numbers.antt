@@ -51,24 +51,24 @@ then_by (found a q) k h g = g a q
 then_by (refused r) k (refuses h) g = refuses h
 
 module _ {A : Type 0} where
-  need-by : (t : Bool) (r : Refusal) (x : Reading A) → is_of_field r ≡ true → ByField x → ByField (need t r x)
-  need-by true r x h g = g
-  need-by false r x h g = refuses h
+  need_by : (t : Bool) (r : Refusal) (x : Reading A) → is_of_field r ≡ true → ByField x → ByField (need t r x)
+  need_by true r x h g = g
+  need_by false r x h g = refuses h
 
-  judged-by : (f : Fault) (x : Reading A) → FaultByField f → ByField x → ByField (judged f x)
-  judged-by fine x h g = g
-  judged-by (faulty r) x (refuses h) g = refuses h
+  judged_by : (f : Fault) (x : Reading A) → FaultByField f → ByField x → ByField (judged f x)
+  judged_by fine x h g = g
+  judged_by (faulty r) x (refuses h) g = refuses h
 
   within_by : (s : List ℕ) (l at end : ℕ) (x : Reading A) → ByField x → ByField (within s l at end x)
-  within_by s l at end x g = need-by (leb end (length s)) (PastBody at) _ refl (need-by (leb end l) (PastPart at) x refl g)
+  within_by s l at end x g = need_by (leb end (length s)) (PastBody at) _ refl (need_by (leb end l) (PastPart at) x refl g)
 
   first_by : (k : ℕ) (s : List ℕ) (l p : ℕ) (x : Reading A) → ByField x → ByField (reserved_first k s l p x)
-  first_by k s l p x g = within_by s l p (p + 1) _ (need-by (eqb (get_or s p 0 / 2 ^ (8 - k)) (2 ^ k - 1)) (ReservedBitZero p) x refl g)
+  first_by k s l p x g = within_by s l p (p + 1) _ (need_by (eqb (get_or s p 0 / 2 ^ (8 - k)) (2 ^ k - 1)) (ReservedBitZero p) x refl g)
 
-  repeat-by : (f : ℕ → Reading A) → ((p : ℕ) → ByField (f p)) → (n p : ℕ) → ByField (repeat f n p)
+  repeat_by : (f : ℕ → Reading A) → ((p : ℕ) → ByField (f p)) → (n p : ℕ) → ByField (repeat f n p)
   unfolding repeat
-  repeat-by f h zero p = finds
-  repeat-by f h (suc n) p = then_by (f p) _ (h p) (λ a q. then_by (repeat f n q) _ (repeat-by f h n q) (λ xs r. finds))
+  repeat_by f h zero p = finds
+  repeat_by f h (suc n) p = then_by (f p) _ (h p) (λ a q. then_by (repeat f n q) _ (repeat_by f h n q) (λ xs r. finds))
 
 -- ---- formats
 
@@ -83,7 +83,7 @@ only_by : {A : Type 0} (fault : A → ℕ → Fault) (F : Format A) → ((a : A)
     → ReadByField (only fault F)
 unfolding only
 only_by fault F there f =
-    record { read = λ s l p. then_by (F.parse s l p) _ (f.read s l p) (λ a q. judged-by (fault a p) _ (there a p) finds) }
+    record { read = λ s l p. then_by (F.parse s l p) _ (f.read s l p) (λ a q. judged_by (fault a p) _ (there a p) finds) }
 
 outside_by : {A : Type 0} (test : A → Bool) (F : Format A) → ReadByField F → ReadByField (only (outside test) F)
 outside_by test F f = only_by (outside test) F (λ a at. unless_by (test a) (OutsideSet at) refl) f
@@ -114,7 +114,7 @@ digits_by h =
     record {
       read = λ s l p.
           first_by 4 s l p _ (within_by s l p (p + suc h) _
-          (need-by (decimal (tail (halves (take (suc h) (drop p s))))) (DigitAboveNine p) _ refl finds));
+          (need_by (decimal (tail (halves (take (suc h) (drop p s))))) (DigitAboveNine p) _ refl finds));
     }
 
 followed_by : {A : Type 0} {B : A → Type 0} (F : Format A) (G : (a : A) → Format (B a)) → ReadByField F → ((a : A) → ReadByField (G a))
@@ -133,14 +133,14 @@ unfolding view
 view_by f g F u = record { read = λ s l p. then_by (F.parse s l p) _ (u.read s l p) (λ a q. finds) }
 
 module _ {A : Type 0} (F : Format A) (f : ReadByField F) where
-  list-by : (C : Format ℕ) → ReadByField C → ReadByField (list_of C F)
+  list_by : (C : Format ℕ) → ReadByField C → ReadByField (list_of C F)
   unfolding list_of
-  list-by C c = record { read = λ s l p. then_by (C.parse s l p) _ (c.read s l p) (λ n q. repeat-by (F.parse s l) (f.read s l) n q) }
+  list_by C c = record { read = λ s l p. then_by (C.parse s l p) _ (c.read s l p) (λ n q. repeat_by (F.parse s l) (f.read s l) n q) }
 
-  parse-many : (n : ℕ) (s : List ℕ) (l p : ℕ) → ByField (parse_many F n s l p)
+  parse_many_lem : (n : ℕ) (s : List ℕ) (l p : ℕ) → ByField (parse_many F n s l p)
   unfolding parse_many
-  parse-many zero s l p = need-by (leb l p) (PastPart p) _ refl finds
-  parse-many (suc n) s l p = go (λ q. parse-many n s l q) (leb l p)
+  parse_many_lem zero s l p = need_by (leb l p) (PastPart p) _ refl finds
+  parse_many_lem (suc n) s l p = go (λ q. parse_many_lem n s l q) (leb l p)
     where
       go : ((q : ℕ) → ByField (parse_many F n s l q)) → (t : Bool)
           → ByField (if t then found [] p else and_then (F.parse s l p) (λ a q. and_then (parse_many F n s l q) (λ xs r. found (a ∷ xs) r)))
@@ -149,33 +149,33 @@ module _ {A : Type 0} (F : Format A) (f : ReadByField F) where
 
   many_by : ReadByField (many F)
   unfolding many
-  many_by = record { read = λ s l p. parse-many (l - p) s l p }
+  many_by = record { read = λ s l p. parse_many_lem (l - p) s l p }
 
-  exact-by : (leftOver : ℕ → Refusal) → ((at : ℕ) → is_of_field (leftOver at) ≡ true) → ReadByField (exact leftOver F)
+  exact_by : (left_over : ℕ → Refusal) → ((at : ℕ) → is_of_field (left_over at) ≡ true) → ReadByField (exact left_over F)
   unfolding exact
-  exact-by leftOver h =
-      record { read = λ s l p. then_by (F.parse s l p) _ (f.read s l p) (λ a q. need-by (leb l q) (leftOver q) _ (h q) finds) }
+  exact_by left_over h =
+      record { read = λ s l p. then_by (F.parse s l p) _ (f.read s l p) (λ a q. need_by (leb l q) (left_over q) _ (h q) finds) }
 
-  counted-by : (L : Length) → ReadByField L.field → ((n at : ℕ) → FaultByField (L.fault n at)) → ReadByField (counted L F)
+  counted_by : (L : Length) → ReadByField L.field → ((n at : ℕ) → FaultByField (L.fault n at)) → ReadByField (counted L F)
   unfolding counted
-  counted-by L c there =
+  counted_by L c there =
       record {
         read = λ s l p.
             then_by (L.field.parse s l p) _ (c.read s l p) (λ n q.
-            within_by s l p (q + n % L.limit) _ (judged-by (L.fault n p) _ (there n p) (f.read s (q + n % L.limit) q)));
+            within_by s l p (q + n % L.limit) _ (judged_by (L.fault n p) _ (there n p) (f.read s (q + n % L.limit) q)));
       }
 
-  length-by : (w : ℕ) → ReadByField (counted (length_of w) F)
+  length_by : (w : ℕ) → ReadByField (counted (length_of w) F)
   unfolding length_of
-  length-by w = counted-by (length_of w) (count_by w) (λ n at. none)
+  length_by w = counted_by (length_of w) (count_by w) (λ n at. none)
 
-  length12-by : ReadByField (counted length12 F)
+  length12_by : ReadByField (counted length12 F)
   unfolding length12
-  length12-by = counted-by length12 (reserved_by 4 1) (λ n at. unless_by (ltb n 1024) (ReservedBitZero at) refl)
+  length12_by = counted_by length12 (reserved_by 4 1) (λ n at. unless_by (ltb n 1024) (ReservedBitZero at) refl)
 
 opaque_by : (w : ℕ) → ReadByField (opaque w)
 unfolding rest
-opaque_by w = length-by rest (record { read = λ s l p. finds }) w
+opaque_by w = length_by rest (record { read = λ s l p. finds }) w
 
 -- ---- times, identifiers and resources
 
@@ -212,18 +212,18 @@ unfolding identifier
 identifier_by = only_by unreal_day (digits identifier_pairs) (λ ds at. unless_by (has_real_day ds) (ImpossibleDay at) refl) (digits_by identifier_pairs)
 
 resources_by : ReadByField resources
-resources_by = list-by resource (digits_by resource_pairs) (count 1) (count_by 1)
+resources_by = list_by resource (digits_by resource_pairs) (count 1) (count_by 1)
 
 -- ---- the index table
 
 descriptors_by : ReadByField descriptors
 unfolding descriptors descriptor
-descriptors_by = length12-by (many descriptor) (many_by descriptor (view_by _ _ _ (followed_by _ _ (number_by 1) (λ a. opaque_by 1))))
+descriptors_by = length12_by (many descriptor) (many_by descriptor (view_by _ _ _ (followed_by _ _ (number_by 1) (λ a. opaque_by 1))))
 
 streams_by : ReadByField streams
 unfolding streams stream stream_fields
 streams_by =
-    length-by (many stream) (many_by stream (view_by _ _ stream_fields
+    length_by (many stream) (many_by stream (view_by _ _ stream_fields
     (followed_by _ _ (number_by 1) (λ a. followed_by _ _ (reserved_by 3 1) (λ b. descriptors_by))))) 2
 
 channel_by : ReadByField channel
@@ -242,14 +242,14 @@ head_by =
 message_by : ReadByField message
 unfolding message message_fields flagged
 message_by =
-    length-by _ (exact-by _ (view_by _ _ message_fields
+    length_by _ (exact_by _ (view_by _ _ message_fields
     (followed_by _ _ head_by (λ a. followed_by _ _ resources_by (λ b.
     followed_by _ _ (reserved_by 7 0) (under_by channel channel_by))))) PastPart (λ at. refl)) 2
 
 index_by : ReadByField index
 unfolding index fields
 index_by =
-    exact-by _ (view_by _ _ fields (followed_by _ _ (list-by message message_by (count 1) (count_by 1)) (λ a. opaque_by 2))) LeftOver (λ at. refl)
+    exact_by _ (view_by _ _ fields (followed_by _ _ (list_by message message_by (count 1) (count_by 1)) (λ a. opaque_by 2))) LeftOver (λ at. refl)
 
 -- ---- whole bodies
 
@@ -258,9 +258,9 @@ of_field true b e = refl
 of_field false b e = e
 
 module _ (kind : ℕ) (s : List ℕ) where
-  pub read-given : (r : Refusal) → body_read index index_kind kind s ≡ NoStep r → is_given (refusal_number r) ≡ true
+  pub read_given : (r : Refusal) → body_read index index_kind kind s ≡ NoStep r → is_given (refusal_number r) ≡ true
   unfolding body_read reading
-  read-given r e = go (eqb kind index_kind) (leb (length s) body_most) (index.parse s (length s) 0) (index_by.read s (length s) 0) e
+  read_given r e = go (eqb kind index_kind) (leb (length s) body_most) (index.parse s (length s) 0) (index_by.read s (length s) 0) e
     where
       same : (q : Refusal) → NoStep q ≡ NoStep r → is_given (refusal_number q) ≡ true → is_given (refusal_number r) ≡ true
       same q f h = let z : q ≡ r = cc in sym (ap (λ (x : Refusal). is_given (refusal_number x)) z) ∙ h

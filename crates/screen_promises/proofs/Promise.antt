@@ -26,9 +26,9 @@ use Rattle.screen_choice.specs.declared.Choice.{Choice}
 use Rattle.screen_choice.specs.declared.Choice.TheVariants.{Shows, Nothing, Refused}
 use Rattle.screen_choice.proofs.Chosen as chosen
 use Rattle.screen_promises.specs.Promise.{Allowed, Chooses, Within, is_given, Promise}
-use Rattle.screen_promises.proofs.Least.{LeadsOf, leads-all, leads-shown, seen, only_one}
+use Rattle.screen_promises.proofs.Least.{LeadsOf, leads_all, leads_shown, seen, only_one}
 use Rattle.screen_promises.proofs.Words.{words}
-use Rattle.screen_promises.proofs.Numbers.{read-given}
+use Rattle.screen_promises.proofs.Numbers.{read_given}
 use Rattle.screen_promises.proofs.Within.{Parted, parted, few}
 
 -- ---- of an accepted body
@@ -38,9 +38,9 @@ module _ (kind : ℕ) (s code : List ℕ) (present : Moment) (t : Index) (b : Ar
   abbrev ms : List Message
   ms = t.messages
 
-  choice-is : choice_of kind s code present ≡ answer_of s (leader code present nobody 0 ms)
+  choice_is : choice_of kind s code present ≡ answer_of s (leader code present nobody 0 ms)
   unfolding choice_of
-  choice-is = rw (c, i, (demand2.indexes.reads_exactly kind s t b).1 h)
+  choice_is = rw (c, i, (demand2.indexes.reads_exactly kind s t b).1 h)
 
   part : (k : ℕ) (m : Message) → Numbered ms k m → Parted s k
   part k m p = let z : 0 + k ≡ k = omega arith in subst (Parted s) z (parted s b ms 0 1 (chosen.stand kind s b t h) k m p)
@@ -49,22 +49,22 @@ module _ (kind : ℕ) (s code : List ℕ) (present : Moment) (t : Index) (b : Ar
   has_part k m p = let r = part k m p in (r.at, r.size, r.is)
 
   -- what is answered of the one that leads
-  shown-then : (l : Leader) → LeadsOf code present ms (length ms) l → (k at n : ℕ) → answer_of s l ≡ Shows k at n
+  shown_then : (l : Leader) → LeadsOf code present ms (length ms) l → (k at n : ℕ) → answer_of s l ≡ Shows k at n
       → Shown code present ms k × (message_part s k ≡ Of at n)
-  shown-then nobody f k at n e = absurd (let z : ◌≡◌ {A = ℕ} 0 1 = cc in omega arith)
-  shown-then (leads j m) f k at n e =
+  shown_then nobody f k at n e = absurd (let z : ◌≡◌ {A = ℕ} 0 1 = cc in omega arith)
+  shown_then (leads j m) f k at n e =
       let r = has_part j m f.0.is_there in
       let g : Shows j r.0 r.1 ≡ Shows k at n = sym (ap (shown_as j) r.2) ∙ e in
       let z : j ≡ k = cc in
       let x : r.0 ≡ at = cc in
       let y : r.1 ≡ n = cc in
-      (subst (Shown code present ms) z (leads-shown code present ms j m f), sym (ap (message_part s) z) ∙ r.2 ∙ ap (λ (a : ℕ). Of a r.1) x ∙ ap (Of at) y)
+      (subst (Shown code present ms) z (leads_shown code present ms j m f), sym (ap (message_part s) z) ∙ r.2 ∙ ap (λ (a : ℕ). Of a r.1) x ∙ ap (Of at) y)
 
-  then-shown : (l : Leader) → LeadsOf code present ms (length ms) l → (k at n : ℕ) → Shown code present ms k → message_part s k ≡ Of at n
+  then_shown : (l : Leader) → LeadsOf code present ms (length ms) l → (k at n : ℕ) → Shown code present ms k → message_part s k ≡ Of at n
       → answer_of s l ≡ Shows k at n
-  then-shown nobody f k at n a e = absurd (f k a.message (seen code present ms k a.message a.is_there a.may))
-  then-shown (leads j m) f k at n a e =
-      let z = only_one code present ms j k (leads-shown code present ms j m f) a in
+  then_shown nobody f k at n a e = absurd (f k a.message (seen code present ms k a.message a.is_there a.may))
+  then_shown (leads j m) f k at n a e =
+      let z = only_one code present ms j k (leads_shown code present ms j m f) a in
       ap (λ (x : ℕ). shown_as x (message_part s x)) z ∙ ap (shown_as k) e
 
   none_then : (l : Leader) → LeadsOf code present ms (length ms) l → answer_of s l ≡ Nothing → (k : ℕ) (m : Message) → Numbered ms k m
@@ -75,14 +75,14 @@ module _ (kind : ℕ) (s code : List ℕ) (present : Moment) (t : Index) (b : Ar
       let g : Shows j r.0 r.1 ≡ Nothing = sym (ap (shown_as j) r.2) ∙ e in
       let z : ◌≡◌ {A = ℕ} 0 1 = cc in omega arith
 
-  then-none : (l : Leader) → LeadsOf code present ms (length ms) l → ((k : ℕ) (m : Message) → Numbered ms k m → eligible code present m ≡ true → ⊥)
+  then_none : (l : Leader) → LeadsOf code present ms (length ms) l → ((k : ℕ) (m : Message) → Numbered ms k m → eligible code present m ≡ true → ⊥)
       → answer_of s l ≡ Nothing
-  then-none nobody f e = refl
-  then-none (leads j m) f e = absurd (e j m f.0.is_there f.0.may)
+  then_none nobody f e = refl
+  then_none (leads j m) f e = absurd (e j m f.0.is_there f.0.may)
 
-  never-refused : (l : Leader) → LeadsOf code present ms (length ms) l → (r : Refusal) → answer_of s l ≡ Refused r → ⊥
-  never-refused nobody f r e = let z : ◌≡◌ {A = ℕ} 0 1 = cc in omega arith
-  never-refused (leads j m) f r e =
+  never_refused : (l : Leader) → LeadsOf code present ms (length ms) l → (r : Refusal) → answer_of s l ≡ Refused r → ⊥
+  never_refused nobody f r e = let z : ◌≡◌ {A = ℕ} 0 1 = cc in omega arith
+  never_refused (leads j m) f r e =
       let x = has_part j m f.0.is_there in
       let g : Shows j x.0 x.1 ≡ Refused r = sym (ap (shown_as j) x.2) ∙ e in
       let z : ◌≡◌ {A = ℕ} 0 1 = cc in omega arith
@@ -90,23 +90,23 @@ module _ (kind : ℕ) (s code : List ℕ) (present : Moment) (t : Index) (b : Ar
   chooses : Chooses kind s code present t
   chooses =
       let l = leader code present nobody 0 ms in
-      let f = leads-all code present ms in
+      let f = leads_all code present ms in
       record {
-        shows_exactly = λ k at n. ((λ e. shown-then l f k at n (sym choice-is ∙ e)), (λ x. choice-is ∙ then-shown l f k at n x.0 x.1));
+        shows_exactly = λ k at n. ((λ e. shown_then l f k at n (sym choice_is ∙ e)), (λ x. choice_is ∙ then_shown l f k at n x.0 x.1));
         has_part = has_part;
-        none_exactly = ((λ e. none_then l f (sym choice-is ∙ e)), (λ x. choice-is ∙ then-none l f x));
-        accepted = λ r e. never-refused l f r (sym choice-is ∙ e);
-        determined = λ x y p q. sym (allowed-is x p) ∙ allowed-is y q;
+        none_exactly = ((λ e. none_then l f (sym choice_is ∙ e)), (λ x. choice_is ∙ then_none l f x));
+        accepted = λ r e. never_refused l f r (sym choice_is ∙ e);
+        determined = λ x y p q. sym (allowed_is x p) ∙ allowed_is y q;
       }
     where
-      allowed-is : (x : Choice) → Allowed s code present t x → choice_of kind s code present ≡ x
-      allowed-is (Shows k at n) p = choice-is ∙ then-shown (leader code present nobody 0 ms) (leads-all code present ms) k at n p.0 p.1
-      allowed-is Nothing p = choice-is ∙ then-none (leader code present nobody 0 ms) (leads-all code present ms) p
-      allowed-is (Refused r) p = absurd p
+      allowed_is : (x : Choice) → Allowed s code present t x → choice_of kind s code present ≡ x
+      allowed_is (Shows k at n) p = choice_is ∙ then_shown (leader code present nobody 0 ms) (leads_all code present ms) k at n p.0 p.1
+      allowed_is Nothing p = choice_is ∙ then_none (leader code present nobody 0 ms) (leads_all code present ms) p
+      allowed_is (Refused r) p = absurd p
 
   -- what is shown lies in the body
-  shown-within : (k at n : ℕ) → choice_of kind s code present ≡ Shows k at n → Within s k at n
-  shown-within k at n e =
+  shown_within : (k at n : ℕ) → choice_of kind s code present ≡ Shows k at n → Within s k at n
+  shown_within k at n e =
       let x = (chooses.shows_exactly k at n).0 e in
       let m = x.0.message in
       let r = part k m x.0.is_there in
@@ -149,7 +149,7 @@ within kind s code present b k at n e = go (is_code code) (is_instant present) (
     go true true (refused r) c y f z = absurd (let w : ◌≡◌ {A = ℕ} 0 1 = cc in omega arith)
     go true true (found t q) c y f z =
         let h = chosen.holds kind s b q (sym (ap step_of f)) in
-        shown-within kind s code present h.0 b c y h.2 k at n e
+        shown_within kind s code present h.0 b c y h.2 k at n e
 
 given : (kind : ℕ) (s code : List ℕ) (present : Moment) → AreBytes s → (r : Refusal) → choice_of kind s code present ≡ Refused r
     → is_given (refusal_number r) ≡ true
@@ -159,9 +159,9 @@ given kind s code present b r e = go (is_code code) (is_instant present) refl re
     same q f h = let z : q ≡ r = cc in sym (ap (λ (x : Refusal). is_given (refusal_number x)) z) ∙ h
 
     go : (c i : Bool) → is_code code ≡ c → is_instant present ≡ i → is_given (refusal_number r) ≡ true
-    go false i c y = same (DigitAboveNine 0) (chosen.choice-no-code kind s code present c ∙ e) refl
-    go true false c y = same (ImpossibleDay 0) (chosen.choice-no-instant kind s code present c y ∙ e) refl
-    go true true c y = read-given kind s r (reader_refused kind s code present b c y r e)
+    go false i c y = same (DigitAboveNine 0) (chosen.choice_no_code kind s code present c ∙ e) refl
+    go true false c y = same (ImpossibleDay 0) (chosen.choice_no_instant kind s code present c y ∙ e) refl
+    go true true c y = read_given kind s r (reader_refused kind s code present b c y r e)
 
 pub promise : Promise
 promise =
@@ -170,11 +170,11 @@ promise =
       chooses = chooses;
       within = within;
       only_one = only_one;
-      no_code = λ kind s code present e. sym (chosen.choice-no-code kind s code present e);
-      no_instant = λ kind s code present c e. sym (chosen.choice-no-instant kind s code present c e);
+      no_code = λ kind s code present e. sym (chosen.choice_no_code kind s code present e);
+      no_instant = λ kind s code present c e. sym (chosen.choice_no_instant kind s code present c e);
       as_the_reader = λ kind s code present b c i r. (
         reader_refused kind s code present b c i r,
-        (λ e. sym (chosen.choice-refused kind s code present c i r (sym e))),
+        (λ e. sym (chosen.choice_refused kind s code present c i r (sym e))),
       );
       given = given;
       never_21 = λ kind s code present b e. false≢true (given kind s code present b OutputTooSmall e);

@@ -27,8 +27,8 @@ pub record Parted (s : List ℕ) (i : ℕ) : Type 0 where
 
 module _ (s : List ℕ) (b : AreBytes s) where
   -- of the first of several, whose EBM_length stands at p
-  first-parted : (i : ℕ) (ms : List Message) (p : ℕ) → Turn s i ms p → Parted s i
-  first-parted i ms p t =
+  first_parted : (i : ℕ) (ms : List Message) (p : ℕ) → Turn s i ms p → Parted s i
+  first_parted i ms p t =
       let high = b.byte p in
       let low = b.byte (p + 1) in
       let l : Lengthed s p (get_or s p 0 * 256 + get_or s (p + 1) 0) = record { is = refl; small = omega arith } in
@@ -44,7 +44,7 @@ module _ (s : List ℕ) (b : AreBytes s) where
   pub parted : (ms : List Message) (i p : ℕ) → Standing s i ms p → (k : ℕ) (m : Message) → Numbered ms k m → Parted s (i + k)
   unfolding Numbered
   parted [] i p st k m h = absurd h
-  parted (x ∷ xs) i p st zero m h = subst (Parted s) (sym (add-zero i)) (first-parted i (x ∷ xs) p (turn s i (x ∷ xs) p st (omega arith)))
+  parted (x ∷ xs) i p st zero m h = subst (Parted s) (sym (add-zero i)) (first_parted i (x ∷ xs) p (turn s i (x ∷ xs) p st (omega arith)))
   parted (x ∷ xs) i p st (suc k) m h =
       let t = turn s i (x ∷ xs) p st (omega arith) in
       let e : t.others ≡ xs = cc in

@@ -62,24 +62,24 @@ module _ (out : List ℕ) (h : Heading) (payload : List ℕ) where
 -- ---- the cutter's refusals, each from what leads to it
 
 module _ (body : List ℕ) (kind extension version number room : ℕ) where
-  pub cut-other-kind : is_kind kind ≡ false → cutting body kind extension version number room ≡ refuses OtherKind
+  pub cut_other_kind : is_kind kind ≡ false → cutting body kind extension version number room ≡ refuses OtherKind
   unfolding cutting
-  cut-other-kind h = simp h
+  cut_other_kind h = simp h
 
   module _ (k : is_kind kind ≡ true) where
-    pub cut-other-version : 31 < version → cutting body kind extension version number room ≡ refuses (OutsideSet 0)
+    pub cut_other_version : 31 < version → cutting body kind extension version number room ≡ refuses (OutsideSet 0)
     unfolding cutting
-    cut-other-version h = simp (k, lt-leb version 31 h)
+    cut_other_version h = simp (k, lt-leb version 31 h)
 
-    pub cut-other-extension : 0xFFFF < extension → cutting body kind extension version number room ≡ refuses (OutsideSet 0)
+    pub cut_other_extension : 0xFFFF < extension → cutting body kind extension version number room ≡ refuses (OutsideSet 0)
     unfolding cutting
-    cut-other-extension h = simp (k, lt-leb extension 0xFFFF h, and-false)
+    cut_other_extension h = simp (k, lt-leb extension 0xFFFF h, and-false)
 
   module _ (a : Allowed kind extension version) where
     -- the count's refusals are the cutter's
-    pub cut-not-counted : (r : Refusal) → counted_of (length body) ≡ NotCounted r → cutting body kind extension version number room ≡ refuses r
+    pub cut_not_counted : (r : Refusal) → counted_of (length body) ≡ NotCounted r → cutting body kind extension version number room ≡ refuses r
     unfolding cutting counted_of
-    cut-not-counted r e =
+    cut_not_counted r e =
         simp (a.kind_of, le-leb version 31 a.version_high, le-leb extension 0xFFFF a.extension_high)
         (go (eqb (length body) 0) (ltb body_most (length body)) _ _ e)
       where
@@ -90,9 +90,9 @@ module _ (body : List ℕ) (kind extension version number room : ℕ) where
         go false false w n e = cc
 
     module _ (n : ℕ) (e : counted_of (length body) ≡ Sections n) where
-      pub cut-past-last : n ≤ number → cutting body kind extension version number room ≡ refuses NumberAboveLast
+      pub cut_past_last : n ≤ number → cutting body kind extension version number room ≡ refuses NumberAboveLast
       unfolding cutting
-      cut-past-last h =
+      cut_past_last h =
           let c = counted_some (length body) n e in
           simp (
             a.kind_of,
@@ -104,9 +104,9 @@ module _ (body : List ℕ) (kind extension version number room : ℕ) where
           )
 
       module _ (h : number < n) where
-        pub cut-fitting : cutting body kind extension version number room ≡ cut_if_room room (section_of body kind extension version number)
+        pub cut_fitting : cutting body kind extension version number room ≡ cut_if_room room (section_of body kind extension version number)
         unfolding cutting
-        cut-fitting =
+        cut_fitting =
             let c = counted_some (length body) n e in
             simp (
               a.kind_of,
@@ -118,11 +118,11 @@ module _ (body : List ℕ) (kind extension version number room : ℕ) where
             )
 
         -- the section with this heading is the one asked for
-        pub cut-asked : (out left : List ℕ) (r : Cut)
+        pub cut_asked : (out left : List ℕ) (r : Cut)
             → CutBy
             (cut_if_room room
             (printed (record { kind = kind; extension = extension; version = version; current = true; number = number; last = n - 1 }) (part_carried body number)))
             out r left
             → CutBy (cutting body kind extension version number room) out r left
         unfolding section_of cut_heading
-        cut-asked out left r done = let c = counted_some (length body) n e in rw (cut-fitting, ← c.0) done
+        cut_asked out left r done = let c = counted_some (length body) n e in rw (cut_fitting, ← c.0) done

@@ -15,7 +15,7 @@ use Rattle.std.specs.Prelude.{if◌then◌else◌}
 use Rattle.section_reader.specs.Section.{is_kind, payload_of, printed, WellFormed, IsGood}
 use Rattle.section_cutter.specs.declared.Cut.TheVariants.{Written}
 use Rattle.section_cutter.proofs.Counting.{place_zero, place_suc, ends_within, count_most, counted_is, part_length}
-use Rattle.section_cutter.proofs.Cuts.{cut-fitting, written_is}
+use Rattle.section_cutter.proofs.Cuts.{cut_fitting, written_is}
 use Rattle.section_reader.proofs.Printing.{printed_length}
 use Rattle.ground_choices.proofs.Tests.{both}
 use Rattle.section_reader.proofs.Reading.{kind_within}
@@ -25,9 +25,9 @@ use Rattle.section_reader.proofs.RoundTrip.{reads_back}
 
 module _ (body : List ℕ) (kind extension version number : ℕ) where
   module _ (a : Askable (length body) kind extension version number) where
-    cut-formed : WellFormed (cut_heading (length body) kind extension version number)
+    cut_formed : WellFormed (cut_heading (length body) kind extension version number)
     unfolding cut_heading
-    cut-formed =
+    cut_formed =
         let k = kind_within kind a.allowed.kind_of in
         let m = count_most (length body) a.most in
         let w = a.within in
@@ -41,15 +41,15 @@ module _ (body : List ℕ) (kind extension version number : ℕ) where
         }
 
     -- the section is good, reads back to the heading asked for, and carries its part of the body
-    pub cut-good : IsGood (section_of body kind extension version number) (cut_heading (length body) kind extension version number) (part_carried body number)
+    pub cut_good : IsGood (section_of body kind extension version number) (cut_heading (length body) kind extension version number) (part_carried body number)
     unfolding section_of
-    cut-good = reads_back (cut_heading (length body) kind extension version number) (part_carried body number) cut-formed (part_length body number)
+    cut_good = reads_back (cut_heading (length body) kind extension version number) (part_carried body number) cut_formed (part_length body number)
 
   -- the cutter writes nothing but such a section
-  pub cut-written : (room : ℕ) (s : List ℕ) → cutting body kind extension version number room ≡ writes s
+  pub cut_written : (room : ℕ) (s : List ℕ) → cutting body kind extension version number room ≡ writes s
       → Askable (length body) kind extension version number × (s ≡ section_of body kind extension version number)
   unfolding cutting cut_if_room
-  cut-written room s e =
+  cut_written room s e =
       let a = past (not (is_kind kind)) _ _ s e in
       let b = past (not (leb version 31 && leb extension 0xFFFF)) _ _ s a.1 in
       let c = past (eqb (length body) 0) _ _ s b.1 in
@@ -76,11 +76,11 @@ module _ (body : List ℕ) (kind extension version number : ℕ) where
       written e = cc
 
   -- and it does, where the output has room
-  pub cut-writes : (room : ℕ) → Askable (length body) kind extension version number → length (part_carried body number) + 12 ≤ room
+  pub cut_writes : (room : ℕ) → Askable (length body) kind extension version number → length (part_carried body number) + 12 ≤ room
       → cutting body kind extension version number room ≡ writes (section_of body kind extension version number)
   unfolding cut_if_room section_of
-  cut-writes room a h =
-      cut-fitting body kind extension version number room
+  cut_writes room a h =
+      cut_fitting body kind extension version number room
       a.allowed
       (section_count (length body)) (counted_is (length body) a.some a.most) a.within
       ∙ rw (le-ltb room (length (printed (cut_heading (length body) kind extension version number) (part_carried body number))) (rw printed_length h))
@@ -89,8 +89,8 @@ module _ (body : List ℕ) (kind extension version number : ℕ) where
   pub cut_reads : (out left : List ℕ) (n : ℕ) → Written n ≡ cut_answer body kind extension version number out → left ≡ cut_output body kind extension version number out
       → IsGood (take n left) (cut_heading (length body) kind extension version number) (part_carried body number)
   cut_reads out left n a o =
-      let w = cut-written (length out) (take n left) (written_is _ out left n (a, o)) in
-      rw w.1 (cut-good w.0)
+      let w = cut_written (length out) (take n left) (written_is _ out left n (a, o)) in
+      rw w.1 (cut_good w.0)
 
 -- ---- all sections
 
@@ -107,5 +107,5 @@ pub cut_joined : (body : List ℕ) (kind extension version : ℕ) → Allowed ki
 cut_joined body kind extension version a some most =
     joined_take body (section_of body kind extension version) (section_count (length body))
     (λ number within.
-    (cut-good body kind extension version number (record { allowed = a; some = some; most = most; within = within })).carries)
+    (cut_good body kind extension version number (record { allowed = a; some = some; most = most; within = within })).carries)
     ∙ take_all (part_start (section_count (length body))) body (ends_within (length body))

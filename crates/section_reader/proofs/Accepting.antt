@@ -17,7 +17,7 @@ use Rattle.section_reader.specs.declared.Sectioned.{Sectioned}
 use Rattle.section_reader.specs.declared.Sectioned.TheVariants.{Good, Refused}
 use Rattle.section_reader.specs.declared.Stated.TheVariants.{Length}
 use Rattle.ground_numbers.specs.Sizes.{section_length_most, payload_most}
-use Rattle.ground_numbers.proofs.Ranges.{within-known}
+use Rattle.ground_numbers.proofs.Ranges.{within_known}
 use Rattle.section_reader.proofs.Reading.{Framed, good, states}
 
 -- none of refusals 1 to 7 applies
@@ -68,19 +68,19 @@ accepts s h n a = rw a.size (good s a.framed a.ordered h a.heading a.check)
 -- ---- lengths
 
 pub framed_long : (s : List ℕ) → Framed s → (12 ≤ length s) × (length s ≤ 4096)
-framed_long s f = let w = within-known 9 (section_length s) section_length_most f.counted in let l = f.whole in (omega arith, omega arith)
+framed_long s f = let w = within_known 9 (section_length s) section_length_most f.counted in let l = f.whole in (omega arith, omega arith)
 
 module _ (s : List ℕ) (h : Heading) (n : ℕ) (a : Accepted s h n) where
-  pub accepted-length : length s ≡ n + 12
-  accepted-length = let l = framed_long s a.framed in let e = a.size in omega arith
+  pub accepted_length : length s ≡ n + 12
+  accepted_length = let l = framed_long s a.framed in let e = a.size in omega arith
 
-  pub accepted-short : n ≤ payload_most
-  accepted-short = let l = framed_long s a.framed in let e = a.size in omega arith
+  pub accepted_short : n ≤ payload_most
+  accepted_short = let l = framed_long s a.framed in let e = a.size in omega arith
 
-  pub payload-length : length (payload_of s) ≡ n
+  pub payload_length : length (payload_of s) ≡ n
   unfolding payload_of
-  payload-length =
-      let l = accepted-length in
+  payload_length =
+      let l = accepted_length in
       length-take-le (length s - 12) (drop 8 s) (rw length-drop (omega arith)) ∙ sym a.size
 
 -- ---- the stated length

@@ -18,7 +18,7 @@ use Rattle.section_reader.specs.declared.Heading.{Heading}
 use Rattle.section_reader.specs.declared.Sectioned.{Sectioned}
 use Rattle.section_reader.specs.declared.Sectioned.TheVariants.{Good, Refused}
 use Rattle.section_reader.proofs.Accepting.{accepted}
-use Rattle.section_reader.proofs.Reading.{fixed-bit-zero, fixed_known, fixed_not}
+use Rattle.section_reader.proofs.Reading.{fixed_bit_zero, fixed_known, fixed_not}
 
 -- one changed bit anywhere in a good section is refused
 pub bit_refused : (s : List ℕ) (h : Heading) (n i k : ℕ) → read_section s ≡ Good h n → i < length s → k < 8
@@ -68,8 +68,8 @@ changed_other s i j k h = get_or-set_other s i j (bit_xor (get_or s i 0) (2 ^ k)
 pub fixed_bit_refused : (s : List ℕ) (i k : ℕ) → 12 ≤ length s → is_kind (get_or s 0 0) ≡ true → fixed_bits s ≡ true → FixedBit i k
     → read_section (bit_changed s i k) ≡ Refused FixedBitZero
 fixed_bit_refused s i k long kind fixed (before_length j h) =
-    fixed-bit-zero (bit_changed s 1 (4 + j)) (rw changed_length long) (rw (changed_other s 1 0 (4 + j) (omega arith)) kind)
+    fixed_bit_zero (bit_changed s 1 (4 + j)) (rw changed_length long) (rw (changed_other s 1 0 (4 + j) (omega arith)) kind)
     (fixed_not (bit_changed s 1 (4 + j)) (λ x. changed_above s 1 4 j (omega arith) (x.0 ∙ sym (fixed_known s fixed).0)))
 fixed_bit_refused s i k long kind fixed (before_version j h) =
-    fixed-bit-zero (bit_changed s 5 (6 + j)) (rw changed_length long) (rw (changed_other s 5 0 (6 + j) (omega arith)) kind)
+    fixed_bit_zero (bit_changed s 5 (6 + j)) (rw changed_length long) (rw (changed_other s 5 0 (6 + j) (omega arith)) kind)
     (fixed_not (bit_changed s 5 (6 + j)) (λ x. changed_above s 5 6 j (omega arith) (x.1 ∙ sym (fixed_known s fixed).1)))

@@ -9,7 +9,7 @@ use Rattle.crc.specs.Crc.{big_endian, crc32_of, digit}
 use Rattle.ground_placing.specs.Placed.{placed}
 use Rattle.section_reader.specs.Section.{heading_bytes, checked, printed}
 use Rattle.section_reader.specs.declared.Heading.{Heading}
-use Rattle.ground_placing.proofs.Placing.{stored, placed-next, placed_start, placed-length}
+use Rattle.ground_placing.proofs.Placing.{stored, placed_next, placed_start, placed_length}
 use Rattle.section_reader.proofs.Bytes.{two_bytes, four_bytes}
 
 -- the heading byte by byte, b the bit of current
@@ -41,18 +41,18 @@ module _ (h : Heading) (payload out : List ℕ) (room : length payload + 12 ≤ 
     laid : b ≡ placed out 0 (heading_bytes h (length payload) ++ payload)
     laid =
         let l = heading_length h (length payload) in
-        f ∙ rw e (placed-next out 0 (heading_bytes h (length payload)) (omega arith) payload 8 (omega arith))
+        f ∙ rw e (placed_next out 0 (heading_bytes h (length payload)) (omega arith) payload 8 (omega arith))
 
     long : length (heading_bytes h (length payload) ++ payload) ≡ 8 + length payload
     long = length-append (heading_bytes h (length payload)) payload ∙ rw heading_length
 
-    pub laid-length : length b ≡ length out
-    laid-length = let l = long in rw laid (placed-length out 0 _ (omega arith))
+    pub laid_length : length b ≡ length out
+    laid_length = let l = long in rw laid (placed_length out 0 _ (omega arith))
 
     -- and the check over them
-    pub laid-checked : (c : List ℕ) (check : ℕ) → check ≡ crc32_of (take (8 + length payload) b) → c ≡ placed b (8 + length payload) (big_endian 4 check)
+    pub laid_checked : (c : List ℕ) (check : ℕ) → check ≡ crc32_of (take (8 + length payload) b) → c ≡ placed b (8 + length payload) (big_endian 4 check)
         → c ≡ placed out 0 (printed h payload)
     unfolding printed checked
-    laid-checked c check p q =
+    laid_checked c check p q =
         let l = long in
-        q ∙ rw (p, laid, placed_start out _ _ (sym l)) (placed-next out 0 _ (omega arith) _ (8 + length payload) (omega arith))
+        q ∙ rw (p, laid, placed_start out _ _ (sym l)) (placed_next out 0 _ (omega arith) _ (8 + length payload) (omega arith))

@@ -10,7 +10,7 @@ use lib.ListN.{length, get_or}
 use Rattle.crc.specs.Crc.{crc32_of}
 use Rattle.ground_choices.proofs.Tests.{both}
 use Rattle.ground_numbers.specs.Sizes.{configuration_kind, content_kind, section_length_most}
-use Rattle.ground_numbers.proofs.Ranges.{within-known}
+use Rattle.ground_numbers.proofs.Ranges.{within_known}
 use Rattle.ground_refusal.specs.declared.Refusal.TheVariants.{SectionTooShort, OtherKind, FixedBitZero, SectionLengthOutside, OtherLength, NumberAboveLast, CheckNotZero}
 use Rattle.section_reader.specs.Section.{is_kind, word, fixed_bits, section_length, length_in_range, heading_of, read_section, stated_length}
 use Rattle.section_reader.specs.declared.Heading.{Heading}
@@ -21,7 +21,7 @@ use Rattle.section_reader.specs.declared.Stated.TheVariants as stated
 
 pub kind_within : (k : ℕ) → is_kind k ≡ true → (configuration_kind ≤ k) × (k ≤ content_kind)
 unfolding is_kind
-kind_within k e = within-known configuration_kind k content_kind e
+kind_within k e = within_known configuration_kind k content_kind e
 
 pub is_kind_is : (k : ℕ) → leb configuration_kind k && leb k content_kind ≡ is_kind k
 unfolding is_kind
@@ -66,14 +66,14 @@ module _ (s : List ℕ) where
     other_kind h = simp (le-ltb (length s) 12 long, h)
 
     module _ (kind : is_kind (get_or s 0 0) ≡ true) where
-      pub fixed-bit-zero : fixed_bits s ≡ false → read_section s ≡ Refused FixedBitZero
+      pub fixed_bit_zero : fixed_bits s ≡ false → read_section s ≡ Refused FixedBitZero
       unfolding read_section
-      fixed-bit-zero h = simp (le-ltb (length s) 12 long, kind, h)
+      fixed_bit_zero h = simp (le-ltb (length s) 12 long, kind, h)
 
       module _ (fixed : fixed_bits s ≡ true) where
-        pub length-outside : leb 9 (section_length s) && leb (section_length s) section_length_most ≡ false → read_section s ≡ Refused SectionLengthOutside
+        pub length_outside : leb 9 (section_length s) && leb (section_length s) section_length_most ≡ false → read_section s ≡ Refused SectionLengthOutside
         unfolding read_section
-        length-outside h = simp (le-ltb (length s) 12 long, kind, fixed, h)
+        length_outside h = simp (le-ltb (length s) 12 long, kind, fixed, h)
 
         pub other_length : leb 9 (section_length s) && leb (section_length s) section_length_most ≡ true → (length s ≡ section_length s + 3 → ⊥) → read_section s ≡ Refused OtherLength
         unfolding read_section
@@ -88,16 +88,16 @@ pub record Framed (s : List ℕ) : Type 0 where
   pub whole : length s ≡ section_length s + 3
 
 module _ (s : List ℕ) (f : Framed s) where
-  pub number-above : get_or s 7 0 < get_or s 6 0 → read_section s ≡ Refused NumberAboveLast
+  pub number_above : get_or s 7 0 < get_or s 6 0 → read_section s ≡ Refused NumberAboveLast
   unfolding read_section
-  number-above h =
+  number_above h =
       simp
       (le-ltb (length s) 12 f.long, f.kind, f.fixed, f.counted, eq-eqb (length s) (section_length s + 3) f.whole, lt-ltb (get_or s 7 0) (get_or s 6 0) h)
 
   module _ (ordered : get_or s 6 0 ≤ get_or s 7 0) where
-    pub check-not-zero : (crc32_of s ≡ 0 → ⊥) → read_section s ≡ Refused CheckNotZero
+    pub check_not_zero : (crc32_of s ≡ 0 → ⊥) → read_section s ≡ Refused CheckNotZero
     unfolding read_section
-    check-not-zero h =
+    check_not_zero h =
         simp (
           le-ltb (length s) 12 f.long,
           f.kind,
@@ -130,9 +130,9 @@ module _ (s : List ℕ) where
   cut_off h = rw (lt-ltb (length s) 3 h)
 
   module _ (there : 3 ≤ length s) where
-    pub none-stated : length_in_range (section_length s) ≡ false → stated_length s ≡ stated.Refused SectionLengthOutside
+    pub none_stated : length_in_range (section_length s) ≡ false → stated_length s ≡ stated.Refused SectionLengthOutside
     unfolding stated_length
-    none-stated h = simp (le-ltb (length s) 3 there, h)
+    none_stated h = simp (le-ltb (length s) 3 there, h)
 
     pub states : length_in_range (section_length s) ≡ true → stated_length s ≡ stated.Length (section_length s + 3)
     unfolding stated_length

@@ -15,7 +15,7 @@ use Rattle.crc.specs.Crc.{AreBytes, big_endian, crc32_of, digit}
 use Rattle.section_reader.specs.Section.{is_kind, word, section_length, fixed_bits, heading_of, payload_of, read_section, heading_bytes, checked, printed, WellFormed, IsGood, IsPrinted}
 use Rattle.section_reader.specs.declared.Heading.{Heading}
 use Rattle.section_reader.specs.declared.Sectioned.TheVariants.{Good}
-use Rattle.section_reader.proofs.Accepting.{Accepted, accepted, accepts, accepted-length, accepted-short, payload-length}
+use Rattle.section_reader.proofs.Accepting.{Accepted, accepted, accepts, accepted_length, accepted_short, payload_length}
 use Rattle.section_reader.proofs.Printing.{eight_bytes, heading_is, printed_length}
 use Rattle.ground_numbers.specs.Sizes.{configuration_kind, content_kind, section_length_most, payload_most}
 use Rattle.ground_numbers.proofs.Ranges.{within}
@@ -37,11 +37,11 @@ module _ (s : List ℕ) (bytes : AreBytes s) (f : Framed s) where
   counted n long = let w = f.whole in omega arith
 
   -- the first eight bytes are those of the heading
-  heading-read : (n : ℕ) → length s ≡ n + 12
+  heading_read : (n : ℕ) → length s ≡ n + 12
       → heading_bytes (heading_of s) n
       ≡ get_or s 0 0 ∷ get_or s 1 0 ∷ get_or s 2 0 ∷ get_or s 3 0 ∷ get_or s 4 0 ∷ get_or s 5 0 ∷ get_or s 6 0 ∷ get_or s 7 0 ∷ []
   unfolding heading_of word
-  heading-read n long =
+  heading_read n long =
       let x = fixed_known s f.fixed in
       let m = counted n long in
       let b = bytes.byte in
@@ -71,11 +71,11 @@ module _ (s : List ℕ) (bytes : AreBytes s) (f : Framed s) where
   unfolding payload_of
   parts n long =
       let e : length s - 12 ≡ n = omega arith in
-      sym (rw (e, append_assoc, take-append-drop, heading-read n long) (sym eight))
+      sym (rw (e, append_assoc, take-append-drop, heading_read n long) (sym eight))
 
-  pub heading-formed : get_or s 6 0 ≤ get_or s 7 0 → WellFormed (heading_of s)
+  pub heading_formed : get_or s 6 0 ≤ get_or s 7 0 → WellFormed (heading_of s)
   unfolding heading_of word
-  heading-formed h =
+  heading_formed h =
       let k = kind_within (get_or s 0 0) f.kind in
       let b = bytes.byte in
       record {
@@ -95,8 +95,8 @@ pub good_printed : (s : List ℕ) (h : Heading) (n : ℕ) → AreBytes s → rea
 unfolding printed checked
 good_printed s h n bytes e =
     record {
-      formed = rw a.heading (heading-formed s bytes a.framed a.ordered);
-      short = rw size (accepted-short s h n a);
+      formed = rw a.heading (heading_formed s bytes a.framed a.ordered);
+      short = rw size (accepted_short s h n a);
       is = rw (size, a.heading) (split ∙ ap (λ (t : List ℕ). front ++ t) check);
     }
   where
@@ -104,10 +104,10 @@ good_printed s h n bytes e =
     a = accepted s h n e
 
     long : length s ≡ n + 12
-    long = accepted-length s h n a
+    long = accepted_length s h n a
 
     size : length (payload_of s) ≡ n
-    size = payload-length s h n a
+    size = payload_length s h n a
 
     front : List ℕ
     front = heading_bytes (heading_of s) n ++ payload_of s
@@ -141,29 +141,29 @@ digit_small true = omega arith
 digit_small false = omega arith
 
 module _ (h : Heading) (p : List ℕ) (w : WellFormed h) (short : length p ≤ payload_most) where
-  length-printed : section_length (printed h p) ≡ length p + 9
+  length_printed : section_length (printed h p) ≡ length p + 9
   unfolding section_length word
-  length-printed = rw (printed_is h p) (omega arith)
+  length_printed = rw (printed_is h p) (omega arith)
 
-  fixed-printed : fixed_bits (printed h p) ≡ true
+  fixed_printed : fixed_bits (printed h p) ≡ true
   unfolding fixed_bits
-  fixed-printed =
+  fixed_printed =
       let d = digit_small h.current in
       let v = w.version_high in
       let a : (0xF000 + (length p + 9)) / 256 % 256 / 16 ≡ 15 = omega arith in
       let b : (0xC0 + (h.version * 2 + digit h.current)) / 64 ≡ 3 = omega arith in
       rw (printed_is h p) (rw (eq-eqb ((0xF000 + (length p + 9)) / 256 % 256 / 16) 15 a, eq-eqb ((0xC0 + (h.version * 2 + digit h.current)) / 64) 3 b))
 
-  kind-printed : is_kind (get_or (printed h p) 0 0) ≡ true
+  kind_printed : is_kind (get_or (printed h p) 0 0) ≡ true
   unfolding is_kind
-  kind-printed = rw (printed_is h p) (within configuration_kind h.kind content_kind w.kind_low w.kind_high)
+  kind_printed = rw (printed_is h p) (within configuration_kind h.kind content_kind w.kind_low w.kind_high)
 
-  ordered-printed : get_or (printed h p) 6 0 ≤ get_or (printed h p) 7 0
-  ordered-printed = rw (printed_is h p) w.number_high
+  ordered_printed : get_or (printed h p) 6 0 ≤ get_or (printed h p) 7 0
+  ordered_printed = rw (printed_is h p) w.number_high
 
-  heading-printed : heading_of (printed h p) ≡ h
+  heading_printed : heading_of (printed h p) ≡ h
   unfolding heading_of word
-  heading-printed =
+  heading_printed =
       let d = digit_small h.current in
       let v = w.version_high in
       let x = w.extension_high in
@@ -171,19 +171,19 @@ module _ (h : Heading) (p : List ℕ) (w : WellFormed h) (short : length p ≤ p
       let b : (0xC0 + (h.version * 2 + digit h.current)) / 2 % 32 ≡ h.version = omega arith in
       rw (printed_is h p) (rw (a, b, odd_digit h.version h.current))
 
-  check-printed : crc32_of (printed h p) ≡ 0
+  check_printed : crc32_of (printed h p) ≡ 0
   unfolding printed checked
-  check-printed = crc32_closed (heading_bytes h (length p) ++ p)
+  check_printed = crc32_closed (heading_bytes h (length p) ++ p)
 
-  payload-printed : payload_of (printed h p) ≡ p
+  payload_printed : payload_of (printed h p) ≡ p
   unfolding payload_of
-  payload-printed = rw (printed_length h p, printed_is h p) (take_at p _ (length p + 12 - 12) (omega arith))
+  payload_printed = rw (printed_length h p, printed_is h p) (take_at p _ (length p + 12 - 12) (omega arith))
 
   -- what is printed is good and reads back to its heading and its payload
   pub reads_back : IsGood (printed h p) h p
   reads_back =
       let l = printed_length h p in
-      let m = length-printed in
+      let m = length_printed in
       record {
         reads =
             accepts (printed h p) h (length p)
@@ -191,17 +191,17 @@ module _ (h : Heading) (p : List ℕ) (w : WellFormed h) (short : length p ≤ p
               framed =
                   record {
                     long = omega arith;
-                    kind = kind-printed;
-                    fixed = fixed-printed;
-                    counted = rw length-printed (within 9 (length p + 9) section_length_most (omega arith) (omega arith));
+                    kind = kind_printed;
+                    fixed = fixed_printed;
+                    counted = rw length_printed (within 9 (length p + 9) section_length_most (omega arith) (omega arith));
                     whole = omega arith;
                   };
-              ordered = ordered-printed;
-              check = check-printed;
-              heading = sym heading-printed;
+              ordered = ordered_printed;
+              check = check_printed;
+              heading = sym heading_printed;
               size = omega arith;
             };
-        carries = payload-printed;
+        carries = payload_printed;
       }
 
 -- a byte string is good exactly if it is printed

@@ -15,7 +15,7 @@ use Rattle.section_reader.specs.declared.Heading.{Heading}
 use Rattle.section_reader.proofs.RoundTrip.{good_printed}
 use Rattle.gathering_state.specs.State.{has_room}
 use Rattle.gathering_hand_out.specs.declared.Handed.TheVariants as handed
-use Rattle.gathering_hand_out.proofs.Handing.{handed-whole, body_most_lem}
+use Rattle.gathering_hand_out.proofs.Handing.{handed_whole, body_most_lem}
 use Rattle.gathering_account.specs.Account.{good_current, heard, Section, Account, idle, table, account}
 use Rattle.gathering_account.specs.Latest.{Latest, none_begun, begun_with}
 use Rattle.gathering_account.specs.Answering.{present, undisputed}
@@ -24,15 +24,15 @@ use Rattle.gathering_account.proofs.Bytes.{bytes_take, bytes_drop}
 use Rattle.gathering_account.proofs.Latest.{latest}
 use Rattle.gathering_account.proofs.Standing.{stands_few}
 use Rattle.gathering_account.proofs.Feeds.{fresh_run}
-use Rattle.gathering_account.proofs.Demand3.{handing-answers}
+use Rattle.gathering_account.proofs.Demand3.{handing_answers}
 use Rattle.teaching_rows.specs.Rows.{length_bytes, length_in, row_begins, strings_first, strings_in, whole_in_use}
 use Rattle.teaching_questions.specs.Questions.{said, absent_count}
-use Rattle.teaching_questions.proofs.Saying.{said-section}
+use Rattle.teaching_questions.proofs.Saying.{said_section}
 use Rattle.teaching_table.specs.Table.{account_in}
 use Rattle.teaching_hand_out.specs.Asking.{headed_to, lacking_table, lacking_to, handed_to, heading_of, lacking_of, handed_of}
 use Rattle.teaching_hand_out.specs.declared.Headed.TheVariants as headed
 use Rattle.teaching_hand_out.specs.declared.Lacking.TheVariants as lacking
-use Rattle.teaching_account.proofs.Handing.{answers-told}
+use Rattle.teaching_account.proofs.Handing.{answers_told}
 
 -- no answer both refuses and does not
 neither : {A : Type 0} → ◌≡◌ {A = ℕ} 0 1 → A
@@ -64,7 +64,7 @@ strings_bytes b a = first_bytes (length b) b a
 
 section_formed : (s : List ℕ) (h : Heading) (p : List ℕ) → heard s ≡ good_current h p → AreBytes s → WellFormed h
 unfolding said
-section_formed s h p f a = (good_printed s h (length s - 12) a (said-section s h (ap said f)).reads).formed
+section_formed s h p f a = (good_printed s h (length s - 12) a (said_section s h (ap said f)).reads).formed
 
 module _ (buffer : List ℕ) (used store : ℕ) (are_bytes : AreBytes buffer) where
   abbrev b : List ℕ
@@ -73,9 +73,9 @@ module _ (buffer : List ℕ) (used store : ℕ) (are_bytes : AreBytes buffer) wh
   strings : ByteStrings (strings_in b)
   strings = strings_bytes b (bytes_take used buffer are_bytes)
 
-  table-formed : (t : Heading) (S : List Section) → account_in store b ≡ table t S → WellFormed t
+  table_formed : (t : Heading) (S : List Section) → account_in store b ≡ table t S → WellFormed t
   unfolding account_in ByteStrings
-  table-formed t S e = go (account (has_room store) idle (strings_in b)) (latest (has_room store) (strings_in b)) e
+  table_formed t S e = go (account (has_room store) idle (strings_in b)) (latest (has_room store) (strings_in b)) e
     where
       go : (x : Account) → Latest (has_room store) (strings_in b) x → x ≡ table t S → WellFormed t
       go x (none_begun none) q = neither (cc)
@@ -84,14 +84,14 @@ module _ (buffer : List ℕ) (used store : ℕ) (are_bytes : AreBytes buffer) wh
           let inside : In s (strings_in b) = rw is (Memᴰ.append_right before (Memᴰ.head refl)) in
           rw same at (section_formed s h p f (strings s inside))
 
-  pub heading-formed : (t : Heading) → heading_of buffer used store ≡ headed.By t → WellFormed t
+  pub heading_formed : (t : Heading) → heading_of buffer used store ≡ headed.By t → WellFormed t
   unfolding heading_of headed_to
-  heading-formed t e = go (whole_in_use buffer used) (account_in store b) refl e
+  heading_formed t e = go (whole_in_use buffer used) (account_in store b) refl e
     where
       go : (w : Bool) (x : Account) → account_in store b ≡ x → (if not w then headed.Refused ImpossibleState else headed_to x) ≡ headed.By t → WellFormed t
       go false x q e = neither (cc)
       go true idle q e = neither (cc)
-      go true (table h S) q e = let same : h ≡ t = cc in rw same at (table-formed h S q)
+      go true (table h S) q e = let same : h ≡ t = cc in rw same at (table_formed h S q)
 
   -- ---- what is missing
 
@@ -104,16 +104,16 @@ module _ (buffer : List ℕ) (used store : ℕ) (are_bytes : AreBytes buffer) wh
       go true h = omega arith
       go false h = omega arith
 
-  pub missing-most : (n k : ℕ) → lacking_of buffer used store ≡ lacking.Of n k → n ≤ 256
+  pub missing_most : (n k : ℕ) → lacking_of buffer used store ≡ lacking.Of n k → n ≤ 256
   unfolding lacking_of lacking_to lacking_table
-  missing-most n k e = go (whole_in_use buffer used) (account_in store b) refl e
+  missing_most n k e = go (whole_in_use buffer used) (account_in store b) refl e
     where
       go : (w : Bool) (x : Account) → account_in store b ≡ x → (if not w then lacking.Refused ImpossibleState else lacking_to x) ≡ lacking.Of n k → n ≤ 256
       go false x q e = neither (cc)
       go true idle q e = neither (cc)
       go true (table t S) q e =
           let same : absent_count (t.last + 1) (undisputed S) ≡ n = cc in
-          omega (arith, same, count_most (t.last + 1) (undisputed S), (table-formed t S q).last_high)
+          omega (arith, same, count_most (t.last + 1) (undisputed S), (table_formed t S q).last_high)
 
   -- ---- the body: it is the one of a quick gathering that was fed what is kept
 
@@ -124,15 +124,15 @@ module _ (buffer : List ℕ) (used store : ℕ) (are_bytes : AreBytes buffer) wh
   unfolding account_in
   hands_out out =
       ap (λ n. handed_to (account (has_room n) idle (strings_in b)) (length out)) (sym (length-replicate store 0))
-      ∙ (answers-told (handing-answers (replicate store 0) (strings_in b) strings out)).0
+      ∙ (answers_told (handing_answers (replicate store 0) (strings_in b) strings out)).0
 
-  pub taught-most : (out : List ℕ) (n : ℕ) → handed_of buffer used store out ≡ handed.Body n → n ≤ 256 * 4084
+  pub taught_most : (out : List ℕ) (n : ℕ) → handed_of buffer used store out ≡ handed.Body n → n ≤ 256 * 4084
   unfolding handed_of
-  taught-most out n e = go (whole_in_use buffer used) e
+  taught_most out n e = go (whole_in_use buffer used) e
     where
       go : (w : Bool) → (if not w then handed.Refused ImpossibleState else handed_to (account_in store b) (length out)) ≡ handed.Body n → n ≤ 256 * 4084
       go false e = neither (cc)
       go true e =
-          let whole = handed-whole quick.state quick.store out n (sym (hands_out out) ∙ e) in
+          let whole = handed_whole quick.state quick.store out n (sym (hands_out out) ∙ e) in
           let most = body_most_lem quick.state quick.store (stands_few (fresh_run (replicate store 0) (strings_in b) strings)) whole.0.possible in
           omega (arith, most, whole.1)

@@ -57,9 +57,9 @@ module _ (t : Heading) (S : List Section) (room : ℕ) where
     unfolding Covered
     whole c = absent_all (t.last + 1) 0 S (λ i l. is_present i S (c i (omega arith))) ∙ omega arith
 
-    table-whole : Covered t.last S → handed_table t S room ≡ handed_if_room (length (in_order (t.last + 1) S)) room
+    table_whole : Covered t.last S → handed_table t S room ≡ handed_if_room (length (in_order (t.last + 1) S)) room
     unfolding handed_table
-    table-whole c = rw (agree_agreeing S a, whole c, lt-leb (t.last + 1) t.last (omega arith))
+    table_whole c = rw (agree_agreeing S a, whole c, lt-leb (t.last + 1) t.last (omega arith))
 
   -- 21, or the body
   small : room < length (in_order (t.last + 1) S) → handed_if_room (length (in_order (t.last + 1) S)) room ≡ Refused OutputTooSmall
@@ -76,18 +76,18 @@ Told box out a =
     (handed_to a (length out) ≡ handing box out) × (out_by (body_of a) out (handed_to a (length out)) ≡ handed_output box out)
 
 module _ {box : Box} {out : List ℕ} where
-  pub answers-told : {a : Account} → Answers box out a → Told box out a
+  pub answers_told : {a : Account} → Answers box out a → Told box out a
   unfolding handed_to handed_table out_by body_of Complete
-  answers-told (nothing_begun_lem r) = (sym r.answers, sym r.writes)
-  answers-told (two_differ {h} {S} d r) = let e = differing h S 0 d in (rw e (sym r.answers), rw e (sym r.writes))
-  answers-told (one_missing {h} {S} k a m r) =
+  answers_told (nothing_begun_lem r) = (sym r.answers, sym r.writes)
+  answers_told (two_differ {h} {S} d r) = let e = differing h S 0 d in (rw e (sym r.answers), rw e (sym r.writes))
+  answers_told (one_missing {h} {S} k a m r) =
       let e = agree_agreeing S a in
       let f = lacking h S 0 a k m in
       let g = le-leb k h.last m.of_table in
       (rw (e, f, g) (sym r.answers), rw (e, f, g) (sym r.writes))
-  answers-told (too_small {h} {S} c l r) =
-      let e = table-whole h S (length out) c.1 c.0 ∙ small h S (length out) l in
+  answers_told (too_small {h} {S} c l r) =
+      let e = table_whole h S (length out) c.1 c.0 ∙ small h S (length out) l in
       (e ∙ sym r.answers, ap (out_by (in_order (h.last + 1) S) out) e ∙ sym r.writes)
-  answers-told (handed_out {h} {S} c l r) =
-      let e = table-whole h S (length out) c.1 c.0 ∙ roomy h S (length out) l in
+  answers_told (handed_out {h} {S} c l r) =
+      let e = table_whole h S (length out) c.1 c.0 ∙ roomy h S (length out) l in
       (e ∙ sym r.answers, ap (out_by (in_order (h.last + 1) S) out) e ∙ sym r.writes)

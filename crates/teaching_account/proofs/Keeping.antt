@@ -9,7 +9,7 @@ use native.Mathlib.Omega.{arith}
 use borrow.Author.Tests.{le-leb, lt-leb}
 use lib.ListN.{length, take, length-append}
 use Rattle.ground_placing.specs.Placed.{placed}
-use Rattle.ground_placing.proofs.Placing.{placed-front, placed-length}
+use Rattle.ground_placing.proofs.Placing.{placed_front, placed_length}
 use Rattle.ground_refusal.specs.declared.Refusal.TheVariants.{TeachingBufferFull}
 use Rattle.gathering_state.specs.State.{has_room}
 use Rattle.gathering_feed.specs.declared.Answer.TheVariants.{Refused}
@@ -55,9 +55,9 @@ module _ (n : ℕ) (few : n < 256 ^ length_bytes) (slow : Slow) (kept : List (Li
       sym (in_use_rows slow.buffer slow.used (omega (arith, k.used, k.long))) ∙ ap whole_rows k.rows_are ∙ rows_whole kept (short kept n fits few)
 
   -- the account of what stands in the buffer is that of what was fed
-  pub kept-account : (store : ℕ) → account_in store (take slow.used slow.buffer) ≡ account (has_room store) idle kept
+  pub kept_account : (store : ℕ) → account_in store (take slow.used slow.buffer) ≡ account (has_room store) idle kept
   unfolding account_in
-  kept-account store =
+  kept_account store =
       ap (λ b. account (has_room store) idle (strings_in b)) k.rows_are ∙ ap (account (has_room store) idle) (strings_rows kept (short kept n fits few))
 
   module _ (s : List ℕ) where
@@ -69,39 +69,39 @@ module _ (n : ℕ) (few : n < 256 ^ length_bytes) (slow : Slow) (kept : List (Li
     unfolding row_fits
     overfull h = lt-leb (slow.used + (length_bytes + length s)) (length slow.buffer) (omega (arith, rows_longer kept s, k.used, k.long))
 
-    pub full-answer : (store : ℕ) → n < length (rows (kept ++ s ∷ [])) → slow_answer store slow s ≡ Refused TeachingBufferFull
+    pub full_answer : (store : ℕ) → n < length (rows (kept ++ s ∷ [])) → slow_answer store slow s ≡ Refused TeachingBufferFull
     unfolding answer_of
-    full-answer store h = rw (overfull h)
+    full_answer store h = rw (overfull h)
 
-    pub full-feed : n < length (rows (kept ++ s ∷ [])) → slow_feed slow s ≡ slow
+    pub full_feed : n < length (rows (kept ++ s ∷ [])) → slow_feed slow s ≡ slow
     unfolding slow_feed buffer_after used_after keeps
-    full-feed h = rw (overfull h)
+    full_feed h = rw (overfull h)
 
     module _ (h : length (rows (kept ++ s ∷ [])) ≤ n) where
-      pub kept-answer : (store : ℕ) → slow_answer store slow s ≡ answer_to (has_room store) (account (has_room store) idle kept) s
+      pub kept_answer : (store : ℕ) → slow_answer store slow s ≡ answer_to (has_room store) (account (has_room store) idle kept) s
       unfolding answer_of
-      kept-answer store = rw (fitting h, kept_whole) (ap (λ a. answer_to (has_room store) a s) (kept-account store))
+      kept_answer store = rw (fitting h, kept_whole) (ap (λ a. answer_to (has_room store) a s) (kept_account store))
 
       room : slow.used + length (row s) ≤ length slow.buffer
       room = omega (arith, rows_longer kept s, k.used, k.long, row_length s)
 
-      fed-buffer : buffer_after slow.buffer slow.used s ≡ placed slow.buffer slow.used (row s)
+      fed_buffer : buffer_after slow.buffer slow.used s ≡ placed slow.buffer slow.used (row s)
       unfolding buffer_after keeps
-      fed-buffer = rw (fitting h, kept_whole)
+      fed_buffer = rw (fitting h, kept_whole)
 
-      fed-used : used_after slow.buffer slow.used s ≡ slow.used + length (row s)
+      fed_used : used_after slow.buffer slow.used s ≡ slow.used + length (row s)
       unfolding used_after keeps
-      fed-used = rw (fitting h, kept_whole) (ap (λ m. slow.used + m) (sym (row_length s)))
+      fed_used = rw (fitting h, kept_whole) (ap (λ m. slow.used + m) (sym (row_length s)))
 
       pub kept_more : Keeps n (slow_feed slow s) (kept ++ s ∷ [])
       unfolding slow_feed
       kept_more =
           record {
-            used = fed-used ∙ omega (arith, rows_longer kept s, k.used, row_length s);
+            used = fed_used ∙ omega (arith, rows_longer kept s, k.used, row_length s);
             rows_are =
-                ap₂ (λ m b. take m b) fed-used fed-buffer ∙ placed-front slow.buffer slow.used (row s) room
+                ap₂ (λ m b. take m b) fed_used fed_buffer ∙ placed_front slow.buffer slow.used (row s) room
                 ∙ ap (λ b. b ++ row s) k.rows_are ∙ sym (rows_more kept s);
-            long = ap length fed-buffer ∙ placed-length slow.buffer slow.used (row s) room ∙ k.long;
+            long = ap length fed_buffer ∙ placed_length slow.buffer slow.used (row s) room ∙ k.long;
           }
 
 -- ---- a run of feeds
@@ -115,24 +115,24 @@ module _ (n : ℕ) (few : n < 256 ^ length_bytes) where
   one_more : (kept : List (List ℕ)) (s : List ℕ) (fed : List (List ℕ)) → length (rows (kept ++ s ∷ fed)) ≤ n → length (rows ((kept ++ s ∷ []) ++ fed)) ≤ n
   one_more kept s fed h = rw (append_assoc kept (s ∷ []) fed) h
 
-  pub run-keeps : (fed kept : List (List ℕ)) (slow : Slow) → Keeps n slow kept → length (rows (kept ++ fed)) ≤ n → Keeps n (slow_after slow fed) (kept ++ fed)
+  pub run_keeps : (fed kept : List (List ℕ)) (slow : Slow) → Keeps n slow kept → length (rows (kept ++ fed)) ≤ n → Keeps n (slow_after slow fed) (kept ++ fed)
   unfolding slow_after
-  run-keeps [] kept slow k h = rw (append-nil kept) k
-  run-keeps (s ∷ fed) kept slow k h =
+  run_keeps [] kept slow k h = rw (append-nil kept) k
+  run_keeps (s ∷ fed) kept slow k h =
       let more = one_more kept s fed h in
       let front = rows_front (kept ++ s ∷ []) fed in
       let first = rows_front kept (s ∷ fed) in
       rw (append_assoc kept (s ∷ []) fed) at
-      (run-keeps fed (kept ++ s ∷ []) (slow_feed slow s) (kept_more n few slow kept k (omega arith) s (omega arith)) more)
+      (run_keeps fed (kept ++ s ∷ []) (slow_feed slow s) (kept_more n few slow kept k (omega arith) s (omega arith)) more)
 
-  pub run-answers : (store : ℕ) (fed kept : List (List ℕ)) (slow : Slow) → Keeps n slow kept → length (rows (kept ++ fed)) ≤ n
+  pub run_answers : (store : ℕ) (fed kept : List (List ℕ)) (slow : Slow) → Keeps n slow kept → length (rows (kept ++ fed)) ≤ n
       → slow_answers store slow fed ≡ answers_to (has_room store) (account (has_room store) idle kept) fed
   unfolding slow_answers answers_to account
-  run-answers store [] kept slow k h = refl
-  run-answers store (s ∷ fed) kept slow k h =
+  run_answers store [] kept slow k h = refl
+  run_answers store (s ∷ fed) kept slow k h =
       let more = one_more kept s fed h in
       let front = rows_front (kept ++ s ∷ []) fed in
       let first = rows_front kept (s ∷ fed) in
-      ap₂ ◌∷◌ (kept-answer n few slow kept k (omega arith) s (omega arith) store)
-      (run-answers store fed (kept ++ s ∷ []) (slow_feed slow s) (kept_more n few slow kept k (omega arith) s (omega arith)) more
+      ap₂ ◌∷◌ (kept_answer n few slow kept k (omega arith) s (omega arith) store)
+      (run_answers store fed (kept ++ s ∷ []) (slow_feed slow s) (kept_more n few slow kept k (omega arith) s (omega arith)) more
       ∙ ap (λ a. answers_to (has_room store) a fed) (account_append (has_room store) idle kept (s ∷ [])))

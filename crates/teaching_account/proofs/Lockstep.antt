@@ -11,15 +11,15 @@ use Rattle.gathering_state.specs.declared.Gathering.{Gathering}
 use Rattle.gathering_hand_out.specs.Handing.{out_by}
 use Rattle.gathering_account.specs.Account.{Account, idle, table, account, body_of}
 use Rattle.gathering_account.specs.Gathers.{Box, fresh_box, box_after, ByteStrings, Fixes, handing, handed_output}
-use Rattle.gathering_account.proofs.Answering.{feed-answers, run-answers}
+use Rattle.gathering_account.proofs.Answering.{feed_answers, run_answers}
 use Rattle.gathering_account.proofs.Feeds.{fresh_run}
-use Rattle.gathering_account.proofs.Demand3.{fixes, handing-answers}
+use Rattle.gathering_account.proofs.Demand3.{fixes, handing_answers}
 use Rattle.teaching_rows.specs.Rows.{length_bytes, rows, whole_in_use}
 use Rattle.teaching_table.specs.Table.{account_in}
 use Rattle.teaching_hand_out.specs.Asking.{headed_to, lacking_to, handed_to, heading_of, lacking_of, handed_of, out_after}
 use Rattle.teaching_account.specs.Lockstep.{Slow, fresh_slow, slow_after, SameHeading, Lockstep}
-use Rattle.teaching_account.proofs.Keeping.{Keeps, kept_whole, kept-account, kept-answer, full-answer, full-feed, run-keeps, run-answers as slow-answers}
-use Rattle.teaching_account.proofs.Handing.{answers-told}
+use Rattle.teaching_account.proofs.Keeping.{Keeps, kept_whole, kept_account, kept_answer, full_answer, full_feed, run_keeps, run_answers as slow_answers}
+use Rattle.teaching_account.proofs.Handing.{answers_told}
 use Rattle.teaching_account.proofs.Missing.{stands_missing}
 
 -- ---- by the account
@@ -38,13 +38,13 @@ module _ (buffer : List ℕ) (used store : ℕ) (a : Account) (w : whole_in_use 
   unfolding lacking_of
   lacking_is = rw w (ap lacking_to e)
 
-  handed-is : (out : List ℕ) → handed_of buffer used store out ≡ handed_to a (length out)
+  handed_is : (out : List ℕ) → handed_of buffer used store out ≡ handed_to a (length out)
   unfolding handed_of
-  handed-is out = rw w (ap (λ x. handed_to x (length out)) e)
+  handed_is out = rw w (ap (λ x. handed_to x (length out)) e)
 
-  out-is : (out : List ℕ) → out_after buffer used store out ≡ out_by (body_of a) out (handed_to a (length out))
+  out_is : (out : List ℕ) → out_after buffer used store out ≡ out_by (body_of a) out (handed_to a (length out))
   unfolding out_after
-  out-is out = ap₂ (λ x y. out_by (body_of x) out y) e (handed-is out)
+  out_is out = ap₂ (λ x y. out_by (body_of x) out y) e (handed_is out)
 
 -- ---- the theorem
 
@@ -67,27 +67,27 @@ module _ (buffer store : List ℕ) (few : length buffer < 256 ^ length_bytes) (f
   fresh = record { used = refl; rows_are = refl; long = refl }
 
   kept : Keeps n slow fed
-  kept = run-keeps n few fed [] (fresh_slow buffer) fresh fits
+  kept = run_keeps n few fed [] (fresh_slow buffer) fresh fits
 
   whole : whole_in_use slow.buffer slow.used ≡ true
   whole = kept_whole n few slow fed kept fits
 
   told : account_in (length store) (take slow.used slow.buffer) ≡ a
-  told = kept-account n few slow fed kept fits (length store)
+  told = kept_account n few slow fed kept fits (length store)
 
   -- what is in use is exactly the rows of what was fed
-  pub keeps-fed : take slow.used slow.buffer ≡ rows fed
-  keeps-fed = kept.rows_are
+  pub keeps_fed : take slow.used slow.buffer ≡ rows fed
+  keeps_fed = kept.rows_are
 
   pub lockstep : Lockstep buffer store fed
   unfolding account
   lockstep =
       record {
-        answers = slow-answers n few (length store) fed [] (fresh_slow buffer) fresh fits ∙ sym (run-answers store fed are_bytes);
-        next = λ s h. kept-answer n few slow fed kept fits s h (length store) ∙ sym (feed-answers store fed are_bytes s);
-        full = λ s h. (full-answer n few slow fed kept fits s (length store) h, full-feed n few slow fed kept fits s h);
-        hands_out = λ out. handed-is slow.buffer slow.used (length store) a whole told out ∙ (answers-told (handing-answers store fed are_bytes out)).0;
-        writes = λ out. out-is slow.buffer slow.used (length store) a whole told out ∙ (answers-told (handing-answers store fed are_bytes out)).1;
+        answers = slow_answers n few (length store) fed [] (fresh_slow buffer) fresh fits ∙ sym (run_answers store fed are_bytes);
+        next = λ s h. kept_answer n few slow fed kept fits s h (length store) ∙ sym (feed_answers store fed are_bytes s);
+        full = λ s h. (full_answer n few slow fed kept fits s (length store) h, full_feed n few slow fed kept fits s h);
+        hands_out = λ out. handed_is slow.buffer slow.used (length store) a whole told out ∙ (answers_told (handing_answers store fed are_bytes out)).0;
+        writes = λ out. out_is slow.buffer slow.used (length store) a whole told out ∙ (answers_told (handing_answers store fed are_bytes out)).1;
         heading = rw (heading_is slow.buffer slow.used (length store) a whole told) (heads a box.state (fixes (fresh_run store fed are_bytes)));
         missing = rw (lacking_is slow.buffer slow.used (length store) a whole told) (stands_missing (fresh_run store fed are_bytes));
       }

@@ -18,7 +18,7 @@ use Rattle.gathering_account.specs.Account.{Section, Account, idle, table, Prese
 use Rattle.gathering_account.specs.Answering.{present}
 use Rattle.gathering_account.specs.Gathers.{Box}
 use Rattle.gathering_account.proofs.Agreeing.{present_is, is_present, agree_agreeing}
-use Rattle.gathering_account.proofs.Undisputed.{undisputed-all}
+use Rattle.gathering_account.proofs.Undisputed.{undisputed_all}
 use Rattle.gathering_account.proofs.Keeping.{Kept, kept_agree}
 use Rattle.gathering_account.proofs.Standing.{Fixed, Stands, fresh_stands, calm_stands, spoiled_stands}
 use Rattle.teaching_questions.specs.Questions.{absent_from, absent_count}
@@ -29,16 +29,16 @@ use Rattle.teaching_account.specs.Lockstep.{SameMissing}
 
 module _ {g : Gathering} {store : List ℕ} {S : List Section} (kept : Kept g store S) (k : ℕ) where
   -- a number is there if it is held, and not if it is not
-  held-there : (get_or g.held k 0 ≡ 0 → ⊥) → present k S ≡ true
-  held-there h = is_present k S (kept.only k h)
+  held_there : (get_or g.held k 0 ≡ 0 → ⊥) → present k S ≡ true
+  held_there h = is_present k S (kept.only k h)
 
-  unheld-absent : get_or g.held k 0 ≡ 0 → present k S ≡ false
+  unheld_absent : get_or g.held k 0 ≡ 0 → present k S ≡ false
   unfolding Present
-  unheld-absent z =
+  unheld_absent z =
       sym (refuted (present k S) (λ e. let x = present_is k S e in kept.held x.0 x.1 (ap (λ j. get_or g.held j 0) x.2 ∙ z)))
 
-  there-held : present k S ≡ true → get_or g.held k 0 ≡ 0 → ⊥
-  there-held e z = false≢true (sym (unheld-absent z) ∙ e)
+  there_held : present k S ≡ true → get_or g.held k 0 ≡ 0 → ⊥
+  there_held e z = false≢true (sym (unheld_absent z) ∙ e)
 
 -- ---- the count
 
@@ -63,23 +63,23 @@ module _ {g : Gathering} {store : List ℕ} {S : List Section} (kept : Kept g st
   one_more n = go (eqb (get_or g.held n 0) 0) refl
     where
       go : (b : Bool) → eqb (get_or g.held n 0) 0 ≡ b → (if present n S then 0 else 1) + (if b then 0 else 1) ≡ 1
-      go true e = rw (unheld-absent kept n (eqb-true _ _ e))
-      go false e = rw (held-there kept n (eqb-false _ _ e))
+      go true e = rw (unheld_absent kept n (eqb-true _ _ e))
+      go false e = rw (held_there kept n (eqb-false _ _ e))
 
   absent_none : absent_count 0 S + held_count (take 0 g.held) ≡ 0
   unfolding absent_count held_count
   absent_none = refl
 
-  absent-next : (n : ℕ) → absent_count (suc n) S ≡ absent_count n S + (if present n S then 0 else 1)
+  absent_next : (n : ℕ) → absent_count (suc n) S ≡ absent_count n S + (if present n S then 0 else 1)
   unfolding absent_count
-  absent-next n = refl
+  absent_next n = refl
 
-  absent-held : (n : ℕ) → n ≤ length g.held → absent_count n S + held_count (take n g.held) ≡ n
-  absent-held zero h = absent_none
-  absent-held (suc n) h =
-      let before = absent-held n (omega arith) in
+  absent_held : (n : ℕ) → n ≤ length g.held → absent_count n S + held_count (take n g.held) ≡ n
+  absent_held zero h = absent_none
+  absent_held (suc n) h =
+      let before = absent_held n (omega arith) in
       let more = ap held_count (take-suc g.held n 0 (omega arith)) ∙ held_last (take n g.held) (get_or g.held n 0) in
-      omega (arith, before, more, absent-next n, one_more n)
+      omega (arith, before, more, absent_next n, one_more n)
 
 -- ---- by what a box stands for
 
@@ -88,7 +88,7 @@ counted : {g : Gathering} {store : List ℕ} {bytes : ℕ} {t : Heading} {S : Li
     → g.missing ≡ absent_count (t.last + 1) S
 unfolding lengths
 counted {g} {store} {bytes} {t} {S} x kept =
-    let all = absent-held kept (t.last + 1) (omega (arith, x.long, x.last_high)) in
+    let all = absent_held kept (t.last + 1) (omega (arith, x.long, x.last_high)) in
     let count = x.begun.of_table.missing ∙ ap (λ n. n + 1 - held_count (take (n + 1) g.held)) x.same.last in
     omega (arith, all, count)
 
@@ -96,4 +96,4 @@ pub stands_missing : {bytes : ℕ} {box : Box} {a : Account} → Stands bytes bo
 unfolding SameMissing lacking_to lacking_table
 stands_missing (fresh_stands z l) = (refl, z)
 stands_missing (spoiled_stands {t} {S} x l z d kept) = counted x kept
-stands_missing (calm_stands {t} {S} x l z kept) = rw (undisputed-all S (agree_agreeing S (kept_agree kept))) (counted x kept)
+stands_missing (calm_stands {t} {S} x l z kept) = rw (undisputed_all S (agree_agreeing S (kept_agree kept))) (counted x kept)

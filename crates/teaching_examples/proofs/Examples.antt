@@ -6,7 +6,7 @@ use mathlib.Core.Bool.{xor}
 use mathlib.Core.List.{List, [], ◌∷◌}
 use mathlib.Core.Path.{◌≡◌, refl}
 use lib.ListN.{replicate}
-use Rattle.crc_register.specs.Register.{odd, bits_of, digit, value, bytes_bits, plus, fed as fedBit, step, run as runBits, crc}
+use Rattle.crc_register.specs.Register.{odd, bits_of, digit, value, bytes_bits, plus, fed as fed_bit, step, run as run_bits, crc}
 use Rattle.crc.specs.Crc.{crc32_of}
 use Rattle.ground_placing.specs.Placed.{placed}
 use Rattle.ground_refusal.specs.Numbers.{refusal_number, refusal_place}
@@ -127,7 +127,7 @@ answers =
 -- ---- the checker's answers are these
 
 pub computed : answered (fresh_slow (replicate 172 0)) strings ≡ answers
-unfolding odd bits_of digit value bytes_bits plus fedBit step runBits crc crc32_of xor placed is_kind word section_length fixed_bits heading_of payload_of read_section
+unfolding odd bits_of digit value bytes_bits plus fed_bit step run_bits crc crc32_of xor placed is_kind word section_length fixed_bits heading_of payload_of read_section
     same_bytes has_room steps_ahead same_table is_newer handed_if_room heard_as heard begun account_after account contents_of in_order
     present contradicts differs agreeing calm_from undisputed answer_of_table answer_of_first answer_of_good answer_of_read answer_to number_at bytes_of
     row rows length_in row_begins strings_first strings_in whole_rows whole_in_use absent_from absent_count account_in row_fits answer_of keeps used_after buffer_after

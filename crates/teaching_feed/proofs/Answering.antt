@@ -39,23 +39,23 @@ module _ (S : List Carried) (k : ℕ) (s p : List ℕ) (e : p ≡ payload_of s) 
   differing : differs (section k (payload_of s)) S ≡ d
   differing = sym (q ∙ ap (λ x. differs (section k x) S) e)
 
-  pub table-clash : d ≡ true → Refused Contradiction ≡ answer_of_table S (section k (payload_of s))
+  pub table_clash : d ≡ true → Refused Contradiction ≡ answer_of_table S (section k (payload_of s))
   unfolding answer_of_table
-  table-clash f = rw (differing, f)
+  table_clash f = rw (differing, f)
 
   module _ (f : d ≡ false) where
-    pub table-spoiled : agreeing S ≡ false → Refused Contradiction ≡ answer_of_table S (section k (payload_of s))
+    pub table_spoiled : agreeing S ≡ false → Refused Contradiction ≡ answer_of_table S (section k (payload_of s))
     unfolding answer_of_table
-    table-spoiled a = rw (differing, f, a)
+    table_spoiled a = rw (differing, f, a)
 
     module _ (a : agreeing S ≡ true) where
-      pub table-again : present k S ≡ true → HeldAlready ≡ answer_of_table S (section k (payload_of s))
+      pub table_again : present k S ≡ true → HeldAlready ≡ answer_of_table S (section k (payload_of s))
       unfolding answer_of_table
-      table-again c = rw (differing, f, a, c)
+      table_again c = rw (differing, f, a, c)
 
-      pub table-new : present k S ≡ false → Taken ≡ answer_of_table S (section k (payload_of s))
+      pub table_new : present k S ≡ false → Taken ≡ answer_of_table S (section k (payload_of s))
       unfolding answer_of_table
-      table-new c = rw (differing, f, a, c)
+      table_new c = rw (differing, f, a, c)
 
 -- ---- a good, current section
 
@@ -68,35 +68,35 @@ module _ (store : ℕ) (b : List ℕ) (h : Heading) (p : List ℕ) (r : Answer) 
   good_first i f = rw i f
 
   module _ (t : Heading) (from : ℕ) (x : Found store b t from) where
-    pub good-newer : is_newer t h ≡ true → r ≡ answer_of_first (has_room store) h → Answers
+    pub good_newer : is_newer t h ≡ true → r ≡ answer_of_first (has_room store) h → Answers
     unfolding answer_of_good
-    good-newer n f = rw (x.is, n) f
+    good_newer n f = rw (x.is, n) f
 
-    pub good-other : is_newer t h ≡ false → same_table t h ≡ false → r ≡ Refused OtherHeading → Answers
+    pub good_other : is_newer t h ≡ false → same_table t h ≡ false → r ≡ Refused OtherHeading → Answers
     unfolding answer_of_good
-    good-other n o f = rw (x.is, n, o) f
+    good_other n o f = rw (x.is, n, o) f
 
     -- the strings of the table, as the code cuts them off
-    pub good-same : is_newer t h ≡ false → same_table t h ≡ true
+    pub good_same : is_newer t h ≡ false → same_table t h ≡ true
         → r ≡ answer_of_table (sections_of_table t (strings_in (take (length b - from) (drop from b)))) (section h.number p) → Answers
     unfolding answer_of_good
-    good-same n o f = rw (x.is, n, o) (f ∙ ap (λ y. answer_of_table (sections_of_table t (strings_in y)) (section h.number p)) (to_end b from))
+    good_same n o f = rw (x.is, n, o) (f ∙ ap (λ y. answer_of_table (sections_of_table t (strings_in y)) (section h.number p)) (to_end b from))
 
 -- ---- any byte string
 
 module _ (room : ℕ → Bool) (a : Account) (s : List ℕ) where
-  pub to-bad : (r : Refusal) → read_section s ≡ NotGood r → Refused r ≡ answer_to room a s
+  pub to_bad : (r : Refusal) → read_section s ≡ NotGood r → Refused r ≡ answer_to room a s
   unfolding answer_to answer_of_read
-  to-bad r e = rw e
+  to_bad r e = rw e
 
   module _ (h : Heading) (n : ℕ) (e : read_section s ≡ Good h n) where
-    pub to-old : h.current ≡ false → Refused NotCurrent ≡ answer_to room a s
+    pub to_old : h.current ≡ false → Refused NotCurrent ≡ answer_to room a s
     unfolding answer_to answer_of_read
-    to-old c = rw (e, c)
+    to_old c = rw (e, c)
 
-    good-is : h.current ≡ true → answer_to room a s ≡ answer_of_good room a h (payload_of s)
+    good_is : h.current ≡ true → answer_to room a s ≡ answer_of_good room a h (payload_of s)
     unfolding answer_to answer_of_read
-    good-is c = rw (e, c)
+    good_is c = rw (e, c)
 
-    pub to-good : h.current ≡ true → (r : Answer) → r ≡ answer_of_good room a h (payload_of s) → r ≡ answer_to room a s
-    to-good c r f = f ∙ sym (good-is c)
+    pub to_good : h.current ≡ true → (r : Answer) → r ≡ answer_of_good room a h (payload_of s) → r ≡ answer_to room a s
+    to_good c r f = f ∙ sym (good_is c)

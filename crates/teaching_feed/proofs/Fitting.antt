@@ -15,20 +15,20 @@ module _ (room used n : ℕ) where
   unfolding row_fits
   fits_not h = sym (lt-leb _ _ h)
 
-  fits-true : used + (length_bytes + n) ≤ room → true ≡ row_fits room used n
+  fits_true : used + (length_bytes + n) ≤ room → true ≡ row_fits room used n
   unfolding row_fits
-  fits-true h = sym (le-leb _ _ h)
+  fits_true h = sym (le-leb _ _ h)
 
-  pub fits-left : used + length_bytes ≤ room → leb n (room - used - length_bytes) ≡ row_fits room used n
-  fits-left h = go (leb n (room - used - length_bytes)) refl
+  pub fits_left : used + length_bytes ≤ room → leb n (room - used - length_bytes) ≡ row_fits room used n
+  fits_left h = go (leb n (room - used - length_bytes)) refl
     where
       go : (x : Bool) → leb n (room - used - length_bytes) ≡ x → x ≡ row_fits room used n
       go false e = fits_not (omega (arith, leb-false n (room - used - length_bytes) e))
-      go true e = fits-true (omega (arith, leb-true n (room - used - length_bytes) e))
+      go true e = fits_true (omega (arith, leb-true n (room - used - length_bytes) e))
 
-  pub fits-room : row_fits room used n ≡ true → used + (length_bytes + n) ≤ room
+  pub fits_room : row_fits room used n ≡ true → used + (length_bytes + n) ≤ room
   unfolding row_fits
-  fits-room e = leb-true _ _ e
+  fits_room e = leb-true _ _ e
 
 -- the answer and the bytes in use, and the buffer, after a feed
 abbrev pub Fed : List ℕ → ℕ → ℕ → List ℕ → Taught → List ℕ → Type 0

@@ -11,11 +11,11 @@ use Rattle.teaching_feed.specs.Feeding.{row_fits, answer_of, keeps, used_after, 
 use Rattle.teaching_feed.proofs.Fitting.{Fed}
 
 module _ (buffer : List ℕ) (used store : ℕ) (s : List ℕ) where
-  pub fed-full : row_fits (length buffer) used (length s) ≡ false → Fed buffer used store s (record { answer = Refused TeachingBufferFull; used = used }) buffer
+  pub fed_full : row_fits (length buffer) used (length s) ≡ false → Fed buffer used store s (record { answer = Refused TeachingBufferFull; used = used }) buffer
   unfolding taught_of answer_of used_after buffer_after keeps
-  fed-full f = (rw f, rw f)
+  fed_full f = (rw f, rw f)
 
-  pub fed-impossible : row_fits (length buffer) used (length s) ≡ true → whole_in_use buffer used ≡ false
+  pub fed_impossible : row_fits (length buffer) used (length s) ≡ true → whole_in_use buffer used ≡ false
       → Fed buffer used store s (record { answer = Refused ImpossibleState; used = used }) buffer
   unfolding taught_of answer_of used_after buffer_after keeps
-  fed-impossible f w = (rw (f, w), rw (f, w))
+  fed_impossible f w = (rw (f, w), rw (f, w))

@@ -8,7 +8,7 @@ use native.Mathlib.Nat.{add-zero, add-suc, zero-add}
 use lib.ListN.{length, take, drop, length-append, length-drop}
 use lib.Seq.{length-take-le}
 use Rattle.ground_placing.specs.Placed.{placed}
-use Rattle.ground_placing.proofs.Placing.{placed_none, placed-next, placed-length}
+use Rattle.ground_placing.proofs.Placing.{placed_none, placed_next, placed_length}
 use Rattle.gathering_account.specs.Account.{Section, contents_of, in_order}
 use Rattle.teaching_questions.specs.Questions.{Contents}
 
@@ -30,31 +30,31 @@ pub order_most : (k n : ℕ) (S : List Section) → k ≤ n → length (in_order
 order_most k n S h = let e : k + (n - k) ≡ n = omega arith in rw e at (order_more k (n - k) S)
 
 module _ (b : List ℕ) (k : ℕ) (S : List Section) (start end : ℕ) (c : Contents b k S start end) where
-  contents-size : end - start ≡ length (contents_of k S)
-  contents-size =
+  contents_size : end - start ≡ length (contents_of k S)
+  contents_size =
       sym (length-take-le (end - start) (drop start b) (omega (arith, length-drop start b, c.within, c.ordered))) ∙ ap length c.are
 
-  pub length-turn : (n : ℕ) → n ≡ length (in_order k S) → n + (end - start) ≡ length (in_order (k + 1) S)
-  length-turn n e = sym (ap length (order_next k S) ∙ length-append (in_order k S) (contents_of k S) ∙ omega (arith, e, contents-size))
+  pub length_turn : (n : ℕ) → n ≡ length (in_order k S) → n + (end - start) ≡ length (in_order (k + 1) S)
+  length_turn n e = sym (ap length (order_next k S) ∙ length-append (in_order k S) (contents_of k S) ∙ omega (arith, e, contents_size))
 
   -- there is room for them after those of the numbers below
-  pub room-turn : (n count room : ℕ) → n ≡ length (in_order k S) → k < count → length (in_order count S) ≤ room → n + (end - start) ≤ room
-  room-turn n count room e h l = omega (arith, length-turn n e, order_most (k + 1) count S (omega arith), l)
+  pub room_turn : (n count room : ℕ) → n ≡ length (in_order k S) → k < count → length (in_order count S) ≤ room → n + (end - start) ≤ room
+  room_turn n count room e h l = omega (arith, length_turn n e, order_most (k + 1) count S (omega arith), l)
 
   -- the same of the part that is copied
   pub part_room : (n count room : ℕ) → n ≡ length (in_order k S) → k < count → length (in_order count S) ≤ room
       → n + length (take (end - start) (drop start b)) ≤ room
-  part_room n count room e h l = omega (arith, ap length c.are, contents-size, room-turn n count room e h l)
+  part_room n count room e h l = omega (arith, ap length c.are, contents_size, room_turn n count room e h l)
 
-  pub joined-turn : (d out out' : List ℕ) (n : ℕ) → n ≡ length (in_order k S) → out ≡ placed d 0 (in_order k S) → length (in_order k S) ≤ length d
+  pub joined_turn : (d out out' : List ℕ) (n : ℕ) → n ≡ length (in_order k S) → out ≡ placed d 0 (in_order k S) → length (in_order k S) ≤ length d
       → out' ≡ placed out n (take (end - start) (drop start b)) → out' ≡ placed d 0 (in_order (k + 1) S)
-  joined-turn d out out' n e f h g =
+  joined_turn d out out' n e f h g =
       g ∙ ap (λ x. placed x n (take (end - start) (drop start b))) f
-      ∙ placed-next d 0 (in_order k S) (omega arith) (take (end - start) (drop start b)) n (omega arith)
+      ∙ placed_next d 0 (in_order k S) (omega arith) (take (end - start) (drop start b)) n (omega arith)
       ∙ ap (λ x. placed d 0 (in_order k S ++ x)) c.are ∙ ap (placed d 0) (sym (order_next k S))
 
 pub joined_size : (d xs out : List ℕ) → out ≡ placed d 0 xs → length xs ≤ length d → length out ≡ length d
-joined_size d xs out e h = ap length e ∙ placed-length d 0 xs (omega arith)
+joined_size d xs out e h = ap length e ∙ placed_length d 0 xs (omega arith)
 
 -- ---- the start and the end
 

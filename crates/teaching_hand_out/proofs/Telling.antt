@@ -36,23 +36,23 @@ module _ (t : Heading) (S : List Section) (out : List ℕ) where
   abbrev pub Hands : Handed → List ℕ → Type 0
   Hands r after = (r ≡ handed_table t S (length out)) × (after ≡ out_by body out r)
 
-  pub table-11 : agreeing S ≡ false → Hands (handed.Refused Contradiction) out
+  pub table_11 : agreeing S ≡ false → Hands (handed.Refused Contradiction) out
   unfolding handed_table out_by
-  table-11 a = (rw a, refl)
+  table_11 a = (rw a, refl)
 
   module _ (a : agreeing S ≡ true) (k : ℕ) (e : k ≡ absent_from 0 (t.last + 1) S) where
-    pub table-13 : k ≤ t.last → Hands (handed.Refused (Missing k)) out
+    pub table_13 : k ≤ t.last → Hands (handed.Refused (Missing k)) out
     unfolding handed_table out_by
-    table-13 h = (rw (a, ← e, le-leb k t.last h), refl)
+    table_13 h = (rw (a, ← e, le-leb k t.last h), refl)
 
     module _ (h : t.last < k) (n : ℕ) (f : n ≡ length body) where
-      pub table-21 : length out < n → Hands (handed.Refused OutputTooSmall) out
+      pub table_21 : length out < n → Hands (handed.Refused OutputTooSmall) out
       unfolding handed_table out_by handed_if_room
-      table-21 l = (rw (a, ← e, lt-leb k t.last h, ← f, lt-ltb (length out) n l), refl)
+      table_21 l = (rw (a, ← e, lt-leb k t.last h, ← f, lt-ltb (length out) n l), refl)
 
-      pub table-body : n ≤ length out → (after : List ℕ) → after ≡ placed out 0 body → Hands (handed.Body n) after
+      pub table_body : n ≤ length out → (after : List ℕ) → after ≡ placed out 0 body → Hands (handed.Body n) after
       unfolding handed_table out_by handed_if_room
-      table-body l after g = (rw (a, ← e, lt-leb k t.last h, ← f, le-ltb (length out) n l), g)
+      table_body l after g = (rw (a, ← e, lt-leb k t.last h, ← f, le-ltb (length out) n l), g)
 
 -- ---- of what is kept
 
@@ -60,41 +60,41 @@ module _ (store : ℕ) (b out : List ℕ) where
   abbrev pub HandsKept : Handed → List ℕ → Type 0
   HandsKept r after = (r ≡ handed_to (account_in store b) (length out)) × (after ≡ out_by (body_of (account_in store b)) out r)
 
-  pub kept-13 : account_in store b ≡ idle → HandsKept (handed.Refused (Missing 0)) out
+  pub kept_13 : account_in store b ≡ idle → HandsKept (handed.Refused (Missing 0)) out
   unfolding handed_to out_by
-  kept-13 i = (rw i, refl)
+  kept_13 i = (rw i, refl)
 
   module _ (t : Heading) (from : ℕ) (x : Found store b t from) where
     -- the strings of the table, as the code cuts them off
     abbrev cut : List Section
     cut = sections_of_table t (strings_in (take (length b - from) (drop from b)))
 
-    cut-is : cut ≡ sections_of_table t (strings_in (drop from b))
-    cut-is = ap (λ y. sections_of_table t (strings_in y)) (to_end b from)
+    cut_is : cut ≡ sections_of_table t (strings_in (drop from b))
+    cut_is = ap (λ y. sections_of_table t (strings_in y)) (to_end b from)
 
     pub kept_table : (r : Handed) (after : List ℕ) → Hands t cut out r after → HandsKept r after
     unfolding handed_to body_of
     kept_table r after g =
-        (rw x.is (g.0 ∙ ap (λ S. handed_table t S (length out)) cut-is), rw x.is (g.1 ∙ ap (λ S. out_by (in_order (t.last + 1) S) out r) cut-is))
+        (rw x.is (g.0 ∙ ap (λ S. handed_table t S (length out)) cut_is), rw x.is (g.1 ∙ ap (λ S. out_by (in_order (t.last + 1) S) out r) cut_is))
 
 module _ (store : ℕ) (b : List ℕ) where
-  pub heading-none : account_in store b ≡ idle → headed.Refused (Missing 0) ≡ headed_to (account_in store b)
+  pub heading_none : account_in store b ≡ idle → headed.Refused (Missing 0) ≡ headed_to (account_in store b)
   unfolding headed_to
-  heading-none i = rw i
+  heading_none i = rw i
 
-  pub lacking-none : account_in store b ≡ idle → lacking.Refused (Missing 0) ≡ lacking_to (account_in store b)
+  pub lacking_none : account_in store b ≡ idle → lacking.Refused (Missing 0) ≡ lacking_to (account_in store b)
   unfolding lacking_to
-  lacking-none i = rw i
+  lacking_none i = rw i
 
   module _ (t : Heading) (from : ℕ) (x : Found store b t from) where
-    pub heading-table : headed.By t ≡ headed_to (account_in store b)
+    pub heading_table : headed.By t ≡ headed_to (account_in store b)
     unfolding headed_to
-    heading-table = rw x.is
+    heading_table = rw x.is
 
-    pub lacking-table : (r : Lacking) → r ≡ lacking_table t (sections_of_table t (strings_in (take (length b - from) (drop from b))))
+    pub lacking_table_lem : (r : Lacking) → r ≡ lacking_table t (sections_of_table t (strings_in (take (length b - from) (drop from b))))
         → r ≡ lacking_to (account_in store b)
     unfolding lacking_to
-    lacking-table r e = rw x.is (e ∙ ap (λ y. lacking_table t (sections_of_table t (strings_in y))) (to_end b from))
+    lacking_table_lem r e = rw x.is (e ∙ ap (λ y. lacking_table t (sections_of_table t (strings_in y))) (to_end b from))
 
 -- both numbers are those of the undisputed sections
 pub lacking_is : (t : Heading) (S U : List Section) → U ≡ undisputed S → (n k : ℕ) → n ≡ absent_count (t.last + 1) U → k ≡ absent_from 0 (t.last + 1) U
@@ -105,37 +105,37 @@ lacking_is t S U u n k e f = ap₂ lacking.Of (e ∙ ap (absent_count (t.last + 
 -- ---- of a buffer
 
 module _ (buffer : List ℕ) (used store : ℕ) where
-  pub within-buffer : whole_in_use buffer used ≡ true → used ≤ length buffer
+  pub within_buffer : whole_in_use buffer used ≡ true → used ≤ length buffer
   unfolding whole_in_use
-  within-buffer w = leb-true _ _ (both (leb used (length buffer)) (whole_rows (take used buffer)) w).0
+  within_buffer w = leb-true _ _ (both (leb used (length buffer)) (whole_rows (take used buffer)) w).0
 
   module _ (w : whole_in_use buffer used ≡ false) where
-    pub heading-12 : headed.Refused ImpossibleState ≡ heading_of buffer used store
+    pub heading_12 : headed.Refused ImpossibleState ≡ heading_of buffer used store
     unfolding heading_of
-    heading-12 = rw w
+    heading_12 = rw w
 
-    pub lacking-12 : lacking.Refused ImpossibleState ≡ lacking_of buffer used store
+    pub lacking_12 : lacking.Refused ImpossibleState ≡ lacking_of buffer used store
     unfolding lacking_of
-    lacking-12 = rw w
+    lacking_12 = rw w
 
-    pub handed-12 : (out : List ℕ) → (handed.Refused ImpossibleState ≡ handed_of buffer used store out) × (out ≡ out_after buffer used store out)
+    pub handed_12 : (out : List ℕ) → (handed.Refused ImpossibleState ≡ handed_of buffer used store out) × (out ≡ out_after buffer used store out)
     unfolding handed_of out_after out_by
-    handed-12 out = (rw w, rw w)
+    handed_12 out = (rw w, rw w)
 
   module _ (w : whole_in_use buffer used ≡ true) where
-    pub heading-kept : (r : Headed) → r ≡ headed_to (account_in store (take used buffer)) → r ≡ heading_of buffer used store
+    pub heading_kept_lem : (r : Headed) → r ≡ headed_to (account_in store (take used buffer)) → r ≡ heading_of buffer used store
     unfolding heading_of
-    heading-kept r e = rw w e
+    heading_kept_lem r e = rw w e
 
-    pub lacking-kept : (r : Lacking) → r ≡ lacking_to (account_in store (take used buffer)) → r ≡ lacking_of buffer used store
+    pub lacking_kept : (r : Lacking) → r ≡ lacking_to (account_in store (take used buffer)) → r ≡ lacking_of buffer used store
     unfolding lacking_of
-    lacking-kept r e = rw w e
+    lacking_kept r e = rw w e
 
     module _ (out : List ℕ) (r : Handed) (after : List ℕ) (g : HandsKept store (take used buffer) out r after) where
-      handed-is : r ≡ handed_of buffer used store out
+      handed_is : r ≡ handed_of buffer used store out
       unfolding handed_of
-      handed-is = rw w g.0
+      handed_is = rw w g.0
 
-      pub handed-kept : (r ≡ handed_of buffer used store out) × (after ≡ out_after buffer used store out)
+      pub handed_kept : (r ≡ handed_of buffer used store out) × (after ≡ out_after buffer used store out)
       unfolding out_after
-      handed-kept = (handed-is, g.1 ∙ ap (out_by (body_of (account_in store (take used buffer))) out) handed-is)
+      handed_kept = (handed_is, g.1 ∙ ap (out_by (body_of (account_in store (take used buffer))) out) handed_is)

@@ -16,20 +16,20 @@ use Rattle.gathering_account.specs.Answering.{differs, agreeing}
 use Rattle.teaching_rows.specs.Rows.{row_begins, strings_in, RowEnd}
 use Rattle.teaching_rows.proofs.Rows.{string_at}
 use Rattle.teaching_questions.specs.Questions.{section, clashes_with, clashes}
-use Rattle.teaching_questions.proofs.Walking.{sections_at, sections-here, sections-end}
+use Rattle.teaching_questions.proofs.Walking.{sections_at, sections_here, sections_end}
 
 -- ---- one string against others
 
 module _ (t : Heading) (s : List ℕ) (others : List (List ℕ)) where
-  pub clash-none : section_of_table t (heard s) ≡ [] → false ≡ clashes t s others
+  pub clash_none : section_of_table t (heard s) ≡ [] → false ≡ clashes t s others
   unfolding clashes clashes_with
-  clash-none e = rw e
+  clash_none e = rw e
 
   -- its payload, as the code cuts it out, is held against them
-  pub clash-one : (k : ℕ) → section_of_table t (heard s) ≡ section k (payload_of s) ∷ [] → (p : List ℕ) → p ≡ payload_of s
+  pub clash_one : (k : ℕ) → section_of_table t (heard s) ≡ section k (payload_of s) ∷ [] → (p : List ℕ) → p ≡ payload_of s
       → (x : Bool) → x ≡ differs (section k p) (sections_of_table t others) → x ≡ clashes t s others
   unfolding clashes clashes_with
-  clash-one k e p f x q = q ∙ rw (e, f)
+  clash_one k e p f x q = q ∙ rw (e, f)
 
 agree_one : (t : Heading) (x : Heard) (S : List Carried)
     → agreeing (section_of_table t x ++ S) ≡ not (clashes_with (section_of_table t x) S) && agreeing S
@@ -51,20 +51,20 @@ to_end b at = take_all (length b - at) (drop at b) (omega (arith, length-drop at
 -- ---- the walk
 
 module _ (t : Heading) (b : List ℕ) (at : ℕ) (inv : agreeing (sections_at t b at) ≡ agreeing (sections_at t b 0)) where
-  pub agree-end : row_begins (drop at b) ≡ false → true ≡ agreeing (sections_at t b 0)
+  pub agree_end : row_begins (drop at b) ≡ false → true ≡ agreeing (sections_at t b 0)
   unfolding agreeing
-  agree-end e = ap agreeing (sym (sections-end t b at e)) ∙ inv
+  agree_end e = ap agreeing (sym (sections_end t b at e)) ∙ inv
 
   module _ (e : row_begins (drop at b) ≡ true) (end : ℕ) (r : RowEnd b at end) (x : Bool)
       (q : x ≡ clashes t (string_at b at end) (strings_in (take (length b - end) (drop end b)))) where
     here : agreeing (sections_at t b at) ≡ not x && agreeing (sections_at t b end)
     unfolding clashes
     here =
-        ap agreeing (sections-here t b at e end r) ∙ agree_one t (heard (string_at b at end)) (sections_at t b end)
+        ap agreeing (sections_here t b at e end r) ∙ agree_one t (heard (string_at b at end)) (sections_at t b end)
         ∙ ap (λ y. not y && agreeing (sections_at t b end)) (sym (q ∙ ap (λ x. clashes t (string_at b at end) (strings_in x)) (to_end b end)))
 
-    pub agree-clash : x ≡ true → false ≡ agreeing (sections_at t b 0)
-    agree-clash f = ap (λ y. not y && agreeing (sections_at t b end)) (sym f) ∙ sym here ∙ inv
+    pub agree_clash : x ≡ true → false ≡ agreeing (sections_at t b 0)
+    agree_clash f = ap (λ y. not y && agreeing (sections_at t b end)) (sym f) ∙ sym here ∙ inv
 
     pub agree_on : x ≡ false → agreeing (sections_at t b end) ≡ agreeing (sections_at t b 0)
     agree_on f = ap (λ y. not y && agreeing (sections_at t b end)) (sym f) ∙ sym here ∙ inv

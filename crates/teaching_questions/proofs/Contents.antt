@@ -18,7 +18,7 @@ use Rattle.teaching_rows.proofs.Rows.{string_at}
 use Rattle.teaching_rows.proofs.Fronts.{part_of_part}
 use Rattle.teaching_questions.specs.Questions.{section, Contents}
 use Rattle.teaching_questions.proofs.Saying.{Numbered, numbered}
-use Rattle.teaching_questions.proofs.Walking.{sections_at, sections-here, sections-end}
+use Rattle.teaching_questions.proofs.Walking.{sections_at, sections_here, sections_end}
 
 neither : (a b : Bool) → a || b ≡ false → (a ≡ false) × (b ≡ false)
 neither true b e = (e, absurd (false≢true (sym e)))
@@ -34,21 +34,21 @@ unfolding contents_of
 contents_first k p X S e = rw (e, eq-eqb k k refl)
 
 module _ (t : Heading) (k : ℕ) (b : List ℕ) (at : ℕ) (inv : contents_of k (sections_at t b at) ≡ contents_of k (sections_at t b 0)) where
-  pub contents-end : row_begins (drop at b) ≡ false → Contents b k (sections_at t b 0) 0 0
+  pub contents_end : row_begins (drop at b) ≡ false → Contents b k (sections_at t b 0) 0 0
   unfolding contents_of
-  contents-end e =
-      record { ordered = omega arith; within = omega arith; short = omega arith; are = ap (contents_of k) (sym (sections-end t b at e)) ∙ inv }
+  contents_end e =
+      record { ordered = omega arith; within = omega arith; short = omega arith; are = ap (contents_of k) (sym (sections_end t b at e)) ∙ inv }
 
   module _ (e : row_begins (drop at b) ≡ true) (end : ℕ) (r : RowEnd b at end) where
     abbrev string : List ℕ
     string = string_at b at end
 
     here : contents_of k (section_of_table t (heard string) ++ sections_at t b end) ≡ contents_of k (sections_at t b 0)
-    here = ap (contents_of k) (sym (sections-here t b at e end r)) ∙ inv
+    here = ap (contents_of k) (sym (sections_here t b at e end r)) ∙ inv
 
-    pub contents-on : (x : Bool) → x ≡ present k (section_of_table t (heard string)) → x ≡ false
+    pub contents_on : (x : Bool) → x ≡ present k (section_of_table t (heard string)) → x ≡ false
         → contents_of k (sections_at t b end) ≡ contents_of k (sections_at t b 0)
-    contents-on x q f = sym (contents_past k _ (sections_at t b end) (sym q ∙ f)) ∙ here
+    contents_on x q f = sym (contents_past k _ (sections_at t b end) (sym q ∙ f)) ∙ here
 
     size : length string ≡ end - (at + length_bytes)
     size = length-take-le _ (drop (at + length_bytes) b) (omega (arith, length-drop (at + length_bytes) b, r.within, r.is))
@@ -61,9 +61,9 @@ module _ (t : Heading) (k : ℕ) (b : List ℕ) (at : ℕ) (inv : contents_of k 
       pub long : at + (length_bytes + 12) ≤ end
       long = omega (arith, size, known.long, r.is)
 
-      payload-at : take (end - 4 - (at + length_bytes + 8)) (drop (at + length_bytes + 8) b) ≡ payload_of string
+      payload_at_lem : take (end - 4 - (at + length_bytes + 8)) (drop (at + length_bytes + 8) b) ≡ payload_of string
       unfolding payload_of
-      payload-at =
+      payload_at_lem =
           let n = end - (at + length_bytes) in
           let d = drop (at + length_bytes) b in
           let a : end - 4 - (at + length_bytes + 8) ≡ length string - 12 = omega (arith, size) in
@@ -72,11 +72,11 @@ module _ (t : Heading) (k : ℕ) (b : List ℕ) (at : ℕ) (inv : contents_of k 
           rw a (sym (part_of_part 8 (length string - 12) n d (omega (arith, size, m)) (omega (arith, l, r.within, r.is))
           ∙ ap (take (length string - 12)) (drop-drop 8 (at + length_bytes) b)))
 
-      pub contents-found : Contents b k (sections_at t b 0) (at + length_bytes + 8) (end - 4)
-      contents-found =
+      pub contents_found : Contents b k (sections_at t b 0) (at + length_bytes + 8) (end - 4)
+      contents_found =
           record {
             ordered = omega (arith, long);
             within = omega (arith, r.within);
             short = omega (arith, known.short, size, long);
-            are = payload-at ∙ sym (contents_first k (payload_of string) _ (sections_at t b end) known.is) ∙ here;
+            are = payload_at_lem ∙ sym (contents_first k (payload_of string) _ (sections_at t b end) known.is) ∙ here;
           }

@@ -26,16 +26,16 @@ module _ (S : List Carried) (count k : ℕ) (inv : absent_from k (count - k) S �
     more : count - k ≡ suc (count - (k + 1))
     more = omega arith
 
-    pub absent-found : present k S ≡ false → k ≡ absent_from 0 count S
-    absent-found e = sym (ap (λ n. absent_from k n S) more ∙ absent_first k _ S e) ∙ inv
+    pub absent_found : present k S ≡ false → k ≡ absent_from 0 count S
+    absent_found e = sym (ap (λ n. absent_from k n S) more ∙ absent_first k _ S e) ∙ inv
 
-    pub absent-on : present k S ≡ true → absent_from (k + 1) (count - (k + 1)) S ≡ absent_from 0 count S
-    absent-on e =
+    pub absent_on : present k S ≡ true → absent_from (k + 1) (count - (k + 1)) S ≡ absent_from 0 count S
+    absent_on e =
         ap (λ j. absent_from j (count - (k + 1)) S) (add-one k) ∙ sym (ap (λ n. absent_from k n S) more ∙ absent_later k _ S e) ∙ inv
 
-  pub absent-end : count ≤ k → k ≡ absent_from 0 count S
+  pub absent_end : count ≤ k → k ≡ absent_from 0 count S
   unfolding absent_from
-  absent-end h = let z : count - k ≡ 0 = omega arith in sym (ap (λ n. absent_from k n S) z) ∙ inv
+  absent_end h = let z : count - k ≡ 0 = omega arith in sym (ap (λ n. absent_from k n S) z) ∙ inv
 
 -- ---- the count
 
@@ -52,5 +52,5 @@ module _ (S : List Carried) (k n : ℕ) (inv : n ≡ absent_count k S) where
   unfolding absent_count
   count_none e = rw (add-one k, e) (inv ∙ sym (add-zero (absent_count k S)))
 
-  pub count-end : (count : ℕ) → k ≡ count → n ≡ absent_count count S
-  count-end count e = inv ∙ ap (λ j. absent_count j S) e
+  pub count_end : (count : ℕ) → k ≡ count → n ≡ absent_count count S
+  count_end count e = inv ∙ ap (λ j. absent_count j S) e

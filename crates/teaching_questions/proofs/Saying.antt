@@ -18,7 +18,7 @@ use Rattle.gathering_tables.specs.Tables.{same_table}
 use Rattle.gathering_account.specs.Account.{Heard, nothing, good_current, heard, Section as Carried}
 use Rattle.gathering_account.specs.Latest.{section_of_table}
 use Rattle.gathering_account.specs.Answering.{present, contradicts, differs}
-use Rattle.gathering_account.proofs.Hearing.{ReadAs, as_good, as_bad, read_as, heard-bad, heard-old, heard-good}
+use Rattle.gathering_account.proofs.Hearing.{ReadAs, as_good, as_bad, read_as, heard_bad, heard_old, heard_good}
 use Rattle.teaching_questions.specs.Questions.{said, section}
 use Rattle.teaching_questions.specs.declared.Said.{Said}
 use Rattle.teaching_questions.specs.declared.Said.TheVariants.{Nothing, Section}
@@ -26,18 +26,18 @@ use Rattle.teaching_questions.specs.declared.Said.TheVariants.{Nothing, Section}
 -- ---- said and heard
 
 module _ (s : List ℕ) where
-  pub say-bad : (r : Refusal) → read_section s ≡ Refused r → Nothing ≡ said (heard s)
+  pub say_bad : (r : Refusal) → read_section s ≡ Refused r → Nothing ≡ said (heard s)
   unfolding said
-  say-bad r e = sym (ap said (heard-bad s r e))
+  say_bad r e = sym (ap said (heard_bad s r e))
 
   module _ (h : Heading) (n : ℕ) (e : read_section s ≡ Good h n) where
-    pub say-old : h.current ≡ false → Nothing ≡ said (heard s)
+    pub say_old : h.current ≡ false → Nothing ≡ said (heard s)
     unfolding said
-    say-old c = sym (ap said (heard-old s h n e c))
+    say_old c = sym (ap said (heard_old s h n e c))
 
-    pub say-good : h.current ≡ true → Section h ≡ said (heard s)
+    pub say_good : h.current ≡ true → Section h ≡ said (heard s)
     unfolding said
-    say-good c = sym (ap said (heard-good s h n e c))
+    say_good c = sym (ap said (heard_good s h n e c))
 
 -- a good, current section: how it was read, and what is known of it
 pub record Current (s : List ℕ) (h : Heading) : Type 0 where
@@ -56,7 +56,7 @@ current_good s h n e c =
     record {
       reads = e ∙ ap (Good h) a.size;
       current = c;
-      is = heard-good s h n e c;
+      is = heard_good s h n e c;
       long = l.0;
       short = l.1;
       versioned = rw a.heading (omega arith);
@@ -66,21 +66,21 @@ none_said : {A : Type 0} (h : Heading) → Nothing ≡ Section h → A
 none_said h e = let z : ◌≡◌ {A = ℕ} 0 1 = cc in absurd (omega arith)
 
 module _ (s : List ℕ) where
-  pub said-section : (h : Heading) → said (heard s) ≡ Section h → Current s h
+  pub said_section : (h : Heading) → said (heard s) ≡ Section h → Current s h
   unfolding said
-  said-section h q = go (read_as s)
+  said_section h q = go (read_as s)
     where
       go : ReadAs s → Current s h
-      go (as_bad r e) = none_said h (say-bad s r e ∙ q)
+      go (as_bad r e) = none_said h (say_bad s r e ∙ q)
       go (as_good h' n e) = by h'.current refl
         where
           by : (c : Bool) → h'.current ≡ c → Current s h
-          by false c = none_said h (say-old s h' n e c ∙ q)
-          by true c = let same : h' ≡ h = let f = say-good s h' n e c ∙ q in cc in rw same at (current_good s h' n e c)
+          by false c = none_said h (say_old s h' n e c ∙ q)
+          by true c = let same : h' ≡ h = let f = say_good s h' n e c ∙ q in cc in rw same at (current_good s h' n e c)
 
-  pub said-nothing : said (heard s) ≡ Nothing → heard s ≡ nothing
+  pub said_nothing : said (heard s) ≡ Nothing → heard s ≡ nothing
   unfolding said
-  said-nothing q = go (heard s) refl q
+  said_nothing q = go (heard s) refl q
     where
       go : (x : Heard) → heard s ≡ x → said x ≡ Nothing → heard s ≡ nothing
       go nothing e f = e
@@ -89,18 +89,18 @@ module _ (s : List ℕ) where
 -- ---- what it is to a table
 
 module _ (t : Heading) (s : List ℕ) where
-  pub nothing-section : said (heard s) ≡ Nothing → section_of_table t (heard s) ≡ []
+  pub nothing_section : said (heard s) ≡ Nothing → section_of_table t (heard s) ≡ []
   unfolding section_of_table
-  nothing-section q = ap (section_of_table t) (said-nothing s q)
+  nothing_section q = ap (section_of_table t) (said_nothing s q)
 
   module _ (h : Heading) (c : Current s h) where
-    pub other-section : same_table t h ≡ false → section_of_table t (heard s) ≡ []
+    pub other_section : same_table t h ≡ false → section_of_table t (heard s) ≡ []
     unfolding section_of_table
-    other-section e = ap (section_of_table t) c.is ∙ rw e
+    other_section e = ap (section_of_table t) c.is ∙ rw e
 
-    pub own-section : same_table t h ≡ true → section_of_table t (heard s) ≡ section h.number (payload_of s) ∷ []
+    pub own_section : same_table t h ≡ true → section_of_table t (heard s) ≡ section h.number (payload_of s) ∷ []
     unfolding section_of_table
-    own-section e = ap (section_of_table t) c.is ∙ rw e
+    own_section e = ap (section_of_table t) c.is ∙ rw e
 
 -- ---- one section, by its number
 
@@ -130,13 +130,13 @@ module _ (t : Heading) (s : List ℕ) (k : ℕ) (e : present k (section_of_table
   numbered = go (said (heard s)) refl
     where
       go : (x : Said) → said (heard s) ≡ x → Numbered t s k
-      go Nothing q = absent (nothing-section t s q)
-      go (Section h) q = by (same_table t h) refl (said-section s h q)
+      go Nothing q = absent (nothing_section t s q)
+      go (Section h) q = by (same_table t h) refl (said_section s h q)
         where
           by : (b : Bool) → same_table t h ≡ b → Current s h → Numbered t s k
-          by false b c = absent (other-section t s h c b)
+          by false b c = absent (other_section t s h c b)
           by true b c =
-              let own = own-section t s h c b in
+              let own = own_section t s h c b in
               let n : h.number ≡ k = eqb-true _ _ (present_one k h.number (payload_of s) _ own ∙ e) in
               record { is = own ∙ ap (λ m. section m (payload_of s) ∷ []) n; long = c.long; short = c.short }
 

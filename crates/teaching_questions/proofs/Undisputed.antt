@@ -12,9 +12,9 @@ use Rattle.gathering_account.specs.Latest.{section_of_table, sections_of_table}
 use Rattle.gathering_account.specs.Answering.{differs, calm_from, undisputed}
 use Rattle.teaching_rows.specs.Rows.{row_begins, strings_in, RowEnd}
 use Rattle.teaching_rows.proofs.Rows.{string_at}
-use Rattle.teaching_rows.proofs.Fronts.{Front, front_none, front-row}
+use Rattle.teaching_rows.proofs.Fronts.{Front, front_none, front_row}
 use Rattle.teaching_questions.specs.Questions.{section, clashes_with, clashes, Undisputed}
-use Rattle.teaching_questions.proofs.Walking.{sections_at, sections-here, sections-end, sections_more}
+use Rattle.teaching_questions.proofs.Walking.{sections_at, sections_here, sections_end, sections_more}
 
 -- the sections of t's table among the rows up to a place
 abbrev pub sections_before : Heading → List ℕ → ℕ → List Carried
@@ -43,18 +43,18 @@ module _ (t : Heading) (b : List ℕ) where
   unfolding sections_of_table
   none_before = ap (sections_of_table t) (front_none b)
 
-  pub calm-start : calm_from (sections_before t b 0) (sections_at t b 0) ≡ undisputed (sections_at t b 0)
+  pub calm_start : calm_from (sections_before t b 0) (sections_at t b 0) ≡ undisputed (sections_at t b 0)
   unfolding undisputed
-  calm-start = ap (λ B. calm_from B (sections_at t b 0)) none_before
+  calm_start = ap (λ B. calm_from B (sections_at t b 0)) none_before
 
 module _ (t : Heading) (b : List ℕ) (at : ℕ) (inside : at ≤ length b) (front : Front b at)
     (inv : calm_from (sections_before t b at) (sections_at t b at) ≡ undisputed (sections_at t b 0)) where
   abbrev B : List Carried
   B = sections_before t b at
 
-  pub calm-end : row_begins (drop at b) ≡ false → Undisputed b t at
+  pub calm_end : row_begins (drop at b) ≡ false → Undisputed b t at
   unfolding calm_from
-  calm-end e = record { within = inside; are = ap (calm_from B) (sym (sections-end t b at e)) ∙ inv }
+  calm_end e = record { within = inside; are = ap (calm_from B) (sym (sections_end t b at e)) ∙ inv }
 
   module _ (e : row_begins (drop at b) ≡ true) (end : ℕ) (r : RowEnd b at end) (x : Bool)
       (q : x ≡ clashes t (string_at b at end) (strings_in (take at b))) where
@@ -67,13 +67,13 @@ module _ (t : Heading) (b : List ℕ) (at : ℕ) (inside : at ≤ length b) (fro
     here : by x ≡ undisputed (sections_at t b 0)
     unfolding clashes
     here =
-        ap by q ∙ sym (calm_one t (heard (string_at b at end)) B (sections_at t b end)) ∙ ap (calm_from B) (sym (sections-here t b at e end r)) ∙ inv
+        ap by q ∙ sym (calm_one t (heard (string_at b at end)) B (sections_at t b end)) ∙ ap (calm_from B) (sym (sections_here t b at e end r)) ∙ inv
 
-    pub calm-found : x ≡ true → Undisputed b t at
-    calm-found f = record { within = inside; are = ap by (sym f) ∙ here }
+    pub calm_found : x ≡ true → Undisputed b t at
+    calm_found f = record { within = inside; are = ap by (sym f) ∙ here }
 
-    pub calm-on : x ≡ false → calm_from (sections_before t b end) (sections_at t b end) ≡ undisputed (sections_at t b 0)
-    calm-on f =
+    pub calm_on : x ≡ false → calm_from (sections_before t b end) (sections_at t b end) ≡ undisputed (sections_at t b 0)
+    calm_on f =
         let more : sections_before t b end ≡ B ++ X =
-        ap (sections_of_table t) (front-row b at front e end r) ∙ sections_more t (strings_in (take at b)) (string_at b at end) in
+        ap (sections_of_table t) (front_row b at front e end r) ∙ sections_more t (strings_in (take at b)) (string_at b at end) in
         ap (λ C. calm_from C (sections_at t b end)) more ∙ ap by (sym f) ∙ here

@@ -12,21 +12,21 @@ use Rattle.gathering_account.specs.Latest.{section_of_table, sections_of_table}
 use Rattle.gathering_account.specs.Answering.{present, contradicts, differs}
 use Rattle.gathering_account.proofs.Latest.{sections_append}
 use Rattle.teaching_rows.specs.Rows.{row_begins, strings_in, RowEnd}
-use Rattle.teaching_rows.proofs.Rows.{string_at, row-strings, strings_none}
+use Rattle.teaching_rows.proofs.Rows.{string_at, row_strings, strings_none}
 
 -- the sections of t's table among the rows from a place on
 abbrev pub sections_at : Heading → List ℕ → ℕ → List Carried
 sections_at t b at = sections_of_table t (strings_in (drop at b))
 
 module _ (t : Heading) (b : List ℕ) (at : ℕ) where
-  pub sections-here : row_begins (drop at b) ≡ true → (end : ℕ) → RowEnd b at end
+  pub sections_here : row_begins (drop at b) ≡ true → (end : ℕ) → RowEnd b at end
       → sections_at t b at ≡ section_of_table t (heard (string_at b at end)) ++ sections_at t b end
   unfolding sections_of_table
-  sections-here e end r = ap (sections_of_table t) (row-strings b at e end r)
+  sections_here e end r = ap (sections_of_table t) (row_strings b at e end r)
 
-  pub sections-end : row_begins (drop at b) ≡ false → sections_at t b at ≡ []
+  pub sections_end : row_begins (drop at b) ≡ false → sections_at t b at ≡ []
   unfolding sections_of_table
-  sections-end e = ap (sections_of_table t) (strings_none (drop at b) e)
+  sections_end e = ap (sections_of_table t) (strings_none (drop at b) e)
 
 -- ---- sections of more strings
 
@@ -43,17 +43,17 @@ pub record Some (P : List Carried → Bool) : Type 0 where
 
 module _ {P : List Carried → Bool} (some : Some P) (t : Heading) (b : List ℕ) (at : ℕ) (inv : P (sections_at t b at) ≡ P (sections_at t b 0)) where
   pub some_end : row_begins (drop at b) ≡ false → false ≡ P (sections_at t b 0)
-  some_end e = sym some.none ∙ ap P (sym (sections-end t b at e)) ∙ inv
+  some_end e = sym some.none ∙ ap P (sym (sections_end t b at e)) ∙ inv
 
   module _ (e : row_begins (drop at b) ≡ true) (end : ℕ) (r : RowEnd b at end) (x : Bool) (q : x ≡ P (section_of_table t (heard (string_at b at end)))) where
     here : P (sections_at t b at) ≡ x || P (sections_at t b end)
-    here = ap P (sections-here t b at e end r) ∙ some.either _ (sections_at t b end) ∙ ap (λ y. y || P (sections_at t b end)) (sym q)
+    here = ap P (sections_here t b at e end r) ∙ some.either _ (sections_at t b end) ∙ ap (λ y. y || P (sections_at t b end)) (sym q)
 
-    pub some-found : x ≡ true → true ≡ P (sections_at t b 0)
-    some-found f = ap (λ y. y || P (sections_at t b end)) (sym f) ∙ sym here ∙ inv
+    pub some_found : x ≡ true → true ≡ P (sections_at t b 0)
+    some_found f = ap (λ y. y || P (sections_at t b end)) (sym f) ∙ sym here ∙ inv
 
-    pub some-on : x ≡ false → P (sections_at t b end) ≡ P (sections_at t b 0)
-    some-on f = ap (λ y. y || P (sections_at t b end)) (sym f) ∙ sym here ∙ inv
+    pub some_on : x ≡ false → P (sections_at t b end) ≡ P (sections_at t b 0)
+    some_on f = ap (λ y. y || P (sections_at t b end)) (sym f) ∙ sym here ∙ inv
 
 or_assoc : (a b c : Bool) → a || (b || c) ≡ a || b || c
 or_assoc true b c = refl

@@ -8,7 +8,7 @@ use lib.ListN.{length, take, drop, length-drop}
 use lib.Seq.{take-add, take-take, drop_at, length-take-le}
 use Rattle.teaching_rows.specs.Rows.{length_bytes, length_in, row_begins, strings_in, RowEnd}
 use Rattle.teaching_rows.proofs.Lengths.{length_here, number_take}
-use Rattle.teaching_rows.proofs.Rows.{string_at, begins_fits, begins_past, strings_none, row-strings}
+use Rattle.teaching_rows.proofs.Rows.{string_at, begins_fits, begins_past, strings_none, row_strings}
 
 -- a part of a part
 pub part_of_part : (m a n : ℕ) (d : List ℕ) → m + a ≤ n → n ≤ length d → take a (drop m (take n d)) ≡ take a (drop m d)
@@ -33,9 +33,9 @@ module _ (b : List ℕ) (at : ℕ) (e : row_begins (drop at b) ≡ true) (end : 
   ends_within =
       record { is = r.is ∙ ap (λ n. at + (length_bytes + n)) (sym length_within); within = omega (arith, length-take-le upto b l) }
 
-  strings-within : strings_in (drop at (take upto b)) ≡ string_at b at end ∷ strings_in (drop end (take upto b))
-  strings-within =
-      row-strings (take upto b) at begins_within end ends_within
+  strings_within : strings_in (drop at (take upto b)) ≡ string_at b at end ∷ strings_in (drop end (take upto b))
+  strings_within =
+      row_strings (take upto b) at begins_within end ends_within
       ∙ ap (λ s. s ∷ strings_in (drop end (take upto b)))
       (part_of_part (at + length_bytes) (end - (at + length_bytes)) upto b (omega (arith, r.is)) l)
 
@@ -61,12 +61,12 @@ module _ (b : List ℕ) (at : ℕ) (front : Front b at) (e : row_begins (drop at
 
   turn : (upto : ℕ) → end ≤ upto → upto ≤ length b → strings_in (take upto b) ≡ until ++ strings_in (drop end (take upto b))
   turn upto h l =
-      front.splits upto (omega (arith, r.is)) l ∙ ap (λ x. strings_in (take at b) ++ x) (strings-within b at e end r upto h l)
+      front.splits upto (omega (arith, r.is)) l ∙ ap (λ x. strings_in (take at b) ++ x) (strings_within b at e end r upto h l)
       ∙ sym (append_assoc (strings_in (take at b)) (string_at b at end ∷ []) (strings_in (drop end (take upto b))))
 
   -- the row's string comes last
-  pub front-row : strings_in (take end b) ≡ until
-  front-row = turn end (omega arith) r.within ∙ ap (λ x. until ++ x) (none_after b end r.within) ∙ append-nil until
+  pub front_row : strings_in (take end b) ≡ until
+  front_row = turn end (omega arith) r.within ∙ ap (λ x. until ++ x) (none_after b end r.within) ∙ append-nil until
 
-  pub front-next : Front b end
-  front-next = record { splits = λ upto h l. turn upto h l ∙ ap (λ x. x ++ strings_in (drop end (take upto b))) (sym front-row) }
+  pub front_next : Front b end
+  front_next = record { splits = λ upto h l. turn upto h l ∙ ap (λ x. x ++ strings_in (drop end (take upto b))) (sym front_row) }

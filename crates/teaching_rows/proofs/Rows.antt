@@ -10,7 +10,7 @@ use lib.Dec.{eqb, leb}
 use lib.ListN.{length, take, drop, length-append, length-drop, drop_of_length-le}
 use lib.Seq.{drop-drop, length-take-le}
 use Rattle.ground_placing.specs.Placed.{placed}
-use Rattle.ground_placing.proofs.Placing.{placed-next}
+use Rattle.ground_placing.proofs.Placing.{placed_next}
 use Rattle.body_formats.specs.Format.{bytes_of}
 use Rattle.body_formats.proofs.Leaves.{length_bytes_lem}
 use Rattle.teaching_rows.specs.Rows.{length_bytes, row, rows, length_in, row_begins, strings_first, strings_in, whole_rows, whole_in_use, RowEnd}
@@ -89,15 +89,15 @@ module _ (b : List ℕ) (at : ℕ) (e : row_begins (drop at b) ≡ true) where
 
   module _ (end : ℕ) (r : RowEnd b at end) where
     -- the string of the row stands between its length and its end, and the rows after it begin at its end
-    pub row-strings : strings_in (drop at b) ≡ string_at b at end ∷ strings_in (drop end b)
-    row-strings =
+    pub row_strings : strings_in (drop at b) ≡ string_at b at end ∷ strings_in (drop end b)
+    row_strings =
         let size : length_in (drop at b) ≡ end - (at + length_bytes) = omega (arith, r.is) in
         let rest : after_first (drop at b) ≡ drop end b = drop-drop (length_bytes + length_in (drop at b)) at b ∙ ap (λ k. drop k b) (sym r.is) in
         strings_some (drop at b) e
         ∙ ap₂ (λ x y. x ∷ strings_in y) (ap₂ (λ n d. take n d) size (drop-drop length_bytes at b)) rest
 
-    pub row-after : at + length_bytes ≤ end
-    row-after = omega (arith, r.is)
+    pub row_after : at + length_bytes ≤ end
+    row_after = omega (arith, r.is)
 
 -- past the end no row begins
 pub begins_past : (b : List ℕ) (at : ℕ) → length b < at + length_bytes → row_begins (drop at b) ≡ false
@@ -114,14 +114,14 @@ abbrev pub taken : List ℕ → ℕ → ℕ
 taken b at = length (rows (strings_in (drop at b)))
 
 module _ (b : List ℕ) (at : ℕ) where
-  pub taken-row : row_begins (drop at b) ≡ true → (end : ℕ) → RowEnd b at end → taken b at + at ≡ taken b end + end
+  pub taken_row : row_begins (drop at b) ≡ true → (end : ℕ) → RowEnd b at end → taken b at + at ≡ taken b end + end
   unfolding rows
-  taken-row e end r =
+  taken_row e end r =
       let s : List ℕ = string_at b at end in
       let n : length s ≡ end - (at + length_bytes) =
       length-take-le _ (drop (at + length_bytes) b) (omega (arith, length-drop (at + length_bytes) b, r.within)) in
-      let l : taken b at ≡ length (row s ++ rows (strings_in (drop end b))) = ap (λ x. length (rows x)) (row-strings b at e end r) in
-      omega (arith, l, length-append (row s) (rows (strings_in (drop end b))), row_length s, n, row-after b at e end r)
+      let l : taken b at ≡ length (row s ++ rows (strings_in (drop end b))) = ap (λ x. length (rows x)) (row_strings b at e end r) in
+      omega (arith, l, length-append (row s) (rows (strings_in (drop end b))), row_length s, n, row_after b at e end r)
 
   pub taken_none : row_begins (drop at b) ≡ false → taken b at ≡ 0
   unfolding rows
@@ -148,7 +148,7 @@ pub row_laid : (d : List ℕ) (at : ℕ) (s d1 d2 : List ℕ) → at + (length_b
 unfolding row
 row_laid d at s d1 d2 h e f =
     let n = length_bytes_lem length_bytes (length s) in
-    f ∙ rw e (placed-next d at (bytes_of length_bytes (length s)) (omega (arith, n)) s (at + length_bytes) (omega (arith, n)))
+    f ∙ rw e (placed_next d at (bytes_of length_bytes (length s)) (omega (arith, n)) s (at + length_bytes) (omega (arith, n)))
 
 -- ---- the bytes in use
 

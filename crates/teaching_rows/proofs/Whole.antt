@@ -19,28 +19,28 @@ use Rattle.teaching_rows.proofs.Rows.{begins_fits, begins_long, first_string, af
 -- ---- one row and what follows
 
 module _ (s rest : List ℕ) (h : length s < 256 ^ length_bytes) where
-  length-first : length_in (row s ++ rest) ≡ length s
+  length_first : length_in (row s ++ rest) ≡ length s
   unfolding row length_in
-  length-first =
+  length_first =
       number_value (row s ++ rest) 0 length_bytes (length s) h (s ++ rest, append_assoc (bytes_of length_bytes (length s)) s rest)
 
-  row-begins : row_begins (row s ++ rest) ≡ true
-  row-begins = begins_fits (row s ++ rest) (omega (arith, length-first, length-append (row s) rest, row_length s))
+  row_begins_lem : row_begins (row s ++ rest) ≡ true
+  row_begins_lem = begins_fits (row s ++ rest) (omega (arith, length_first, length-append (row s) rest, row_length s))
 
-  string-first : first_string (row s ++ rest) ≡ s
+  string_first : first_string (row s ++ rest) ≡ s
   unfolding row
-  string-first =
-      rw length-first
+  string_first =
+      rw length_first
       (ap (take (length s))
       (ap (drop length_bytes) (append_assoc (bytes_of length_bytes (length s)) s rest)
       ∙ drop_at (bytes_of length_bytes (length s)) (s ++ rest) length_bytes (length_bytes_lem length_bytes (length s)))
       ∙ take_at s rest (length s) refl)
 
-  rest-after : after_first (row s ++ rest) ≡ rest
-  rest-after = rw length-first (drop_at (row s) rest (length_bytes + length s) (row_length s))
+  rest_after : after_first (row s ++ rest) ≡ rest
+  rest_after = rw length_first (drop_at (row s) rest (length_bytes + length s) (row_length s))
 
-  pub strings-row : strings_in (row s ++ rest) ≡ s ∷ strings_in rest
-  strings-row = strings_some (row s ++ rest) row-begins ∙ ap₂ (λ x y. x ∷ strings_in y) string-first rest-after
+  pub strings_row : strings_in (row s ++ rest) ≡ s ∷ strings_in rest
+  strings_row = strings_some (row s ++ rest) row_begins_lem ∙ ap₂ (λ x y. x ∷ strings_in y) string_first rest_after
 
 -- ---- rows made of strings
 
@@ -53,7 +53,7 @@ pub strings_rows : (kept : List (List ℕ)) → Short kept → strings_in (rows 
 unfolding rows Short
 strings_rows [] h = strings_none [] (begins_not [] (omega arith))
 strings_rows (s ∷ kept) h =
-    strings-row s (rows kept) (h s (In.head refl)) ∙ ap (λ x. s ∷ x) (strings_rows kept (λ t i. h t (In.tail i)))
+    strings_row s (rows kept) (h s (In.head refl)) ∙ ap (λ x. s ∷ x) (strings_rows kept (λ t i. h t (In.tail i)))
 
 pub rows_whole : (kept : List (List ℕ)) → Short kept → whole_rows (rows kept) ≡ true
 unfolding whole_rows
@@ -62,19 +62,19 @@ rows_whole kept h = eq-eqb _ _ (ap (λ x. length (rows x)) (strings_rows kept h)
 -- ---- bytes that are whole rows
 
 module _ (b : List ℕ) (are_bytes : Bytes b) (e : row_begins b ≡ true) where
-  first-length : length (first_string b) ≡ length_in b
-  first-length = length-take-le (length_in b) (drop length_bytes b) (omega (arith, begins_long b e, length-drop length_bytes b))
+  first_length : length (first_string b) ≡ length_in b
+  first_length = length-take-le (length_in b) (drop length_bytes b) (omega (arith, begins_long b e, length-drop length_bytes b))
 
-  length-stands : bytes_of length_bytes (length_in b) ≡ take length_bytes b
+  length_stands : bytes_of length_bytes (length_in b) ≡ take length_bytes b
   unfolding length_in
-  length-stands =
+  length_stands =
       let n = length_bytes_lem length_bytes (length_in b) in
       sym (taken b 0 (bytes_of length_bytes (length_in b)) (number_stands b 0 length_bytes are_bytes (omega (arith, begins_long b e)))) ∙ rw n
 
-  first-row : row (first_string b) ++ after_first b ≡ b
+  first_row : row (first_string b) ++ after_first b ≡ b
   unfolding row
-  first-row =
-      ap (λ x. x ++ first_string b ++ after_first b) (ap (bytes_of length_bytes) first-length ∙ length-stands)
+  first_row =
+      ap (λ x. x ++ first_string b ++ after_first b) (ap (bytes_of length_bytes) first_length ∙ length_stands)
       ∙ append_assoc (take length_bytes b) (first_string b) (after_first b)
       ∙ ap (λ x. take length_bytes b ++ (first_string b ++ x)) (sym (drop-drop (length_in b) length_bytes b))
       ∙ ap (λ x. take length_bytes b ++ x) (take-append-drop (length_in b) (drop length_bytes b))
@@ -105,10 +105,10 @@ unfolding rows
 one_begun b are_bytes e kept more = (
   (
     more.0.0,
-    sym (first-row b are_bytes e) ∙ ap (λ x. row (first_string b) ++ x) more.0.1
+    sym (first_row b are_bytes e) ∙ ap (λ x. row (first_string b) ++ x) more.0.1
         ∙ sym (append_assoc (row (first_string b)) (rows kept) more.0.0),
   ),
-  short_more (first_string b) kept (omega (arith, first-length b are_bytes e, length_below b are_bytes)) more.1,
+  short_more (first_string b) kept (omega (arith, first_length b are_bytes e, length_below b are_bytes)) more.1,
 )
 
 begun_first : (n : ℕ) (b : List ℕ) → Bytes b → Begun b (strings_first n b)
@@ -126,10 +126,10 @@ module _ (b : List ℕ) (are_bytes : Bytes b) where
   unfolding strings_in
   begun = begun_first (length b) b are_bytes
 
-  whole-made : whole_rows b ≡ true → b ≡ rows (strings_in b)
+  whole_made : whole_rows b ≡ true → b ≡ rows (strings_in b)
   unfolding whole_rows
-  whole-made e = stands_all b (rows (strings_in b)) begun.0 (eqb-true _ _ e)
+  whole_made e = stands_all b (rows (strings_in b)) begun.0 (eqb-true _ _ e)
 
   -- the theorem behind 12: bytes are whole rows exactly if they are the rows of some strings
-  pub whole-exactly : (whole_rows b ≡ true) ↔ ((kept : List (List ℕ)) × Short kept × (b ≡ rows kept))
-  whole-exactly = (λ e. (strings_in b, begun.1, whole-made e), λ k. rw k.2 (rows_whole k.0 k.1))
+  pub whole_exactly : (whole_rows b ≡ true) ↔ ((kept : List (List ℕ)) × Short kept × (b ≡ rows kept))
+  whole_exactly = (λ e. (strings_in b, begun.1, whole_made e), λ k. rw k.2 (rows_whole k.0 k.1))

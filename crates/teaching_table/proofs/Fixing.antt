@@ -12,13 +12,13 @@ use Rattle.gathering_tables.specs.Tables.{same_table, is_newer}
 use Rattle.gathering_tables.proofs.Tables.{same_test}
 use Rattle.gathering_account.specs.Account.{nothing, good_current, heard, Section as Carried, Account, idle, table, account_after, account}
 use Rattle.gathering_account.specs.Latest.{begins_after, section_of_table, sections_of_table}
-use Rattle.gathering_account.proofs.Hearing.{counted-nothing, counted-first, counted_none, counted_same, counted-other}
-use Rattle.gathering_account.proofs.Latest.{own-section, no-section, newer-other}
+use Rattle.gathering_account.proofs.Hearing.{counted_nothing, counted_first, counted_none, counted_same, counted_other}
+use Rattle.gathering_account.proofs.Latest.{own_section, no_section, newer_other}
 use Rattle.gathering_account.proofs.Growing.{HeardIs, hears_nothing, hears, heard_is}
 use Rattle.teaching_rows.specs.Rows.{row_begins, strings_in, RowEnd}
-use Rattle.teaching_rows.proofs.Rows.{string_at, row-strings, strings_none}
+use Rattle.teaching_rows.proofs.Rows.{string_at, row_strings, strings_none}
 use Rattle.teaching_questions.specs.Questions.{said, section}
-use Rattle.teaching_questions.proofs.Saying.{Current, said-section}
+use Rattle.teaching_questions.proofs.Saying.{Current, said_section}
 use Rattle.teaching_questions.proofs.Walking.{sections_more}
 use Rattle.teaching_table.specs.Table.{account_in, told, begins_in, fixed_after, Among, Versioned, FixedIn}
 use Rattle.teaching_table.specs.declared.Fixed.{Fixed}
@@ -62,7 +62,7 @@ module _ (room : ℕ → Bool) (b : List ℕ) (at : ℕ) (inside : at ≤ length
 
   next : (a : Account) → account room a (strings_in (drop at b)) ≡ account room (account_after room a (heard s)) rest
   unfolding account
-  next a = ap (account room a) (row-strings b at e end r)
+  next a = ap (account room a) (row_strings b at e end r)
 
   module _ (before : Account) (q : account room idle (strings_in b) ≡ account room before (strings_in (drop at b))) where
     moved : (a : Account) → account_after room before (heard s) ≡ a → account room idle (strings_in b) ≡ account room a rest
@@ -74,14 +74,14 @@ module _ (room : ℕ → Bool) (b : List ℕ) (at : ℕ) (inside : at ≤ length
     unfolding sections_of_table
     begun h p f v m n =
         let one : sections_of_table h (s ∷ []) ≡ section h.number p ∷ [] =
-        append-nil (section_of_table h (heard s)) ∙ ap (section_of_table h) f ∙ own-section h h p (same_self h) in
-        since h at (s ∷ []) inside v (row-strings b at e end r)
-        (moved (table h (sections_of_table h (s ∷ []))) (ap (account_after room before) f ∙ counted-first room h p m before n ∙ ap (table h) (sym one)))
+        append-nil (section_of_table h (heard s)) ∙ ap (section_of_table h) f ∙ own_section h h p (same_self h) in
+        since h at (s ∷ []) inside v (row_strings b at e end r)
+        (moved (table h (sections_of_table h (s ∷ []))) (ap (account_after room before) f ∙ counted_first room h p m before n ∙ ap (table h) (sym one)))
 
   -- nothing was begun, and nothing is
-  still-none : account room idle (strings_in b) ≡ account room idle (strings_in (drop at b)) → account_after room idle (heard s) ≡ idle
+  still_none : account room idle (strings_in b) ≡ account room idle (strings_in (drop at b)) → account_after room idle (heard s) ≡ idle
       → Standing room b end Nothing
-  still-none q x = none_yet (moved idle q idle x)
+  still_none q x = none_yet (moved idle q idle x)
 
   -- a table stays: it has one section more, or none
   module _ (t : Heading) (from : ℕ) (passed : List (List ℕ)) (h : from ≤ length b) (v : t.version < 256)
@@ -94,7 +94,7 @@ module _ (room : ℕ → Bool) (b : List ℕ) (at : ℕ) (inside : at ≤ length
         → Standing room b end (Table t from)
     stays X y z =
         let more : sections_of_table t (passed ++ s ∷ []) ≡ S ++ X = sections_more t passed s ∙ ap (λ Y. S ++ Y) y in
-        since t from (passed ++ s ∷ []) h v (x ∙ ap (λ y. passed ++ y) (row-strings b at e end r) ∙ sym (append_assoc passed (s ∷ []) rest))
+        since t from (passed ++ s ∷ []) h v (x ∙ ap (λ y. passed ++ y) (row_strings b at e end r) ∙ sym (append_assoc passed (s ∷ []) rest))
         (moved (table t S) q (table t (sections_of_table t (passed ++ s ∷ []))) (z ∙ ap (table t) (sym more)))
 
     unmoved : section_of_table t (heard s) ≡ [] → account_after room (table t S) (heard s) ≡ table t S → Standing room b end (Table t from)
@@ -104,38 +104,38 @@ module _ (room : ℕ → Bool) (b : List ℕ) (at : ℕ) (inside : at ≤ length
 
   versioned : (h : Heading) (p : List ℕ) → heard s ≡ good_current h p → h.version < 256
   unfolding said
-  versioned h p f = (said-section s h (ap said f)).versioned
+  versioned h p f = (said_section s h (ap said f)).versioned
 
-  turn-heard : {f : Fixed} → Standing room b at f → HeardIs s → Standing room b end (fixed_after room f at (heard s))
+  turn_heard : {f : Fixed} → Standing room b at f → HeardIs s → Standing room b end (fixed_after room f at (heard s))
   unfolding fixed_after begins_in begins_after
-  turn-heard (none_yet q) (hears_nothing g) = rw g (still-none q (ap (account_after room idle) g ∙ counted-nothing room idle))
-  turn-heard (none_yet q) (hears h p g) = go (room h.last) refl
+  turn_heard (none_yet q) (hears_nothing g) = rw g (still_none q (ap (account_after room idle) g ∙ counted_nothing room idle))
+  turn_heard (none_yet q) (hears h p g) = go (room h.last) refl
     where
       go : (m : Bool) → room h.last ≡ m → Standing room b end (fixed_after room Nothing at (heard s))
       go true m = rw (g, m) (begun idle q h p g (versioned h p g) m refl)
-      go false m = rw (g, m) (still-none q (ap (account_after room idle) g ∙ counted_none room h p m idle refl))
-  turn-heard (since t from passed l v x q) (hears_nothing g) =
-      rw g (unmoved t from passed l v x q (ap (section_of_table t) g ∙ silent_section t) (ap (account_after room _) g ∙ counted-nothing room _))
-  turn-heard (since t from passed l v x q) (hears h p g) = go (is_newer t h) refl (room h.last) refl (same_table t h) refl
+      go false m = rw (g, m) (still_none q (ap (account_after room idle) g ∙ counted_none room h p m idle refl))
+  turn_heard (since t from passed l v x q) (hears_nothing g) =
+      rw g (unmoved t from passed l v x q (ap (section_of_table t) g ∙ silent_section t) (ap (account_after room _) g ∙ counted_nothing room _))
+  turn_heard (since t from passed l v x q) (hears h p g) = go (is_newer t h) refl (room h.last) refl (same_table t h) refl
     where
       go : (n : Bool) → is_newer t h ≡ n → (m : Bool) → room h.last ≡ m → (k : Bool) → same_table t h ≡ k
           → Standing room b end (fixed_after room (Table t from) at (heard s))
       go true n true m k o = rw (g, n, m) (begun (table t (sections_of_table t passed)) q h p g (versioned h p g) m n)
       go true n false m k o =
           rw (g, n, m)
-          (unmoved t from passed l v x q (ap (section_of_table t) g ∙ no-section t h p (newer-other t h p n))
+          (unmoved t from passed l v x q (ap (section_of_table t) g ∙ no_section t h p (newer_other t h p n))
           (ap (account_after room (table t (sections_of_table t passed))) g ∙ counted_none room h p m (table t (sections_of_table t passed)) n))
       go false n m r true o =
           rw (g, n)
-          (stays t from passed l v x q _ (ap (section_of_table t) g ∙ own-section t h p o)
+          (stays t from passed l v x q _ (ap (section_of_table t) g ∙ own_section t h p o)
           (ap (account_after room (table t (sections_of_table t passed))) g ∙ counted_same room h p t (sections_of_table t passed) o))
       go false n m r false o =
           rw (g, n)
-          (unmoved t from passed l v x q (ap (section_of_table t) g ∙ no-section t h p o)
-          (ap (account_after room (table t (sections_of_table t passed))) g ∙ counted-other room h p t (sections_of_table t passed) n o))
+          (unmoved t from passed l v x q (ap (section_of_table t) g ∙ no_section t h p o)
+          (ap (account_after room (table t (sections_of_table t passed))) g ∙ counted_other room h p t (sections_of_table t passed) n o))
 
-  pub standing-turn : {f : Fixed} → Standing room b at f → Standing room b end (fixed_after room f at (heard s))
-  standing-turn st = turn-heard st (heard_is s)
+  pub standing_turn : {f : Fixed} → Standing room b at f → Standing room b end (fixed_after room f at (heard s))
+  standing_turn st = turn_heard st (heard_is s)
 
 -- ---- the end
 
@@ -159,9 +159,9 @@ pub record Found (store : ℕ) (b : List ℕ) (t : Heading) (from : ℕ) : Type 
   pub versioned : t.version < 256
 
 module _ {store : ℕ} {b : List ℕ} {f : Fixed} (x : FixedIn store b f) where
-  pub found-table : (t : Heading) (from : ℕ) → f ≡ Table t from → Found store b t from
+  pub found_table : (t : Heading) (from : ℕ) → f ≡ Table t from → Found store b t from
   unfolding told Among Versioned
-  found-table t from e = record { is = sym (rw e at x.is); among = rw e at x.among; versioned = rw e at x.versioned }
+  found_table t from e = record { is = sym (rw e at x.is); among = rw e at x.among; versioned = rw e at x.versioned }
 
   pub found_nothing : f ≡ Nothing → account_in store b ≡ idle
   unfolding told

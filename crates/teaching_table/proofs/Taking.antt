@@ -9,7 +9,7 @@ use Rattle.gathering_tables.specs.Tables.{is_newer}
 use Rattle.gathering_account.specs.Account.{nothing, good_current, heard}
 use Rattle.teaching_questions.specs.Questions.{said}
 use Rattle.teaching_questions.specs.declared.Said.TheVariants as saying
-use Rattle.teaching_questions.proofs.Saying.{Current, said-section, said-nothing}
+use Rattle.teaching_questions.proofs.Saying.{Current, said_section, said_nothing}
 use Rattle.teaching_table.specs.Table.{begins_in, fixed_after, Versioned}
 use Rattle.teaching_table.specs.declared.Fixed.{Fixed}
 use Rattle.teaching_table.specs.declared.Fixed.TheVariants.{Nothing, Table}
@@ -33,17 +33,17 @@ table_versioned f t from e v = rw e at v
 module _ (room : ℕ → Bool) (f : Fixed) (at : ℕ) (s : List ℕ) where
   pub after_nothing : said (heard s) ≡ saying.Nothing → f ≡ fixed_after room f at (heard s)
   unfolding fixed_after
-  after_nothing e = rw (said-nothing s e)
+  after_nothing e = rw (said_nothing s e)
 
   module _ (h : Heading) (c : Current s h) where
-    pub after-other : begins_in f h ≡ false → f ≡ fixed_after room f at (heard s)
+    pub after_other : begins_in f h ≡ false → f ≡ fixed_after room f at (heard s)
     unfolding fixed_after
-    after-other b = rw (c.is, b)
+    after_other b = rw (c.is, b)
 
-    pub after-short : begins_in f h ≡ true → room h.last ≡ false → f ≡ fixed_after room f at (heard s)
+    pub after_short : begins_in f h ≡ true → room h.last ≡ false → f ≡ fixed_after room f at (heard s)
     unfolding fixed_after
-    after-short b r = rw (c.is, b, r)
+    after_short b r = rw (c.is, b, r)
 
-    pub after-begun : begins_in f h ≡ true → room h.last ≡ true → Table h at ≡ fixed_after room f at (heard s)
+    pub after_begun : begins_in f h ≡ true → room h.last ≡ true → Table h at ≡ fixed_after room f at (heard s)
     unfolding fixed_after
-    after-begun b r = rw (c.is, b, r)
+    after_begun b r = rw (c.is, b, r)

@@ -10,7 +10,7 @@ use Rattle.time_days.specs.declared.DayAnswer.TheVariants.{Day}
 use Rattle.time_days.specs.declared.DateAnswer.TheVariants.{On}
 use Rattle.time_days.specs.Calendar.{month_length, months_from, year_of, month_of, days_of, month_start, day_number, day_of, date_of, day_after}
 use Rattle.time_days.proofs.Months.{days_within, within, of_months, following, start_next, InMonth, in_table}
-use Rattle.time_days.proofs.Answers.{day-accepted, day_in_month, day_in_given, date_in, date_given, date_accepted}
+use Rattle.time_days.proofs.Answers.{day_accepted, day_in_month, day_in_given, date_in, date_given, date_accepted}
 
 abbrev on : ℕ → ℕ → ℕ → Date
 on y m d = record { year = y; month = m; day = d }
@@ -23,7 +23,7 @@ same p q r = λ i. on (p i) (q i) (r i)
 pub date_of_day : (y m d n : ℕ) → day_of y m d ≡ Day n → date_of n ≡ On (record { year = y; month = m; day = d })
 unfolding day_number
 date_of_day y m d n e =
-    let v = day-accepted y m d n e in
+    let v = day_accepted y m d n e in
     let w = of_months y m v.month_from v.month_until v.after in
     date_given n (months_from y m) v.from v.until (day_in_month n y m d v) ∙ ap On (same w.0 w.1 (omega arith))
 
@@ -39,7 +39,7 @@ day_of_date n a e =
 -- ---- what is accepted
 
 pub day_within : (y m d n : ℕ) → day_of y m d ≡ Day n → (15079 ≤ n) × (n ≤ 65535)
-day_within y m d n e = let v = day-accepted y m d n e in (v.from, v.until)
+day_within y m d n e = let v = day_accepted y m d n e in (v.from, v.until)
 
 pub record DateWithin (a : Date) : Type 0 where
   pub year_from : 1900 ≤ a.year
@@ -70,17 +70,17 @@ date_within n a e =
 -- ---- the date of the next day is the day after
 
 module _ (y m d : ℕ) where
-  in-the-month : d < month_length y m → day_after (on y m d) ≡ on y m (d + 1)
+  in_the_month : d < month_length y m → day_after (on y m d) ≡ on y m (d + 1)
   unfolding day_after
-  in-the-month h = rw (lt-ltb d (month_length y m) h)
+  in_the_month h = rw (lt-ltb d (month_length y m) h)
 
-  next-month : month_length y m ≤ d → m < 12 → day_after (on y m d) ≡ on y (m + 1) 1
+  next_month : month_length y m ≤ d → m < 12 → day_after (on y m d) ≡ on y (m + 1) 1
   unfolding day_after
-  next-month h g = rw (le-ltb d (month_length y m) h, lt-ltb m 12 g)
+  next_month h g = rw (le-ltb d (month_length y m) h, lt-ltb m 12 g)
 
-  next-year : month_length y m ≤ d → 12 ≤ m → day_after (on y m d) ≡ on (y + 1) 1 1
+  next_year : month_length y m ≤ d → 12 ≤ m → day_after (on y m d) ≡ on (y + 1) 1 1
   unfolding day_after
-  next-year h g = rw (le-ltb d (month_length y m) h, le-ltb m 12 g)
+  next_year h g = rw (le-ltb d (month_length y m) h, le-ltb m 12 g)
 
 after_in : (n k : ℕ) → InMonth n k → 15079 ≤ n → n < 65535 → date_of (suc n) ≡ On (day_after (date_in k n))
 unfolding days_of
@@ -88,13 +88,13 @@ after_in n k p h u =
     elim (dec_lt (suc n) (month_start (suc k))) [
       | yes g ↦
           date_given (suc n) k (omega arith) (omega arith) (record { from = omega arith; until = g })
-          ∙ ap On (same refl refl (omega arith) ∙ sym (in-the-month (year_of k) (month_of k) (n - month_start k + 1) (omega (arith, start_next k))))
+          ∙ ap On (same refl refl (omega arith) ∙ sym (in_the_month (year_of k) (month_of k) (n - month_start k + 1) (omega (arith, start_next k))))
       | no g ↦
           let l : month_length (year_of k) (month_of k) ≤ n - month_start k + 1 = omega (arith, start_next k) in
           date_given (suc n) (suc k) (omega arith) (omega arith) (record { from = omega arith; until = omega (arith, start_next (suc k), days_within (suc k)) })
           ∙ ap On (⊎_elim
-          (λ w. same w.1 w.2 (omega arith) ∙ sym (next-month (year_of k) (month_of k) (n - month_start k + 1) l w.0))
-          (λ w. same w.1 w.2 (omega arith) ∙ sym (next-year (year_of k) (month_of k) (n - month_start k + 1) l (omega arith)))
+          (λ w. same w.1 w.2 (omega arith) ∙ sym (next_month (year_of k) (month_of k) (n - month_start k + 1) l w.0))
+          (λ w. same w.1 w.2 (omega arith) ∙ sym (next_year (year_of k) (month_of k) (n - month_start k + 1) l (omega arith)))
           (following k))
     ]
 

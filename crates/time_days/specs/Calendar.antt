@@ -3,11 +3,11 @@ use Rattle.std.specs.Prelude.{◌≡◌, Bool, not, ◌&&◌, ◌||◌, cond, Li
 use Rattle.ground_refusal.specs.declared.Refusal.TheVariants.{ImpossibleDay}
 use Rattle.time_days.specs.declared.Date.{Date}
 use Rattle.time_days.specs.declared.DayAnswer.{DayAnswer}
-use Rattle.time_days.specs.declared.DayAnswer.TheVariants as day-answer
+use Rattle.time_days.specs.declared.DayAnswer.TheVariants as day_answer
 use Rattle.time_days.specs.declared.DateAnswer.{DateAnswer}
-use Rattle.time_days.specs.declared.DateAnswer.TheVariants as date-answer
+use Rattle.time_days.specs.declared.DateAnswer.TheVariants as date_answer
 use Rattle.time_days.specs.declared.WeekdayAnswer.{WeekdayAnswer}
-use Rattle.time_days.specs.declared.WeekdayAnswer.TheVariants as weekday-answer
+use Rattle.time_days.specs.declared.WeekdayAnswer.TheVariants as weekday_answer
 
 -- ---- the calendar
 
@@ -61,8 +61,8 @@ has_day y m d = is_date y m d && leb (1900 * 12 + 3) (y * 12 + m) && in_range (d
 unfoldable pub day_of : ℕ → ℕ → ℕ → DayAnswer
 day_of y m d =
     cond (has_day y m d)
-    (day-answer.Day (day_number y m d))
-    (day-answer.Refused (ImpossibleDay 0))
+    (day_answer.Day (day_number y m d))
+    (day_answer.Refused (ImpossibleDay 0))
 
 -- ---- the date of a day
 
@@ -81,8 +81,8 @@ date_from (suc months) k left =
 unfoldable pub date_of : ℕ → DateAnswer
 date_of n =
     cond (in_range n)
-    (date-answer.On (date_from 1657 0 (n - 15079)))
-    (date-answer.Refused (ImpossibleDay 0))
+    (date_answer.On (date_from 1657 0 (n - 15079)))
+    (date_answer.Refused (ImpossibleDay 0))
 
 -- the day after a date, by the months' lengths
 unfoldable pub day_after : Date → Date
@@ -99,8 +99,8 @@ day_after a =
 unfoldable pub weekday_of : ℕ → WeekdayAnswer
 weekday_of n =
     cond (in_range n)
-    (weekday-answer.Weekday ((n + 2) % 7 + 1))
-    (weekday-answer.Refused (ImpossibleDay 0))
+    (weekday_answer.Weekday ((n + 2) % 7 + 1))
+    (weekday_answer.Refused (ImpossibleDay 0))
 
 -- ---- the table
 

@@ -31,9 +31,9 @@ module _ (a b c d e : ℕ) (ha : a < 256) (hb : b < 256) (hc : c < 256) (hd : d 
   unfolding bytes_field
   bytes_fit = omega arith
 
-  pub field-bytes-back : field_bytes (bytes_field (a ∷ b ∷ c ∷ d ∷ e ∷ [])) ≡ a ∷ b ∷ c ∷ d ∷ e ∷ []
+  pub field_bytes_back : field_bytes (bytes_field (a ∷ b ∷ c ∷ d ∷ e ∷ [])) ≡ a ∷ b ∷ c ∷ d ∷ e ∷ []
   unfolding field_bytes bytes_field
-  field-bytes-back =
+  field_bytes_back =
       let f = a * 2 ^ 32 + b * 2 ^ 24 + c * 2 ^ 16 + d * 2 ^ 8 + e in
       let first : f / 2 ^ 32 % 2 ^ 8 ≡ a = omega arith in
       let second : f / 2 ^ 24 % 2 ^ 8 ≡ b = omega arith in

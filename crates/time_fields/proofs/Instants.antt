@@ -45,13 +45,13 @@ alike a b c d holds fails false e = sym (le-ltb c d (fails (ltb-false a b e)))
 -- the order of moments is that of their counted seconds
 pub earlier_count : (a b : Moment) → a.second < 86400 → b.second < 86400 → earlier a b ≡ ltb (count a) (count b)
 unfolding earlier
-earlier_count a b p q = by-day (eqb a.day b.day) (eqb-true _ _) (eqb-false _ _)
+earlier_count a b p q = by_day (eqb a.day b.day) (eqb-true _ _) (eqb-false _ _)
   where
-    by-day : (t : Bool) → (t ≡ true → a.day ≡ b.day) → (t ≡ false → a.day ≡ b.day → ⊥)
+    by_day : (t : Bool) → (t ≡ true → a.day ≡ b.day) → (t ≡ false → a.day ≡ b.day → ⊥)
         → cond t (ltb a.second b.second) (ltb a.day b.day) ≡ ltb (count a) (count b)
-    by-day true same other =
+    by_day true same other =
         let d = same refl in
         alike a.second b.second (count a) (count b) (λ h. omega arith) (λ h. omega arith) _ refl
-    by-day false same other =
+    by_day false same other =
         let d = other refl in
         alike a.day b.day (count a) (count b) (λ h. omega arith) (λ h. omega arith) _ refl

@@ -12,7 +12,7 @@ use Rattle.time_fields.specs.declared.Fielded.TheVariants.{Field, Refused as Not
 use Rattle.time_days.specs.Calendar.{in_range}
 use Rattle.time_fields.specs.Field.{two_digits, worth, day_part, hour_part, minute_part, second_part, is_decimal, possible, moment_of, read_time, is_instant, field_of, write_time}
 use Rattle.ground_choices.proofs.Tests.{both, and_of}
-use Rattle.time_fields.proofs.Pairs.{Holds, two-digits-byte, two-digits-hold, two_digits_worth}
+use Rattle.time_fields.proofs.Pairs.{Holds, two_digits_byte, two_digits_hold, two_digits_worth}
 use Rattle.time_fields.proofs.Parts.{parts, together, clock, clock_together}
 use Rattle.time_fields.proofs.Instants.{Instant, instant, day_in_range, is_instant_lem}
 use Rattle.time_fields.proofs.Reading.{Accepted, accepted, accepted_only}
@@ -26,34 +26,34 @@ pub record Says (f d h m s : ℕ) : Type 0 where
 
 -- what the field of an instant says, and that it is accepted as that instant
 module _ (m : Moment) (i : Instant m) where
-  hour-byte : two_digits (m.second / 3600) < 256
-  hour-byte = two-digits-byte _ (omega arith)
+  hour_byte : two_digits (m.second / 3600) < 256
+  hour_byte = two_digits_byte _ (omega arith)
 
-  minute-byte : two_digits (m.second / 60 % 60) < 256
-  minute-byte = two-digits-byte _ (omega arith)
+  minute_byte : two_digits (m.second / 60 % 60) < 256
+  minute_byte = two_digits_byte _ (omega arith)
 
-  second-byte : two_digits (m.second % 60) < 256
-  second-byte = two-digits-byte _ (omega arith)
+  second_byte : two_digits (m.second % 60) < 256
+  second_byte = two_digits_byte _ (omega arith)
 
   pub field_fits : field_of m < 2 ^ 40
   unfolding field_of
-  field_fits = omega (arith, hour-byte, minute-byte, second-byte)
+  field_fits = omega (arith, hour_byte, minute_byte, second_byte)
 
-  pub field-says : Says (field_of m) m.day (m.second / 3600) (m.second / 60 % 60) (m.second % 60)
+  pub field_says : Says (field_of m) m.day (m.second / 3600) (m.second / 60 % 60) (m.second % 60)
   unfolding field_of
-  field-says =
-      let p = parts m.day hour-byte minute-byte second-byte in
+  field_says =
+      let p = parts m.day hour_byte minute_byte second_byte in
       record {
         day = p.day;
-        hour = rw p.hour (two-digits-hold _ (omega arith));
-        minute = rw p.minute (two-digits-hold _ (omega arith));
-        second = rw p.second (two-digits-hold _ (omega arith));
+        hour = rw p.hour (two_digits_hold _ (omega arith));
+        minute = rw p.minute (two_digits_hold _ (omega arith));
+        second = rw p.second (two_digits_hold _ (omega arith));
       }
 
-  pub accepts-field : Accepted (field_of m) m
+  pub accepts_field : Accepted (field_of m) m
   unfolding is_decimal possible moment_of
-  accepts-field =
-      let p = field-says in
+  accepts_field =
+      let p = field_says in
       record {
         fits = field_fits;
         digits = and_of p.hour.decimal (and_of p.minute.decimal p.second.decimal);
@@ -65,8 +65,8 @@ module _ (m : Moment) (i : Instant m) where
         is = simp (p.day, p.hour.value, p.minute.value, p.second.value, clock_together);
       }
 
-  pub reads-field : (at : ℕ) → read_time (field_of m) at ≡ At m
-  reads-field at = accepted at accepts-field
+  pub reads_field : (at : ℕ) → read_time (field_of m) at ≡ At m
+  reads_field at = accepted at accepts_field
 
 -- what a possible field keeps to
 record Possible (f : ℕ) : Type 0 where
@@ -93,15 +93,15 @@ is_possible_lem f e =
 
 -- an accepted field holds an instant, and is the field of that instant
 module _ (f : ℕ) (m : Moment) (a : Accepted f m) where
-  pub accepted-instant : Instant m
+  pub accepted_instant : Instant m
   unfolding moment_of
-  accepted-instant =
+  accepted_instant =
       let p = is_possible_lem f a.time in
       rw a.is (record { from = p.from; until = p.until; within = omega arith })
 
-  pub field-of-accepted : field_of m ≡ f
+  pub field_of_accepted : field_of m ≡ f
   unfolding field_of moment_of is_decimal
-  field-of-accepted =
+  field_of_accepted =
       let p = is_possible_lem f a.time in
       let k = clock (worth (hour_part f)) (worth (minute_part f)) (worth (second_part f)) (omega arith) (omega arith) in
       let d = both _ _ a.digits in
@@ -117,18 +117,18 @@ module _ (f : ℕ) (m : Moment) (a : Accepted f m) where
         together f,
       ))
 
-  pub writes-accepted : write_time m ≡ Field f
+  pub writes_accepted : write_time m ≡ Field f
   unfolding write_time
-  writes-accepted = simp (is_instant_lem m accepted-instant, field-of-accepted)
+  writes_accepted = simp (is_instant_lem m accepted_instant, field_of_accepted)
 
 -- what is written of what was read is the field, and what is read of what was written is the moment
 pub writes_read : (f at : ℕ) {m : Moment} → read_time f at ≡ At m → write_time m ≡ Field f
-writes_read f at e = writes-accepted f _ (accepted_only f at e)
+writes_read f at e = writes_accepted f _ (accepted_only f at e)
 
 pub reads_written : (m : Moment) (at : ℕ) {f : ℕ} → write_time m ≡ Field f → read_time f at ≡ At m
 unfolding write_time
-reads_written m at {f} e = by-test (is_instant m) refl e
+reads_written m at {f} e = by_test (is_instant m) refl e
   where
-    by-test : (t : Bool) → is_instant m ≡ t → cond t (Field (field_of m)) (NotFielded (ImpossibleDay 0)) ≡ Field f → read_time f at ≡ At m
-    by-test true i e = ap (λ (g : ℕ). read_time g at) (cc) ∙ reads-field m (instant m i) at
-    by-test false i e = cc
+    by_test : (t : Bool) → is_instant m ≡ t → cond t (Field (field_of m)) (NotFielded (ImpossibleDay 0)) ≡ Field f → read_time f at ≡ At m
+    by_test true i e = ap (λ (g : ℕ). read_time g at) (cc) ∙ reads_field m (instant m i) at
+    by_test false i e = cc

@@ -13,13 +13,13 @@ pub record Holds (pair n : ℕ) : Type 0 where
   pub value : worth pair ≡ n
 
 module _ (n : ℕ) (below : n < 100) where
-  pub two-digits-byte : two_digits n < 256
+  pub two_digits_byte : two_digits n < 256
   unfolding two_digits
-  two-digits-byte = omega arith
+  two_digits_byte = omega arith
 
-  pub two-digits-hold : Holds (two_digits n) n
+  pub two_digits_hold : Holds (two_digits n) n
   unfolding two_digits worth decimal_pair
-  two-digits-hold =
+  two_digits_hold =
       let high : (n / 10 * 16 + n % 10) / 16 ≤ 9 = omega arith in
       let low : (n / 10 * 16 + n % 10) % 16 ≤ 9 = omega arith in
       record { decimal = and_of (le-leb _ _ high) (le-leb _ _ low); value = omega arith }

@@ -15,30 +15,30 @@ use Rattle.time_fields.specs.Field.{decimal_pair, is_decimal, possible, moment_o
 
 -- one law for each way out of the two readers
 module _ (f at : ℕ) where
-  pub reads-too-wide : 2 ^ 40 ≤ f → read_time f at ≡ Refused (OutsideSet at)
+  pub reads_too_wide : 2 ^ 40 ≤ f → read_time f at ≡ Refused (OutsideSet at)
   unfolding read_time
-  reads-too-wide w = simp (le-leb _ _ w)
+  reads_too_wide w = simp (le-leb _ _ w)
 
   module _ (fits : f < 2 ^ 40) where
-    pub reads-no-digit : is_decimal f ≡ false → read_time f at ≡ Refused (DigitAboveNine at)
+    pub reads_no_digit : is_decimal f ≡ false → read_time f at ≡ Refused (DigitAboveNine at)
     unfolding read_time
-    reads-no-digit d = simp (lt-leb _ _ fits, d)
+    reads_no_digit d = simp (lt-leb _ _ fits, d)
 
-    pub reads-impossible : is_decimal f ≡ true → possible f ≡ false → read_time f at ≡ Refused (ImpossibleDay at)
+    pub reads_impossible : is_decimal f ≡ true → possible f ≡ false → read_time f at ≡ Refused (ImpossibleDay at)
     unfolding read_time
-    reads-impossible d p = simp (lt-leb _ _ fits, d, p)
+    reads_impossible d p = simp (lt-leb _ _ fits, d, p)
 
-    pub reads-time : is_decimal f ≡ true → possible f ≡ true → read_time f at ≡ At (moment_of f)
+    pub reads_time : is_decimal f ≡ true → possible f ≡ true → read_time f at ≡ At (moment_of f)
     unfolding read_time
-    reads-time d p = simp (lt-leb _ _ fits, d, p)
+    reads_time d p = simp (lt-leb _ _ fits, d, p)
 
   pub end_live : f ≡ live_mark → read_end f at ≡ Live
   unfolding read_end
   end_live e = simp (eq-eqb _ _ e)
 
-  pub end-timed : (f ≡ live_mark → ⊥) → read_end f at ≡ as_end (read_time f at)
+  pub end_timed : (f ≡ live_mark → ⊥) → read_end f at ≡ as_end (read_time f at)
   unfolding read_end
-  end-timed n = simp (ne_eqb _ _ n)
+  end_timed n = simp (ne_eqb _ _ n)
 
 -- the live mark is no time
 pub live_no_time : (at : ℕ) → read_time live_mark at ≡ Refused (DigitAboveNine at)
@@ -66,7 +66,7 @@ accepted_only f at {m} e =
     record { fits = leb-false _ _ a.0; digits = not-false _ b.0; time = not-false _ d.0; is = cc }
 
 pub accepted : {f : ℕ} {m : Moment} (at : ℕ) → Accepted f m → read_time f at ≡ At m
-accepted at a = reads-time _ at a.fits a.digits a.time ∙ ap At (sym a.is)
+accepted at a = reads_time _ at a.fits a.digits a.time ∙ ap At (sym a.is)
 
 -- an end that is a moment was read as a time is
 at_end : (live : Bool) (t : Timed) (m : Moment) → cond live Live (as_end t) ≡ EndAt m → t ≡ At m
@@ -79,7 +79,7 @@ unfolding read_end
 end_only f at {m} e = at_end (eqb f live_mark) (read_time f at) m e
 
 pub end_accepted : {f : ℕ} {m : Moment} (at : ℕ) → Accepted f m → read_end f at ≡ EndAt m
-end_accepted {f} {m} at a = end-timed f at not_live ∙ ap as_end (accepted at a)
+end_accepted {f} {m} at a = end_timed f at not_live ∙ ap as_end (accepted at a)
   where
     not_live : f ≡ live_mark → ⊥
     not_live e =

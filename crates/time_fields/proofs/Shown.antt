@@ -15,19 +15,19 @@ use Rattle.time_fields.specs.Field.{live_mark, is_instant, read_time, read_end}
 use Rattle.time_fields.specs.Showing.{earlier, shown_by, shown_from, showing}
 
 module _ (start end : ℕ) (present : Moment) where
-  pub shows-impossible : is_instant present ≡ false → showing start end present ≡ NotShown (ImpossibleDay 0)
+  pub shows_impossible : is_instant present ≡ false → showing start end present ≡ NotShown (ImpossibleDay 0)
   unfolding showing
-  shows-impossible i = simp i
+  shows_impossible i = simp i
 
   module _ (instant : is_instant present ≡ true) where
-    pub shows-no-start : {r : Refusal} → read_time start 0 ≡ Refused r → showing start end present ≡ NotShown r
+    pub shows_no_start : {r : Refusal} → read_time start 0 ≡ Refused r → showing start end present ≡ NotShown r
     unfolding showing shown_from
-    shows-no-start s = simp (instant, s)
+    shows_no_start s = simp (instant, s)
 
-    pub shows-by : {from : Moment} {until : EndTimed} →
+    pub shows_by : {from : Moment} {until : EndTimed} →
         read_time start 0 ≡ At from → read_end end 0 ≡ until → showing start end present ≡ shown_by from until present
     unfolding showing shown_from
-    shows-by s e = simp (instant, s, e)
+    shows_by s e = simp (instant, s, e)
 
 -- a live message never ends
 has_ended : Showing → Bool
@@ -39,13 +39,13 @@ has_ended (NotShown r) = false
 pub live_never_ended : (start : ℕ) (present : Moment) → showing start live_mark present ≡ Ended → ⊥
 unfolding showing shown_from shown_by read_end has_ended
 live_never_ended start present e =
-    true≢false (sym (ap has_ended e) ∙ by-case (is_instant present) (read_time start 0))
+    true≢false (sym (ap has_ended e) ∙ by_case (is_instant present) (read_time start 0))
   where
     by_order : (t : Bool) → has_ended (cond t Before On) ≡ false
     by_order true = refl
     by_order false = refl
 
-    by-case : (i : Bool) (t : Timed) → has_ended (cond i (shown_from t Live present) (NotShown (ImpossibleDay 0))) ≡ false
-    by-case true (At from) = by_order (earlier present from)
-    by-case true (Refused r) = refl
-    by-case false t = refl
+    by_case : (i : Bool) (t : Timed) → has_ended (cond i (shown_from t Live present) (NotShown (ImpossibleDay 0))) ≡ false
+    by_case true (At from) = by_order (earlier present from)
+    by_case true (Refused r) = refl
+    by_case false t = refl

@@ -17,7 +17,7 @@ use Rattle.time_local.specs.Clock.{pack_of}
 use Rattle.time_local.specs.Text.{form, fits, formed, TwoDigits, two, typed, read_text, Typable, tens, units, text_of, IsText}
 use Rattle.time_local.proofs.Clocks.{pack_by}
 use Rattle.time_local.proofs.Forms.{same_length, fits_at, places, no_offset, by_form}
-use Rattle.time_local.proofs.RoundTrip.{unpack-packed}
+use Rattle.time_local.proofs.RoundTrip.{unpack_packed}
 
 -- ---- from numbers to characters and back
 
@@ -37,9 +37,9 @@ unfolding tens units
 worth_back n = omega arith
 
 module _ (t : LocalTime) (r : Typable t) where
-  pub text-formed : formed form (text_of t) ≡ true
+  pub text_formed : formed form (text_of t) ≡ true
   unfolding formed form text_of fits
-  text-formed =
+  text_formed =
       pair_fits t.day r.day
       (pair_fits t.month r.month
       (pair_fits (t.year / 100) (omega arith)
@@ -67,23 +67,23 @@ module _ (t : LocalTime) (r : Typable t) where
   reads_text offset = by (is_offset offset) refl
     where
       by : (b : Bool) → is_offset offset ≡ b → read_text (text_of t) offset ≡ pack_of t offset
-      by true o = by_form (text_of t) offset o text-formed ∙ ap (λ (x : LocalTime). pack_of x offset) text_typed
+      by true o = by_form (text_of t) offset o text_formed ∙ ap (λ (x : LocalTime). pack_of x offset) text_typed
       by false o = no_offset (text_of t) offset o ∙ sym (pack_by t offset o)
 
 -- ---- from characters to numbers and back
 
 module _ (s : List ℕ) (i : ℕ) (d : TwoDigits s i) where
-  two-small : two s i ≤ 99
+  two_small : two s i ≤ 99
   unfolding two
-  two-small = omega arith
+  two_small = omega arith
 
-  tens-two : get_or s i 0 ≡ tens (two s i)
+  tens_two : get_or s i 0 ≡ tens (two s i)
   unfolding two tens
-  tens-two = omega arith
+  tens_two = omega arith
 
-  units-two : get_or s (i + 1) 0 ≡ units (two s i)
+  units_two : get_or s (i + 1) 0 ≡ units (two s i)
   unfolding two units
-  units-two = omega arith
+  units_two = omega arith
 
 -- the n elements of a list from j on
 run : ℕ → ℕ → List ℕ → List ℕ
@@ -101,39 +101,39 @@ module _ (s : List ℕ) (e : formed form s ≡ true) where
   unfolding form fits
   mark i {c} h p n = eqb-true _ _ (simp n at (rw p at (fits_at form s i e h)))
 
-  pub text-typable : Typable (typed s)
+  pub text_typable : Typable (typed s)
   unfolding typed
-  text-typable =
+  text_typable =
       let p = places s e in
-      let c = two-small s 6 p.century in
-      let y = two-small s 8 p.year in
+      let c = two_small s 6 p.century in
+      let y = two_small s 8 p.year in
       record {
-        day = two-small s 0 p.day;
-        month = two-small s 3 p.month;
+        day = two_small s 0 p.day;
+        month = two_small s 3 p.month;
         year = omega arith;
-        hour = two-small s 11 p.hour;
-        minute = two-small s 14 p.minute;
-        second = two-small s 17 p.second;
+        hour = two_small s 11 p.hour;
+        minute = two_small s 14 p.minute;
+        second = two_small s 17 p.second;
       }
 
   -- a formed text is the characters of its numbers, day first
-  pub text-only : s ≡ text_of (typed s)
+  pub text_only : s ≡ text_of (typed s)
   unfolding run form text_of typed
-  text-only =
+  text_only =
       let p = places s e in
-      let c = two-small s 6 p.century in
-      let y = two-small s 8 p.year in
+      let c = two_small s 6 p.century in
+      let y = two_small s 8 p.year in
       let high : two s 6 ≡ (two s 6 * 100 + two s 8) / 100 = omega arith in
       let low : two s 8 ≡ (two s 6 * 100 + two s 8) % 100 = omega arith in
       run_is 19 0 s (omega (arith, same_length form s e))
       ∙ (λ i.
-      tens-two s 0 p.day i ∷ units-two s 0 p.day i ∷ mark 2 (omega arith) refl refl i
-      ∷ tens-two s 3 p.month i ∷ units-two s 3 p.month i ∷ mark 5 (omega arith) refl refl i
-      ∷ (tens-two s 6 p.century ∙ ap tens high) i ∷ (units-two s 6 p.century ∙ ap units high) i
-      ∷ (tens-two s 8 p.year ∙ ap tens low) i ∷ (units-two s 8 p.year ∙ ap units low) i ∷ mark 10 (omega arith) refl refl i
-      ∷ tens-two s 11 p.hour i ∷ units-two s 11 p.hour i ∷ mark 13 (omega arith) refl refl i
-      ∷ tens-two s 14 p.minute i ∷ units-two s 14 p.minute i ∷ mark 16 (omega arith) refl refl i
-      ∷ tens-two s 17 p.second i ∷ units-two s 17 p.second i ∷ [])
+      tens_two s 0 p.day i ∷ units_two s 0 p.day i ∷ mark 2 (omega arith) refl refl i
+      ∷ tens_two s 3 p.month i ∷ units_two s 3 p.month i ∷ mark 5 (omega arith) refl refl i
+      ∷ (tens_two s 6 p.century ∙ ap tens high) i ∷ (units_two s 6 p.century ∙ ap units high) i
+      ∷ (tens_two s 8 p.year ∙ ap tens low) i ∷ (units_two s 8 p.year ∙ ap units low) i ∷ mark 10 (omega arith) refl refl i
+      ∷ tens_two s 11 p.hour i ∷ units_two s 11 p.hour i ∷ mark 13 (omega arith) refl refl i
+      ∷ tens_two s 14 p.minute i ∷ units_two s 14 p.minute i ∷ mark 16 (omega arith) refl refl i
+      ∷ tens_two s 17 p.second i ∷ units_two s 17 p.second i ∷ [])
 
 -- an accepted text is the characters of a local time, and the field gives that local time back
 pub text_accepted : (s : List ℕ) (offset : ℤ) (f : ℕ) → read_text s offset ≡ Field f → IsText s offset f
@@ -144,10 +144,10 @@ text_accepted s offset f e = by (is_offset offset) refl
         let q : pack_of (typed s) offset ≡ Field f = sym (by_form s offset o p) ∙ e in
         record {
           time = typed s;
-          typable = text-typable s p;
-          characters = text-only s p;
+          typable = text_typable s p;
+          characters = text_only s p;
           packs = q;
-          unpacks = unpack-packed (typed s) offset f q;
+          unpacks = unpack_packed (typed s) offset f q;
         }
     on o false p = let z : ◌≡◌ {A = ℕ} 0 1 = cc (by_form s offset o p) in absurd (omega arith)
 

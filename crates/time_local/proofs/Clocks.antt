@@ -26,17 +26,17 @@ use Rattle.time_local.specs.Clock.{is_clock, second_of, on_day, local_moment, wr
 -- ---- a time of day
 
 module _ (t : LocalTime) where
-  pub late-hour : 23 < t.hour → is_clock t ≡ false
+  pub late_hour : 23 < t.hour → is_clock t ≡ false
   unfolding is_clock
-  late-hour h = simp (lt-leb _ _ h)
+  late_hour h = simp (lt-leb _ _ h)
 
-  pub late-minute : t.hour ≤ 23 → 59 < t.minute → is_clock t ≡ false
+  pub late_minute : t.hour ≤ 23 → 59 < t.minute → is_clock t ≡ false
   unfolding is_clock
-  late-minute h m = simp (le-leb _ _ h, lt-leb _ _ m)
+  late_minute h m = simp (le-leb _ _ h, lt-leb _ _ m)
 
-  pub by-second : t.hour ≤ 23 → t.minute ≤ 59 → is_clock t ≡ leb t.second 59
+  pub by_second : t.hour ≤ 23 → t.minute ≤ 59 → is_clock t ≡ leb t.second 59
   unfolding is_clock
-  by-second h m = simp (le-leb _ _ h, le-leb _ _ m)
+  by_second h m = simp (le-leb _ _ h, le-leb _ _ m)
 
 pub record ClockWithin (t : LocalTime) : Type 0 where
   pub hour : t.hour ≤ 23
@@ -57,10 +57,10 @@ module _ (t : LocalTime) where
   unfolding local_moment on_day
   no_day d = ap (on_day t) d
 
-  pub on-day : {n : ℕ} {b : Bool} → day_of t.year t.month t.day ≡ Day n → is_clock t ≡ b
+  pub on_day_lem : {n : ℕ} {b : Bool} → day_of t.year t.month t.day ≡ Day n → is_clock t ≡ b
       → local_moment t ≡ cond b (At (arrived n (second_of t))) (Refused (ImpossibleDay 0))
   unfolding local_moment on_day
-  on-day {n} d c =
+  on_day_lem {n} d c =
       ap (on_day t) d ∙ ap (λ (b : Bool). cond b (At (arrived n (second_of t))) (Refused (ImpossibleDay 0))) c
 
 -- ---- 19 for the offset comes first
@@ -115,17 +115,17 @@ written_twenty (Refused q) p e = ap NotFielded p
 
 module _ (t : LocalTime) (offset : ℤ) (o : is_offset offset ≡ true) where
   -- what is packed where the local time has a moment
-  pub packs-moment : {local : Moment} {x : Fielded} → local_moment t ≡ At local → written (to_utc local offset) ≡ x → pack_of t offset ≡ x
+  pub packs_moment : {local : Moment} {x : Fielded} → local_moment t ≡ At local → written (to_utc local offset) ≡ x → pack_of t offset ≡ x
   unfolding packed_at
-  packs-moment l e = pack_by t offset o ∙ ap (packed_at offset) l ∙ e
+  packs_moment l e = pack_by t offset o ∙ ap (packed_at offset) l ∙ e
 
   pub no_moment : {r : Refusal} → local_moment t ≡ Refused r → pack_of t offset ≡ NotFielded (ImpossibleDay 0)
   unfolding packed_at
   no_moment l =
       pack_by t offset o ∙ ap (packed_at offset) l ∙ ap NotFielded (subst OnlyTwenty l (local_twenty t))
 
-  pub no-utc : {local : Moment} {r : Refusal} → local_moment t ≡ At local → written (to_utc local offset) ≡ NotFielded r
+  pub no_utc : {local : Moment} {r : Refusal} → local_moment t ≡ At local → written (to_utc local offset) ≡ NotFielded r
       → pack_of t offset ≡ NotFielded (ImpossibleDay 0)
-  no-utc {local} l e =
+  no_utc {local} l e =
       let utc = subst OnlyTwenty (sym (utc_by local offset o)) (moved_twenty local (neg_ℤ offset)) in
-      packs-moment l (written_twenty (to_utc local offset) utc e)
+      packs_moment l (written_twenty (to_utc local offset) utc e)

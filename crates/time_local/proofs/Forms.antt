@@ -42,13 +42,13 @@ at_end fs s i h k = rw (drop_of_length-le fs h, drop_of_length-le s k)
 -- ---- one character
 
 module _ (f c : ℕ) where
-  pub any-digit : f ≡ 48 → fits f c ≡ is_digit c
+  pub any_digit : f ≡ 48 → fits f c ≡ is_digit c
   unfolding fits
-  any-digit e = simp (eq-eqb _ _ e)
+  any_digit e = simp (eq-eqb _ _ e)
 
-  pub own-byte : (f ≡ 48 → ⊥) → fits f c ≡ eqb c f
+  pub own_byte : (f ≡ 48 → ⊥) → fits f c ≡ eqb c f
   unfolding fits
-  own-byte n = simp (ne_eqb _ _ n)
+  own_byte n = simp (ne_eqb _ _ n)
 
 -- ---- what a formed text has at each place
 

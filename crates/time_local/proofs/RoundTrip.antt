@@ -23,34 +23,34 @@ use Rattle.time_fields.proofs.Instants.{instant}
 use Rattle.time_fields.proofs.Inverse.{reads_written, writes_read}
 use Rattle.time_offset.specs.Offset.{is_offset, to_utc, to_local}
 use Rattle.time_offset.proofs.Moving.{arrived}
-use Rattle.time_offset.proofs.Exact.{utc-exactly, local-exactly}
+use Rattle.time_offset.proofs.Exact.{utc_exactly, local_exactly}
 use Rattle.time_local.specs.declared.LocalTime.{LocalTime}
 use Rattle.time_local.specs.declared.Unpacked.TheVariants.{At as LocalAt, Refused as NotUnpacked}
 use Rattle.time_local.specs.Clock.{is_clock, second_of, local_moment, written, packed_at, pack_of, at_second, dated, unpacked_at, unpack_of, Shows, IsFieldOf}
-use Rattle.time_local.proofs.Clocks.{clock_within, no_day, on-day, pack_by, unpack_by}
+use Rattle.time_local.proofs.Clocks.{clock_within, no_day, on_day_lem, pack_by, unpack_by}
 
 -- ---- a local moment and its date and time
 
 module _ (t : LocalTime) (m : Moment) where
-  moment-shows : Shows t m → local_moment t ≡ At m
-  moment-shows s = on-day t s.day s.clock ∙ ap (λ (n : ℕ). At (arrived m.day n)) (sym s.second)
+  moment_shows : Shows t m → local_moment t ≡ At m
+  moment_shows s = on_day_lem t s.day s.clock ∙ ap (λ (n : ℕ). At (arrived m.day n)) (sym s.second)
 
-  shows-moment : local_moment t ≡ At m → Shows t m
-  shows-moment e = on (day_of t.year t.month t.day) refl
+  shows_moment : local_moment t ≡ At m → Shows t m
+  shows_moment e = on (day_of t.year t.month t.day) refl
     where
       at : {n : ℕ} → day_of t.year t.month t.day ≡ Day n → (b : Bool) → is_clock t ≡ b → Shows t m
       at {n} d true c =
-          let q : arrived n (second_of t) ≡ m = cc (on-day t d c) in
+          let q : arrived n (second_of t) ≡ m = cc (on_day_lem t d c) in
           record { day = d ∙ ap (λ (x : Moment). Day x.day) q; clock = c; second = sym (ap (λ (x : Moment). x.second) q) }
-      at d false c = let z : ◌≡◌ {A = ℕ} 0 1 = cc (on-day t d c) in absurd (omega arith)
+      at d false c = let z : ◌≡◌ {A = ℕ} 0 1 = cc (on_day_lem t d c) in absurd (omega arith)
 
       on : (a : DayAnswer) → day_of t.year t.month t.day ≡ a → Shows t m
       on (Day n) d = at d (is_clock t) refl
       on (NoDay r) d = let z : ◌≡◌ {A = ℕ} 0 1 = cc (no_day t d) in absurd (omega arith)
 
-  dated-shows : Shows t m → dated (At m) ≡ LocalAt t
+  dated_shows : Shows t m → dated (At m) ≡ LocalAt t
   unfolding dated at_second second_of
-  dated-shows s =
+  dated_shows s =
       let c = clock_within t s.clock in
       let e = s.second in
       let h : m.second / 3600 ≡ t.hour = omega arith in
@@ -59,9 +59,9 @@ module _ (t : LocalTime) (m : Moment) where
       ap (at_second m.second) (date_of_day t.year t.month t.day m.day s.day)
       ∙ (λ i. LocalAt (record { year = t.year; month = t.month; day = t.day; hour = h i; minute = n i; second = q i }))
 
-  shows-dated : is_instant m ≡ true → dated (At m) ≡ LocalAt t → Shows t m
+  shows_dated : is_instant m ≡ true → dated (At m) ≡ LocalAt t → Shows t m
   unfolding dated at_second is_clock second_of
-  shows-dated i e = on (date_of m.day) refl e
+  shows_dated i e = on (date_of m.day) refl e
     where
       on : (a : DateAnswer) → date_of m.day ≡ a → at_second m.second a ≡ LocalAt t → Shows t m
       on (On date) d e =
@@ -98,13 +98,13 @@ module _ (t : LocalTime) (offset : ℤ) (f : ℕ) where
   unfolding packed_at written
   packs s =
       pack_by t offset s.is_local.offset_is
-      ∙ ap (packed_at offset) (moment-shows t s.local s.shows)
-      ∙ ap written ((utc-exactly s.local s.utc offset).1 s.is_local)
+      ∙ ap (packed_at offset) (moment_shows t s.local s.shows)
+      ∙ ap written ((utc_exactly s.local s.utc offset).1 s.is_local)
       ∙ s.written
 
-  packs-only : pack_of t offset ≡ Field f → IsFieldOf t offset f
+  packs_only : pack_of t offset ≡ Field f → IsFieldOf t offset f
   unfolding packed_at written
-  packs-only e = by (is_offset offset) refl
+  packs_only e = by (is_offset offset) refl
     where
       by : (b : Bool) → is_offset offset ≡ b → IsFieldOf t offset f
       by true o =
@@ -113,8 +113,8 @@ module _ (t : LocalTime) (offset : ℤ) (f : ℕ) where
           record {
             local = p.0;
             utc = w.0;
-            shows = shows-moment t p.0 p.1;
-            is_local = (utc-exactly p.0 w.0 offset).0 w.1;
+            shows = shows_moment t p.0 p.1;
+            is_local = (utc_exactly p.0 w.0 offset).0 w.1;
             written = w.2;
           }
       by false o = let z : ◌≡◌ {A = ℕ} 0 1 = cc (pack_by t offset o) in absurd (omega arith)
@@ -124,36 +124,36 @@ module _ (t : LocalTime) (offset : ℤ) (f : ℕ) where
   unpacks s =
       unpack_by f offset s.is_local.offset_is
       ∙ ap (unpacked_at offset) (reads_written s.utc 0 s.written)
-      ∙ ap dated ((local-exactly s.local s.utc offset).1 s.is_local)
-      ∙ dated-shows t s.local s.shows
+      ∙ ap dated ((local_exactly s.local s.utc offset).1 s.is_local)
+      ∙ dated_shows t s.local s.shows
 
-  unpacks-only : unpack_of f offset ≡ LocalAt t → IsFieldOf t offset f
+  unpacks_only : unpack_of f offset ≡ LocalAt t → IsFieldOf t offset f
   unfolding unpacked_at dated
-  unpacks-only e = by (is_offset offset) refl
+  unpacks_only e = by (is_offset offset) refl
     where
       by : (b : Bool) → is_offset offset ≡ b → IsFieldOf t offset f
       by true o =
           let p = handed (unpacked_at offset) (LocalAt t) (λ r. no_time r t) (read_time f 0) (sym (unpack_by f offset o) ∙ e) in
           let w = handed dated (LocalAt t) (λ r. no_time r t) (to_local p.0 offset) p.2 in
-          let i = (local-exactly w.0 p.0 offset).0 w.1 in
+          let i = (local_exactly w.0 p.0 offset).0 w.1 in
           record {
             local = w.0;
             utc = p.0;
-            shows = shows-dated t w.0 i.local_is w.2;
+            shows = shows_dated t w.0 i.local_is w.2;
             is_local = i;
             written = writes_read f 0 p.1;
           }
       by false o = let z : ◌≡◌ {A = ℕ} 0 1 = cc (unpack_by f offset o) in absurd (omega arith)
 
   pub packs_exactly : (pack_of t offset ≡ Field f) ↔ IsFieldOf t offset f
-  packs_exactly = (packs-only, packs)
+  packs_exactly = (packs_only, packs)
 
   pub unpacks_exactly : (unpack_of f offset ≡ LocalAt t) ↔ IsFieldOf t offset f
-  unpacks_exactly = (unpacks-only, unpacks)
+  unpacks_exactly = (unpacks_only, unpacks)
 
   -- a packed local time is unpacked as it was, and an unpacked field packed as it was
-  pub unpack-packed : pack_of t offset ≡ Field f → unpack_of f offset ≡ LocalAt t
-  unpack-packed e = unpacks (packs-only e)
+  pub unpack_packed : pack_of t offset ≡ Field f → unpack_of f offset ≡ LocalAt t
+  unpack_packed e = unpacks (packs_only e)
 
-  pub pack-unpacked : unpack_of f offset ≡ LocalAt t → pack_of t offset ≡ Field f
-  pack-unpacked e = packs (unpacks-only e)
+  pub pack_unpacked : unpack_of f offset ≡ LocalAt t → pack_of t offset ≡ Field f
+  pack_unpacked e = packs (unpacks_only e)

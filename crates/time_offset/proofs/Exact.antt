@@ -25,10 +25,10 @@ record Later (m n : Moment) (minutes : ℤ) : Type 0 where
 
 -- the day and the second moved to are those of a moment so many minutes later
 module _ (m n : Moment) (minutes : ℤ) where
-  later-from : day_moved m minutes ≡ pos n.day → second_moved m minutes ≡ n.second
+  later_from : day_moved m minutes ≡ pos n.day → second_moved m minutes ≡ n.second
       → is_instant m ≡ true → is_instant n ≡ true → Later m n minutes
   unfolding day_moved second_moved minute_moved
-  later-from d s a b =
+  later_from d s a b =
       let z = pos (m.second / 60) +ℤ minutes in
       let q = floor_div z 1440 in
       let e = subst (λ (y : ℤ). Difference y (m.day + up q) (0 + down q)) d (sum (pos m.day) q) in
@@ -41,9 +41,9 @@ module _ (m n : Moment) (minutes : ℤ) where
         seconds_are = omega (arith, s);
       }
 
-  later-to : Later m n minutes → (day_moved m minutes ≡ pos n.day) × (second_moved m minutes ≡ n.second)
+  later_to : Later m n minutes → (day_moved m minutes ≡ pos n.day) × (second_moved m minutes ≡ n.second)
   unfolding day_moved second_moved minute_moved
-  later-to l =
+  later_to l =
       let z = pos (m.second / 60) +ℤ minutes in
       let e =
       subst (λ (y : ℤ). Difference y (minutes_of m + up minutes) (0 + down minutes)) (sym l.minutes_are)
@@ -66,7 +66,7 @@ outcome m minutes = from (is_instant m) refl
   where
     to : (d : ℕ) → is_instant m ≡ true → day_moved m minutes ≡ pos d
         → (t : Bool) → is_instant (arrived d (second_moved m minutes)) ≡ t → Outcome m minutes
-    to d a e true b = there (arrived d (second_moved m minutes)) (later-from _ _ _ e refl a b) (moved_to m minutes d a e b)
+    to d a e true b = there (arrived d (second_moved m minutes)) (later_from _ _ _ e refl a b) (moved_to m minutes d a e b)
     to d a e false b = nowhere (moved_to m minutes d a e b)
 
     on : is_instant m ≡ true → (z : ℤ) → day_moved m minutes ≡ z → Outcome m minutes
@@ -86,7 +86,7 @@ moved_later m n minutes e = by (outcome m minutes)
 
 later_moved : (m n : Moment) (minutes : ℤ) → Later m n minutes → moved m minutes ≡ At n
 later_moved m n minutes l =
-    let d = later-to m n minutes l in
+    let d = later_to m n minutes l in
     moved_to m minutes n.day l.from d.0 (ap (λ (s : ℕ). is_instant (arrived n.day s)) d.1 ∙ l.to)
     ∙ ap (λ (s : ℕ). At (arrived n.day s)) d.1
 
@@ -99,15 +99,15 @@ module _ (offset : ℤ) (m : Moment) (minutes : ℤ) (answer : Timed)
   answers : {n : Moment} → is_offset offset ≡ true → Later m n minutes → answer ≡ At n
   answers {n} o l = by o ∙ later_moved m n minutes l
 
-  answers-only : {n : Moment} → answer ≡ At n → (is_offset offset ≡ true) × Later m n minutes
-  answers-only {n} e = at (is_offset offset) refl
+  answers_only : {n : Moment} → answer ≡ At n → (is_offset offset ≡ true) × Later m n minutes
+  answers_only {n} e = at (is_offset offset) refl
     where
       at : (t : Bool) → is_offset offset ≡ t → (is_offset offset ≡ true) × Later m n minutes
       at true o = (o, moved_later m n minutes (sym (by o) ∙ e))
       at false o = let z : ◌≡◌ {A = ℕ} 0 1 = cc (by o) in absurd (omega arith)
 
-  answers-none : is_offset offset ≡ true → ((n : Moment) → Later m n minutes → ⊥) → answer ≡ Refused (ImpossibleDay 0)
-  answers-none o none = at (outcome m minutes)
+  answers_none : is_offset offset ≡ true → ((n : Moment) → Later m n minutes → ⊥) → answer ≡ Refused (ImpossibleDay 0)
+  answers_none o none = at (outcome m minutes)
     where
       at : Outcome m minutes → answer ≡ Refused (ImpossibleDay 0)
       at (there n l p) = absurd (none n l)
@@ -120,8 +120,8 @@ module _ (l u : Moment) (offset : ℤ) where
   is_local o k =
       record { offset_is = o; local_is = k.to; utc_is = k.from; minutes_are = k.minutes_are; seconds_are = k.seconds_are }
 
-  later-back : Later l u (neg_ℤ offset) → Later u l offset
-  later-back k =
+  later_back : Later l u (neg_ℤ offset) → Later u l offset
+  later_back k =
       record {
         from = k.to;
         to = k.from;
@@ -129,12 +129,12 @@ module _ (l u : Moment) (offset : ℤ) where
         seconds_are = sym k.seconds_are;
       }
 
-  later-local : IsLocal l u offset → Later u l offset
-  later-local i =
+  later_local : IsLocal l u offset → Later u l offset
+  later_local i =
       record { from = i.utc_is; to = i.local_is; minutes_are = i.minutes_are; seconds_are = i.seconds_are }
 
-  later-utc : IsLocal l u offset → Later l u (neg_ℤ offset)
-  later-utc i =
+  later_utc : IsLocal l u offset → Later l u (neg_ℤ offset)
+  later_utc i =
       record {
         from = i.local_is;
         to = i.utc_is;
@@ -143,32 +143,32 @@ module _ (l u : Moment) (offset : ℤ) where
       }
 
   -- local to UTC answers exactly the UTC moment whose local one is given, and UTC to local exactly the local one
-  pub utc-exactly : (to_utc l offset ≡ At u) ↔ IsLocal l u offset
-  utc-exactly = (
-    λ e. let a = answers-only offset l (neg_ℤ offset) _ (utc_by l offset refl) e in is_local a.0 (later-back a.1),
-    λ i. answers offset l (neg_ℤ offset) _ (utc_by l offset refl) i.offset_is (later-utc i),
+  pub utc_exactly : (to_utc l offset ≡ At u) ↔ IsLocal l u offset
+  utc_exactly = (
+    λ e. let a = answers_only offset l (neg_ℤ offset) _ (utc_by l offset refl) e in is_local a.0 (later_back a.1),
+    λ i. answers offset l (neg_ℤ offset) _ (utc_by l offset refl) i.offset_is (later_utc i),
   )
 
-  pub local-exactly : (to_local u offset ≡ At l) ↔ IsLocal l u offset
-  local-exactly = (
-    λ e. let a = answers-only offset u offset _ (local_by u offset refl) e in is_local a.0 a.1,
-    λ i. answers offset u offset _ (local_by u offset refl) i.offset_is (later-local i),
+  pub local_exactly : (to_local u offset ≡ At l) ↔ IsLocal l u offset
+  local_exactly = (
+    λ e. let a = answers_only offset u offset _ (local_by u offset refl) e in is_local a.0 a.1,
+    λ i. answers offset u offset _ (local_by u offset refl) i.offset_is (later_local i),
   )
 
   -- there and back, for every moment and offset whose two days lie in range
-  pub utc-back : to_utc l offset ≡ At u → to_local u offset ≡ At l
-  utc-back e = local-exactly.1 (utc-exactly.0 e)
+  pub utc_back : to_utc l offset ≡ At u → to_local u offset ≡ At l
+  utc_back e = local_exactly.1 (utc_exactly.0 e)
 
   pub local_back : to_local u offset ≡ At l → to_utc l offset ≡ At u
-  local_back e = utc-exactly.1 (local-exactly.0 e)
+  local_back e = utc_exactly.1 (local_exactly.0 e)
 
 -- at an offset, either direction refuses with 20 where there is no such moment
 pub utc_none : (l : Moment) (offset : ℤ) → is_offset offset ≡ true → ((u : Moment) → IsLocal l u offset → ⊥)
     → to_utc l offset ≡ Refused (ImpossibleDay 0)
 utc_none l offset o none =
-    answers-none offset l (neg_ℤ offset) _ (utc_by l offset refl) o (λ u k. none u (is_local l u offset o (later-back l u offset k)))
+    answers_none offset l (neg_ℤ offset) _ (utc_by l offset refl) o (λ u k. none u (is_local l u offset o (later_back l u offset k)))
 
 pub local_none : (u : Moment) (offset : ℤ) → is_offset offset ≡ true → ((l : Moment) → IsLocal l u offset → ⊥)
     → to_local u offset ≡ Refused (ImpossibleDay 0)
 local_none u offset o none =
-    answers-none offset u offset _ (local_by u offset refl) o (λ l k. none l (is_local l u offset o k))
+    answers_none offset u offset _ (local_by u offset refl) o (λ l k. none l (is_local l u offset o k))

@@ -57,24 +57,24 @@ day_to m minutes = m.day + up (floor_div (minute_moved m minutes) 1440) - down (
 
 -- where an instant comes to in less than a day
 module _ (m : Moment) (minutes : ℤ) (i : Instant m) (short : mag minutes < 1440) where
-  pub minute-size : mag (minute_moved m minutes) < 2880
+  pub minute_size : mag (minute_moved m minutes) < 2880
   unfolding minute_moved
-  minute-size =
+  minute_size =
       let p = parts minutes in
       size _ (sum (pos (m.second / 60)) minutes) (omega arith) (omega arith)
 
   -- so few minutes are few days
-  pub days-size : mag (floor_div (minute_moved m minutes) 1440) < 2880
-  days-size = omega (arith, minute-size, no_larger (minute_moved m minutes))
+  pub days_size : mag (floor_div (minute_moved m minutes) 1440) < 2880
+  days_size = omega (arith, minute_size, no_larger (minute_moved m minutes))
 
-  pub day-to : day_moved m minutes ≡ pos (day_to m minutes)
+  pub day_to_lem : day_moved m minutes ≡ pos (day_to m minutes)
   unfolding day_moved
-  day-to =
+  day_to_lem =
       same _ _ (sum (pos m.day) (floor_div (minute_moved m minutes) 1440))
-      (record { is = omega (arith, days-size, parts (floor_div (minute_moved m minutes) 1440)) })
+      (record { is = omega (arith, days_size, parts (floor_div (minute_moved m minutes) 1440)) })
 
-  pub day-small : day_to m minutes < 2 ^ 31
-  day-small = omega (arith, days-size, parts (floor_div (minute_moved m minutes) 1440))
+  pub day_small : day_to m minutes < 2 ^ 31
+  day_small = omega (arith, days_size, parts (floor_div (minute_moved m minutes) 1440))
 
 -- what is answered: 20 where it starts outside the range or comes to be outside it
 pub moved_outside : (m : Moment) (minutes : ℤ) → is_instant m ≡ false → moved m minutes ≡ Refused (ImpossibleDay 0)

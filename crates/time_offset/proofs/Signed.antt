@@ -93,11 +93,11 @@ not_below (pos a) e = (a, refl)
 not_below (negsuc a) e = absurd (true≢false e)
 
 module _ (w : Width) (z : ℤ) (f : SFits w z) where
-  pub known-below : lt_z (to_z w (of_z w z)) (pos 0) ≡ true → (k : ℕ) × Known w z (negsuc k)
-  known-below e = let b = below z (ap (λ (y : ℤ). lt_z y (pos 0)) (sym (to_z-of_z f)) ∙ e) in (b.0, given f b.1)
+  pub known_below : lt_z (to_z w (of_z w z)) (pos 0) ≡ true → (k : ℕ) × Known w z (negsuc k)
+  known_below e = let b = below z (ap (λ (y : ℤ). lt_z y (pos 0)) (sym (to_z-of_z f)) ∙ e) in (b.0, given f b.1)
 
-  pub known-from-0 : lt_z (to_z w (of_z w z)) (pos 0) ≡ false → (k : ℕ) × Known w z (pos k)
-  known-from-0 e = let b = not_below z (ap (λ (y : ℤ). lt_z y (pos 0)) (sym (to_z-of_z f)) ∙ e) in (b.0, given f b.1)
+  pub known_from_0 : lt_z (to_z w (of_z w z)) (pos 0) ≡ false → (k : ℕ) × Known w z (pos k)
+  known_from_0 e = let b = not_below z (ap (λ (y : ℤ). lt_z y (pos 0)) (sym (to_z-of_z f)) ∙ e) in (b.0, given f b.1)
 
 -- a number is at least another where it is not below it
 pub not_below_le : (x y : ℤ) (t : Bool) → lt_z x y ≡ t → le_z y x ≡ not t

@@ -49,29 +49,29 @@ module _ (s out : List ℕ) where
 -- ---- what is printed
 
 module _ (field : ℕ) (offset : ℤ) where
-  pub start-at : (t : LocalTime) → unpack_of field offset ≡ At t → start_text field offset ≡ prints (text_of t)
+  pub start_at : (t : LocalTime) → unpack_of field offset ≡ At t → start_text field offset ≡ prints (text_of t)
   unfolding start_text local_text
-  start-at t e = rw e
+  start_at t e = rw e
 
-  pub start-refused : (r : Refusal) → unpack_of field offset ≡ NotUnpacked r → start_text field offset ≡ refuses r
+  pub start_refused : (r : Refusal) → unpack_of field offset ≡ NotUnpacked r → start_text field offset ≡ refuses r
   unfolding start_text local_text
-  start-refused r e = rw e
+  start_refused r e = rw e
 
-  pub end-no-offset : is_offset offset ≡ false → end_text field offset ≡ refuses (OutsideSet 0)
+  pub end_no_offset : is_offset offset ≡ false → end_text field offset ≡ refuses (OutsideSet 0)
   unfolding end_text
-  end-no-offset o = rw o
+  end_no_offset o = rw o
 
   pub end_live : is_offset offset ≡ true → field ≡ live_mark → end_text field offset ≡ prints live_text
   unfolding end_text
   end_live o e = rw (o, eq-eqb field live_mark e)
 
-  pub end-other : is_offset offset ≡ true → (field ≡ live_mark → ⊥) → end_text field offset ≡ start_text field offset
+  pub end_other : is_offset offset ≡ true → (field ≡ live_mark → ⊥) → end_text field offset ≡ start_text field offset
   unfolding end_text
-  end-other o n = rw (o, ne_eqb field live_mark n)
+  end_other o n = rw (o, ne_eqb field live_mark n)
 
   -- a local time that was unpacked has a date of the range and a time of day
-  pub unpacked-typable : (t : LocalTime) → unpack_of field offset ≡ At t → Typable t
-  unpacked-typable t e =
+  pub unpacked_typable : (t : LocalTime) → unpack_of field offset ≡ At t → Typable t
+  unpacked_typable t e =
       let i = (unpacks_exactly t offset field).0 e in
       let d = date_within i.local.day _ (date_of_day t.year t.month t.day i.local.day i.shows.day) in
       let c = clock_within t i.shows.clock in

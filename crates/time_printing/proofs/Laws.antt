@@ -21,12 +21,12 @@ use Rattle.time_local.specs.declared.Unpacked.TheVariants.{At, Refused as NotUnp
 use Rattle.time_local.proofs.Characters.{reads_text, text_accepted}
 use Rattle.time_local.proofs.Clocks.{unpack_by}
 use Rattle.time_local.proofs.Forms.{no_offset, by_form}
-use Rattle.time_local.proofs.RoundTrip.{pack-unpacked}
+use Rattle.time_local.proofs.RoundTrip.{pack_unpacked}
 use Rattle.time_printing.specs.declared.TypedTimes.TheVariants.{Fields}
 use Rattle.time_printing.specs.Printing.{live_text, refuses, prints, local_text, start_text, end_text}
 use Rattle.time_printing.specs.Typing.{end_typed, with_end, together, typed_times}
 use Rattle.time_printing.specs.Promised.{PrintsAsTyped}
-use Rattle.time_printing.proofs.Calls.{start-at, end_live, end-other, end-no-offset, unpacked-typable}
+use Rattle.time_printing.proofs.Calls.{start_at, end_live, end_other, end_no_offset, unpacked_typable}
 
 prints_same : {s t : List ℕ} → prints s ≡ prints t → s ≡ t
 prints_same e = cc
@@ -37,21 +37,21 @@ not_printed e = absurd (let z : ◌≡◌ {A = ℕ} 0 1 = cc in omega arith)
 -- ---- a start
 
 module _ (offset : ℤ) (field : ℕ) where
-  pub typed-prints : (s : List ℕ) → read_text s offset ≡ Field field → start_text field offset ≡ prints s
-  typed-prints s e =
+  pub typed_prints : (s : List ℕ) → read_text s offset ≡ Field field → start_text field offset ≡ prints s
+  typed_prints s e =
       let i = text_accepted s offset field e in
-      start-at field offset i.time i.unpacks ∙ ap prints (sym i.characters)
+      start_at field offset i.time i.unpacks ∙ ap prints (sym i.characters)
 
   -- what is printed is the characters of the local time that the field unpacks to
-  printed-time : (s : List ℕ) (u : Unpacked) → unpack_of field offset ≡ u → local_text u ≡ prints s → read_text s offset ≡ Field field
+  printed_time : (s : List ℕ) (u : Unpacked) → unpack_of field offset ≡ u → local_text u ≡ prints s → read_text s offset ≡ Field field
   unfolding local_text
-  printed-time s (At t) q e =
-      ap (λ x. read_text x offset) (sym (prints_same e)) ∙ reads_text t (unpacked-typable field offset t q) offset ∙ pack-unpacked t offset field q
-  printed-time s (NotUnpacked r) q e = not_printed e
+  printed_time s (At t) q e =
+      ap (λ x. read_text x offset) (sym (prints_same e)) ∙ reads_text t (unpacked_typable field offset t q) offset ∙ pack_unpacked t offset field q
+  printed_time s (NotUnpacked r) q e = not_printed e
 
-  pub printed-reads : (s : List ℕ) → start_text field offset ≡ prints s → read_text s offset ≡ Field field
+  pub printed_reads : (s : List ℕ) → start_text field offset ≡ prints s → read_text s offset ≡ Field field
   unfolding start_text
-  printed-reads s e = printed-time s (unpack_of field offset) refl e
+  printed_reads s e = printed_time s (unpack_of field offset) refl e
 
 -- the live mark is no start: 18
 pub no_start : (offset : ℤ) (s : List ℕ) → start_text live_mark offset ≡ prints s → ⊥
@@ -73,30 +73,30 @@ not_live offset field e =
 -- ---- an end
 
 module _ (offset : ℤ) (field : ℕ) where
-  pub typed-prints-end : (s : List ℕ) → read_text s offset ≡ Field field → end_text field offset ≡ prints s
-  typed-prints-end s e = by (is_offset offset) refl
+  pub typed_prints_end : (s : List ℕ) → read_text s offset ≡ Field field → end_text field offset ≡ prints s
+  typed_prints_end s e = by (is_offset offset) refl
     where
       by : (b : Bool) → is_offset offset ≡ b → end_text field offset ≡ prints s
       by true o =
-          end-other field offset o (λ l. no_start offset s (ap (λ x. start_text x offset) (sym l) ∙ typed-prints offset field s e))
-          ∙ typed-prints offset field s e
+          end_other field offset o (λ l. no_start offset s (ap (λ x. start_text x offset) (sym l) ∙ typed_prints offset field s e))
+          ∙ typed_prints offset field s e
       by false o = absurd (let z : ◌≡◌ {A = ℕ} 0 1 = cc (no_offset s offset o) in omega arith)
 
   -- nothing else prints as live
-  pub live-only : end_text field offset ≡ prints live_text → (is_offset offset ≡ true) × (field ≡ live_mark)
-  live-only e = by (is_offset offset) refl
+  pub live_only : end_text field offset ≡ prints live_text → (is_offset offset ≡ true) × (field ≡ live_mark)
+  live_only e = by (is_offset offset) refl
     where
       on : (b : Bool) → is_offset offset ≡ true → eqb field live_mark ≡ b → (is_offset offset ≡ true) × (field ≡ live_mark)
       on true o q = (o, eqb-true field live_mark q)
       on false o q =
-          absurd (not_live offset field (printed-reads offset field live_text (sym (end-other field offset o (eqb-false field live_mark q)) ∙ e)))
+          absurd (not_live offset field (printed_reads offset field live_text (sym (end_other field offset o (eqb-false field live_mark q)) ∙ e)))
 
       by : (b : Bool) → is_offset offset ≡ b → (is_offset offset ≡ true) × (field ≡ live_mark)
       by true o = on (eqb field live_mark) o refl
-      by false o = not_printed (sym (end-no-offset field offset o) ∙ e)
+      by false o = not_printed (sym (end_no_offset field offset o) ∙ e)
 
   pub start_not_live : start_text field offset ≡ prints live_text → ⊥
-  start_not_live e = not_live offset field (printed-reads offset field live_text e)
+  start_not_live e = not_live offset field (printed_reads offset field live_text e)
 
 -- ---- both
 
@@ -134,9 +134,9 @@ live_not_typed offset o = by_form live_text offset o refl
 pub prints_as_typed : PrintsAsTyped
 prints_as_typed =
     record {
-      start_exactly = λ s offset field. (printed-reads offset field s, typed-prints offset field s);
-      end_typed_lem = λ s offset field. typed-prints-end offset field s;
-      live_exactly = λ offset field. (live-only offset field, λ x. end_live field offset x.0 x.1);
+      start_exactly = λ s offset field. (printed_reads offset field s, typed_prints offset field s);
+      end_typed_lem = λ s offset field. typed_prints_end offset field s;
+      live_exactly = λ offset field. (live_only offset field, λ x. end_live field offset x.0 x.1);
       start_not_live = start_not_live;
       live_not_typed = live_not_typed;
     }

@@ -10,7 +10,7 @@ use Rattle.time_offset.specs.Offset.{is_offset}
 use Rattle.time_local.specs.Clock.{unpacked_at, unpack_of}
 use Rattle.time_local.proofs.Values as local
 use Rattle.time_printing.specs.Printing.{live_text, refuses, prints, local_text, start_text, end_text, fitting}
-use Rattle.time_printing.proofs.Laws.{typed-prints}
+use Rattle.time_printing.proofs.Laws.{typed_prints}
 
 -- 03/11/2024 07:45:00
 abbrev third_november : List ℕ
@@ -30,4 +30,4 @@ pub values :
     × (fitting 3 (end_text live_mark (pos 0)) ≡ refuses OutputTooSmall)
     × (fitting 4 (end_text live_mark (pos 0)) ≡ prints live_text)
 unfolding start_text end_text local_text live_text fitting unpack_of unpacked_at is_offset read_time is_decimal decimal_pair possible worth in_range
-values = (typed-prints (pos 480) 0xECC8234500 third_november (local.values).0, refl, refl, refl, refl, refl, refl, refl, refl)
+values = (typed_prints (pos 480) 0xECC8234500 third_november (local.values).0, refl, refl, refl, refl, refl, refl, refl, refl)

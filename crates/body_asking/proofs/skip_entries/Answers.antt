@@ -1,7 +1,7 @@
 -- `body_asking::skip_entries` meets its contract: what is left of n entries from here ends where all n do.
 use mathlib.Core.Path.{◌≡◌, sym, ◌∙◌}
 use Rattle.body_formats.specs.Answers.{ended_all}
-use Rattle.body_formats.proofs.Readers.{all_done, all-stop, all_go}
+use Rattle.body_formats.proofs.Readers.{all_done, all_stop, all_go}
 use Rattle.body_asking.specs.Asking.{headed_part}
 use native.Mathlib.Omega.{arith}
 use borrow.Author.Rules.{rules}
@@ -9,7 +9,7 @@ use Rattle.body_asking.proofs.skip_entries.Goals as goal
 
 pub returns-in-Refused : goal.returns-in-Refused
 returns-in-Refused c = let v = c.loop-left in
-    all-stop _ _ _ _ v.left _ c.loop-left-test.true (sym c.in-Refused.is ∙ c.skip_entry.ensures) ∙ sym v.invariant
+    all_stop _ _ _ _ v.left _ c.loop-left-test.true (sym c.in-Refused.is ∙ c.skip_entry.ensures) ∙ sym v.invariant
 
 pub loop-left-preserved : goal.loop-left-preserved
 loop-left-preserved c = let v = c.loop-left in

@@ -1,7 +1,7 @@
 -- `body_asking::skip_entries` meets its contract: what is left of n entries from here ends where all n do.
 use mathlib.Core.Path.{◌≡◌, sym, ◌∙◌}
 use Rattle.body_formats.specs.Answers.{ended_all}
-use Rattle.body_formats.proofs.Readers.{all_done, all-stop, all_go}
+use Rattle.body_formats.proofs.Readers.{all_done, all_stop, all_go}
 use Rattle.body_asking.specs.Asking.{headed_part}
 use native.Mathlib.Omega.{arith}
 use borrow.Author.Rules.{rules}

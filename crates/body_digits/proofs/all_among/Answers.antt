@@ -5,7 +5,7 @@ use mathlib.Core.Bool.{◌&&◌}
 use lib.ListN.{take, drop}
 use lib.Dec.{leb}
 use Rattle.body_formats.specs.Format.{every}
-use Rattle.body_formats.proofs.Strings.{every_start, every-done, bytes_below, bytes-above, bytes_next}
+use Rattle.body_formats.proofs.Strings.{every_start, every_done, bytes_below, bytes_above, bytes_next}
 use native.Mathlib.Omega.{arith}
 use borrow.Author.Rules.{rules}
 use Rattle.body_digits.proofs.all_among.Goals as goal
@@ -17,10 +17,10 @@ pub returns-then-b-lo : goal.returns-then-b-lo
 returns-then-b-lo c = let v = c.loop-k in bytes_below _ _ _ v.k _ _ v.invariant (omega arith) (omega arith) (omega arith)
 
 pub returns-then-hi-b : goal.returns-then-hi-b
-returns-then-hi-b c = let v = c.loop-k in bytes-above _ _ _ v.k _ _ v.invariant (omega arith) (omega arith) (omega arith) (omega arith)
+returns-then-hi-b c = let v = c.loop-k in bytes_above _ _ _ v.k _ _ v.invariant (omega arith) (omega arith) (omega arith) (omega arith)
 
 pub loop-k-preserved : goal.loop-k-preserved
 loop-k-preserved c = let v = c.loop-k in bytes_next _ _ _ v.k _ _ v.invariant (omega arith) (omega arith) (omega arith) (omega arith)
 
 pub returns : goal.returns
-returns c = let v = c.loop-k in every-done _ _ v.k _ _ v.invariant (omega arith)
+returns c = let v = c.loop-k in every_done _ _ v.k _ _ v.invariant (omega arith)

@@ -5,7 +5,7 @@ use mathlib.Core.Bool.{◌&&◌}
 use lib.ListN.{take, drop}
 use lib.Dec.{leb}
 use Rattle.body_formats.specs.Format.{every}
-use Rattle.body_formats.proofs.Strings.{every_start, every-done, bytes_below, bytes-above, bytes_next}
+use Rattle.body_formats.proofs.Strings.{every_start, every_done, bytes_below, bytes_above, bytes_next}
 use native.Mathlib.Omega.{arith}
 use borrow.Author.Rules.{rules}
 use Rattle.body_digits.proofs.all_among.Given as goal

@@ -5,7 +5,7 @@ use mathlib.Core.Bool.{true}
 use native.Mathlib.Omega.{arith}
 use borrow.Author.Tests.{not-true, not-false}
 use Rattle.body_formats.specs.Format.{halves, decimal}
-use Rattle.body_digits.proofs.Digits.{digits_at, digits-fail, digits-further, digits_last}
+use Rattle.body_digits.proofs.Digits.{digits_at, digits_fail, digits_further, digits_last}
 use Rattle.body_digits.proofs.all_decimal.Goals as goal
 
 pub loop-j-init : goal.loop-j-init
@@ -28,7 +28,7 @@ pub returns-then-not-eight : goal.returns-then-not-eight
 unfolding decimal halves
 returns-then-not-eight c = let given = c.args in
     let v = c.loop-j in
-    sym (digits-fail given.s.now given.p given.n v.j v.invariant.1 8 (omega arith) (sym c.eight.ensures ∙ not-true _ c.if-not-eight.true-raw))
+    sym (digits_fail given.s.now given.p given.n v.j v.invariant.1 8 (omega arith) (sym c.eight.ensures ∙ not-true _ c.if-not-eight.true-raw))
 
 pub overflow_add-j : goal.overflow_add-j
 unfolding decimal halves
@@ -42,7 +42,7 @@ pub loop-j-preserved : goal.loop-j-preserved
 unfolding decimal halves
 loop-j-preserved c = let given = c.args in
     let v = c.loop-j in
-    (omega arith, digits-further given.s.now given.p given.n v.j v.invariant.1 8 (sym c.eight.ensures ∙ not-false _ c.if-not-eight.false-raw))
+    (omega arith, digits_further given.s.now given.p given.n v.j v.invariant.1 8 (sym c.eight.ensures ∙ not-false _ c.if-not-eight.false-raw))
 
 pub overflow_add-p-then-n-ge8 : goal.overflow_add-p-then-n-ge8
 unfolding decimal halves

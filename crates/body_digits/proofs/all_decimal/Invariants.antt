@@ -5,7 +5,7 @@ use mathlib.Core.Bool.{true}
 use native.Mathlib.Omega.{arith}
 use borrow.Author.Tests.{not-true, not-false}
 use Rattle.body_formats.specs.Format.{halves, decimal}
-use Rattle.body_digits.proofs.Digits.{digits_at, digits-fail, digits-further, digits_last}
+use Rattle.body_digits.proofs.Digits.{digits_at, digits_fail, digits_further, digits_last}
 use Rattle.body_digits.proofs.all_decimal.Given as goal
 
 abbrev pub invariant-loop-j : goal.invariant-loop-j

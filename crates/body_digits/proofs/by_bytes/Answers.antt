@@ -5,7 +5,7 @@ use mathlib.Core.Bool.{true}
 use native.Mathlib.Omega.{arith}
 use borrow.Author.Tests.{not-true, not-false}
 use Rattle.body_formats.specs.Format.{halves, decimal}
-use Rattle.body_digits.proofs.Digits.{digits_at, digits-fail, digits-further}
+use Rattle.body_digits.proofs.Digits.{digits_at, digits_fail, digits_further}
 use Rattle.body_digits.proofs.by_bytes.Goals as goal
 
 pub loop-k-init : goal.loop-k-init
@@ -24,7 +24,7 @@ pub returns-then-not-one : goal.returns-then-not-one
 unfolding decimal halves
 returns-then-not-one c = let given = c.args in
     let v = c.loop-k in
-    sym (digits-fail given.s.now given.p given.n v.k v.invariant.1 1 (omega arith) (sym c.one.ensures ∙ not-true _ c.if-not-one.true-raw))
+    sym (digits_fail given.s.now given.p given.n v.k v.invariant.1 1 (omega arith) (sym c.one.ensures ∙ not-true _ c.if-not-one.true-raw))
 
 pub overflow_add-k : goal.overflow_add-k
 unfolding decimal halves
@@ -38,7 +38,7 @@ pub loop-k-preserved : goal.loop-k-preserved
 unfolding decimal halves
 loop-k-preserved c = let given = c.args in
     let v = c.loop-k in
-    (omega arith, digits-further given.s.now given.p given.n v.k v.invariant.1 1 (sym c.one.ensures ∙ not-false _ c.if-not-one.false-raw))
+    (omega arith, digits_further given.s.now given.p given.n v.k v.invariant.1 1 (sym c.one.ensures ∙ not-false _ c.if-not-one.false-raw))
 
 pub returns : goal.returns
 unfolding decimal halves

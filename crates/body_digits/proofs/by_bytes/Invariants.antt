@@ -5,7 +5,7 @@ use mathlib.Core.Bool.{true}
 use native.Mathlib.Omega.{arith}
 use borrow.Author.Tests.{not-true, not-false}
 use Rattle.body_formats.specs.Format.{halves, decimal}
-use Rattle.body_digits.proofs.Digits.{digits_at, digits-fail, digits-further}
+use Rattle.body_digits.proofs.Digits.{digits_at, digits_fail, digits_further}
 use Rattle.body_digits.proofs.by_bytes.Given as goal
 
 abbrev pub invariant-loop-k : goal.invariant-loop-k

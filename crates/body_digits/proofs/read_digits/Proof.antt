@@ -1,6 +1,6 @@
 -- `body_digits::read_digits` meets its contract: the first byte, then the whole field, then its digits are tested as the definition does.
 use mathlib.Core.Path.{sym, ◌∙◌}
-use Rattle.body_formats.proofs.Strings.{end-in, digits-no, digits-17, digits-past, digits-18-first, digits-18-later, digits_of}
+use Rattle.body_formats.proofs.Strings.{end_in, digits_no, digits_17, digits_past, digits_18_first, digits_18_later, digits_of}
 use native.Mathlib.Omega.{arith}
 use borrow.Author.Rules.{rules}
 use Rattle.body_digits.proofs.read_digits.Statement.{statement}
@@ -21,25 +21,25 @@ read_digits_spec =
     (λ c. search rules)
     (λ c. search rules)
     (λ c. let first : tie.In-At = search in
-    omega (arith, (end-in _ _ _ _ _ (sym first.in-At.is ∙ first.before.field_end.ensures)).1))
+    omega (arith, (end_in _ _ _ _ _ (sym first.in-At.is ∙ first.before.field_end.ensures)).1))
     (λ c. let first : tie.In-At = search in
-    digits-17 _ _ _ _ _ (sym first.in-At.is ∙ first.before.field_end.ensures) (omega arith))
+    digits_17 _ _ _ _ _ (sym first.in-At.is ∙ first.before.field_end.ensures) (omega arith))
     (λ c κs. search rules)
     (λ c. search rules)
     (λ c. search rules)
     (λ c. let whole : tie.In-At-field_end = search in
     let first = first_of whole in
-    digits-18-first _ _ _ _ _ (sym first.in-At.is ∙ first.before.field_end.ensures)
+    digits_18_first _ _ _ _ _ (sym first.in-At.is ∙ first.before.field_end.ensures)
     (λ i. (first.before.before.shared_slice_known-1.given i).fits) (omega arith) _
     (sym whole.in-At-field_end.is ∙ whole.before.field_end-in-At.ensures) (omega arith))
     (λ c κs. let whole : tie.In-At-field_end = search in
-    (end-in _ _ _ _ _ (sym whole.in-At-field_end.is ∙ whole.before.field_end-in-At.ensures)).1)
+    (end_in _ _ _ _ _ (sym whole.in-At-field_end.is ∙ whole.before.field_end-in-At.ensures)).1)
     (λ c. let whole : tie.In-At-field_end = search in
     let first = first_of whole in
     omega (
       arith,
-      (end-in _ _ _ _ _ (sym first.in-At.is ∙ first.before.field_end.ensures)).0,
-      (end-in _ _ _ _ _ (sym whole.in-At-field_end.is ∙ whole.before.field_end-in-At.ensures)).0,
+      (end_in _ _ _ _ _ (sym first.in-At.is ∙ first.before.field_end.ensures)).0,
+      (end_in _ _ _ _ _ (sym whole.in-At-field_end.is ∙ whole.before.field_end-in-At.ensures)).0,
     ))
     (λ c. let whole : tie.In-At-field_end = search in
     let first = first_of whole in
@@ -47,15 +47,15 @@ read_digits_spec =
     (λ i. (first.before.before.shared_slice_known-1.given i).fits) (omega arith) _
     (sym whole.in-At-field_end.is ∙ whole.before.field_end-in-At.ensures) (omega arith)
     (sym c.before.all_decimal.ensures ∙ c.if-all_decimal.true))
-    (λ c. digits-no _ _ _ _ _ (sym c.in-Refused.is ∙ c.before.field_end.ensures))
+    (λ c. digits_no _ _ _ _ _ (sym c.in-Refused.is ∙ c.before.field_end.ensures))
     (λ c. let past : tie.After-field_end-in-At = search in
     let first = first_before past in
-    digits-past _ _ _ _ _ (sym first.in-At.is ∙ first.before.field_end.ensures)
+    digits_past _ _ _ _ _ (sym first.in-At.is ∙ first.before.field_end.ensures)
     (λ i. (first.before.before.shared_slice_known-1.given i).fits) (omega arith) _
     (sym c.in-Refused-field_end.is ∙ past.field_end-in-At.ensures))
     (λ c. let whole : tie.In-At-field_end = search in
     let first = first_of whole in
-    digits-18-later _ _ _ _ _ (sym first.in-At.is ∙ first.before.field_end.ensures)
+    digits_18_later _ _ _ _ _ (sym first.in-At.is ∙ first.before.field_end.ensures)
     (λ i. (first.before.before.shared_slice_known-1.given i).fits) (omega arith) _
     (sym whole.in-At-field_end.is ∙ whole.before.field_end-in-At.ensures) (omega arith)
     (sym c.before.all_decimal.ensures ∙ c.if-all_decimal.false)))

@@ -6,7 +6,7 @@ use native.Mathlib.Omega.{arith}
 use borrow.Author.Rules.{rules}
 use borrow.Author.Tests.{leb-true}
 use Rattle.ground_choices.proofs.Tests.{met}
-use Rattle.body_form_glance.proofs.Forms.{not_good, lays-to, lays-digits}
+use Rattle.body_form_glance.proofs.Forms.{not_good, lays_to, lays_digits}
 use Rattle.body_form_glance.proofs.good_digits.Statement.{statement}
 use Rattle.body_form_glance.proofs.good_digits.Tie as tie
 
@@ -40,6 +40,6 @@ good_digits_spec =
     (λ c e. let placed : tie.Else-not-good_span = search in
     let given = (begun placed).args in (
       _,
-      lays-to refl (omega arith) (lays-digits given.pool.now given.tape.now given.k refl refl (omega arith) (inside placed) given.h (omega arith)
+      lays_to refl (omega arith) (lays_digits given.pool.now given.tape.now given.k refl refl (omega arith) (inside placed) given.h (omega arith)
           c.before.if-pool-a-gt9.false (sym c.all_decimal.ensures ∙ e)),
     )))

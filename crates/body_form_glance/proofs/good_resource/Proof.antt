@@ -7,7 +7,7 @@ use borrow.Author.Rules.{rules}
 use borrow.Author.Tests.{leb-true}
 use Rattle.ground_choices.proofs.Tests.{met}
 use Rattle.body_digits.proofs.Digits.{eleven}
-use Rattle.body_form_glance.proofs.Forms.{not_good, lays-to, lays-digits}
+use Rattle.body_form_glance.proofs.Forms.{not_good, lays_to, lays_digits}
 use Rattle.body_form_glance.proofs.good_resource.Statement.{statement}
 use Rattle.body_form_glance.proofs.good_resource.Tie as tie
 
@@ -47,6 +47,6 @@ good_resource_spec =
     let a = get_or given.tape.now given.k 0 in
     let others = eleven given.pool.now (a + 1) (a + 4) (omega arith) (met _ near.eight.ensures c.before.if-not-eight.false-raw) (sym c.eight-2.ensures ∙ e) in (
       _,
-      lays-to refl (omega arith) (lays-digits given.pool.now given.tape.now given.k refl refl (omega arith) (inside placed) 11 (omega arith)
+      lays_to refl (omega arith) (lays_digits given.pool.now given.tape.now given.k refl refl (omega arith) (inside placed) 11 (omega arith)
           first.if-pool-a-gt9.false others),
     )))

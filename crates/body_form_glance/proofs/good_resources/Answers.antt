@@ -5,20 +5,20 @@ use native.Mathlib.Omega.{arith}
 use borrow.Author.Rules.{rules}
 use borrow.Author.Tests.{not-false}
 use Rattle.body_formats.specs.Resource.{resource}
-use Rattle.body_form_glance.proofs.Forms.{not_good, lays-to}
-use Rattle.body_form_glance.proofs.Rows.{Coming, coming-turn, coming-done}
+use Rattle.body_form_glance.proofs.Forms.{not_good, lays_to}
+use Rattle.body_form_glance.proofs.Rows.{Coming, coming_turn, coming_done}
 use Rattle.body_form_glance.proofs.good_resources.Goals as goal
 
 pub loop-left-init : goal.loop-left-init
-loop-left-init c = (λ xs j m l. (xs, lays-to refl (omega arith) l), omega arith, omega arith)
+loop-left-init c = (λ xs j m l. (xs, lays_to refl (omega arith) l), omega arith, omega arith)
 
 pub returns-then-not-good_resource : goal.returns-then-not-good_resource
 returns-then-not-good_resource c = not_good
 
 pub loop-left-preserved : goal.loop-left-preserved
 loop-left-preserved c = let v = c.loop-left.invariant in
-    (coming-turn resource _ _ _ _ v.0 _ (omega arith) c.loop-left-test.true (c.good_resource.ensures (not-false _ c.if-not-good_resource.false-raw)), omega arith, omega arith)
+    (coming_turn resource _ _ _ _ v.0 _ (omega arith) c.loop-left-test.true (c.good_resource.ensures (not-false _ c.if-not-good_resource.false-raw)), omega arith, omega arith)
 
 pub returns : goal.returns
-returns c e = let done = coming-done resource _ _ _ _ c.loop-left.invariant.0 (omega arith) in
-    (done.0, lays-to (omega arith) (omega arith) done.1)
+returns c e = let done = coming_done resource _ _ _ _ c.loop-left.invariant.0 (omega arith) in
+    (done.0, lays_to (omega arith) (omega arith) done.1)

@@ -5,8 +5,8 @@ use native.Mathlib.Omega.{arith}
 use borrow.Author.Rules.{rules}
 use borrow.Author.Tests.{not-false}
 use Rattle.body_formats.specs.Resource.{resource}
-use Rattle.body_form_glance.proofs.Forms.{not_good, lays-to}
-use Rattle.body_form_glance.proofs.Rows.{Coming, coming-turn, coming-done}
+use Rattle.body_form_glance.proofs.Forms.{not_good, lays_to}
+use Rattle.body_form_glance.proofs.Rows.{Coming, coming_turn, coming_done}
 use Rattle.body_form_glance.proofs.good_resources.Given as goal
 
 abbrev pub invariant-loop-left : goal.invariant-loop-left

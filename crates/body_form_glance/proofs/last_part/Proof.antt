@@ -3,7 +3,7 @@ use mathlib.Core.Path.{refl}
 use native.Mathlib.Omega.{arith}
 use borrow.Author.Rules.{rules}
 use Rattle.ground_choices.proofs.Tests.{met}
-use Rattle.body_form_glance.proofs.Forms.{untold, lays-to, part_laid}
+use Rattle.body_form_glance.proofs.Forms.{untold, lays_to, part_laid}
 use Rattle.body_form_glance.proofs.last_part.Statement.{statement}
 use Rattle.body_form_glance.proofs.last_part.Tie as tie
 
@@ -26,4 +26,4 @@ last_part_spec =
     (λ c. let asked : tie.After-good_span = search in
     let within : tie.Else-not-good_span = search in
     let one = part_laid _ _ _ 2 refl (omega arith) (omega arith) (met _ asked.good_span.ensures within.if-not-good_span.false-raw) in
-    (omega arith, λ some. (one.0, lays-to (omega arith) refl one.1))))
+    (omega arith, λ some. (one.0, lays_to (omega arith) refl one.1))))

@@ -5,8 +5,8 @@ use native.Mathlib.Omega.{arith}
 use borrow.Author.Rules.{rules}
 use borrow.Author.Tests.{not-false}
 use Rattle.body_formats.specs.Resource.{resource}
-use Rattle.body_glance.proofs.Finds.{reads-to}
-use Rattle.body_glance.proofs.Runs.{Coming, coming-turn, coming-done}
+use Rattle.body_glance.proofs.Finds.{reads_to}
+use Rattle.body_glance.proofs.Runs.{Coming, coming_turn, coming_done}
 use Rattle.body_glance.proofs.Leaves.{not_good}
 use Rattle.body_glance.proofs.good_resources.Given as goal
 

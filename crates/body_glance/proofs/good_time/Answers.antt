@@ -2,10 +2,10 @@
 use Prim.Native.Nat.{◌+◌, ◌*◌}
 use native.Mathlib.Omega.{arith}
 use borrow.Author.Rules.{rules}
-use Rattle.body_glance.proofs.Leaves.{timely, time-good}
+use Rattle.body_glance.proofs.Leaves.{timely, time_good}
 use Rattle.body_glance.proofs.good_time.Goals as goal
 
 pub returns : goal.returns
-returns c e = time-good _ _ (λ i. (c.type_inv.s i).fits)
+returns c e = time_good _ _ (λ i. (c.type_inv.s i).fits)
     (timely _ _ (λ i. (c.type_inv.s i).fits) (c.wide.result * 256 + c.wide-2.result)
     (omega (arith, c.wide.ensures.0, c.wide-2.ensures.0)) e)

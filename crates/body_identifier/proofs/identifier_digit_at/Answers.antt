@@ -2,16 +2,16 @@
 use mathlib.Core.Path.{sym, ◌∙◌}
 use borrow.Author.Rules.{rules}
 use Rattle.body_formats.specs.Identifier.{identifier}
-use Rattle.body_formats.proofs.Strings.{digit-no}
-use Rattle.body_formats.proofs.Identifiers.{identifier-each}
+use Rattle.body_formats.proofs.Strings.{digit_no}
+use Rattle.body_formats.proofs.Identifiers.{identifier_each}
 use Rattle.body_identifier.proofs.identifier_digit_at.Goals as goal
 
 pub digit_of-requires : goal.digit_of-requires
-digit_of-requires c = (identifier-each _ _ _ _ _ (λ i. (c.type_inv.s i).fits) (sym c.in-Of.is ∙ c.read_identifier.ensures)).0
+digit_of-requires c = (identifier_each _ _ _ _ _ (λ i. (c.type_inv.s i).fits) (sym c.in-Of.is ∙ c.read_identifier.ensures)).0
 
 pub returns-in-Refused : goal.returns-in-Refused
-returns-in-Refused c = digit-no identifier _ _ _ _ _ (sym c.in-Refused.is ∙ c.read_identifier.ensures)
+returns-in-Refused c = digit_no identifier _ _ _ _ _ (sym c.in-Refused.is ∙ c.read_identifier.ensures)
 
 pub returns-in-Of : goal.returns-in-Of
 returns-in-Of c = c.digit_of.ensures
-    ∙ (identifier-each _ _ _ _ _ (λ i. (c.type_inv.s i).fits) (sym c.in-Of.is ∙ c.read_identifier.ensures)).1 _
+    ∙ (identifier_each _ _ _ _ _ (λ i. (c.type_inv.s i).fits) (sym c.in-Of.is ∙ c.read_identifier.ensures)).1 _

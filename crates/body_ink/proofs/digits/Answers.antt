@@ -3,29 +3,29 @@ use Prim.Native.Nat.{◌+◌, ◌%◌}
 use mathlib.Core.Path.{ap}
 use native.Mathlib.Omega.{arith}
 use borrow.Author.Rules.{rules}
-use Rattle.body_ink.proofs.Strings.{digits-ready, digits-inked}
+use Rattle.body_ink.proofs.Strings.{digits_ready, digits_inked}
 use Rattle.body_ink.proofs.digits.Goals as goal
 
 pub offset_bounds-tape-k : goal.offset_bounds-tape-k
-offset_bounds-tape-k c = omega (arith, digits-ready _ c.requires)
+offset_bounds-tape-k c = omega (arith, digits_ready _ c.requires)
 
 pub bounds-tape-k : goal.bounds-tape-k
-bounds-tape-k c = omega (arith, digits-ready _ c.requires)
+bounds-tape-k c = omega (arith, digits_ready _ c.requires)
 
 pub bounds-pool-a : goal.bounds-pool-a
-bounds-pool-a c = omega (arith, digits-ready _ c.requires)
+bounds-pool-a c = omega (arith, digits_ready _ c.requires)
 
 pub number-requires : goal.number-requires
-number-requires c = omega (arith, digits-ready _ c.requires)
+number-requires c = omega (arith, digits_ready _ c.requires)
 
 pub overflow_add-a : goal.overflow_add-a
-overflow_add-a c = omega (arith, digits-ready _ c.requires)
+overflow_add-a c = omega (arith, digits_ready _ c.requires)
 
 pub overflow_add-at : goal.overflow_add-at
-overflow_add-at c = omega (arith, digits-ready _ c.requires)
+overflow_add-at c = omega (arith, digits_ready _ c.requires)
 
 pub copy-requires : goal.copy-requires
-copy-requires c = let r = digits-ready _ c.requires in (omega arith, omega arith)
+copy-requires c = let r = digits_ready _ c.requires in (omega arith, omega arith)
 
 pub returns : goal.returns
-returns c = digits-inked _ (ap (λ b. 240 + b % 16) c.wide.ensures.0) c.number.ensures c.copy.ensures
+returns c = digits_inked _ (ap (λ b. 240 + b % 16) c.wide.ensures.0) c.number.ensures c.copy.ensures

@@ -2,38 +2,38 @@
 use mathlib.Core.Path.{refl}
 use native.Mathlib.Omega.{arith}
 use borrow.Author.Rules.{rules}
-use Rattle.body_ink.proofs.Strings.{part-ready, part-inked}
+use Rattle.body_ink.proofs.Strings.{part_ready, part_inked}
 use Rattle.body_ink.proofs.part.Goals as goal
 
 pub overflow_add-n : goal.overflow_add-n
-overflow_add-n c = omega (arith, part-ready _ c.requires)
+overflow_add-n c = omega (arith, part_ready _ c.requires)
 
 pub offset_bounds-tape-k : goal.offset_bounds-tape-k
-offset_bounds-tape-k c = omega (arith, part-ready _ c.requires)
+offset_bounds-tape-k c = omega (arith, part_ready _ c.requires)
 
 pub bounds-tape-k : goal.bounds-tape-k
-bounds-tape-k c = omega (arith, part-ready _ c.requires)
+bounds-tape-k c = omega (arith, part_ready _ c.requires)
 
 pub number-requires : goal.number-requires
-number-requires c = omega (arith, part-ready _ c.requires)
+number-requires c = omega (arith, part_ready _ c.requires)
 
 pub offset_bounds-tape-k-2 : goal.offset_bounds-tape-k-2
-offset_bounds-tape-k-2 c = omega (arith, part-ready _ c.requires)
+offset_bounds-tape-k-2 c = omega (arith, part_ready _ c.requires)
 
 pub bounds-tape-k-2 : goal.bounds-tape-k-2
-bounds-tape-k-2 c = omega (arith, part-ready _ c.requires)
+bounds-tape-k-2 c = omega (arith, part_ready _ c.requires)
 
 pub overflow_add-at : goal.overflow_add-at
-overflow_add-at c = omega (arith, part-ready _ c.requires)
+overflow_add-at c = omega (arith, part_ready _ c.requires)
 
 pub copy-requires : goal.copy-requires
-copy-requires c = let r = part-ready _ c.requires in (omega arith, omega arith)
+copy-requires c = let r = part_ready _ c.requires in (omega arith, omega arith)
 
 pub overflow_add-result : goal.overflow_add-result
-overflow_add-result c = omega (arith, part-ready _ c.requires)
+overflow_add-result c = omega (arith, part_ready _ c.requires)
 
 pub overflow_add-result-2 : goal.overflow_add-result-2
-overflow_add-result-2 c = omega (arith, part-ready _ c.requires)
+overflow_add-result-2 c = omega (arith, part_ready _ c.requires)
 
 pub returns : goal.returns
-returns c = part-inked _ c.number.ensures c.copy.ensures refl refl
+returns c = part_inked _ c.number.ensures c.copy.ensures refl refl

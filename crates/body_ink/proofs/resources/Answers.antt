@@ -5,43 +5,43 @@ use native.Mathlib.Omega.{arith}
 use borrow.Author.Rules.{rules}
 use Rattle.body_formats.specs.Resource.{resource}
 use Rattle.body_ink.proofs.Pairs.{moved}
-use Rattle.body_ink.proofs.Numbers.{a_count, numeral-ready, numeral-inked}
-use Rattle.body_ink.proofs.Strings.{digits-ready}
-use Rattle.body_ink.proofs.Lists.{Underway, list_count, list-ready, list-inked, times_start, times-next, times-turn, times-done}
+use Rattle.body_ink.proofs.Numbers.{a_count, numeral_ready, numeral_inked}
+use Rattle.body_ink.proofs.Strings.{digits_ready}
+use Rattle.body_ink.proofs.Lists.{Underway, list_count, list_ready, list_inked, times_start, times_next, times_turn, times_done}
 use Rattle.body_ink.proofs.resources.Goals as goal
 
 pub offset_bounds-tape-k : goal.offset_bounds-tape-k
-offset_bounds-tape-k c = omega (arith, numeral-ready (a_count 1) (list_count (a_count 1) resource c.requires))
+offset_bounds-tape-k c = omega (arith, numeral_ready (a_count 1) (list_count (a_count 1) resource c.requires))
 
 pub bounds-tape-k : goal.bounds-tape-k
-bounds-tape-k c = omega (arith, numeral-ready (a_count 1) (list_count (a_count 1) resource c.requires))
+bounds-tape-k c = omega (arith, numeral_ready (a_count 1) (list_count (a_count 1) resource c.requires))
 
 pub number-requires : goal.number-requires
-number-requires c = omega (arith, numeral-ready (a_count 1) (list_count (a_count 1) resource c.requires))
+number-requires c = omega (arith, numeral_ready (a_count 1) (list_count (a_count 1) resource c.requires))
 
 pub overflow_add-past : goal.overflow_add-past
-overflow_add-past c = omega (arith, numeral-ready (a_count 1) (list_count (a_count 1) resource c.requires))
+overflow_add-past c = omega (arith, numeral_ready (a_count 1) (list_count (a_count 1) resource c.requires))
 
 pub overflow_add-entry : goal.overflow_add-entry
-overflow_add-entry c = omega (arith, numeral-ready (a_count 1) (list_count (a_count 1) resource c.requires))
+overflow_add-entry c = omega (arith, numeral_ready (a_count 1) (list_count (a_count 1) resource c.requires))
 
 pub loop-left-init : goal.loop-left-init
-loop-left-init c = (refl, times_start (moved (list-ready (a_count 1) resource c.requires) refl refl (search rules)))
+loop-left-init c = (refl, times_start (moved (list_ready (a_count 1) resource c.requires) refl refl (search rules)))
 
 pub digits-requires : goal.digits-requires
-digits-requires c = times-next c.loop-left.invariant.1 c.loop-left-test.true
+digits-requires c = times_next c.loop-left.invariant.1 c.loop-left-test.true
 
 pub overflow_add-past-in-loop-left : goal.overflow_add-past-in-loop-left
-overflow_add-past-in-loop-left c = omega (arith, digits-ready _ (times-next c.loop-left.invariant.1 c.loop-left-test.true))
+overflow_add-past-in-loop-left c = omega (arith, digits_ready _ (times_next c.loop-left.invariant.1 c.loop-left-test.true))
 
 pub overflow_add-past-in-loop-left-2 : goal.overflow_add-past-in-loop-left-2
-overflow_add-past-in-loop-left-2 c = omega (arith, digits-ready _ (times-next c.loop-left.invariant.1 c.loop-left-test.true))
+overflow_add-past-in-loop-left-2 c = omega (arith, digits_ready _ (times_next c.loop-left.invariant.1 c.loop-left-test.true))
 
 pub overflow_add-entry-in-loop-left : goal.overflow_add-entry-in-loop-left
-overflow_add-entry-in-loop-left c = omega (arith, digits-ready _ (times-next c.loop-left.invariant.1 c.loop-left-test.true))
+overflow_add-entry-in-loop-left c = omega (arith, digits_ready _ (times_next c.loop-left.invariant.1 c.loop-left-test.true))
 
 pub loop-left-preserved : goal.loop-left-preserved
-loop-left-preserved c = (search rules, times-turn c.loop-left.invariant.1 c.loop-left-test.true c.digits.ensures)
+loop-left-preserved c = (search rules, times_turn c.loop-left.invariant.1 c.loop-left-test.true c.digits.ensures)
 
 pub returns : goal.returns
-returns c = list-inked (a_count 1) resource (numeral-inked (a_count 1) c.number.ensures refl refl) (times-done c.loop-left.invariant.1 (omega arith))
+returns c = list_inked (a_count 1) resource (numeral_inked (a_count 1) c.number.ensures refl refl) (times_done c.loop-left.invariant.1 (omega arith))

@@ -1,7 +1,7 @@
 -- `body_parts::part_after` meets its contract: the part after i others is the part after those that are left, from here.
 use mathlib.Core.Path.{◌≡◌, sym, ◌∙◌}
 use Rattle.body_formats.specs.Answers.{part_after}
-use Rattle.body_formats.proofs.Readers.{part-facts, after-done, after_stop, after-go}
+use Rattle.body_formats.proofs.Readers.{part_facts, after_done, after_stop, after_go}
 use native.Mathlib.Omega.{arith}
 use borrow.Author.Rules.{rules}
 use Rattle.body_parts.proofs.part_after.Given as goal

@@ -2,7 +2,7 @@
 use mathlib.Core.Path.{◌≡◌, sym, ◌∙◌}
 use Rattle.body_formats.specs.Format.{opaque}
 use Rattle.body_formats.specs.Answers.{ended_all}
-use Rattle.body_formats.proofs.Readers.{part-facts, opaque-at, opaque-no, all_done, all-stop, all_go}
+use Rattle.body_formats.proofs.Readers.{part_facts, opaque_at, opaque_no, all_done, all_stop, all_go}
 use native.Mathlib.Omega.{arith}
 use borrow.Author.Rules.{rules}
 use Rattle.body_parts.proofs.skip_parts.Given as goal

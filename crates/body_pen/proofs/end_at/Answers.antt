@@ -1,7 +1,7 @@
 -- `body_pen::end_at` meets its contract: an entry that is not an end is refused as its judge says.
 use mathlib.Core.Path.{sym, ap, ◌∙◌}
 use Rattle.body_formats.specs.Time.{end_fault, end_time}
-use Rattle.body_pen.proofs.Times.{stop_fault, stop_large, timed-none, timed-no, timed-is}
+use Rattle.body_pen.proofs.Times.{stop_fault, stop_large, timed_none, timed_no, timed_is}
 use borrow.Author.Rules.{rules}
 use Rattle.body_pen.proofs.end_at.Goals as goal
 
@@ -35,19 +35,19 @@ enum_known-m c = search rules
 
 pub returns-in-Refused : goal.returns-in-Refused
 unfolding end_time
-returns-in-Refused c = timed-none stop_fault stop_large _ _ _ (sym c.in-Refused.is ∙ c.entry_at.ensures)
+returns-in-Refused c = timed_none stop_fault stop_large _ _ _ (sym c.in-Refused.is ∙ c.entry_at.ensures)
 
 pub returns-in-Refused-read_end : goal.returns-in-Refused-read_end
 unfolding end_time
-returns-in-Refused-read_end c = timed-no stop_fault stop_large _ _ _ _ (sym c.in-Is.is ∙ c.entry_at.ensures) _
+returns-in-Refused-read_end c = timed_no stop_fault stop_large _ _ _ _ (sym c.in-Is.is ∙ c.entry_at.ensures) _
     (ap end_fault (sym c.read_end.ensures ∙ c.in-Refused-read_end.is))
 
 pub returns-in-Live : goal.returns-in-Live
 unfolding end_time
-returns-in-Live c = timed-is stop_fault stop_large _ _ _ _ (sym c.in-Is.is ∙ c.entry_at.ensures)
+returns-in-Live c = timed_is stop_fault stop_large _ _ _ _ (sym c.in-Is.is ∙ c.entry_at.ensures)
     (ap end_fault (sym c.read_end.ensures ∙ c.in-Live.is))
 
 pub returns-in-At : goal.returns-in-At
 unfolding end_time
-returns-in-At c = timed-is stop_fault stop_large _ _ _ _ (sym c.in-Is.is ∙ c.entry_at.ensures)
+returns-in-At c = timed_is stop_fault stop_large _ _ _ _ (sym c.in-Is.is ∙ c.entry_at.ensures)
     (ap end_fault (sym c.read_end.ensures ∙ c.in-At.is))

@@ -1,5 +1,5 @@
 -- `body_pen::fitted` meets its contract: a refusal loses its place, and a body is told where it fits.
-use Rattle.body_pen.proofs.Writers.{fit_refused, fit_small, fit-room}
+use Rattle.body_pen.proofs.Writers.{fit_refused, fit_small, fit_room}
 use borrow.Author.Rules.{rules}
 use Rattle.body_pen.proofs.fitted.Goals as goal
 
@@ -10,4 +10,4 @@ pub returns-in-Refused : goal.returns-in-Refused
 returns-in-Refused c = fit_refused _ _ _ _ c.in-Refused.is c.placeless.ensures
 
 pub returns-else-room-n : goal.returns-else-room-n
-returns-else-room-n c = fit-room _ _ _ c.in-At.is c.if-room-n.false
+returns-else-room-n c = fit_room _ _ _ c.in-At.is c.if-room-n.false

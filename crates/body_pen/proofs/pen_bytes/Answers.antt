@@ -1,6 +1,6 @@
 -- `body_pen::pen_bytes` meets its contract: its tests are those of the form, and the bytes of the pool are counted.
 use Rattle.body_pen.proofs.Leaves.{stopped}
-use Rattle.body_pen.proofs.Strings.{bytes-refused, bytes-length, bytes-outside, bytes-passed}
+use Rattle.body_pen.proofs.Strings.{bytes_refused, bytes_length, bytes_outside, bytes_passed}
 use Rattle.ground_choices.proofs.Tests.{met, unmet}
 use native.Mathlib.Omega.{arith}
 use borrow.Author.Rules.{rules}
@@ -8,14 +8,14 @@ use Rattle.body_pen.proofs.pen_bytes.Goals as goal
 
 pub returns-then-m-n : goal.returns-then-m-n
 returns-then-m-n c = let s = (c.span_at.ensures.1 _ _ c.in-Of.is) in
-    bytes-length _ _ _ _ _ _ _ _ c.in-At.is _ _ s.1 s.2 (λ g. omega arith)
+    bytes_length _ _ _ _ _ _ _ _ c.in-At.is _ _ s.1 s.2 (λ g. omega arith)
 
 pub all_among-requires : goal.all_among-requires
 all_among-requires c = (c.span_at.ensures.1 _ _ c.in-Of.is).1
 
 pub returns-then-not-all_among : goal.returns-then-not-all_among
 returns-then-not-all_among c = let s = (c.span_at.ensures.1 _ _ c.in-Of.is) in
-    bytes-outside _ _ _ _ _ _ _ _ c.in-At.is _ _ s.1 s.2 (omega arith)
+    bytes_outside _ _ _ _ _ _ _ _ c.in-At.is _ _ s.1 s.2 (omega arith)
     (unmet _ c.all_among.ensures c.if-not-all_among.true-raw)
 
 pub overflow_add-result : goal.overflow_add-result
@@ -25,9 +25,9 @@ pub returns-in-Refused : goal.returns-in-Refused
 returns-in-Refused c = stopped _ _ _ _ _ c.in-Refused.is
 
 pub returns-in-Refused-span_at : goal.returns-in-Refused-span_at
-returns-in-Refused-span_at c = bytes-refused _ _ _ _ _ _ _ _ c.in-At.is _ (c.span_at.ensures.0 _ c.in-Refused-span_at.is)
+returns-in-Refused-span_at c = bytes_refused _ _ _ _ _ _ _ _ c.in-At.is _ (c.span_at.ensures.0 _ c.in-Refused-span_at.is)
 
 pub returns-else-not-all_among : goal.returns-else-not-all_among
 returns-else-not-all_among c = let s = (c.span_at.ensures.1 _ _ c.in-Of.is) in
-    bytes-passed _ _ _ _ _ _ _ _ c.in-At.is _ _ s.1 s.2 (omega arith) (met _ c.all_among.ensures c.if-not-all_among.false-raw) _
+    bytes_passed _ _ _ _ _ _ _ _ c.in-At.is _ _ s.1 s.2 (omega arith) (met _ c.all_among.ensures c.if-not-all_among.false-raw) _
     c.grown.ensures

@@ -1,6 +1,6 @@
 -- `body_pen::pen_digits` meets its contract: its tests are those of the form, and as many bytes are counted as stand in the pool.
 use Rattle.body_pen.proofs.Leaves.{stopped}
-use Rattle.body_pen.proofs.Strings.{digits-refused, digits_length, digits-first, digits-later, digits-passed}
+use Rattle.body_pen.proofs.Strings.{digits_refused, digits_length, digits_first, digits_later, digits_passed}
 use Rattle.ground_choices.proofs.Tests.{met, unmet}
 use native.Mathlib.Omega.{arith}
 use borrow.Author.Rules.{rules}
@@ -19,7 +19,7 @@ bounds-pool-a c = omega (arith, (c.span_at.ensures.1 _ _ c.in-Of.is).1)
 
 pub returns-then-low-gt9 : goal.returns-then-low-gt9
 returns-then-low-gt9 c = let s = (c.span_at.ensures.1 _ _ c.in-Of.is) in
-    digits-first _ _ _ _ _ _ c.in-At.is _ _ s.1 s.2 (omega arith) (omega (arith, c.wide-low.ensures.0))
+    digits_first _ _ _ _ _ _ c.in-At.is _ _ s.1 s.2 (omega arith) (omega (arith, c.wide-low.ensures.0))
 
 pub overflow_add-a : goal.overflow_add-a
 overflow_add-a c = omega (arith, (c.span_at.ensures.1 _ _ c.in-Of.is).1, c.well_formed.0.1)
@@ -29,7 +29,7 @@ all_decimal-requires c = omega (arith, (c.span_at.ensures.1 _ _ c.in-Of.is).1)
 
 pub returns-then-not-all_decimal : goal.returns-then-not-all_decimal
 returns-then-not-all_decimal c = let s = (c.span_at.ensures.1 _ _ c.in-Of.is) in
-    digits-later _ _ _ _ _ _ c.in-At.is _ _ s.1 s.2 (omega arith) (omega (arith, c.wide-low.ensures.0))
+    digits_later _ _ _ _ _ _ c.in-At.is _ _ s.1 s.2 (omega arith) (omega (arith, c.wide-low.ensures.0))
     (unmet _ c.all_decimal.ensures c.if-not-all_decimal.true-raw)
 
 pub overflow_add-result : goal.overflow_add-result
@@ -39,9 +39,9 @@ pub returns-in-Refused : goal.returns-in-Refused
 returns-in-Refused c = stopped _ _ _ _ _ c.in-Refused.is
 
 pub returns-in-Refused-span_at : goal.returns-in-Refused-span_at
-returns-in-Refused-span_at c = digits-refused _ _ _ _ _ _ c.in-At.is _ (c.span_at.ensures.0 _ c.in-Refused-span_at.is)
+returns-in-Refused-span_at c = digits_refused _ _ _ _ _ _ c.in-At.is _ (c.span_at.ensures.0 _ c.in-Refused-span_at.is)
 
 pub returns-else-not-all_decimal : goal.returns-else-not-all_decimal
 returns-else-not-all_decimal c = let s = (c.span_at.ensures.1 _ _ c.in-Of.is) in
-    digits-passed _ _ _ _ _ _ c.in-At.is _ _ s.1 s.2 (omega (arith, c.if-n-h.false, c.if-n-h-gt1.false))
+    digits_passed _ _ _ _ _ _ c.in-At.is _ _ s.1 s.2 (omega (arith, c.if-n-h.false, c.if-n-h-gt1.false))
     (omega (arith, c.wide-low.ensures.0)) (met _ c.all_decimal.ensures c.if-not-all_decimal.false-raw) _ c.grown.ensures

@@ -2,7 +2,7 @@
 use mathlib.Core.Path.{sym, ◌∙◌}
 use Rattle.body_formats.specs.Time.{end_time}
 use Rattle.body_pen.proofs.Leaves.{stopped}
-use Rattle.body_pen.proofs.Times.{stop_fault, stop_large, timed-refused, timed-passed}
+use Rattle.body_pen.proofs.Times.{stop_fault, stop_large, timed_refused, timed_passed}
 use borrow.Author.Rules.{rules}
 use Rattle.body_pen.proofs.pen_end.Goals as goal
 
@@ -36,9 +36,9 @@ returns-in-Refused c pool = stopped _ pool _ _ _ c.in-Refused.is
 
 pub returns-in-Refused-end_at : goal.returns-in-Refused-end_at
 unfolding end_time
-returns-in-Refused-end_at c pool = timed-refused stop_fault stop_large _ _ pool _ _ c.in-At.is _ (sym c.in-Refused-end_at.is ∙ c.end_at.ensures)
+returns-in-Refused-end_at c pool = timed_refused stop_fault stop_large _ _ pool _ _ c.in-At.is _ (sym c.in-Refused-end_at.is ∙ c.end_at.ensures)
 
 pub returns-in-Is : goal.returns-in-Is
 unfolding end_time
-returns-in-Is c pool = timed-passed stop_fault stop_large _ _ pool _ _ c.in-At.is _ _ (sym c.in-Is.is ∙ c.end_at.ensures) _
+returns-in-Is c pool = timed_passed stop_fault stop_large _ _ pool _ _ c.in-At.is _ _ (sym c.in-Is.is ∙ c.end_at.ensures) _
     c.grown.ensures

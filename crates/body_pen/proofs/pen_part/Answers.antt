@@ -1,6 +1,6 @@
 -- `body_pen::pen_part` meets its contract: the bytes of its length are counted, and those of the pool.
 use Rattle.body_pen.proofs.Leaves.{stopped}
-use Rattle.body_pen.proofs.Strings.{part_refused, part-passed}
+use Rattle.body_pen.proofs.Strings.{part_refused, part_passed}
 use native.Mathlib.Omega.{arith}
 use borrow.Author.Rules.{rules}
 use Rattle.body_pen.proofs.pen_part.Goals as goal
@@ -19,4 +19,4 @@ returns-in-Refused-span_at c = part_refused _ _ _ _ _ _ c.in-At.is _ (c.span_at.
 
 pub returns-in-Of : goal.returns-in-Of
 returns-in-Of c = let s = (c.span_at.ensures.1 _ _ c.in-Of.is) in
-    part-passed _ _ _ _ _ _ c.in-At.is _ _ s.1 s.2 _ c.power.ensures _ c.grown.ensures
+    part_passed _ _ _ _ _ _ c.in-At.is _ _ s.1 s.2 _ c.power.ensures _ c.grown.ensures

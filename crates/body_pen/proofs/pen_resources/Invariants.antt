@@ -2,7 +2,7 @@
 use mathlib.Core.Path.{sym, ◌∙◌}
 use native.Mathlib.Omega.{arith}
 use Rattle.body_formats.specs.Resource.{resource}
-use Rattle.body_pen.proofs.Lists.{Underway, list_start, list-pen, times-turn, times-stop, times-done}
+use Rattle.body_pen.proofs.Lists.{Underway, list_start, list_pen, times_turn, times_stop, times_done}
 use borrow.Author.Rules.{rules}
 use Rattle.body_pen.proofs.pen_resources.Given as goal
 

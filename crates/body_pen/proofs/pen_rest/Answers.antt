@@ -1,6 +1,6 @@
 -- `body_pen::pen_rest` meets its contract: the bytes of the pool are counted.
 use Rattle.body_pen.proofs.Leaves.{stopped}
-use Rattle.body_pen.proofs.Strings.{rest-refused, rest-passed}
+use Rattle.body_pen.proofs.Strings.{rest_refused, rest_passed}
 use native.Mathlib.Omega.{arith}
 use borrow.Author.Rules.{rules}
 use Rattle.body_pen.proofs.pen_rest.Goals as goal
@@ -12,8 +12,8 @@ pub returns-in-Refused : goal.returns-in-Refused
 returns-in-Refused c = stopped _ _ _ _ _ c.in-Refused.is
 
 pub returns-in-Refused-span_at : goal.returns-in-Refused-span_at
-returns-in-Refused-span_at c = rest-refused _ _ _ _ _ c.in-At.is _ (c.span_at.ensures.0 _ c.in-Refused-span_at.is)
+returns-in-Refused-span_at c = rest_refused _ _ _ _ _ c.in-At.is _ (c.span_at.ensures.0 _ c.in-Refused-span_at.is)
 
 pub returns-in-Of : goal.returns-in-Of
 returns-in-Of c = let s = (c.span_at.ensures.1 _ _ c.in-Of.is) in
-    rest-passed _ _ _ _ _ c.in-At.is _ _ s.1 s.2 _ c.grown.ensures
+    rest_passed _ _ _ _ _ c.in-At.is _ _ s.1 s.2 _ c.grown.ensures

@@ -2,7 +2,7 @@
 use mathlib.Core.Path.{sym, ◌∙◌}
 use Rattle.body_formats.specs.Time.{time}
 use Rattle.body_pen.proofs.Leaves.{stopped}
-use Rattle.body_pen.proofs.Times.{start_fault, start_large, timed-refused, timed-passed}
+use Rattle.body_pen.proofs.Times.{start_fault, start_large, timed_refused, timed_passed}
 use borrow.Author.Rules.{rules}
 use Rattle.body_pen.proofs.pen_time.Goals as goal
 
@@ -36,9 +36,9 @@ returns-in-Refused c pool = stopped _ pool _ _ _ c.in-Refused.is
 
 pub returns-in-Refused-time_at : goal.returns-in-Refused-time_at
 unfolding time
-returns-in-Refused-time_at c pool = timed-refused start_fault start_large _ _ pool _ _ c.in-At.is _ (sym c.in-Refused-time_at.is ∙ c.time_at.ensures)
+returns-in-Refused-time_at c pool = timed_refused start_fault start_large _ _ pool _ _ c.in-At.is _ (sym c.in-Refused-time_at.is ∙ c.time_at.ensures)
 
 pub returns-in-Is : goal.returns-in-Is
 unfolding time
-returns-in-Is c pool = timed-passed start_fault start_large _ _ pool _ _ c.in-At.is _ _ (sym c.in-Is.is ∙ c.time_at.ensures) _
+returns-in-Is c pool = timed_passed start_fault start_large _ _ pool _ _ c.in-At.is _ _ (sym c.in-Is.is ∙ c.time_at.ensures) _
     c.grown.ensures

@@ -1,7 +1,7 @@
 -- `body_pen::time_at` meets its contract: an entry that is not a time is refused as its judge says.
 use mathlib.Core.Path.{sym, ap, ◌∙◌}
 use Rattle.body_formats.specs.Time.{time_fault, time}
-use Rattle.body_pen.proofs.Times.{start_fault, start_large, timed-none, timed-no, timed-is}
+use Rattle.body_pen.proofs.Times.{start_fault, start_large, timed_none, timed_no, timed_is}
 use borrow.Author.Rules.{rules}
 use Rattle.body_pen.proofs.time_at.Goals as goal
 
@@ -31,14 +31,14 @@ enum_known-m c = search rules
 
 pub returns-in-Refused : goal.returns-in-Refused
 unfolding time
-returns-in-Refused c = timed-none start_fault start_large _ _ _ (sym c.in-Refused.is ∙ c.entry_at.ensures)
+returns-in-Refused c = timed_none start_fault start_large _ _ _ (sym c.in-Refused.is ∙ c.entry_at.ensures)
 
 pub returns-in-Refused-read_time : goal.returns-in-Refused-read_time
 unfolding time
-returns-in-Refused-read_time c = timed-no start_fault start_large _ _ _ _ (sym c.in-Is.is ∙ c.entry_at.ensures) _
+returns-in-Refused-read_time c = timed_no start_fault start_large _ _ _ _ (sym c.in-Is.is ∙ c.entry_at.ensures) _
     (ap time_fault (sym c.read_time.ensures ∙ c.in-Refused-read_time.is))
 
 pub returns-in-At : goal.returns-in-At
 unfolding time
-returns-in-At c = timed-is start_fault start_large _ _ _ _ (sym c.in-Is.is ∙ c.entry_at.ensures)
+returns-in-At c = timed_is start_fault start_large _ _ _ _ (sym c.in-Is.is ∙ c.entry_at.ensures)
     (ap time_fault (sym c.read_time.ensures ∙ c.in-At.is))

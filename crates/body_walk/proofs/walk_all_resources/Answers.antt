@@ -2,8 +2,8 @@
 use native.Mathlib.Omega.{arith}
 use borrow.Author.Rules.{rules}
 use Rattle.body_formats.specs.Format.{times}
-use Rattle.body_formats.proofs.Leaves.{digits-lawful}
-use Rattle.body_walk.proofs.Counts.{Ahead, ahead_start, times-turn, times-done}
+use Rattle.body_formats.proofs.Leaves.{digits_lawful}
+use Rattle.body_walk.proofs.Counts.{Ahead, ahead_start, times_turn, times_done}
 use Rattle.body_formats.specs.Resource.{resource_pairs, resource}
 use Rattle.body_walk.proofs.walk_all_resources.Goals as goal
 
@@ -11,11 +11,11 @@ pub loop-left-init : goal.loop-left-init
 loop-left-init c = ahead_start
 
 pub loop-left-preserved : goal.loop-left-preserved
-loop-left-preserved c = times-turn resource c.loop-left.left (digits-lawful resource_pairs) c.loop-left-test.true c.loop-left.invariant
+loop-left-preserved c = times_turn resource c.loop-left.left (digits_lawful resource_pairs) c.loop-left-test.true c.loop-left.invariant
     c.walk_digits-at.ensures (search rules)
 
 pub shape_of-tape : goal.shape_of-tape
 shape_of-tape c = c.loop-left.invariant.same
 
 pub returns : goal.returns
-returns c = times-done resource c.loop-left.left (omega arith) c.loop-left.invariant
+returns c = times_done resource c.loop-left.left (omega arith) c.loop-left.invariant

@@ -2,8 +2,8 @@
 use native.Mathlib.Omega.{arith}
 use borrow.Author.Rules.{rules}
 use Rattle.body_formats.specs.Format.{times}
-use Rattle.body_formats.proofs.Leaves.{digits-lawful}
-use Rattle.body_walk.proofs.Counts.{Ahead, ahead_start, times-turn, times-done}
+use Rattle.body_formats.proofs.Leaves.{digits_lawful}
+use Rattle.body_walk.proofs.Counts.{Ahead, ahead_start, times_turn, times_done}
 use Rattle.body_formats.specs.Resource.{resource_pairs, resource}
 use Rattle.body_walk.proofs.walk_all_resources.Given as goal
 

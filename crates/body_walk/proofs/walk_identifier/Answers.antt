@@ -2,16 +2,16 @@
 use native.Mathlib.Omega.{arith}
 use borrow.Author.Rules.{rules}
 use Rattle.body_formats.specs.Identifier.{identifier}
-use Rattle.body_formats.proofs.Identifiers.{identifier_entries, identifier-fits}
+use Rattle.body_formats.proofs.Identifiers.{identifier_entries, identifier_fits}
 use Rattle.body_walk.proofs.Pairs.{stays}
-use Rattle.body_walk.proofs.Leaves.{field_end, field-leaf}
+use Rattle.body_walk.proofs.Leaves.{field_end, field_leaf}
 use Rattle.body_walk.proofs.walk_identifier.Goals as goal
 
 pub past_part-requires : goal.past_part-requires
 past_part-requires c = let t = c.args in
     omega (
       arith,
-      field_end identifier _ identifier_entries t.s.now t.l c.in-At.p (identifier-fits _ _ _) _
+      field_end identifier _ identifier_entries t.s.now t.l c.in-At.p (identifier_fits _ _ _) _
           c.read_identifier.ensures,
     )
 
@@ -19,5 +19,5 @@ pub returns-in-Refused : goal.returns-in-Refused
 returns-in-Refused c = stays c.in-Refused.is
 
 pub returns-in-At : goal.returns-in-At
-returns-in-At c = field-leaf _ _ identifier_entries _ _ _ (identifier-fits _ _ _) _ c.read_identifier.ensures _ _ _ _ c.in-At.is
+returns-in-At c = field_leaf _ _ identifier_entries _ _ _ (identifier_fits _ _ _) _ c.read_identifier.ensures _ _ _ _ c.in-At.is
     _ _ c.past_part.ensures

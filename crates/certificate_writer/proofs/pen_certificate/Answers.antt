@@ -1,6 +1,6 @@
 -- `certificate_writer::pen_certificate` meets its contract: the three fields one after the other, under their names.
 use borrow.Author.Rules.{rules}
-use Rattle.body_pen.proofs.Pairs.{pair-pen, view_pen, exact_pen}
+use Rattle.body_pen.proofs.Pairs.{pair_pen, view_pen, exact_pen}
 use Rattle.certificate.specs.Certificate.{fields, certificate}
 use Rattle.certificate_writer.proofs.pen_certificate.Goals as goal
 
@@ -18,4 +18,4 @@ pen_part-requires c = search rules
 
 pub returns : goal.returns
 unfolding certificate fields
-returns c = simp (exact_pen, view_pen, pair-pen) (cc)
+returns c = simp (exact_pen, view_pen, pair_pen) (cc)

@@ -2,7 +2,7 @@
 use mathlib.Core.Path.{sym, ◌∙◌}
 use native.Mathlib.Omega.{arith}
 use borrow.Author.Rules.{rules}
-use Rattle.body_pen.proofs.Lists.{Underway, list_start, list-pen, times-turn, times-stop, times-done}
+use Rattle.body_pen.proofs.Lists.{Underway, list_start, list_pen, times_turn, times_stop, times_done}
 use Rattle.body_formats.specs.Format.{opaque}
 use Rattle.certificate_writer.proofs.pen_list.Goals as goal
 
@@ -10,11 +10,11 @@ pub loop-left-init : goal.loop-left-init
 loop-left-init c = list_start (c.pen_count-c.ensures _)
 
 pub returns-in-Refused : goal.returns-in-Refused
-returns-in-Refused c = times-stop c.loop-left.invariant c.loop-left-test.true c.pen_part.ensures _ c.in-Refused.is
-    ∙ sym (list-pen _ (c.pen_count-c.ensures _))
+returns-in-Refused c = times_stop c.loop-left.invariant c.loop-left-test.true c.pen_part.ensures _ c.in-Refused.is
+    ∙ sym (list_pen _ (c.pen_count-c.ensures _))
 
 pub loop-left-preserved : goal.loop-left-preserved
-loop-left-preserved c = times-turn c.loop-left.invariant c.loop-left-test.true c.pen_part.ensures _ c.in-At.is
+loop-left-preserved c = times_turn c.loop-left.invariant c.loop-left-test.true c.pen_part.ensures _ c.in-At.is
 
 pub returns : goal.returns
-returns c = times-done c.loop-left.invariant (omega arith) ∙ sym (list-pen _ (c.pen_count-c.ensures _))
+returns c = times_done c.loop-left.invariant (omega arith) ∙ sym (list_pen _ (c.pen_count-c.ensures _))

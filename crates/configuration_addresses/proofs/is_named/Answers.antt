@@ -4,7 +4,7 @@ use mathlib.Core.Path.{◌≡◌, refl, ap, ◌∙◌}
 use lib.ListN.{take, drop}
 use Rattle.ground_choices.proofs.Tests.{unmet, met}
 use Rattle.configuration_addresses.specs.Address.{name_goes_on}
-use Rattle.configuration_addresses.proofs.Hosts.{part, whole_part, name_done, name-ends, name-fails, name-next}
+use Rattle.configuration_addresses.proofs.Hosts.{part, whole_part, name_done, name_ends, name_fails, name_next}
 use native.Mathlib.Omega.{arith}
 use borrow.Author.Rules.{rules}
 use Rattle.configuration_addresses.proofs.is_named.Goals as goal
@@ -14,15 +14,15 @@ loop-k-init c = let a = c.args in ap name_goes_on (whole_part a.s.now a.p a.n _ 
 
 pub returns-then-c-eq58 : goal.returns-then-c-eq58
 returns-then-c-eq58 c = let v = c.loop-k in
-    c.is_port.ensures ∙ name-ends _ v.k _ _ v.invariant (omega arith) (omega arith) c.if-c-eq58.true
+    c.is_port.ensures ∙ name_ends _ v.k _ _ v.invariant (omega arith) (omega arith) c.if-c-eq58.true
 
 pub returns-then-not-in_name : goal.returns-then-not-in_name
 returns-then-not-in_name c = let v = c.loop-k in
-    name-fails _ v.k _ _ v.invariant (omega arith) (omega arith) c.if-c-eq58.false (unmet _ c.in_name.ensures c.if-not-in_name.true-raw)
+    name_fails _ v.k _ _ v.invariant (omega arith) (omega arith) c.if-c-eq58.false (unmet _ c.in_name.ensures c.if-not-in_name.true-raw)
 
 pub loop-k-preserved : goal.loop-k-preserved
 loop-k-preserved c = let v = c.loop-k in
-    name-next _ v.k _ _ v.invariant (omega arith) (omega arith) c.if-c-eq58.false (met _ c.in_name.ensures c.if-not-in_name.false-raw)
+    name_next _ v.k _ _ v.invariant (omega arith) (omega arith) c.if-c-eq58.false (met _ c.in_name.ensures c.if-not-in_name.false-raw)
 
 pub returns : goal.returns
 returns c = let v = c.loop-k in name_done _ v.k _ _ v.invariant (omega arith)

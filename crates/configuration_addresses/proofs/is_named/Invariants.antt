@@ -4,7 +4,7 @@ use mathlib.Core.Path.{◌≡◌, refl, ap, ◌∙◌}
 use lib.ListN.{take, drop}
 use Rattle.ground_choices.proofs.Tests.{unmet, met}
 use Rattle.configuration_addresses.specs.Address.{name_goes_on}
-use Rattle.configuration_addresses.proofs.Hosts.{part, whole_part, name_done, name-ends, name-fails, name-next}
+use Rattle.configuration_addresses.proofs.Hosts.{part, whole_part, name_done, name_ends, name_fails, name_next}
 use native.Mathlib.Omega.{arith}
 use borrow.Author.Rules.{rules}
 use Rattle.configuration_addresses.proofs.is_named.Given as goal

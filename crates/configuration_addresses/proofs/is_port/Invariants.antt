@@ -3,7 +3,7 @@ use Prim.Native.Nat.{◌-◌, ◌≤◌}
 use mathlib.Core.Path.{◌≡◌, refl}
 use lib.ListN.{take, drop}
 use Rattle.configuration_addresses.specs.Address.{is_port}
-use Rattle.configuration_addresses.proofs.Hosts.{part, port_left, port-empty, port-long, port-start, port-done, port-low, port-high, port-next, port-much}
+use Rattle.configuration_addresses.proofs.Hosts.{part, port_left, port_empty, port_long, port_start, port_done, port_low, port_high, port_next, port_much}
 use native.Mathlib.Omega.{arith}
 use borrow.Author.Rules.{rules}
 use Rattle.configuration_addresses.proofs.is_port.Given as goal

@@ -1,7 +1,7 @@
 -- `configuration_fields::after_parameters` meets its contract: they begin so many bytes after the count.
 use mathlib.Core.Path.{sym, ◌∙◌}
 use Rattle.body_formats.proofs.Readers.{number_facts}
-use Rattle.configuration_fields.proofs.Answers.{after-parameters-no, after-parameters}
+use Rattle.configuration_fields.proofs.Answers.{after_parameters_no, after_parameters}
 use native.Mathlib.Omega.{arith}
 use borrow.Author.Rules.{rules}
 use Rattle.configuration_fields.proofs.after_parameters.Goals as goal
@@ -14,7 +14,7 @@ overflow_add-result c = omega (
 )
 
 pub returns-in-Refused : goal.returns-in-Refused
-returns-in-Refused c = after-parameters-no _ _ _ _ (sym c.in-Refused.is ∙ c.read_number.ensures)
+returns-in-Refused c = after_parameters_no _ _ _ _ (sym c.in-Refused.is ∙ c.read_number.ensures)
 
 pub returns-in-Is : goal.returns-in-Is
-returns-in-Is c = after-parameters _ _ _ _ _ (sym c.in-Is.is ∙ c.read_number.ensures)
+returns-in-Is c = after_parameters _ _ _ _ _ (sym c.in-Is.is ∙ c.read_number.ensures)

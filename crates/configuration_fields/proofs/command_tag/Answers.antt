@@ -1,6 +1,6 @@
 -- `configuration_fields::command_tag` meets its contract: it is asked for where the body has a byte for it, and is not refused for its value.
 use mathlib.Core.Path.{◌∙◌}
-use Rattle.configuration_fields.proofs.Answers.{tag_is, tag-none}
+use Rattle.configuration_fields.proofs.Answers.{tag_is, tag_none}
 use borrow.Author.Rules.{rules}
 use Rattle.configuration_fields.proofs.command_tag.Goals as goal
 
@@ -8,4 +8,4 @@ pub returns-then-p-l : goal.returns-then-p-l
 returns-then-p-l c = c.read_number.ensures ∙ tag_is _ _ (λ i. (c.type_inv.s i).fits) c.if-p-l.true
 
 pub returns : goal.returns
-returns c = tag-none _ _ c.if-p-l.false
+returns c = tag_none _ _ c.if-p-l.false

@@ -1,9 +1,9 @@
 -- `configuration_reader::lay` meets its contract: a body that is not opened is refused, a dry walk says how many entries there are or why there
 use mathlib.Core.Path.{sym, ◌∙◌}
 use borrow.Author.Rules.{rules}
-use Rattle.body_formats.proofs.Readers.{body-no}
-use Rattle.body_formats.proofs.Laying.{laid-no}
-use Rattle.body_walk.proofs.Bodies.{lay-no, lay-all}
+use Rattle.body_formats.proofs.Readers.{body_no}
+use Rattle.body_formats.proofs.Laying.{laid_no}
+use Rattle.body_walk.proofs.Bodies.{lay_no, lay_all}
 use Rattle.configuration_reader.proofs.lay.Statement.{statement}
 use Rattle.configuration_reader.proofs.lay.Tie as tie
 
@@ -28,14 +28,14 @@ lay_spec =
     (λ c. search rules)
     (λ c κs. search rules)
     (λ c. let opened : tie.After-open_body = search in
-    let w = laid-no _ _ _ _ _ _ (body-no _ _ _ _ _ (sym c.in-Refused.is ∙ opened.open_body.ensures)) in
+    let w = laid_no _ _ _ _ _ _ (body_no _ _ _ _ _ (sym c.in-Refused.is ∙ opened.open_body.ensures)) in
     (w.said, w.left))
     (λ c. search rules)
     (λ c. let counted : tie.After-entries_needed = search in
     let walk = walk_of counted in
     let start = start_of walk in
     let opened : tie.After-open_body = search in
-    let w = lay-no _ _ (sym start.in-At.is ∙ opened.open_body.ensures) walk.walk_configuration-dry.ensures
+    let w = lay_no _ _ (sym start.in-At.is ∙ opened.open_body.ensures) walk.walk_configuration-dry.ensures
     (sym c.in-Refused-entries_needed.is ∙ counted.entries_needed.ensures) in
     (w.said, w.left))
     (λ c. search rules)
@@ -45,7 +45,7 @@ lay_spec =
     let walk = walk_of counted in
     let start = start_of walk in
     let opened : tie.After-open_body = search in
-    let w = lay-all _ _ (sym start.in-At.is ∙ opened.open_body.ensures) walk.walk_configuration-dry.ensures
+    let w = lay_all _ _ (sym start.in-At.is ∙ opened.open_body.ensures) walk.walk_configuration-dry.ensures
     (sym n.in-At-entries_needed.is ∙ counted.entries_needed.ensures) (λ i. (opened.before.before.shared_slice_known-1.given i).fits)
     wet.walk_configuration.ensures in
     (w.said, w.left)))

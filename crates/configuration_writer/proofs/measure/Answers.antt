@@ -1,7 +1,7 @@
 -- `configuration_writer::measure` meets its contract: what a glance takes for good is laid out, and through any other form a pen goes.
 use borrow.Author.Rules.{rules}
 use Rattle.body_form_glance.proofs.Forms.{measured_laid}
-use Rattle.body_pen.proofs.Writers.{measured-is}
+use Rattle.body_pen.proofs.Writers.{measured_is}
 use Rattle.configuration.specs.Configuration.{configuration}
 use Rattle.configuration_writer.proofs.measure.Goals as goal
 
@@ -9,4 +9,4 @@ pub returns-then-seen-gt0 : goal.returns-then-seen-gt0
 returns-then-seen-gt0 c = measured_laid configuration c.configuration_bytes-seen.ensures.short (c.configuration_bytes-seen.ensures.laid c.if-seen-gt0.true).1
 
 pub returns : goal.returns
-returns c = rw (← measured-is) (cc)
+returns c = rw (← measured_is) (cc)

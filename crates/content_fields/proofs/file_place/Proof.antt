@@ -1,5 +1,5 @@
 -- `content_fields::file_place` meets its contract: the files are as many as the byte after the agency counts.
-use Rattle.content_fields.proofs.Glance.{file-there}
+use Rattle.content_fields.proofs.Glance.{file_there}
 use native.Mathlib.Omega.{arith}
 use borrow.Author.Rules.{rules}
 use Rattle.content_fields.proofs.file_place.Statement.{statement}
@@ -28,5 +28,5 @@ file_place_spec =
     (λ c h. let before = c.before in
     let start = (place before).before in
     let count = (place before).count_place-q.ensures (omega arith) in
-    file-there _ _ (λ i. (start.shared_slice_known-1.given i).fits) _ _ _ _ _ _ count (byte before).wide-count.ensures.0 (omega arith) (omega arith)
+    file_there _ _ (λ i. (start.shared_slice_known-1.given i).fits) _ _ _ _ _ _ count (byte before).wide-count.ensures.0 (omega arith) (omega arith)
     (c.nth_file.ensures h)))

@@ -1,5 +1,5 @@
 -- `content_fields::past_file` meets its contract: its data end in the part, before its end.
-use Rattle.content_fields.proofs.Glance.{file-ends}
+use Rattle.content_fields.proofs.Glance.{file_ends}
 use native.Mathlib.Omega.{arith}
 use borrow.Author.Rules.{rules}
 use Rattle.content_fields.proofs.past_file.Goals as goal
@@ -13,6 +13,6 @@ returns-then-l-q c h = absurd (omega arith)
 pub returns : goal.returns
 returns c h = (
   omega arith,
-  file-ends _ (λ i. (c.type_inv.s i).fits) _ (omega arith) _ _ _ _ c.three_or_four_bytes-m.ensures
+  file_ends _ (λ i. (c.type_inv.s i).fits) _ (omega arith) _ _ _ _ c.three_or_four_bytes-m.ensures
       (omega arith) (omega arith),
 )

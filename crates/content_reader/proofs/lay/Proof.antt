@@ -2,9 +2,9 @@
 use mathlib.Core.Path.{sym, ◌∙◌}
 use native.Mathlib.Omega.{arith}
 use borrow.Author.Rules.{rules}
-use Rattle.body_walk.proofs.Bodies.{lay-no, lay-all}
-use Rattle.content_variant.proofs.Variant.{opened-most}
-use Rattle.content.proofs.Variants.{is-opened, laid-wide, tape-wide, laid-no, tape-no}
+use Rattle.body_walk.proofs.Bodies.{lay_no, lay_all}
+use Rattle.content_variant.proofs.Variant.{opened_most}
+use Rattle.content.proofs.Variants.{is_opened, laid_wide, tape_wide, laid_no, tape_no}
 use Rattle.content_reader.proofs.lay.Statement.{statement}
 use Rattle.content_reader.proofs.lay.Tie as tie
 
@@ -25,7 +25,7 @@ lay_spec =
     (λ c. search rules)
     (λ c κs. let wide : tie.In-Bytes = search in
     let opened : tie.After-open = search in
-    omega (arith, opened-most _ _ _ _ (sym wide.in-Bytes.is ∙ opened.open.ensures)))
+    omega (arith, opened_most _ _ _ _ (sym wide.in-Bytes.is ∙ opened.open.ensures)))
     (λ c κs. search rules)
     (λ c. search rules)
     (λ c. search rules)
@@ -33,19 +33,19 @@ lay_spec =
     let counted : tie.After-entries_needed = search in
     let wide = wide_of (walk_of counted) in
     let opened : tie.After-open = search in
-    omega (arith, opened-most _ _ _ _ (sym wide.in-Bytes.is ∙ opened.open.ensures)))
+    omega (arith, opened_most _ _ _ _ (sym wide.in-Bytes.is ∙ opened.open.ensures)))
     (λ c. let opened : tie.After-open = search in
     let no = sym c.in-Refused.is ∙ opened.open.ensures in
-    (laid-no _ _ _ _ no _, tape-no _ _ _ _ no _))
+    (laid_no _ _ _ _ no _, tape_no _ _ _ _ no _))
     (λ c. search rules)
     (λ c. let counted : tie.After-entries_needed = search in
     let walk = walk_of counted in
     let wide = wide_of walk in
     let opened : tie.After-open = search in
     let width = sym wide.in-Bytes.is ∙ opened.open.ensures in
-    let w = lay-no _ _ (is-opened _ _ _ _ width) walk.walk_content-dry.ensures
+    let w = lay_no _ _ (is_opened _ _ _ _ width) walk.walk_content-dry.ensures
     (sym c.in-Refused-entries_needed.is ∙ counted.entries_needed.ensures) in
-    (w.said ∙ laid-wide _ _ _ _ width _, w.left ∙ tape-wide _ _ _ _ width _))
+    (w.said ∙ laid_wide _ _ _ _ width _, w.left ∙ tape_wide _ _ _ _ width _))
     (λ c. search rules)
     (λ c. let wet : tie.After-walk_content = search in
     let n : tie.In-At = search in
@@ -54,7 +54,7 @@ lay_spec =
     let wide = wide_of walk in
     let opened : tie.After-open = search in
     let width = sym wide.in-Bytes.is ∙ opened.open.ensures in
-    let w = lay-all _ _ (is-opened _ _ _ _ width) walk.walk_content-dry.ensures
+    let w = lay_all _ _ (is_opened _ _ _ _ width) walk.walk_content-dry.ensures
     (sym n.in-At.is ∙ counted.entries_needed.ensures) (λ i. (opened.before.before.shared_slice_known-1.given i).fits)
     wet.walk_content.ensures in
-    (w.said ∙ laid-wide _ _ _ _ width _, w.left ∙ tape-wide _ _ _ _ width _)))
+    (w.said ∙ laid_wide _ _ _ _ width _, w.left ∙ tape_wide _ _ _ _ width _)))

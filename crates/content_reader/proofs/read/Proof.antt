@@ -9,13 +9,13 @@ use Rattle.body_formats.specs.Body.{body_read}
 use Rattle.body_formats.specs.declared.Step.TheVariants.{At}
 use Rattle.body_formats.proofs.Classes.{Bytes}
 use Rattle.body_glance.proofs.Finds.{read_filled}
-use Rattle.body_walk.proofs.Bodies.{read-walked}
+use Rattle.body_walk.proofs.Bodies.{read_walked}
 use Rattle.content_variant.specs.Variant.{opened}
 use Rattle.content_variant.specs.declared.Width.TheVariants.{Bytes as Wide}
-use Rattle.content_variant.proofs.Variant.{opened-most}
+use Rattle.content_variant.proofs.Variant.{opened_most}
 use Rattle.content.specs.Content.{content_kind, content}
-use Rattle.content.proofs.Extension.{refused-before, identifier-there, other-extension, same-extension}
-use Rattle.content.proofs.Variants.{is-opened, read_wide, read_no}
+use Rattle.content.proofs.Extension.{refused_before, identifier_there, other_extension, same_extension}
+use Rattle.content.proofs.Variants.{is_opened, read_wide, read_no}
 use Rattle.content_reader.proofs.Glances.{opened_least}
 use Rattle.content_reader.proofs.read.Statement.{statement}
 use Rattle.content_reader.proofs.read.Tie as tie
@@ -44,9 +44,9 @@ Good c = At c.if-not-good_content.end
 
 good : (c : tie.Joined-not-good_content) → Good c
 good c =
-    let from = is-opened _ _ _ _ (width (wide_of c)) in
+    let from = is_opened _ _ _ _ (width (wide_of c)) in
     ⊎_elim {C = Good c}
-    (λ walked. ap At walked.end-is ∙ read-walked _ _ from walked.walk_content-walk.ensures (sym walked.in-At.is ∙ walked.body_end.ensures))
+    (λ walked. ap At walked.end-is ∙ read_walked _ _ from walked.walk_content-walk.ensures (sym walked.in-At.is ∙ walked.body_end.ensures))
     (λ glanced. ap At glanced.end-is ∙ read_filled _ _ from (c.before.good_content.ensures (not-false _ glanced.if-not-good_content.false-raw)))
     c.if-not-good_content.branch-raw
 
@@ -58,28 +58,28 @@ read_spec =
     (λ c. search rules)
     (λ c. search rules)
     (λ c κs. let wide : tie.In-Bytes = search in
-    (opened_least _ _ _ _ (width wide), opened-most _ _ _ _ (width wide)))
+    (opened_least _ _ _ _ (width wide), opened_most _ _ _ _ (width wide)))
     (λ c. search rules)
     (λ c κs. let wide : tie.In-Bytes = search in
-    omega (arith, opened-most _ _ _ _ (width wide)))
+    omega (arith, opened_most _ _ _ _ (width wide)))
     (λ c κs. search rules)
     (λ c. search rules)
     (λ c. let wide : tie.In-Bytes = search in
     let walk : tie.After-walk_content-walk = search in
     let told : tie.After-body_end = search in
-    refused-before _ _ _ _ _
-    (read-walked _ _ (is-opened _ _ _ _ (width wide)) walk.walk_content-walk.ensures (sym c.in-Refused-body_end.is ∙ told.body_end.ensures))
+    refused_before _ _ _ _ _
+    (read_walked _ _ (is_opened _ _ _ _ (width wide)) walk.walk_content-walk.ensures (sym c.in-Refused-body_end.is ∙ told.body_end.ensures))
     ∙ read_wide _ _ _ _ (width wide) _)
     (λ c. search rules)
     (λ c. let judged : tie.Joined-not-good_content = search in
-    identifier-there _ _ _ (bytes (wide_of judged)) _ (good judged))
+    identifier_there _ _ _ (bytes (wide_of judged)) _ (good judged))
     (λ c κs. search rules)
     (λ c. search rules)
     (λ c. let judged : tie.Joined-not-good_content = search in
-    other-extension _ _ _ (bytes (wide_of judged)) _ (good judged) _ _ c.before.crc16_after_four.ensures c.if-crc16_after_four-extension.true
+    other_extension _ _ _ (bytes (wide_of judged)) _ (good judged) _ _ c.before.crc16_after_four.ensures c.if-crc16_after_four-extension.true
     ∙ read_wide _ _ _ _ (width (wide_of judged)) _)
     (λ c. let asked : tie.After-open = search in
     read_no _ _ _ _ (sym c.in-Refused.is ∙ asked.open.ensures) _)
     (λ c. let judged : tie.Joined-not-good_content = search in
-    same-extension _ _ _ (bytes (wide_of judged)) _ (good judged) _ _ c.before.crc16_after_four.ensures (omega arith)
+    same_extension _ _ _ (bytes (wide_of judged)) _ (good judged) _ _ c.before.crc16_after_four.ensures (omega arith)
     ∙ read_wide _ _ _ _ (width (wide_of judged)) _))

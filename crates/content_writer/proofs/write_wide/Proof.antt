@@ -1,8 +1,8 @@
 -- `content_writer::write_wide` meets its contract: what was measured decides all refusals, only then the bytes are written, and the extension is
 use native.Mathlib.Omega.{arith}
 use borrow.Author.Rules.{rules}
-use Rattle.body_ink.proofs.Writers.{write-ready, write-inked}
-use Rattle.content_writer.proofs.Extension.{refused-kept, identifier-fits, first-there, with-extension}
+use Rattle.body_ink.proofs.Writers.{write_ready, write_inked}
+use Rattle.content_writer.proofs.Extension.{refused_kept, identifier_fits, first_there, with_extension}
 use Rattle.content_writer.proofs.write_wide.Statement.{statement}
 use Rattle.content_writer.proofs.write_wide.Tie as tie
 
@@ -16,20 +16,20 @@ write_wide_spec =
     (λ c. search rules)
     (λ c κs. let size : tie.In-At = search in
     let start : tie.Start = search in
-    write-ready _ _ _ start.args.out.now size.in-At.size (cc))
+    write_ready _ _ _ start.args.out.now size.in-At.size (cc))
     (λ c. let ink-content : tie.After-ink_content = search in
     let size : tie.In-At = search in
-    let w = write-inked _ _ _ _ size.in-At.size (cc) ink-content.ink_content.ensures in
-    omega (arith, identifier-fits _ _ _ _ _ w.0 _ w.1))
+    let w = write_inked _ _ _ _ size.in-At.size (cc) ink-content.ink_content.ensures in
+    omega (arith, identifier_fits _ _ _ _ _ w.0 _ w.1))
     (λ c. let ink-content : tie.After-ink_content = search in
     let size : tie.In-At = search in
-    let w = write-inked _ _ _ _ size.in-At.size (cc) ink-content.ink_content.ensures in
-    first-there _ _ _ _ _ w.0 _ w.1 _ (omega arith))
+    let w = write_inked _ _ _ _ size.in-At.size (cc) ink-content.ink_content.ensures in
+    first_there _ _ _ _ _ w.0 _ w.1 _ (omega arith))
     (λ c κs. search rules)
     (λ c. search rules)
-    (λ c. refused-kept _ _ _ _ _ (cc))
+    (λ c. refused_kept _ _ _ _ _ (cc))
     (λ c. search rules)
     (λ c. let ink-content : tie.After-ink_content = search in
     let size : tie.In-At = search in
-    let w = write-inked _ _ _ _ size.in-At.size (cc) ink-content.ink_content.ensures in
-    (with-extension _ _ _ _ _ w.0 _ w.1 _ c.crc16_after_four.ensures, w.1)))
+    let w = write_inked _ _ _ _ size.in-At.size (cc) ink-content.ink_content.ensures in
+    (with_extension _ _ _ _ _ w.0 _ w.1 _ c.crc16_after_four.ensures, w.1)))

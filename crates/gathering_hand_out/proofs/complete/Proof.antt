@@ -10,7 +10,7 @@ use mir.Val.{Fits}
 use Rattle.gathering_state.specs.State.{state_of, possible_of, nothing_begun, has_room, lengths}
 use Rattle.gathering_state.specs.declared.Gathering.{Gathering}
 use Rattle.ground_choices.proofs.Tests.{unmet, met}
-use Rattle.gathering_hand_out.proofs.Handing.{complete-impossible, complete-fresh, complete-short, complete-spoiled, complete-calm}
+use Rattle.gathering_hand_out.proofs.Handing.{complete_impossible, complete_fresh, complete_short, complete_spoiled, complete-calm}
 use Rattle.gathering_hand_out.proofs.complete.Statement.{statement}
 use Rattle.gathering_hand_out.proofs.complete.Tie as tie
 
@@ -38,11 +38,11 @@ complete_spec =
     tie.close
     (tie.spec
     (λ c κs. search rules)
-    (λ c. sym (complete-impossible _ _ (unmet _ c.before.possible.ensures c.if-not-possible.true-raw)))
-    (λ c. sym (complete-fresh _ _ (possible (search)) (eq-eqb _ _ c.if-m-eq0.true)))
+    (λ c. sym (complete_impossible _ _ (unmet _ c.before.possible.ensures c.if-not-possible.true-raw)))
+    (λ c. sym (complete_fresh _ _ (possible (search)) (eq-eqb _ _ c.if-m-eq0.true)))
     (λ c κs. search rules)
-    (λ c. sym (complete-short _ _ (possible (search)) (begun (search)) (unmet _ c.before.has_room.ensures c.if-not-has_room.true-raw)))
-    (λ c. sym (complete-spoiled _ _ (possible (search)) (begun (search)) (roomy (search)) c.if-m-ne0.true))
+    (λ c. sym (complete_short _ _ (possible (search)) (begun (search)) (unmet _ c.before.has_room.ensures c.if-not-has_room.true-raw)))
+    (λ c. sym (complete_spoiled _ _ (possible (search)) (begun (search)) (roomy (search)) c.if-m-ne0.true))
     (λ c. search rules)
     (λ c. search rules)
     (λ c κs. let start : tie.Start = search in

@@ -1,6 +1,6 @@
 -- `gathering_hand_out::hand_held` meets its contract: the total is the length of the joined body, and the output has room for it or not.
 use native.Mathlib.Omega.{arith}
-use Rattle.gathering_hand_out.proofs.Handing.{held_small, held-body}
+use Rattle.gathering_hand_out.proofs.Handing.{held_small, held_body}
 use Rattle.gathering_hand_out.proofs.hand_held.Goals as goal
 
 pub total_of-n-requires : goal.total_of-n-requires
@@ -13,4 +13,4 @@ pub join-requires : goal.join-requires
 join-requires c = (c.requires, omega arith)
 
 pub returns : goal.returns
-returns c = held-body _ _ _ c.requires _ c.total_of-n.ensures (omega arith) _ c.join.ensures
+returns c = held_body _ _ _ c.requires _ c.total_of-n.ensures (omega arith) _ c.join.ensures

@@ -9,7 +9,7 @@ use mir.Val.{Fits}
 use Rattle.gathering_state.specs.State.{lengths}
 use Rattle.gathering_hand_out.specs.Handing.{body_held, complete_of}
 use Rattle.gathering_hand_out.specs.declared.Completeness.TheVariants.{Complete}
-use Rattle.gathering_hand_out.proofs.Handing.{completes, complete-whole, whole-in-store, hands-refused, hands-complete}
+use Rattle.gathering_hand_out.proofs.Handing.{completes, complete_whole, whole_in_store, hands_refused, hands_complete}
 use Rattle.gathering_hand_out.proofs.hand_out.Statement.{statement}
 use Rattle.gathering_hand_out.proofs.hand_out.Tie as tie
 
@@ -44,10 +44,10 @@ hand_out_spec =
     (λ c. search rules)
     (λ c κs. let told : tie.In-Complete = search in
     let few = among (search) in
-    (few.0, whole-in-store _ _ few.1 (complete-whole _ _ (complete_at told))))
+    (few.0, whole_in_store _ _ few.1 (complete_whole _ _ (complete_at told))))
     (λ c. let told = c in
     let found : tie.After-complete = search in
-    hands-refused _ _ _ _ (completes _ _ _ found.before.before.numbers_of-numbers.ensures _ found.complete.ensures ∙ told.in-Refused.is))
+    hands_refused _ _ _ _ (completes _ _ _ found.before.before.numbers_of-numbers.ensures _ found.complete.ensures ∙ told.in-Refused.is))
     (λ c. search rules)
     (λ c. let handed : tie.After-hand_first = search in
-    hands-complete _ _ _ (complete_at (search)) _ handed.hand_first.ensures.0 _ handed.hand_first.ensures.1))
+    hands_complete _ _ _ (complete_at (search)) _ handed.hand_first.ensures.0 _ handed.hand_first.ensures.1))

@@ -4,8 +4,8 @@ use native.Mathlib.Omega.{arith}
 use borrow.Author.Rules.{rules}
 use lib.ListN.{length, length-take, length-drop}
 use Rattle.gathering_state.specs.State.{place}
-use Rattle.gathering_hand_out.proofs.Handing.{in-store-at}
-use Rattle.gathering_hand_out.proofs.Joining.{Joining, join-start, join-room, join_step, join-end}
+use Rattle.gathering_hand_out.proofs.Handing.{in_store_at}
+use Rattle.gathering_hand_out.proofs.Joining.{Joining, join_start, join_room, join_step, join_end}
 use Rattle.gathering_hand_out.proofs.join.Statement.{statement}
 use Rattle.gathering_hand_out.proofs.join.Tie as tie
 
@@ -28,7 +28,7 @@ unfolding begun
 in_store c =
     let start = begun c in
     let head : tie.At-loop-k invariant-loop-k decreases-loop-k = search in
-    let a = in-store-at _ _ start.requires.0 head.loop-k.k (omega arith) in
+    let a = in_store_at _ _ start.requires.0 head.loop-k.k (omega arith) in
     let p = c.place_of-at.ensures in
     omega arith
 
@@ -37,7 +37,7 @@ unfolding head_of
 in_output c =
     let head = head_of c in
     let start : tie.Start invariant-loop-k decreases-loop-k = search in
-    let r = join-room _ _ _ _ _ _ _ head.loop-k.invariant (omega arith) start.requires.1 in omega arith
+    let r = join_room _ _ _ _ _ _ _ head.loop-k.invariant (omega arith) start.requires.1 in omega arith
 
 pub join_spec : {M : Type 1} → statement M
 unfolding begun head_of
@@ -46,7 +46,7 @@ join_spec =
     (tie.spec
     invariant-loop-k
     decreases-loop-k
-    (λ c. join-start _ _ _ _)
+    (λ c. join_start _ _ _ _)
     (λ c. omega arith)
     (λ c. omega arith)
     (λ c κs. search rules)
@@ -65,4 +65,4 @@ join_spec =
     join_step _ _ _ _ _ _ _ head.loop-k.invariant (omega arith) start.requires.1 _ less_one.less_one-n.ensures.0 _
     place_of.place_of-at.ensures (in_store place_of) _ c.before.before.copy_long.ensures)
     (λ c. c.before.loop-k.invariant.long)
-    (λ c. join-end _ _ _ _ _ _ _ c.before.loop-k.invariant c.loop-k-test.false))
+    (λ c. join_end _ _ _ _ _ _ _ c.before.loop-k.invariant c.loop-k-test.false))

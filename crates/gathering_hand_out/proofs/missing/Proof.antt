@@ -4,7 +4,7 @@ use native.Mathlib.Omega.{arith}
 use borrow.Author.Rules.{rules}
 use lib.ListN.{length, take}
 use lib.Seq.{length-take-le}
-use Rattle.gathering_hand_out.proofs.Handing.{missing-some, missing_none}
+use Rattle.gathering_hand_out.proofs.Handing.{missing_some, missing_none}
 use Rattle.gathering_hand_out.proofs.missing.Statement.{statement}
 use Rattle.gathering_hand_out.proofs.missing.Tie as tie
 
@@ -18,5 +18,5 @@ missing_spec =
     (tie.spec
     (λ c. sym (length-take-le _ _ (search rules)))
     (λ c κs. search rules)
-    (λ c. let few = counted (search) in let test = c.if-k-count.true in missing-some _ _ c.before.smallest_missing-k.ensures (omega arith))
+    (λ c. let few = counted (search) in let test = c.if-k-count.true in missing_some _ _ c.before.smallest_missing-k.ensures (omega arith))
     (λ c. let few = counted (search) in let test = c.if-k-count.false in missing_none _ _ c.before.smallest_missing-k.ensures (omega arith)))

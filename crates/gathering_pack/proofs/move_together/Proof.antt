@@ -3,7 +3,7 @@ use Prim.Native.Nat.{◌+◌, ◌-◌, ◌≤◌}
 use native.Mathlib.Omega.{arith}
 use borrow.Author.Rules.{rules}
 use lib.ListN.{length}
-use Rattle.gathering_pack.proofs.Packing.{Together, together_start, together-fits, together-step, together-end}
+use Rattle.gathering_pack.proofs.Packing.{Together, together_start, together_fits, together_step, together_end}
 use Rattle.gathering_pack.proofs.move_together.Statement.{statement}
 use Rattle.gathering_pack.proofs.move_together.Tie as tie
 
@@ -24,7 +24,7 @@ unfolding head_of
 fits c =
     let less = c.before in
     let loop = head_of c in
-    together-fits _ _ loop.before.before.before.requires _ _ _ loop.loop-k.invariant (omega arith) _ less.less_one-n.ensures.0 _ c.place_of-at.ensures
+    together_fits _ _ loop.before.before.before.requires _ _ _ loop.loop-k.invariant (omega arith) _ less.less_one-n.ensures.0 _ c.place_of-at.ensures
 
 pub move_together_spec : {M : Type 1} → statement M
 unfolding head_of
@@ -46,7 +46,7 @@ move_together_spec =
     (λ c. let moved : tie.After-move_front invariant-loop-k decreases-loop-k = search in let placed : tie.After-place_of-at invariant-loop-k decreases-loop-k = search in
     let less = placed.before in
     let loop : tie.At-loop-k invariant-loop-k decreases-loop-k = search in
-    together-step _ _ loop.before.before.before.requires _ _ _ loop.loop-k.invariant (omega arith) _ less.less_one-n.ensures.0 _ placed.place_of-at.ensures _
+    together_step _ _ loop.before.before.before.requires _ _ _ loop.loop-k.invariant (omega arith) _ less.less_one-n.ensures.0 _ placed.place_of-at.ensures _
     moved.move_front.ensures)
     (λ c. c.before.loop-k.invariant.joining.long)
-    (λ c. let start : tie.Start invariant-loop-k decreases-loop-k = search in together-end _ _ start.requires _ _ _ c.before.loop-k.invariant c.loop-k-test.false))
+    (λ c. let start : tie.Start invariant-loop-k decreases-loop-k = search in together_end _ _ start.requires _ _ _ c.before.loop-k.invariant c.loop-k-test.false))

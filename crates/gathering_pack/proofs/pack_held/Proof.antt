@@ -10,7 +10,7 @@ use Rattle.gathering_state.specs.State.{lengths}
 use Rattle.gathering_hand_out.specs.Handing.{body_held, complete_of}
 use Rattle.gathering_hand_out.specs.declared.Completeness.TheVariants.{Complete}
 use Rattle.gathering_hand_out.proofs.Handing.{completes}
-use Rattle.gathering_pack.proofs.Packing.{answers-refused, packs-in-store, answers-body}
+use Rattle.gathering_pack.proofs.Packing.{answers_refused, packs_in_store, answers_body}
 use Rattle.gathering_pack.proofs.pack_held.Statement.{statement}
 use Rattle.gathering_pack.proofs.pack_held.Tie as tie
 
@@ -42,10 +42,10 @@ pack_held_spec =
     (λ c. search rules)
     (λ c. search rules)
     (λ c. search rules)
-    (λ c κs. let told : tie.In-Complete = search in let few = among (search) in (few.0, packs-in-store _ _ few.1 (all_there told)))
+    (λ c κs. let told : tie.In-Complete = search in let few = among (search) in (few.0, packs_in_store _ _ few.1 (all_there told)))
     (λ c. let numbers_of : tie.After-numbers_of-numbers = search in
     let told = c in
-    answers-refused _ _ _ (completes _ _ _ numbers_of.numbers_of-numbers.ensures _ told.before.complete.ensures ∙ told.in-Refused.is))
+    answers_refused _ _ _ (completes _ _ _ numbers_of.numbers_of-numbers.ensures _ told.before.complete.ensures ∙ told.in-Refused.is))
     (λ c. search rules)
     (λ c. let moved : tie.After-move_first-n = search in let told : tie.In-Complete = search in
-    answers-body _ _ (among (search)).1 (all_there told) _ moved.move_first-n.ensures.0 _ moved.move_first-n.ensures.1))
+    answers_body _ _ (among (search)).1 (all_there told) _ moved.move_first-n.ensures.0 _ moved.move_first-n.ensures.1))

@@ -4,7 +4,7 @@ use mathlib.Core.Path.{◌≡◌, sym, ◌∙◌}
 use native.Mathlib.Omega.{arith}
 use borrow.Author.Rules.{rules}
 use Rattle.section_reader.specs.Section.{is_kind}
-use Rattle.gathering_state.proofs.State.{not-begun, not-begun-seen, begun-seen}
+use Rattle.gathering_state.proofs.State.{not_begun, not_begun_seen, begun_seen}
 use Rattle.ground_choices.proofs.Tests.{unmet, met}
 use Rattle.gathering_state.proofs.is_begun.Statement.{statement}
 use Rattle.gathering_state.proofs.is_begun.Tie as tie
@@ -18,29 +18,21 @@ is_begun_spec =
     (tie.spec
     (λ c. search rules)
     (λ c κs. search rules)
-    (λ c. not-begun _ (λ b. false≢true (sym (unmet _ c.before.is_kind.ensures c.if-not-is_kind.true-raw) ∙ b.of_table.kind)))
+    (λ c. not_begun _ (λ b. false≢true (sym (unmet _ c.before.is_kind.ensures c.if-not-is_kind.true-raw) ∙ b.of_table.kind)))
     (λ c. search rules)
-    (λ c. not-begun _ (λ b. omega arith))
-    (λ c. not-begun _ (λ b. omega arith))
+    (λ c. not_begun _ (λ b. omega arith))
+    (λ c. not_begun _ (λ b. omega arith))
     (λ c. search rules)
     (λ c. search rules)
     (λ c κs. search rules)
-    (λ c. let passed : tie.After-survey_of-seen = search in not-begun-seen _ passed.survey_of-seen.ensures (λ s b. omega arith))
-    (λ c. let passed : tie.After-survey_of-seen = search in not-begun-seen _ passed.survey_of-seen.ensures (λ s b. omega arith))
+    (λ c. let passed : tie.After-survey_of-seen = search in not_begun_seen _ passed.survey_of-seen.ensures (λ s b. omega arith))
+    (λ c. let passed : tie.After-survey_of-seen = search in not_begun_seen _ passed.survey_of-seen.ensures (λ s b. omega arith))
     (λ c. search rules)
     (λ c. search rules)
-    (λ c. let passed : tie.After-survey_of-seen = search in not-begun-seen _ passed.survey_of-seen.ensures (λ s b. omega arith))
+    (λ c. let passed : tie.After-survey_of-seen = search in not_begun_seen _ passed.survey_of-seen.ensures (λ s b. omega arith))
     (λ c. search rules)
     (λ c. search rules)
     (λ c. search rules)
-    (λ c. let passed : tie.After-survey_of-seen = search in not-begun-seen _ passed.survey_of-seen.ensures (λ s b. omega arith))
-    (λ c. let counted : tie.Else-m-seen = search in let short : tie.Else-seen = search in let some : tie.Else-seen-eq0 = search in
-    let below : tie.Else-seen-ne0 = search in let passed : tie.After-survey_of-seen = search in let calm : tie.Else-m-gt1 = search in
-    let old : tie.Else-m-gt-VERSION_MOST = search in let known : tie.Else-not-is_kind = search in
-    let version = old.if-m-gt-VERSION_MOST.false in
-    let spoiled = calm.if-m-gt1.false in
-    let above = below.if-seen-ne0.false in
-    let least = some.if-seen-eq0.false in
-    let most = short.if-seen.false in
-    let missing = counted.if-m-seen.false in
-    begun-seen _ passed.survey_of-seen.ensures (kind_at known) (omega arith) (omega arith) (omega arith) (omega arith) (omega arith) (omega arith)))
+    (λ c. let passed : tie.After-survey_of-seen = search in not_begun_seen _ passed.survey_of-seen.ensures (λ s b. omega arith))
+    (λ c. let passed : tie.After-survey_of-seen = search in let known : tie.Else-not-is_kind = search in
+    begun_seen _ passed.survey_of-seen.ensures (kind_at known) (omega arith) (omega arith) (omega arith) (omega arith) (omega arith) (omega arith)))

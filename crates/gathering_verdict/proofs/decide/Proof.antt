@@ -8,10 +8,10 @@ use lib.ListN.{length}
 use Rattle.section_reader.specs.Section.{read_section}
 use Rattle.section_reader.specs.declared.Sectioned.TheVariants.{Good}
 use Rattle.gathering_state.specs.State.{state_of, possible_of}
-use Rattle.gathering_state.proofs.State.{possible-short}
+use Rattle.gathering_state.proofs.State.{possible_short}
 use Rattle.ground_choices.proofs.Tests.{unmet, met}
 use Rattle.gathering_verdict.specs.Deciding.{good_verdict}
-use Rattle.gathering_verdict.proofs.Verdicts.{verdict-impossible, verdict-bad, verdict-good, Sized, sized, payload_part}
+use Rattle.gathering_verdict.proofs.Verdicts.{verdict_impossible, verdict_bad, verdict_good, Sized, sized, payload_part}
 use Rattle.gathering_verdict.proofs.decide.Statement.{statement}
 use Rattle.gathering_verdict.proofs.decide.Tie as tie
 
@@ -44,7 +44,7 @@ decide_spec =
     tie.close
     (tie.spec
     (λ c κs. search rules)
-    (λ c. sym (verdict-impossible _ _ _ (unmet _ c.before.possible.ensures c.if-not-possible.true-raw)))
+    (λ c. sym (verdict_impossible _ _ _ (unmet _ c.before.possible.ensures c.if-not-possible.true-raw)))
     (λ c κs. search rules)
     (λ c. search rules)
     (λ c. search rules)
@@ -52,7 +52,7 @@ decide_spec =
     (λ c. search rules)
     (λ c. search rules)
     within
-    (λ c κs. let here : tie.In-Good = search in ((good_at here).numbered, (good_at here).versioned, possible-short _ (possible_at (search))))
-    (λ c. sym (verdict-bad _ _ _ (possible_at (search)) _ (sym c.before.read_section.ensures ∙ c.in-Refused.is)))
+    (λ c κs. let here : tie.In-Good = search in ((good_at here).numbered, (good_at here).versioned, possible_short _ (possible_at (search))))
+    (λ c. sym (verdict_bad _ _ _ (possible_at (search)) _ (sym c.before.read_section.ensures ∙ c.in-Refused.is)))
     (λ c. c.decide_good.ensures ∙ ap (good_verdict _ _ _) (payload_part _ _ _ (good_at (search)))
-    ∙ sym (verdict-good _ _ _ (possible_at (search)) _ _ (read_at (search)))))
+    ∙ sym (verdict_good _ _ _ (possible_at (search)) _ _ (read_at (search)))))

@@ -1,11 +1,13 @@
 -- `gathering_verdict::decide_good` meets its contract: each refusal is the first of its order that applies, what begins does so where there is room, and
+-- where nothing begins a spoiled gathering refuses and else the number decides.
 use mathlib.Core.Bool.{false, not, ◌||◌}
 use mathlib.Core.Path.{◌≡◌, sym, ◌∙◌, ap, ap₂}
+use native.Mathlib.Omega.{arith}
 use borrow.Author.Rules.{rules}
 use borrow.Author.Tests.{not-false}
 use Rattle.gathering_state.specs.State.{state_of}
 use Rattle.gathering_verdict.specs.Deciding.{begins}
-use Rattle.gathering_verdict.proofs.Verdicts.{Past, good_old, good-other, good_short, good_begins, good-spoiled, good-further}
+use Rattle.gathering_verdict.proofs.Verdicts.{Past, good_old, good_other, good_short, good_begins, good_spoiled, good_further}
 use Rattle.gathering_verdict.proofs.decide_good.Statement.{statement}
 use Rattle.gathering_verdict.proofs.decide_good.Tie as tie
 
@@ -53,7 +55,7 @@ decide_good_spec =
     let held = start.args.held.now in
     let b = beginning.begins_gathering-begins.ensures held in
     let a = agreeing.heading_agrees-agrees.ensures held in
-    sym (good-other _ _ _ _ (cc) (cc)))
+    sym (good_other _ _ _ _ (cc) (cc)))
     (λ c κs. search rules)
     (λ c. let start : tie.Start = search in let agreeing : tie.After-heading_agrees-agrees = search in
     let beginning = agreeing.before in
@@ -64,8 +66,8 @@ decide_good_spec =
     (λ c. let start : tie.Start = search in let beginning : tie.After-begins_gathering-begins = search in
     let b = beginning.begins_gathering-begins.ensures start.args.held.now in
     sym (good_begins _ _ _ _ (past c.before) (cc)))
-    (λ c. let here : tie.Else-begins = search in sym (good-spoiled _ _ _ _ (past here.before) (further here) c.if-m-ne0.true))
+    (λ c. let here : tie.Else-begins = search in sym (good_spoiled _ _ _ _ (past here.before) (further here) (omega arith)))
     (λ c κs. let room : tie.Else-not-has_room = search in let start : tie.Start = search in (not-false _ (past room).roomy, start.requires.0, start.requires.2))
     (λ c. let at_start : tie.Start = search in let here : tie.Else-begins = search in
     let start = at_start.args in
-    c.decide_number.ensures start.m ∙ sym (good-further _ _ _ _ (past here.before) (further here) c.before.if-m-ne0.false)))
+    c.decide_number.ensures start.m ∙ sym (good_further _ _ _ _ (past here.before) (further here) (omega arith))))

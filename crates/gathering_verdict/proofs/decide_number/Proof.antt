@@ -6,7 +6,7 @@ use borrow.Author.Rules.{rules}
 use lib.ListN.{length}
 use Rattle.gathering_state.proofs.Lists.{greatest_at}
 use Rattle.gathering_state.proofs.State.{place_within}
-use Rattle.gathering_verdict.proofs.Verdicts.{compared, number-new, number_same, number-other}
+use Rattle.gathering_verdict.proofs.Verdicts.{compared, number_new, number_same, number_other}
 use Rattle.gathering_verdict.proofs.decide_number.Statement.{statement}
 use Rattle.gathering_verdict.proofs.decide_number.Tie as tie
 
@@ -33,7 +33,7 @@ decide_number_spec =
     (λ c. search rules)
     (λ c. search rules)
     (λ c. search rules)
-    (λ c m. sym (number-new _ _ _ _ c.if-n-eq0.true))
+    (λ c m. sym (number_new _ _ _ _ c.if-n-eq0.true))
     (λ c κs. search rules)
     (λ c κs. search rules)
     (λ c. let w = within c in omega arith)
@@ -45,5 +45,5 @@ decide_number_spec =
     sym (number_same _ _ _ _ (omega arith)
     (compared _ _ _ _ _ _ place_of.place_of-at.ensures c.before.before.before.less_one.ensures.0 _ c.before.same_bytes.ensures ∙ c.if-same_bytes.true)))
     (λ c m. let place_of : tie.After-place_of-at = search in
-    sym (number-other _ _ _ _ (omega arith)
+    sym (number_other _ _ _ _ (omega arith)
     (compared _ _ _ _ _ _ place_of.place_of-at.ensures c.before.before.before.less_one.ensures.0 _ c.before.same_bytes.ensures ∙ c.if-same_bytes.false))))

@@ -3,7 +3,7 @@ use mathlib.Core.Path.{◌≡◌}
 use native.Mathlib.Omega.{arith}
 use lib.ListN.{length}
 use Rattle.ground_placing.specs.Placed.{placed}
-use Rattle.ground_moving.proofs.Moving.{moved, Moved, moved_there, move_start, move_step, move-end}
+use Rattle.ground_moving.proofs.Moving.{moved, Moved, moved_there, move_start, move_step, move_end}
 use Rattle.ground_moving.proofs.move_front.Statement.{statement}
 use Rattle.ground_moving.proofs.move_front.Tie as tie
 
@@ -24,7 +24,7 @@ ends : (c : tie.After-slice_known-2-1 invariant-loop-left decreases-loop-left)
     (out ≡ placed given.buffer.now given.to (moved given.buffer.now given.from given.n)) × (length out ≡ length given.buffer.now)
 ends c =
     let piece = c.before.before in
-    move-end _ _ _ _ (omega arith) (omega arith) _ _ piece.before.before.before.loop-left.invariant _ piece.move_piece-2.ensures
+    move_end _ _ _ _ (omega arith) (omega arith) _ _ piece.before.before.before.loop-left.invariant _ piece.move_piece-2.ensures
 
 pub move_front_spec : {M : Type 1} → statement M
 move_front_spec =

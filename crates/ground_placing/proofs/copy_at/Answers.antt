@@ -3,7 +3,7 @@ use Prim.Native.Nat.{◌≤◌, ◌-◌}
 use mathlib.Core.Path.{◌≡◌, refl}
 use native.Mathlib.Omega.{arith}
 use lib.ListN.{length, length-set}
-use Rattle.ground_placing.proofs.Placing.{copying, copy_start, copy_step, copy-end}
+use Rattle.ground_placing.proofs.Placing.{copying, copy_start, copy_step, copy_end}
 use Rattle.ground_placing.proofs.copy_at.Goals as goal
 
 pub loop-i-init : goal.loop-i-init
@@ -16,4 +16,4 @@ pub shape_of-dst : goal.shape_of-dst
 shape_of-dst c = c.loop-i.invariant.2
 
 pub returns : goal.returns
-returns c = let v = c.loop-i.invariant in copy-end _ _ _ _ _ v.0 v.1 c.loop-i-test.false
+returns c = let v = c.loop-i.invariant in copy_end _ _ _ _ _ v.0 v.1 c.loop-i-test.false

@@ -3,7 +3,7 @@ use Prim.Native.Nat.{◌≤◌, ◌-◌}
 use mathlib.Core.Path.{◌≡◌, refl}
 use native.Mathlib.Omega.{arith}
 use lib.ListN.{length, length-set}
-use Rattle.ground_placing.proofs.Placing.{copying, copy_start, copy_step, copy-end}
+use Rattle.ground_placing.proofs.Placing.{copying, copy_start, copy_step, copy_end}
 use Rattle.ground_placing.proofs.copy_at.Given as goal
 
 abbrev pub invariant-loop-i : goal.invariant-loop-i

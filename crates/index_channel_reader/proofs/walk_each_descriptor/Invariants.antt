@@ -2,7 +2,7 @@
 use Prim.Native.Nat.{◌-◌}
 use native.Mathlib.Omega.{arith}
 use borrow.Author.Rules.{rules}
-use Rattle.body_walk.proofs.Manys.{Along, many_start, many-nearer, many-turn, many-stop, many-done}
+use Rattle.body_walk.proofs.Manys.{Along, many_start, many_nearer, many_turn, many_stop, many_done}
 use Rattle.index.specs.Index.{descriptor}
 use Rattle.index.proofs.Lawful.{descriptor_lawful, descriptor_takes}
 use Rattle.index_channel_reader.proofs.walk_each_descriptor.Given as goal

@@ -2,7 +2,7 @@
 use Prim.Native.Nat.{◌-◌}
 use native.Mathlib.Omega.{arith}
 use borrow.Author.Rules.{rules}
-use Rattle.body_walk.proofs.Manys.{Along, many_start, many-nearer, many-turn, many-stop, many-done}
+use Rattle.body_walk.proofs.Manys.{Along, many_start, many_nearer, many_turn, many_stop, many_done}
 use Rattle.index.specs.Index.{stream}
 use Rattle.index.proofs.Lawful.{stream_lawful, stream_takes}
 use Rattle.index_channel_reader.proofs.walk_each_stream.Goals as goal
@@ -11,23 +11,23 @@ pub loop-at-init : goal.loop-at-init
 loop-at-init c = many_start c.less-left.ensures
 
 pub returns-in-Refused : goal.returns-in-Refused
-returns-in-Refused c = many-stop stream_lawful stream_takes (λ i. (c.type_inv.s i).fits) c.requires
+returns-in-Refused c = many_stop stream_lawful stream_takes (λ i. (c.type_inv.s i).fits) c.requires
     c.loop-at-test.true c.walk_stream.ensures c.loop-at.invariant c.in-Refused.is
 
 pub overflow_add-n : goal.overflow_add-n
 overflow_add-n c = omega (arith, c.loop-at.invariant.small)
 
 pub loop-at-smaller : goal.loop-at-smaller
-loop-at-smaller c = let near = many-nearer stream_lawful stream_takes (λ i. (c.type_inv.s i).fits) c.requires
+loop-at-smaller c = let near = many_nearer stream_lawful stream_takes (λ i. (c.type_inv.s i).fits) c.requires
     c.loop-at-test.true c.walk_stream.ensures c.in-At.is in
     omega (arith, near.0, near.1)
 
 pub loop-at-preserved : goal.loop-at-preserved
-loop-at-preserved c = many-turn stream_lawful stream_takes (λ i. (c.type_inv.s i).fits) c.requires
+loop-at-preserved c = many_turn stream_lawful stream_takes (λ i. (c.type_inv.s i).fits) c.requires
     c.loop-at-test.true c.walk_stream.ensures c.loop-at.invariant c.in-At.is (search rules)
 
 pub shape_of-tape : goal.shape_of-tape
 shape_of-tape c = omega (arith, c.loop-at.invariant.ahead.same)
 
 pub returns : goal.returns
-returns c = many-done (omega arith) c.loop-at.invariant c.lay_entry.ensures.dry c.lay_entry.ensures.there
+returns c = many_done (omega arith) c.loop-at.invariant c.lay_entry.ensures.dry c.lay_entry.ensures.there

@@ -4,8 +4,8 @@ use native.Mathlib.Omega.{arith}
 use borrow.Author.Rules.{rules}
 use Rattle.body_formats.specs.Format.{◌▷◌, reserved}
 use Rattle.body_formats.proofs.Classes.{Lawful}
-use Rattle.body_formats.proofs.Leaves.{reserved-lawful}
-use Rattle.body_formats.proofs.Parts.{number_lawful, followed-lawful}
+use Rattle.body_formats.proofs.Leaves.{reserved_lawful}
+use Rattle.body_formats.proofs.Parts.{number_lawful, followed_lawful}
 use Rattle.body_walk.proofs.Pairs.{pair, view_walk}
 use Rattle.index.specs.Index.{descriptors, stream, stream_fields}
 use Rattle.index.proofs.Lawful.{descriptors_lawful}
@@ -13,7 +13,7 @@ use Rattle.index_channel_reader.proofs.walk_stream.Goals as goal
 
 -- the fields from this one on keep the laws of formats
 from_pid : Lawful (reserved 3 1 ▷ descriptors)
-from_pid = followed-lawful _ _ (reserved-lawful 3 1 (omega arith)) (λ a. descriptors_lawful)
+from_pid = followed_lawful _ _ (reserved_lawful 3 1 (omega arith)) (λ a. descriptors_lawful)
 
 pub walk_number-a-requires : goal.walk_number-a-requires
 unfolding stream stream_fields
@@ -35,5 +35,5 @@ pub returns : goal.returns
 unfolding stream stream_fields
 returns c = view_walk _ _ (λ a. refl)
     (pair (number_lawful 1) from_pid.formal c.walk_number-a.ensures
-    (pair (reserved-lawful 3 1 (omega arith)) descriptors_lawful.formal c.walk_reserved-pid.ensures.past
+    (pair (reserved_lawful 3 1 (omega arith)) descriptors_lawful.formal c.walk_reserved-pid.ensures.past
     c.walk_descriptors.ensures))

@@ -2,7 +2,7 @@
 use borrow.Author.Rules.{rules}
 use Rattle.body_formats.specs.Format.{length_of}
 use Rattle.body_formats.proofs.Parts.{length_counts}
-use Rattle.body_walk.proofs.Counts.{entered-inside, counted_walk}
+use Rattle.body_walk.proofs.Counts.{entered_inside, counted_walk}
 use Rattle.index.specs.Index.{streams}
 use Rattle.index.proofs.Lawful.{all_streams_filling}
 use Rattle.index_channel_reader.proofs.walk_streams.Goals as goal
@@ -13,7 +13,7 @@ enter-part-requires c = search rules
 
 pub walk_all_streams-requires : goal.walk_all_streams-requires
 unfolding streams
-walk_all_streams-requires c = entered-inside (length_of 2) _ _ _ c.enter-part.ensures
+walk_all_streams-requires c = entered_inside (length_of 2) _ _ _ c.enter-part.ensures
 
 pub shape_of-tape : goal.shape_of-tape
 unfolding streams

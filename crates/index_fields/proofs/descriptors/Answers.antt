@@ -3,20 +3,20 @@ use mathlib.Core.Path.{sym, ap, ◌∙◌}
 use Rattle.body_formats.specs.Format.{rest, length12, counted}
 use Rattle.body_formats.specs.Answers.{part_of}
 use Rattle.index_fields.specs.Asked.{descriptors_part}
-use Rattle.index_fields.proofs.Answers.{in-channel-no, in-channel, channel-in}
+use Rattle.index_fields.proofs.Answers.{in_channel_no, in_channel_lem, channel_in}
 use native.Mathlib.Omega.{arith}
 use borrow.Author.Rules.{rules}
 use Rattle.index_fields.proofs.descriptors.Goals as goal
 
 pub overflow_add-at : goal.overflow_add-at
-overflow_add-at c = omega (arith, channel-in _ _ _ _ _ (sym c.in-Is.is ∙ c.channel_at.ensures))
+overflow_add-at c = omega (arith, channel_in _ _ _ _ _ (sym c.in-Is.is ∙ c.channel_at.ensures))
 
 pub overflow_add-q : goal.overflow_add-q
-overflow_add-q c = omega (arith, channel-in _ _ _ _ _ (sym c.in-Is.is ∙ c.channel_at.ensures))
+overflow_add-q c = omega (arith, channel_in _ _ _ _ _ (sym c.in-Is.is ∙ c.channel_at.ensures))
 
 pub returns-in-Refused : goal.returns-in-Refused
-returns-in-Refused c = unfold descriptors_part in ap part_of (in-channel-no _ _ _ (counted length12 rest) _ _ (sym c.in-Refused.is ∙ c.channel_at.ensures))
+returns-in-Refused c = unfold descriptors_part in ap part_of (in_channel_no _ _ _ (counted length12 rest) _ _ (sym c.in-Refused.is ∙ c.channel_at.ensures))
 
 pub returns-in-Is : goal.returns-in-Is
 returns-in-Is c = unfold descriptors_part in c.read_part12.ensures ∙ ap part_of
-    (in-channel _ _ _ _ _ (sym c.in-Is.is ∙ c.channel_at.ensures) (counted length12 rest) _)
+    (in_channel_lem _ _ _ _ _ (sym c.in-Is.is ∙ c.channel_at.ensures) (counted length12 rest) _)

@@ -1,7 +1,7 @@
 -- `index_fields::extension` meets its contract: the identifier begins the message, and is asked for where the message lies in the body.
 use Prim.Native.Nat.{◌+◌}
 use mathlib.Core.Path.{sym, ◌∙◌}
-use Rattle.index_fields.proofs.Answers.{extension-no, extension_is}
+use Rattle.index_fields.proofs.Answers.{extension_no, extension_is}
 use native.Mathlib.Omega.{arith}
 use lib.ListN.{length}
 use borrow.Author.Tests.{leb-true}
@@ -18,4 +18,4 @@ pub returns-then-in_body : goal.returns-then-in_body
 returns-then-in_body c = c.extension_at.ensures ∙ extension_is _ _ _ (sym c.in_body.ensures ∙ c.if-in_body.true)
 
 pub returns : goal.returns
-returns c = extension-no _ _ _ (sym c.in_body.ensures ∙ c.if-in_body.false)
+returns c = extension_no _ _ _ (sym c.in_body.ensures ∙ c.if-in_body.false)

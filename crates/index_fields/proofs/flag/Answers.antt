@@ -1,6 +1,6 @@
 -- `index_fields::flag` meets its contract: it follows the resources, 12 bytes each.
 use mathlib.Core.Path.{sym, ◌∙◌}
-use Rattle.index_fields.proofs.Answers.{resources-in, flag-no, flag_is}
+use Rattle.index_fields.proofs.Answers.{resources_in, flag_no, flag_is}
 use native.Mathlib.Omega.{arith}
 use borrow.Author.Rules.{rules}
 use Rattle.index_fields.proofs.flag.Goals as goal
@@ -8,26 +8,26 @@ use Rattle.index_fields.proofs.flag.Goals as goal
 pub overflow_add-at : goal.overflow_add-at
 overflow_add-at c = omega (
   arith,
-  resources-in _ _ _ _ _ (sym c.in-Is.is ∙ c.resource_count.ensures)
+  resources_in _ _ _ _ _ (sym c.in-Is.is ∙ c.resource_count.ensures)
       (λ i. (c.type_inv.s i).fits),
 )
 
 pub overflow_mul-m : goal.overflow_mul-m
 overflow_mul-m c = omega (
   arith,
-  resources-in _ _ _ _ _ (sym c.in-Is.is ∙ c.resource_count.ensures)
+  resources_in _ _ _ _ _ (sym c.in-Is.is ∙ c.resource_count.ensures)
       (λ i. (c.type_inv.s i).fits),
 )
 
 pub overflow_add-q : goal.overflow_add-q
 overflow_add-q c = omega (
   arith,
-  resources-in _ _ _ _ _ (sym c.in-Is.is ∙ c.resource_count.ensures)
+  resources_in _ _ _ _ _ (sym c.in-Is.is ∙ c.resource_count.ensures)
       (λ i. (c.type_inv.s i).fits),
 )
 
 pub returns-in-Refused : goal.returns-in-Refused
-returns-in-Refused c = flag-no _ _ _ _ (sym c.in-Refused.is ∙ c.resource_count.ensures)
+returns-in-Refused c = flag_no _ _ _ _ (sym c.in-Refused.is ∙ c.resource_count.ensures)
 
 pub returns-in-Is : goal.returns-in-Is
 returns-in-Is c = c.read_reserved.ensures ∙ flag_is _ _ _ _ _ (sym c.in-Is.is ∙ c.resource_count.ensures)

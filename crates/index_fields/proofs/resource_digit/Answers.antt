@@ -1,15 +1,15 @@
 -- `index_fields::resource_digit` meets its contract: it stands where the resource begins.
 use mathlib.Core.Path.{sym, ◌∙◌}
-use Rattle.index_fields.proofs.Answers.{resource-in, resource-digit-no, resource-digit}
+use Rattle.index_fields.proofs.Answers.{resource_in, resource_digit_no, resource_digit_lem}
 use native.Mathlib.Omega.{arith}
 use borrow.Author.Rules.{rules}
 use Rattle.index_fields.proofs.resource_digit.Goals as goal
 
 pub overflow_add-at : goal.overflow_add-at
-overflow_add-at c = omega (arith, resource-in _ _ _ _ _ _ (sym c.in-Is.is ∙ c.resource_at.ensures))
+overflow_add-at c = omega (arith, resource_in _ _ _ _ _ _ (sym c.in-Is.is ∙ c.resource_at.ensures))
 
 pub returns-in-Refused : goal.returns-in-Refused
-returns-in-Refused c = resource-digit-no _ _ _ _ _ (sym c.in-Refused.is ∙ c.resource_at.ensures) _
+returns-in-Refused c = resource_digit_no _ _ _ _ _ (sym c.in-Refused.is ∙ c.resource_at.ensures) _
 
 pub returns-in-Is : goal.returns-in-Is
-returns-in-Is c = c.digit_at.ensures ∙ resource-digit _ _ _ _ _ _ (sym c.in-Is.is ∙ c.resource_at.ensures) _
+returns-in-Is c = c.digit_at.ensures ∙ resource_digit_lem _ _ _ _ _ _ (sym c.in-Is.is ∙ c.resource_at.ensures) _

@@ -3,7 +3,7 @@ use Prim.Native.Nat.{suc, ◌+◌, ◌-◌}
 use mathlib.Core.Path.{◌≡◌, sym, ◌∙◌}
 use native.Mathlib.Omega.{arith}
 use lib.ListN.{length-set}
-use Rattle.index_records.proofs.Plans.{laid_turn, answers, laid-recorded}
+use Rattle.index_records.proofs.Plans.{laid_turn, answers, laid_recorded}
 use Rattle.index_records.proofs.read.Goals as goal
 
 pub loop-i-preserved : goal.loop-i-preserved
@@ -22,4 +22,4 @@ returns c =
     let plan = c.planned-p.ensures in
     let none : c.planned-p.result.n - c.loop-i.i ≡ 0 = omega arith in
     let laid = rw none at c.loop-i.invariant.0 in
-    (answers _ _ _ _ plan, laid ∙ laid-recorded _ _ _ _ plan)
+    (answers _ _ _ _ plan, laid ∙ laid_recorded _ _ _ _ plan)

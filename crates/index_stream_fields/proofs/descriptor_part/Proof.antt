@@ -1,6 +1,6 @@
 -- `index_stream_fields::descriptor_part` meets its contract: data found at a glance are those asked for, and all else is looked at.
 use Prim.Native.Nat.{◌+◌, ◌≤◌}
-use Rattle.index_stream_fields.proofs.Glance.{part-glanced}
+use Rattle.index_stream_fields.proofs.Glance.{part_glanced}
 use native.Mathlib.Omega.{arith}
 use lib.ListN.{length}
 use borrow.Author.Rules.{rules}
@@ -26,6 +26,6 @@ descriptor_part_spec =
     (λ c. omega (arith, there (looked c.before)))
     (λ c. let first = looked c.before in
     let start = first.before.before in
-    part-glanced _ (λ i. (start.shared_slice_known-1.given i).fits) _ _ (there first).1 _ (there first).0 c.before.wide-m.ensures.0 c.if-m-n.true)
+    part_glanced _ (λ i. (start.shared_slice_known-1.given i).fits) _ _ (there first).1 _ (there first).0 c.before.wide-m.ensures.0 c.if-m-n.true)
     (λ c κs. search rules)
     (λ c. search rules))

@@ -3,7 +3,7 @@ use Prim.Native.Nat.{◌+◌, ◌≤◌}
 use native.Mathlib.Omega.{arith}
 use lib.ListN.{length}
 use borrow.Author.Rules.{rules}
-use Rattle.index_stream_fields.proofs.Glance.{descriptors-glanced}
+use Rattle.index_stream_fields.proofs.Glance.{descriptors_glanced}
 use Rattle.index_stream_fields.proofs.stream_descriptors.Statement.{statement}
 use Rattle.index_stream_fields.proofs.stream_descriptors.Tie as tie
 
@@ -33,7 +33,7 @@ stream_descriptors_spec =
     let read = field.two_bytes-field.ensures in
     let all : tie.Then-field-ge61440 = search in
     let few : tie.Then-m-lt1024 = search in
-    descriptors-glanced _ (λ i. (known.shared_slice_known-1.given i).fits) _ _ part.1 _ read.1 part.0 read.0 all.if-field-ge61440.true
+    descriptors_glanced _ (λ i. (known.shared_slice_known-1.given i).fits) _ _ part.1 _ read.1 part.0 read.0 all.if-field-ge61440.true
     few.if-m-lt1024.true c.if-m-n.true)
     (λ c κs. search rules)
     (λ c. search rules))

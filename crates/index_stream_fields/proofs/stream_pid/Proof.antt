@@ -3,7 +3,7 @@ use Prim.Native.Nat.{◌+◌, ◌≤◌}
 use native.Mathlib.Omega.{arith}
 use lib.ListN.{length}
 use borrow.Author.Rules.{rules}
-use Rattle.index_stream_fields.proofs.Glance.{pid-glanced}
+use Rattle.index_stream_fields.proofs.Glance.{pid_glanced}
 use Rattle.index_stream_fields.proofs.stream_pid.Statement.{statement}
 use Rattle.index_stream_fields.proofs.stream_pid.Tie as tie
 
@@ -30,6 +30,6 @@ stream_pid_spec =
     let field : tie.After-two_bytes-field = search in
     let part = there looked in
     let read = field.two_bytes-field.ensures in
-    pid-glanced _ (λ i. (known.shared_slice_known-1.given i).fits) _ _ part.1 _ read.1 part.0 read.0 c.if-field-ge57344.true)
+    pid_glanced _ (λ i. (known.shared_slice_known-1.given i).fits) _ _ part.1 _ read.1 part.0 read.0 c.if-field-ge57344.true)
     (λ c κs. search rules)
     (λ c. search rules))

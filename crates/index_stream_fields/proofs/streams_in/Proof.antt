@@ -5,7 +5,7 @@ use native.Mathlib.Omega.{arith}
 use borrow.Author.Rules.{rules}
 use Rattle.index.specs.Index.{stream}
 use Rattle.index.proofs.Lawful.{stream_lawful, stream_takes}
-use Rattle.index_stream_fields.proofs.Counting.{Counted, Turn, count_start, count-done, count-stop, count-go}
+use Rattle.index_stream_fields.proofs.Counting.{Counted, Turn, count_start, count_done, count_stop, count_go}
 use Rattle.index_stream_fields.proofs.streams_in.Statement.{statement}
 use Rattle.index_stream_fields.proofs.streams_in.Tie as tie
 
@@ -30,11 +30,11 @@ turned : (c : tie.In-At invariant-loop-at decreases-loop-at)
 unfolding begun looped
 turned c =
     let known : tie.After-shared_slice_known-1 invariant-loop-at decreases-loop-at = search in
-    let at-skip-stream : tie.After-skip_stream invariant-loop-at decreases-loop-at = search in
+    let at_skip_stream : tie.After-skip_stream invariant-loop-at decreases-loop-at = search in
     let here : tie.In-loop-at invariant-loop-at decreases-loop-at = search in
-    count-go _ _ _ _ _ _ here.before.loop-at.invariant stream_lawful stream_takes
+    count_go _ _ _ _ _ _ here.before.loop-at.invariant stream_lawful stream_takes
     (λ i. (known.shared_slice_known-1.given i).fits) (omega arith) _ here.loop-at-test.true
-    (sym c.in-At.is ∙ at-skip-stream.skip_stream.ensures)
+    (sym c.in-At.is ∙ at_skip_stream.skip_stream.ensures)
 
 pub streams_in_spec : {M : Type 1} → statement M
 unfolding begun looped
@@ -46,13 +46,13 @@ streams_in_spec =
     (λ c. count_start _ _ _ _)
     (λ c κs. search rules)
     (λ c. search rules)
-    (λ c. let at-skip-stream : tie.After-skip_stream invariant-loop-at decreases-loop-at = search in
+    (λ c. let at_skip_stream : tie.After-skip_stream invariant-loop-at decreases-loop-at = search in
     let here : tie.In-loop-at invariant-loop-at decreases-loop-at = search in
-    count-stop _ _ _ _ _ _ here.before.loop-at.invariant _ here.loop-at-test.true
-    (sym c.in-Refused.is ∙ at-skip-stream.skip_stream.ensures))
+    count_stop _ _ _ _ _ _ here.before.loop-at.invariant _ here.loop-at-test.true
+    (sym c.in-Refused.is ∙ at_skip_stream.skip_stream.ensures))
     (λ c. search rules)
     (λ c. omega (arith, (turned c).small))
     (λ c. let turn : tie.In-loop-at invariant-loop-at decreases-loop-at = search in
     omega (arith, (turned c).nearer, turn.loop-at-test.true))
     (λ c. (turned c).again)
-    (λ c. count-done _ _ _ _ _ _ c.before.loop-at.invariant (omega arith)))
+    (λ c. count_done _ _ _ _ _ _ c.before.loop-at.invariant (omega arith)))

@@ -1,7 +1,7 @@
 -- `index_writer::write` meets its contract: what was measured decides all refusals, and only then the bytes are written.
 use borrow.Author.Rules.{rules}
-use Rattle.body_pen.proofs.Writers.{write-refused}
-use Rattle.body_ink.proofs.Writers.{write-ready, write-inked}
+use Rattle.body_pen.proofs.Writers.{write_refused}
+use Rattle.body_ink.proofs.Writers.{write_ready, write_inked}
 use Rattle.index_writer.proofs.write.Statement.{statement}
 use Rattle.index_writer.proofs.write.Tie as tie
 
@@ -15,7 +15,7 @@ write_spec =
     (λ c. search rules)
     (λ c κs. let size : tie.In-At = search in
     let start : tie.Start = search in
-    write-ready _ _ _ start.args.out.now size.in-At.size (cc))
-    (λ c. write-refused _ _ _ _ _ (cc))
+    write_ready _ _ _ start.args.out.now size.in-At.size (cc))
+    (λ c. write_refused _ _ _ _ _ (cc))
     (λ c. search rules)
-    (λ c. let ink-index : tie.After-ink_index = search in write-inked _ _ _ _ _ (cc) ink-index.ink_index.ensures))
+    (λ c. let ink-index : tie.After-ink_index = search in write_inked _ _ _ _ _ (cc) ink-index.ink_index.ensures))

@@ -7,7 +7,7 @@ use Rattle.packet_frames.specs.declared.Frame.{Frame}
 use Rattle.packet_frames.specs.declared.Frame.TheVariants.{Nothing, Open}
 use Rattle.packet_frames.specs.Found.{front_of}
 use Rattle.packet_frames.proofs.Frames.{tail}
-use Rattle.packet_frames.proofs.Scans.{Finding, finding_start, finding-nothing, finding-open, finding-whole}
+use Rattle.packet_frames.proofs.Scans.{Finding, finding_start, finding_nothing, finding_open, finding_whole}
 use borrow.Author.Rules.{rules}
 use Rattle.packet_frames.proofs.find_sections.Statement.{statement}
 use Rattle.packet_frames.proofs.find_sections.Tie as tie
@@ -25,7 +25,7 @@ front c f e = let head = c.before.before in sym e ∙ c.front_of.ensures ∙ ap 
 
 found_at : (c : tie.In-Whole invariant-loop-n decreases-loop-n) → let here = c.before in let head = here.before.before in
     Finding head.before.before.args.d.now (head.loop-n.at + c.in-Whole.n) × (3 ≤ c.in-Whole.n)
-found_at c = let here = c.before in finding-whole _ _ here.before.before.loop-n.invariant _ (front here _ c.in-Whole.is)
+found_at c = let here = c.before in finding_whole _ _ here.before.before.loop-n.invariant _ (front here _ c.in-Whole.is)
 
 pub find_sections_spec : {M : Type 1} → statement M
 find_sections_spec =
@@ -42,10 +42,10 @@ find_sections_spec =
     rw (tail d at, length-drop at d) (omega arith))
     (λ c. search rules)
     (λ c. let here : tie.After-front_of invariant-loop-n decreases-loop-n = search in
-    finding-nothing _ _ here.before.before.loop-n.invariant (front here Nothing c.in-Nothing.is))
+    finding_nothing _ _ here.before.before.loop-n.invariant (front here Nothing c.in-Nothing.is))
     (λ c. search rules)
     (λ c. let here : tie.After-front_of invariant-loop-n decreases-loop-n = search in
-    finding-open _ _ here.before.before.loop-n.invariant (front here Open c.in-Open.is))
+    finding_open _ _ here.before.before.loop-n.invariant (front here Open c.in-Open.is))
     (λ c. search rules)
     (λ c. let w = (found_at c).0.within in omega arith)
     (λ c. let w = (found_at c).0.within in let l = (found_at c).1 in omega arith)

@@ -4,7 +4,7 @@ use mathlib.Core.List.{List, ◌++◌}
 use mathlib.Core.Path.{◌≡◌}
 use native.Mathlib.Omega.{arith}
 use Rattle.section_reader.specs.Section.{section_length}
-use Rattle.packet_frames.proofs.Frames.{frame-short, frame-long, frame-whole, frame-open, length_read}
+use Rattle.packet_frames.proofs.Frames.{frame_short, frame_long, frame_whole, frame_open, length_read}
 use borrow.Author.Rules.{rules}
 use Rattle.packet_frames.proofs.frame_of.Statement.{statement}
 use Rattle.packet_frames.proofs.frame_of.Tie as tie
@@ -29,13 +29,13 @@ frame_of_spec =
     tie.close
     (tie.spec
     (λ c. search rules)
-    (λ c. let start : tie.Start = search in frame-short start.args.u.now start.args.more.now (omega arith))
+    (λ c. let start : tie.Start = search in frame_short start.args.u.now start.args.more.now (omega arith))
     (λ c κs. search rules)
     (λ c. search rules)
     (λ c κs. search rules)
     (λ c. search rules)
-    (λ c. let here = c.before in frame-long (u here) (more here) (omega arith) _ (read here) (omega arith))
+    (λ c. let here = c.before in frame_long (u here) (more here) (omega arith) _ (read here) (omega arith))
     (λ c. search rules)
     (λ c. search rules)
-    (λ c. let here : tie.After-joint-2 = search in frame-whole (u here) (more here) (omega arith) _ (read here) (omega arith) (omega arith))
-    (λ c. let here : tie.After-joint-2 = search in frame-open (u here) (more here) (omega arith) _ (read here) (omega arith) (omega arith)))
+    (λ c. let here : tie.After-joint-2 = search in frame_whole (u here) (more here) (omega arith) _ (read here) (omega arith) (omega arith))
+    (λ c. let here : tie.After-joint-2 = search in frame_open (u here) (more here) (omega arith) _ (read here) (omega arith) (omega arith)))

@@ -9,7 +9,7 @@ use Rattle.packet.specs.Sizes.{packet_bytes}
 use Rattle.packet.specs.Fields.{pointed_at}
 use Rattle.packet.proofs.Fields.{pointed_is}
 use Rattle.packet.proofs.Judging.{Carried, carried}
-use Rattle.packet_memory.proofs.Leaving.{may-plain, may-pointed}
+use Rattle.packet_memory.proofs.Leaving.{may_plain, may_pointed}
 use borrow.Author.Rules.{rules}
 use Rattle.packet_memory.proofs.may_leave.Statement.{statement}
 use Rattle.packet_memory.proofs.may_leave.Tie as tie
@@ -74,7 +74,7 @@ may_leave_spec =
     (λ c κs. search rules)
     (λ c. let test : tie.Then-not-has_start = search in
     let here = test.before in
-    c.ends_with.ensures ∙ may-plain (packet here) _ (unmet _ here.has_start.ensures test.if-not-has_start.true-raw) _ here.before.payload_at-at.ensures.0)
+    c.ends_with.ensures ∙ may_plain (packet here) _ (unmet _ here.has_start.ensures test.if-not-has_start.true-raw) _ here.before.payload_at-at.ensures.0)
     (λ c. search rules)
     (λ c κs. let t = pointed_at_lem c in omega arith)
     (λ c. search rules)
@@ -93,5 +93,5 @@ may_leave_spec =
     (λ c. let found : tie.After-find_sections-found = search in let here : tie.After-byte_at = search in
     let test = here.before in
     c.same_bytes.ensures
-    ∙ may-pointed (packet test.before) _ (met _ test.before.has_start.ensures test.if-not-has_start.false-raw) _ (target_at here).0 _
+    ∙ may_pointed (packet test.before) _ (met _ test.before.has_start.ensures test.if-not-has_start.false-raw) _ (target_at here).0 _
     found.find_sections-found.ensures))

@@ -3,7 +3,7 @@ use mathlib.Core.Path.{◌∙◌}
 use native.Mathlib.Omega.{arith}
 use Rattle.ground_choices.proofs.Tests.{unmet, met}
 use Rattle.packet_memory.specs.State.{last_of}
-use Rattle.packet_memory.proofs.States.{possible-unmarked, possible-other, possible-above, possible-not-begun, possible-end}
+use Rattle.packet_memory.proofs.States.{possible_unmarked, possible_other, possible_above, possible_not_begun, possible_end}
 use Rattle.packet.proofs.Judging.{carrying_is}
 use borrow.Author.Rules.{rules}
 use Rattle.packet_memory.proofs.possible.Goals as goal
@@ -14,11 +14,11 @@ bounds-s-0 c = search rules
 
 pub returns-then-mark-eq0 : goal.returns-then-mark-eq0
 unfolding last_of
-returns-then-mark-eq0 c = possible-unmarked _ (λ e. omega arith) (λ e. omega arith)
+returns-then-mark-eq0 c = possible_unmarked _ (λ e. omega arith) (λ e. omega arith)
 
 pub returns-then-mark-gt2 : goal.returns-then-mark-gt2
 unfolding last_of
-returns-then-mark-gt2 c = possible-unmarked _ (λ e. omega arith) (λ e. omega arith)
+returns-then-mark-gt2 c = possible_unmarked _ (λ e. omega arith) (λ e. omega arith)
 
 pub slice_bounds-is_carrying-count : goal.slice_bounds-is_carrying-count
 unfolding last_of
@@ -38,7 +38,7 @@ is_carrying-requires c = search rules
 
 pub returns-then-not-is_carrying : goal.returns-then-not-is_carrying
 unfolding last_of
-returns-then-not-is_carrying c = possible-other c.args.s.now (unmet _ c.is_carrying.ensures c.if-not-is_carrying.true-raw)
+returns-then-not-is_carrying c = possible_other c.args.s.now (unmet _ c.is_carrying.ensures c.if-not-is_carrying.true-raw)
 
 pub kept_of-kept-requires : goal.kept_of-kept-requires
 unfolding last_of
@@ -46,7 +46,7 @@ kept_of-kept-requires c = search rules
 
 pub returns-then-kept-gt-UNFINISHED_MOST : goal.returns-then-kept-gt-UNFINISHED_MOST
 unfolding last_of
-returns-then-kept-gt-UNFINISHED_MOST c = possible-above _ (omega arith)
+returns-then-kept-gt-UNFINISHED_MOST c = possible_above _ (omega arith)
 
 pub overflow_add-end : goal.overflow_add-end
 unfolding last_of
@@ -70,7 +70,7 @@ is_begun-requires c = search rules
 
 pub returns-then-not-is_begun : goal.returns-then-not-is_begun
 unfolding last_of
-returns-then-not-is_begun c = possible-not-begun c.args.s.now _ c.kept_of-kept.ensures.0
+returns-then-not-is_begun c = possible_not_begun c.args.s.now _ c.kept_of-kept.ensures.0
     (unmet _ c.is_begun.ensures c.if-not-is_begun.true-raw)
 
 pub slice_bounds-may_leave-count : goal.slice_bounds-may_leave-count
@@ -104,7 +104,7 @@ may_leave-requires c = carrying_is _ (met _ c.is_carrying.ensures c.if-not-is_ca
 pub returns : goal.returns
 unfolding last_of
 returns c = c.may_leave.ensures
-    ∙ possible-end c.args.s.now _ c.kept_of-kept.ensures.0
+    ∙ possible_end c.args.s.now _ c.kept_of-kept.ensures.0
     (omega arith) (omega arith)
     (met _ c.is_carrying.ensures c.if-not-is_carrying.false-raw) (omega arith)
     (met _ c.is_begun.ensures c.if-not-is_begun.false-raw)

@@ -4,13 +4,13 @@ use native.Mathlib.Omega.{arith}
 use Rattle.ground_choices.proofs.Tests.{unmet, met}
 use Rattle.ground_equal.proofs.Same.{same_differs}
 use Rattle.packet_memory.specs.State.{last_of}
-use Rattle.packet_memory.proofs.States.{repeat-fresh, repeat-second, repeat-then}
+use Rattle.packet_memory.proofs.States.{repeat_fresh, repeat_second, repeat_then}
 use borrow.Author.Rules.{rules}
 use Rattle.packet_memory.proofs.repeats.Goals as goal
 
 pub returns-then-not-known : goal.returns-then-not-known
 unfolding last_of
-returns-then-not-known c = repeat-fresh _ _ (unmet _ c.requires.1 c.if-not-known.true-raw) c.requires.2
+returns-then-not-known c = repeat_fresh _ _ (unmet _ c.requires.1 c.if-not-known.true-raw) c.requires.2
 
 pub bounds-s-0 : goal.bounds-s-0
 unfolding last_of
@@ -18,7 +18,7 @@ bounds-s-0 c = search rules
 
 pub returns-then-s-eq2 : goal.returns-then-s-eq2
 unfolding last_of
-returns-then-s-eq2 c = repeat-second _ _ (met _ c.requires.1 c.if-not-known.false-raw) (omega arith)
+returns-then-s-eq2 c = repeat_second _ _ (met _ c.requires.1 c.if-not-known.false-raw) (omega arith)
 
 pub slice_bounds-last-count : goal.slice_bounds-last-count
 unfolding last_of
@@ -42,7 +42,7 @@ bounds-p-3 c = search rules
 
 pub returns-then-last-p : goal.returns-then-last-p
 unfolding last_of
-returns-then-last-p c = same_differs _ _ 3 c.if-last-p.true ∙ repeat-then _ _ (met _ c.requires.1 c.if-not-known.false-raw) (λ e. omega arith)
+returns-then-last-p c = same_differs _ _ 3 c.if-last-p.true ∙ repeat_then _ _ (met _ c.requires.1 c.if-not-known.false-raw) (λ e. omega arith)
 
 pub same_bytes-requires : goal.same_bytes-requires
 unfolding last_of
@@ -50,4 +50,4 @@ same_bytes-requires c = search rules
 
 pub returns : goal.returns
 unfolding last_of
-returns c = c.same_bytes.ensures ∙ repeat-then _ _ (met _ c.requires.1 c.if-not-known.false-raw) (λ e. omega arith)
+returns c = c.same_bytes.ensures ∙ repeat_then _ _ (met _ c.requires.1 c.if-not-known.false-raw) (λ e. omega arith)

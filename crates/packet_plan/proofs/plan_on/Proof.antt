@@ -9,7 +9,7 @@ use Rattle.packet_frames.specs.declared.Frame.{Frame}
 use Rattle.packet_frames.specs.declared.Frame.TheVariants.{Nothing, Open}
 use Rattle.packet_frames.specs.Found.{Grown}
 use Rattle.packet_frames.proofs.Growing.{grown_as, whole_between}
-use Rattle.packet_plan.proofs.Plans.{plan-on-nothing, plan-on-whole, plan-on-open}
+use Rattle.packet_plan.proofs.Plans.{plan_on_nothing, plan_on_whole, plan_on_open}
 use borrow.Author.Rules.{rules}
 use Rattle.packet_plan.proofs.plan_on.Statement.{statement}
 use Rattle.packet_plan.proofs.plan_on.Tie as tie
@@ -56,8 +56,8 @@ plan_on_spec =
     omega (arith, rest_short here))
     (λ c. search rules)
     (λ c. let start : tie.Start = search in let here : tie.After-grow = search in
-    plan-on-nothing _ _ _ start.requires (grown here Nothing c.in-Nothing.is))
+    plan_on_nothing _ _ _ start.requires (grown here Nothing c.in-Nothing.is))
     (λ c. let start : tie.Start = search in let here : tie.After-grow = search in
-    plan-on-whole _ _ _ start.requires _ (grown here _ c.in-Whole.is))
+    plan_on_whole _ _ _ start.requires _ (grown here _ c.in-Whole.is))
     (λ c. let start : tie.Start = search in let here : tie.After-grow = search in
-    plan-on-open _ _ _ start.requires (grown here Open c.in-Open.is)))
+    plan_on_open _ _ _ start.requires (grown here Open c.in-Open.is)))

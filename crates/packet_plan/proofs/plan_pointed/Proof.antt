@@ -9,7 +9,7 @@ use Rattle.packet_frames.specs.declared.Frame.{Frame}
 use Rattle.packet_frames.specs.declared.Frame.TheVariants.{Nothing, Open}
 use Rattle.packet_frames.specs.Found.{Grown}
 use Rattle.packet_frames.proofs.Growing.{grown_as, whole_between}
-use Rattle.packet_plan.proofs.Plans.{plan-pointed-nothing, plan-pointed-whole, plan-pointed-open}
+use Rattle.packet_plan.proofs.Plans.{plan_pointed_nothing, plan_pointed_whole, plan_pointed_open}
 use borrow.Author.Rules.{rules}
 use Rattle.packet_plan.proofs.plan_pointed.Statement.{statement}
 use Rattle.packet_plan.proofs.plan_pointed.Tie as tie
@@ -64,8 +64,8 @@ plan_pointed_spec =
     omega (arith, ahead_short here))
     (λ c. search rules)
     (λ c. let start : tie.Start = search in let here : tie.After-grow = search in let found : tie.After-find_sections-found = search in
-    plan-pointed-nothing _ _ _ _ start.requires _ found.find_sections-found.ensures (grown here Nothing c.in-Nothing.is))
+    plan_pointed_nothing _ _ _ _ start.requires _ found.find_sections-found.ensures (grown here Nothing c.in-Nothing.is))
     (λ c. let start : tie.Start = search in let here : tie.After-grow = search in let found : tie.After-find_sections-found = search in
-    plan-pointed-whole _ _ _ _ start.requires _ found.find_sections-found.ensures _ (grown here _ c.in-Whole.is))
+    plan_pointed_whole _ _ _ _ start.requires _ found.find_sections-found.ensures _ (grown here _ c.in-Whole.is))
     (λ c. let start : tie.Start = search in let here : tie.After-grow = search in let found : tie.After-find_sections-found = search in
-    plan-pointed-open _ _ _ _ start.requires _ found.find_sections-found.ensures (grown here Open c.in-Open.is)))
+    plan_pointed_open _ _ _ _ start.requires _ found.find_sections-found.ensures (grown here Open c.in-Open.is)))

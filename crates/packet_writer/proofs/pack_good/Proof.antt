@@ -1,7 +1,7 @@
 -- `packet_writer::pack_good` meets its contract: the output is too small for the packets, or has room.
 use mathlib.Core.Path.{refl, sym}
 use Rattle.packet_writer.proofs.Packets.{packed_long}
-use Rattle.packet_writer.proofs.Calls.{by_refusal, by_writing, packs-not, packs}
+use Rattle.packet_writer.proofs.Calls.{by_refusal, by_writing, packs_not, packs}
 use borrow.Author.Rules.{rules}
 use Rattle.packet_writer.proofs.pack_good.Statement.{statement}
 use Rattle.packet_writer.proofs.pack_good.Tie as tie
@@ -13,7 +13,7 @@ pack_good_spec =
     (λ c. search rules)
     (λ c. search rules)
     (λ c. let a = c.before.before.before.args in
-    by_refusal _ _ _ (packs-not a.out.now a.section.now a.counter _ refl c.if-out-size.true))
+    by_refusal _ _ _ (packs_not a.out.now a.section.now a.counter _ refl c.if-out-size.true))
     (λ c κs. search rules)
     (λ c. search rules)
     (λ c. let lays = c.before.before in

@@ -3,7 +3,7 @@ use Prim.Native.Nat.{◌+◌, ◌-◌, ◌*◌}
 use native.Mathlib.Omega.{arith}
 use lib.ListN.{drop, length-take}
 use Rattle.packet_writer.specs.Packing.{first_room, next_room}
-use Rattle.packet_writer.proofs.Packets.{Laying, laying_start, laying-step, laying-end, part_of_lem}
+use Rattle.packet_writer.proofs.Packets.{Laying, laying_start, laying_step, laying_end, part_of_lem}
 use borrow.Author.Rules.{rules}
 use Rattle.packet_writer.proofs.put_rest.Goals as goal
 
@@ -26,7 +26,7 @@ pub loop-i-preserved : goal.loop-i-preserved
 loop-i-preserved c = let q = c.requires in
     let long = q.least in
     let less = q.most in
-    laying-step _ _ _ _ _ _ _ c.loop-i.invariant (omega arith) q.room _
+    laying_step _ _ _ _ _ _ _ c.loop-i.invariant (omega arith) q.room _
     (part_of_lem c.args.section.now (first_room + next_room * c.loop-i.i) _ c.least-upto.ensures (omega arith))
     _ c.put_continuing.ensures
 
@@ -34,4 +34,4 @@ pub shape_of-out : goal.shape_of-out
 shape_of-out c = c.loop-i.invariant.room
 
 pub returns : goal.returns
-returns c = laying-end _ _ _ _ _ _ _ c.loop-i.invariant c.loop-i-test.false
+returns c = laying_end _ _ _ _ _ _ _ c.loop-i.invariant c.loop-i-test.false

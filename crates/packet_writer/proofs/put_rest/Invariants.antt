@@ -3,7 +3,7 @@ use Prim.Native.Nat.{◌+◌, ◌-◌, ◌*◌}
 use native.Mathlib.Omega.{arith}
 use lib.ListN.{drop, length-take}
 use Rattle.packet_writer.specs.Packing.{first_room, next_room}
-use Rattle.packet_writer.proofs.Packets.{Laying, laying_start, laying-step, laying-end, part_of_lem}
+use Rattle.packet_writer.proofs.Packets.{Laying, laying_start, laying_step, laying_end, part_of_lem}
 use borrow.Author.Rules.{rules}
 use Rattle.packet_writer.proofs.put_rest.Given as goal
 

@@ -6,7 +6,7 @@ use native.Mathlib.Omega.{arith}
 use borrow.Author.Rules.{rules}
 use lib.ListN.{length}
 use Rattle.ground_placing.proofs.Putting.{put_none, room_first}
-use Rattle.salvage.proofs.Writing.{Writing, writing_starts, writing-room, writing-goes, writing-ends}
+use Rattle.salvage.proofs.Writing.{Writing, writing_starts, writing_room, writing_goes, writing_ends}
 use Rattle.program_printing.specs.Characters.{ascii, decimal_of}
 use Rattle.program_salvage_lines.specs.Report.{word_of}
 use Rattle.program_salvage_lines.proofs.Lines.{line_none, line_some, after_space, after_first, after_word}
@@ -39,7 +39,7 @@ unfolding begun_put_word
 after_word_lem c =
     let a = (begun_put_word c).args in
     let r = room (search) in
-    writing-goes (word_of a.kept) (after_word a.first a.size) (writing_starts _ _ _ (omega arith)) refl c.put_word-word.ensures
+    writing_goes (word_of a.kept) (after_word a.first a.size) (writing_starts _ _ _ (omega arith)) refl c.put_word-word.ensures
 
 after_first_lem : (c : tie.After-put_decimal-offset) → let a = (begun_put_decimal c).args in
     Writing a.out.now a.at c.put_decimal-offset.new.out c.put_decimal-offset.result (after_first a.size)
@@ -48,7 +48,7 @@ unfolding begun_put_decimal begun_put_word
 after_first_lem c =
     let word : tie.After-put_word-word = search in
     let a = (begun_put_decimal c).args in
-    writing-goes (decimal_of a.first) (after_first a.size) (after_word_lem word) refl c.put_decimal-offset.ensures
+    writing_goes (decimal_of a.first) (after_first a.size) (after_word_lem word) refl c.put_decimal-offset.ensures
 
 after_space_lem : (c : tie.After-put_bytes-space) → let a = (begun_put_bytes c).args in
     Writing a.out.now a.at c.put_bytes-space.new.out c.put_bytes-space.result (after_space a.size)
@@ -57,7 +57,7 @@ unfolding begun_put_bytes begun_put_decimal
 after_space_lem c =
     let first : tie.After-put_decimal-offset = search in
     let a = (begun_put_bytes c).args in
-    writing-goes (ascii " ") (after_space a.size) (after_first_lem first) refl c.put_bytes-space.ensures
+    writing_goes (ascii " ") (after_space a.size) (after_first_lem first) refl c.put_bytes-space.ensures
 
 after_size : (c : tie.After-put_decimal-length) → let a = (begun_put_decimal2 c).args in
     Writing a.out.now a.at c.put_decimal-length.new.out c.put_decimal-length.result (ascii "\n") (word_of a.kept ++ after_word a.first a.size)
@@ -65,7 +65,7 @@ unfolding begun_put_bytes begun_put_decimal2
 after_size c =
     let space : tie.After-put_bytes-space = search in
     let a = (begun_put_decimal2 c).args in
-    writing-goes (decimal_of a.size) (ascii "\n") (after_space_lem space) refl c.put_decimal-length.ensures
+    writing_goes (decimal_of a.size) (ascii "\n") (after_space_lem space) refl c.put_decimal-length.ensures
 
 pub put_line_spec : {M : Type 1} → statement M
 unfolding begun_put_word begun_put_decimal begun_put_bytes begun_put_decimal2
@@ -77,15 +77,15 @@ put_line_spec =
     (λ c κs. let a = c.before.before.before.args in
     room_first a.at (word_of a.kept) (after_word a.first a.size) (room c.before))
     (λ c κs. let start : tie.Start = search in let word : tie.After-put_word-word = search in let a = start.args in
-    writing-room (decimal_of a.first) (after_first a.size) (after_word_lem word) refl (room (search)))
+    writing_room (decimal_of a.first) (after_first a.size) (after_word_lem word) refl (room (search)))
     (λ c κs. let start : tie.Start = search in let first : tie.After-put_decimal-offset = search in
-    writing-room (ascii " ") (after_space start.args.size) (after_first_lem first) refl (room (search)))
+    writing_room (ascii " ") (after_space start.args.size) (after_first_lem first) refl (room (search)))
     (λ c κs. let start : tie.Start = search in let space : tie.After-put_bytes-space = search in
-    writing-room (decimal_of start.args.size) (ascii "\n") (after_space_lem space) refl (room (search)))
+    writing_room (decimal_of start.args.size) (ascii "\n") (after_space_lem space) refl (room (search)))
     (λ c κs. let size : tie.After-put_decimal-length = search in
-    writing-room (ascii "\n") [] (after_size size) refl (room (search)))
+    writing_room (ascii "\n") [] (after_size size) refl (room (search)))
     (λ c. search rules)
     (λ c. let start : tie.Start = search in let left1 : tie.Else-size-eq0 = search in let put : tie.After-put_bytes = search in
     let size : tie.After-put_decimal-length = search in let a = start.args in
     rw (line_some a.kept a.first a.size left1.if-size-eq0.false)
-    (writing-ends (writing-goes (ascii "\n") [] (after_size size) refl put.put_bytes.ensures) refl)))
+    (writing_ends (writing_goes (ascii "\n") [] (after_size size) refl put.put_bytes.ensures) refl)))

@@ -10,9 +10,9 @@ use Rattle.ground_placing.proofs.Putting.{put_length}
 use Rattle.salvage.specs.Runs.{run_at, runs_of}
 use Rattle.salvage.proofs.Pieces.{next_goes}
 use Rattle.salvage.proofs.Turns.{runs_left}
-use Rattle.salvage.proofs.Writing.{Writing, writing_starts, writing-room, writing-goes, writing-ends}
+use Rattle.salvage.proofs.Writing.{Writing, writing_starts, writing_room, writing_goes, writing_ends}
 use Rattle.program_salvage_lines.specs.Report.{lines_of}
-use Rattle.program_salvage_lines.proofs.Lines.{lines-turn, lines_end, lines_whole}
+use Rattle.program_salvage_lines.proofs.Lines.{lines_turn, lines_end, lines_whole}
 use Rattle.program_salvage_lines.proofs.put_lines.Statement.{statement}
 use Rattle.program_salvage_lines.proofs.put_lines.Tie as tie
 
@@ -39,9 +39,9 @@ after_skipped c =
     let s = (begun c).args.s.now in
     let from = turn.before.before.loop-from.from in
     let found = turn.next_good-found.result in
-    writing-goes (lines_of (run_at false from (found.at - from)))
+    writing_goes (lines_of (run_at false from (found.at - from)))
     (lines_of (run_at true found.at found.length) ++ lines_of (runs_left s (found.at + found.length)))
-    turn.before.before.loop-from.invariant.1 (lines-turn _ _ _ _ turn.next_good-found.ensures) c.put_line-next.ensures
+    turn.before.before.loop-from.invariant.1 (lines_turn _ _ _ _ turn.next_good-found.ensures) c.put_line-next.ensures
 
 pub put_lines_spec : {M : Type 1} → statement M
 unfolding begun
@@ -57,13 +57,13 @@ put_lines_spec =
     let s = start.args.s.now in
     let from = turn.before.before.loop-from.from in
     let found = turn.next_good-found.result in
-    writing-room (lines_of (run_at false from (found.at - from)))
+    writing_room (lines_of (run_at false from (found.at - from)))
     (lines_of (run_at true found.at found.length) ++ lines_of (runs_left s (found.at + found.length)))
-    turn.before.before.loop-from.invariant.1 (lines-turn _ _ _ _ turn.next_good-found.ensures) start.requires.1)
+    turn.before.before.loop-from.invariant.1 (lines_turn _ _ _ _ turn.next_good-found.ensures) start.requires.1)
     (λ c κs. let put : tie.After-put_line-next invariant-loop-from decreases-loop-from = search in let turn : tie.After-next_good-found invariant-loop-from decreases-loop-from = search in
     let start : tie.Start invariant-loop-from decreases-loop-from = search in
     let found = turn.next_good-found.result in
-    writing-room (lines_of (run_at true found.at found.length)) (lines_of (runs_left start.args.s.now (found.at + found.length)))
+    writing_room (lines_of (run_at true found.at found.length)) (lines_of (runs_left start.args.s.now (found.at + found.length)))
     (after_skipped put) refl start.requires.1)
     (λ c. search rules)
     (λ c. let turn : tie.After-next_good-found invariant-loop-from decreases-loop-from = search in
@@ -73,8 +73,8 @@ put_lines_spec =
     let start : tie.Start invariant-loop-from decreases-loop-from = search in
     let found = turn.next_good-found.result in (
       turn.next_good-found.ensures.within,
-      writing-goes (lines_of (run_at true found.at found.length)) (lines_of (runs_left start.args.s.now (found.at + found.length)))
+      writing_goes (lines_of (run_at true found.at found.length)) (lines_of (runs_left start.args.s.now (found.at + found.length)))
           (after_skipped (search)) refl put.put_line-next-in-loop-from.ensures,
     ))
     (λ c. put_length c.before.loop-from.invariant.1.1)
-    (λ c. writing-ends c.before.loop-from.invariant.1 (lines_end _ _ c.loop-from-test.false)))
+    (λ c. writing_ends c.before.loop-from.invariant.1 (lines_end _ _ c.loop-from-test.false)))

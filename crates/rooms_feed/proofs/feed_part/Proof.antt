@@ -4,8 +4,8 @@ use borrow.Author.Rules.{rules}
 use Rattle.gathering_state.specs.State.{spoiled_state}
 use Rattle.gathering_verdict.specs.declared.Verdict.TheVariants.{Begin, Take}
 use Rattle.rooms_verdict.specs.Deciding.{verdict_of}
-use Rattle.rooms_feed.proofs.Steps.{decides, part_in_rooms, first-versioned, first-roomy, first_counts, further-roomy, further-counts}
-use Rattle.rooms_feed.proofs.Steps.{feeds-stop, feeds-repeat, feeds-clash, feeds-first, feeds-further}
+use Rattle.rooms_feed.proofs.Steps.{decides, part_in_rooms, first_versioned, first_roomy, first_counts, further_roomy, further_counts}
+use Rattle.rooms_feed.proofs.Steps.{feeds_stop, feeds_repeat, feeds_clash, feeds_first, feeds_further}
 use Rattle.rooms_feed.proofs.feed_part.Statement.{statement}
 use Rattle.rooms_feed.proofs.feed_part.Tie as tie
 
@@ -44,31 +44,31 @@ feed_part_spec =
     (λ c. search rules)
     (λ c κs. let here = c in
     let pre = (start (search)).requires in
-    first-versioned _ _ _ _ pre.0 pre.1 pre.2 _ (begun_at here))
+    first_versioned _ _ _ _ pre.0 pre.1 pre.2 _ (begun_at here))
     (λ c κs. let opened = c.before in
     let here : tie.In-Begin = search in
     let pre = (start (search)).requires in
     let counts = first_counts _ _ opened.open_part-opened.ensures in
-    (first-roomy _ _ _ _ pre.0 pre.1 pre.2 _ (begun_at here), counts.0, counts.1))
+    (first_roomy _ _ _ _ pre.0 pre.1 pre.2 _ (begun_at here), counts.0, counts.1))
     (λ c. search rules)
     (λ c κs. let here : tie.In-Take = search in
     let pre = (start (search)).requires in
-    let counts = further-counts _ _ _ _ pre.0 pre.1 pre.2 _ (taken_at here) (search rules) in
-    (further-roomy _ _ _ _ pre.0 pre.1 pre.2 _ (taken_at here), counts.0, counts.1))
+    let counts = further_counts _ _ _ _ pre.0 pre.1 pre.2 _ (taken_at here) (search rules) in
+    (further_roomy _ _ _ _ pre.0 pre.1 pre.2 _ (taken_at here), counts.0, counts.1))
     (λ c. search rules)
     (λ c. let told = c in
     let decided : tie.After-decide = search in
-    feeds-stop _ _ _ _ _ _ (decides _ _ _ _ (numbered decided).numbers_of-numbers.ensures _ decided.decide.ensures ∙ told.in-Refuse.is))
+    feeds_stop _ _ _ _ _ _ (decides _ _ _ _ (numbered decided).numbers_of-numbers.ensures _ decided.decide.ensures ∙ told.in-Refuse.is))
     (λ c. search rules)
     (λ c. let decided : tie.After-decide = search in
-    feeds-repeat _ _ _ _ _ (decides _ _ _ _ (numbered decided).numbers_of-numbers.ensures _ decided.decide.ensures ∙ c.in-Repeat.is))
+    feeds_repeat _ _ _ _ _ (decides _ _ _ _ (numbered decided).numbers_of-numbers.ensures _ decided.decide.ensures ∙ c.in-Repeat.is))
     (λ c. search rules)
     (λ c. let told = c.before in
     let decided : tie.After-decide = search in
-    feeds-clash _ _ _ _ _ (decides _ _ _ _ (numbered decided).numbers_of-numbers.ensures _ decided.decide.ensures ∙ told.in-Contradict.is))
+    feeds_clash _ _ _ _ _ (decides _ _ _ _ (numbered decided).numbers_of-numbers.ensures _ decided.decide.ensures ∙ told.in-Contradict.is))
     (λ c. search rules)
     (λ c. let took : tie.After-take_free = search in let opened : tie.After-open_part-opened = search in let here : tie.In-Begin = search in
-    feeds-first _ _ _ _ _ _ _ _ (begun_at here) _ opened.open_part-opened.ensures took.take_free.ensures.0 took.take_free.ensures.1)
+    feeds_first _ _ _ _ _ _ _ _ (begun_at here) _ opened.open_part-opened.ensures took.take_free.ensures.0 took.take_free.ensures.1)
     (λ c. search rules)
     (λ c. let took : tie.After-take_free-in-Take = search in let here : tie.In-Take = search in
-    feeds-further _ _ _ _ _ _ _ _ (taken_at here) took.take_free-in-Take.ensures.0 took.take_free-in-Take.ensures.1))
+    feeds_further _ _ _ _ _ _ _ _ (taken_at here) took.take_free-in-Take.ensures.0 took.take_free-in-Take.ensures.1))

@@ -3,7 +3,7 @@ use Prim.Native.Nat.{◌+◌, ◌-◌, ◌≤◌}
 use native.Mathlib.Omega.{arith}
 use borrow.Author.Rules.{rules}
 use lib.ListN.{length, length-take, length-drop}
-use Rattle.gathering_hand_out.proofs.Joining.{Joining, join-start, join-room, join_step, join-end}
+use Rattle.gathering_hand_out.proofs.Joining.{Joining, join_start, join_room, join_step, join_end}
 use Rattle.rooms_state.specs.State.{room_at}
 use Rattle.rooms_hand_out.proofs.join.Statement.{statement}
 use Rattle.rooms_hand_out.proofs.join.Tie as tie
@@ -39,7 +39,7 @@ unfolding head_of
 in_output c =
     let start : tie.Start invariant-loop-k decreases-loop-k = search in
     let turn = head_of c in
-    let r = join-room _ _ _ _ _ _ _ turn.loop-k.invariant (omega arith) start.requires.2 in
+    let r = join_room _ _ _ _ _ _ _ turn.loop-k.invariant (omega arith) start.requires.2 in
     let n = c.before.before.less_one-n.ensures.0 in
     omega arith
 
@@ -50,7 +50,7 @@ join_spec =
     (tie.spec
     invariant-loop-k
     decreases-loop-k
-    (λ c. join-start _ _ _ _)
+    (λ c. join_start _ _ _ _)
     (λ c. omega arith)
     (λ c. omega arith)
     (λ c κs. search rules)
@@ -71,4 +71,4 @@ join_spec =
     _ placed.before.before.less_one-n.ensures.0 _ placed.room_place-at.ensures
     (in_store placed) _ c.before.before.copy_long.ensures)
     (λ c. c.before.loop-k.invariant.long)
-    (λ c. join-end _ _ _ _ _ _ _ c.before.loop-k.invariant c.loop-k-test.false))
+    (λ c. join_end _ _ _ _ _ _ _ c.before.loop-k.invariant c.loop-k-test.false))

@@ -3,7 +3,7 @@ use Prim.Native.Nat.{◌-◌}
 use mathlib.Core.Path.{sym, ◌∙◌, ap}
 use native.Mathlib.Omega.{arith}
 use lib.ListN.{length, length-set}
-use Rattle.rooms_marks.proofs.Marking.{mark-end, mark_set, mark-past, mark-none}
+use Rattle.rooms_marks.proofs.Marking.{mark_end, mark_set, mark_past, mark_none}
 use Rattle.rooms_marks.proofs.mark.Goals as goal
 use Rattle.rooms_marks.proofs.mark.Goals.{then-r-gt0+then-r-marks, then-r-gt0+else-r-marks, else-r-gt0}
 
@@ -21,10 +21,10 @@ loop-k-preserved c =
       ],
       elim c.if-r-gt0.branch [
         | then-r-gt0+then-r-marks w ↦ mark_set rooms c.loop-k.k _ marks (omega arith) i.2 _ _ room (omega arith) w.raised.ensures c.if-r-gt0.marks w.marks-is
-        | then-r-gt0+else-r-marks w ↦ mark-past rooms c.loop-k.k _ marks (omega arith) i.2 _ room (omega arith) (omega arith) c.if-r-gt0.marks w.marks-is
-        | else-r-gt0 w ↦ mark-none rooms c.loop-k.k _ marks (omega arith) i.2 _ room (omega arith) c.if-r-gt0.marks w.marks-is
+        | then-r-gt0+else-r-marks w ↦ mark_past rooms c.loop-k.k _ marks (omega arith) i.2 _ room (omega arith) (omega arith) c.if-r-gt0.marks w.marks-is
+        | else-r-gt0 w ↦ mark_none rooms c.loop-k.k _ marks (omega arith) i.2 _ room (omega arith) c.if-r-gt0.marks w.marks-is
       ],
     )
 
 pub returns : goal.returns
-returns c = let i = c.loop-k.invariant in sym (i.2 ∙ mark-end c.args.rooms.now c.loop-k.k _ (omega arith))
+returns c = let i = c.loop-k.invariant in sym (i.2 ∙ mark_end c.args.rooms.now c.loop-k.k _ (omega arith))

@@ -3,7 +3,7 @@ use Prim.Native.Nat.{◌-◌}
 use mathlib.Core.Path.{refl, sym, ◌∙◌}
 use native.Mathlib.Omega.{arith}
 use borrow.Author.Tests.{not-true, not-false}
-use Rattle.rooms_state.proofs.Loops.{pair-stop, pair_step, pair_end}
+use Rattle.rooms_state.proofs.Loops.{pair_stop, pair_step, pair_end}
 use Rattle.rooms_state.proofs.all_paired.Goals as goal
 
 pub loop-i-init : goal.loop-i-init
@@ -12,7 +12,7 @@ loop-i-init c = (omega arith, refl)
 pub returns-then-not-is_paired : goal.returns-then-not-is_paired
 returns-then-not-is_paired c = let args = c.args in
     sym (c.loop-i.invariant.1
-    ∙ pair-stop args.n args.held.now args.rooms.now c.loop-i.i c.requires (omega arith)
+    ∙ pair_stop args.n args.held.now args.rooms.now c.loop-i.i c.requires (omega arith)
     (sym c.is_paired.ensures ∙ not-true _ c.if-not-is_paired.true-raw))
 
 pub loop-i-preserved : goal.loop-i-preserved

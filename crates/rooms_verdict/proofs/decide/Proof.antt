@@ -8,7 +8,7 @@ use Rattle.section_reader.specs.Section.{read_section}
 use Rattle.section_reader.specs.declared.Sectioned.TheVariants.{Good}
 use Rattle.gathering_verdict.proofs.Verdicts.{Sized, sized, payload_part}
 use Rattle.rooms_verdict.specs.Deciding.{good_verdict}
-use Rattle.rooms_verdict.proofs.Verdicts.{verdict-bad, verdict-good}
+use Rattle.rooms_verdict.proofs.Verdicts.{verdict_bad, verdict_good}
 use Rattle.rooms_verdict.proofs.decide.Statement.{statement}
 use Rattle.rooms_verdict.proofs.decide.Tie as tie
 
@@ -41,6 +41,6 @@ decide_spec =
     (λ c. search rules)
     within
     (λ c κs. let start : tie.Start = search in let here : tie.In-Good = search in ((good_at here).versioned, start.requires))
-    (λ c. sym (verdict-bad _ _ _ _ (sym c.before.read_section.ensures ∙ c.in-Refused.is)))
+    (λ c. sym (verdict_bad _ _ _ _ (sym c.before.read_section.ensures ∙ c.in-Refused.is)))
     (λ c. let here : tie.In-Good = search in
-    c.decide_good.ensures ∙ ap (good_verdict _ _ _) (payload_part _ _ _ (good_at here)) ∙ sym (verdict-good _ _ _ _ _ (read_at here))))
+    c.decide_good.ensures ∙ ap (good_verdict _ _ _) (payload_part _ _ _ (good_at here)) ∙ sym (verdict_good _ _ _ _ _ (read_at here))))

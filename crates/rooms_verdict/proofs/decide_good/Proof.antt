@@ -1,10 +1,11 @@
 -- `rooms_verdict::decide_good` meets its contract: each refusal is the first of its order that applies, and where none is so the number decides.
 use mathlib.Core.Bool.{false, not, ◌||◌}
 use mathlib.Core.Path.{◌≡◌, sym, ◌∙◌, ap, ap₂}
+use native.Mathlib.Omega.{arith}
 use borrow.Author.Rules.{rules}
 use Rattle.gathering_state.specs.State.{state_of}
 use Rattle.gathering_verdict.specs.Deciding.{agrees, begins}
-use Rattle.rooms_verdict.proofs.Verdicts.{good_old, good-other, good_begins, good-spoiled, good-further}
+use Rattle.rooms_verdict.proofs.Verdicts.{good_old, good_other, good_begins, good_spoiled, good_further}
 use Rattle.rooms_verdict.proofs.decide_good.Statement.{statement}
 use Rattle.rooms_verdict.proofs.decide_good.Tie as tie
 
@@ -47,7 +48,7 @@ decide_good_spec =
     let held = start.args.held.now in
     let b = beginning.begins_gathering-begins.ensures held in
     let a = agreeing.heading_agrees-agrees.ensures held in
-    sym (good-other _ _ _ _ (cc) (cc)))
+    sym (good_other _ _ _ _ (cc) (cc)))
     (λ c. let start : tie.Start = search in
     let passed = c.before in
     let beginning : tie.After-begins_gathering-begins = search in
@@ -55,12 +56,11 @@ decide_good_spec =
     sym (good_begins _ _ _ _ (cc) (known passed) (cc)))
     (λ c. let here : tie.Else-begins = search in
     let passed = here.before in
-    sym (good-spoiled _ _ _ _ passed.before.before.before.if-not-h.false (known passed) (further here) c.if-m-ne0.true))
+    sym (good_spoiled _ _ _ _ passed.before.before.before.if-not-h.false (known passed) (further here) (omega arith)))
     (λ c κs. search rules)
     (λ c. let at_start : tie.Start = search in
-    let calm = c.before in
     let here : tie.Else-begins = search in
     let passed = here.before in
     let start = at_start.args in
     c.decide_number.ensures start.m
-    ∙ sym (good-further _ _ _ _ passed.before.before.before.if-not-h.false (known passed) (further here) calm.if-m-ne0.false)))
+    ∙ sym (good_further _ _ _ _ passed.before.before.before.if-not-h.false (known passed) (further here) (omega arith))))

@@ -5,7 +5,7 @@ use native.Mathlib.Omega.{arith}
 use borrow.Author.Rules.{rules}
 use lib.ListN.{length}
 use Rattle.rooms_state.specs.State.{room_at}
-use Rattle.rooms_verdict.proofs.Verdicts.{compared, number-new, number_same, number-other}
+use Rattle.rooms_verdict.proofs.Verdicts.{compared, number_new, number_same, number_other}
 use Rattle.rooms_verdict.proofs.decide_number.Statement.{statement}
 use Rattle.rooms_verdict.proofs.decide_number.Tie as tie
 
@@ -32,7 +32,7 @@ decide_number_spec =
     (λ c. search rules)
     (λ c. search rules)
     (λ c. search rules)
-    (λ c m. sym (number-new _ _ _ _ c.if-n-eq0.true))
+    (λ c m. sym (number_new _ _ _ _ c.if-n-eq0.true))
     (λ c. search rules)
     (λ c. search rules)
     (λ c. search rules)
@@ -47,5 +47,5 @@ decide_number_spec =
     sym (number_same _ _ _ _ (omega arith)
     (compared _ _ _ _ _ _ placed.room_place-at.ensures read.less_one.ensures.0 _ c.before.same_bytes.ensures ∙ c.if-same_bytes.true)))
     (λ c m. let placed : tie.After-room_place-at = search in let read : tie.After-less_one = search in
-    sym (number-other _ _ _ _ (omega arith)
+    sym (number_other _ _ _ _ (omega arith)
     (compared _ _ _ _ _ _ placed.room_place-at.ensures read.less_one.ensures.0 _ c.before.same_bytes.ensures ∙ c.if-same_bytes.false))))

@@ -2,11 +2,11 @@
 use mathlib.Core.Path.{sym, ◌∙◌}
 use native.Mathlib.Omega.{arith}
 use borrow.Author.Rules.{rules}
-use Rattle.salvage.proofs.Standing.{always-room, counted_room, runs_most}
+use Rattle.salvage.proofs.Standing.{always_room, counted_room, runs_most}
 use Rattle.salvage.proofs.has_room.Goals as goal
 
 pub returns-then-fits : goal.returns-then-fits
-returns-then-fits c = always-room _ _ _ (sym c.fits.ensures ∙ c.if-fits.true)
+returns-then-fits c = always_room _ _ _ (sym c.fits.ensures ∙ c.if-fits.true)
 
 pub fits-requires-2 : goal.fits-requires-2
 fits-requires-2 c = omega (arith, c.requires, runs_most c.args.s.now, c.measure-need.ensures.1)

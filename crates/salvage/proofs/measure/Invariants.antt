@@ -7,7 +7,7 @@ use lib.ListN.{length}
 use Rattle.salvage.specs.Runs.{runs_of}
 use Rattle.salvage.specs.Salvage.{sections}
 use Rattle.salvage.proofs.Pieces.{next_goes}
-use Rattle.salvage.proofs.Turns.{runs_left, sections_left, count_turn, sections-length, runs-whole, sections-whole, runs-end, sections-end}
+use Rattle.salvage.proofs.Turns.{runs_left, sections_left, count_turn, sections_length, runs_whole, sections_whole, runs_end, sections_end}
 use Rattle.salvage.proofs.measure.Given as goal
 
 abbrev pub invariant-loop-from : goal.invariant-loop-from

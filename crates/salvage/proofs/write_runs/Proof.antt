@@ -11,10 +11,10 @@ use Rattle.ground_placing.proofs.Putting.{put_length}
 use Rattle.salvage.specs.Runs.{run_at, numbers_of}
 use Rattle.salvage.specs.Salvage.{sections, numbers}
 use Rattle.salvage.proofs.Pieces.{next_goes}
-use Rattle.salvage.proofs.Turns.{sections_left, sections-whole, sections-turn, sections-length, sections-end, put_section}
-use Rattle.salvage.proofs.Turns.{numbers_left, numbers-whole, numbers-turn, numbers-end, runs-told}
-use Rattle.salvage.proofs.Writing.{Writing, writing_starts, writing-room, writing_count, writing-goes, writing-ends}
-use Rattle.salvage.proofs.Standing.{sections-most}
+use Rattle.salvage.proofs.Turns.{sections_left, sections_whole, sections_turn, sections_length, sections_end, put_section}
+use Rattle.salvage.proofs.Turns.{numbers_left, numbers_whole, numbers_turn, numbers_end, runs_told}
+use Rattle.salvage.proofs.Writing.{Writing, writing_starts, writing_room, writing_count, writing_goes, writing_ends}
+use Rattle.salvage.proofs.Standing.{sections_most}
 use Rattle.salvage.proofs.write_runs.Statement.{statement}
 use Rattle.salvage.proofs.write_runs.Tie as tie
 
@@ -44,8 +44,8 @@ after_skipped c =
     let s = (begun turn).args.s.now in
     let from = turn.before.before.loop-from.from in
     let next = turn.next_good-next.result in
-    writing-goes (numbers_of (run_at false from (next.at - from))) (numbers_of (run_at true next.at next.length) ++ numbers_left s (next.at + next.length))
-    turn.before.before.loop-from.invariant.2 (numbers-turn _ _ _ _ turn.next_good-next.ensures) c.put_run-entries.ensures
+    writing_goes (numbers_of (run_at false from (next.at - from))) (numbers_of (run_at true next.at next.length) ++ numbers_left s (next.at + next.length))
+    turn.before.before.loop-from.invariant.2 (numbers_turn _ _ _ _ turn.next_good-next.ensures) c.put_run-entries.ensures
 
 -- there is room for the section of a turn
 section_room : (turn : tie.After-next_good-next invariant-loop-from decreases-loop-from) → let start = begun turn in let next = turn.next_good-next.result in
@@ -56,8 +56,8 @@ section_room turn =
     let start = begun turn in
     let s = start.args.s.now in
     let next = turn.next_good-next.result in
-    writing-room (take next.length (drop next.at s)) (sections_left s (next.at + next.length)) turn.before.before.loop-from.invariant.1
-    (sections-turn _ _ _ _ turn.next_good-next.ensures) (omega (arith, start.requires.1))
+    writing_room (take next.length (drop next.at s)) (sections_left s (next.at + next.length)) turn.before.before.loop-from.invariant.1
+    (sections_turn _ _ _ _ turn.next_good-next.ensures) (omega (arith, start.requires.1))
 
 -- the section of a turn stands behind those before it
 copied : (c : tie.After-copy_long invariant-loop-from decreases-loop-from) → let turn = turn_of c in
@@ -77,7 +77,7 @@ write_runs_spec =
     (tie.spec
     invariant-loop-from
     decreases-loop-from
-    (λ c. (omega arith, rw (sections-whole _) (writing_starts _ 0 _ (omega arith)), rw (numbers-whole _) (writing_starts _ 0 _ (omega arith))))
+    (λ c. (omega arith, rw (sections_whole _) (writing_starts _ 0 _ (omega arith)), rw (numbers_whole _) (writing_starts _ 0 _ (omega arith))))
     (λ c κs. search rules)
     (λ c. search rules)
     (λ c. omega (arith, c.before.before.next_good-next.ensures.after))
@@ -87,20 +87,20 @@ write_runs_spec =
     let next = turn.next_good-next.result in
     let found = turn.next_good-next.ensures in (
       omega (arith, found.after, found.within, start.requires.0),
-      writing-room (numbers_of (run_at false from (next.at - from)))
+      writing_room (numbers_of (run_at false from (next.at - from)))
           (numbers_of (run_at true next.at next.length) ++ numbers_left s (next.at + next.length))
-          turn.before.before.loop-from.invariant.2 (numbers-turn _ _ _ _ found) (omega (arith, start.requires.2)),
+          turn.before.before.loop-from.invariant.2 (numbers_turn _ _ _ _ found) (omega (arith, start.requires.2)),
     ))
     (λ c κs. let put : tie.After-put_run-entries invariant-loop-from decreases-loop-from = search in let turn : tie.After-next_good-next invariant-loop-from decreases-loop-from = search in
     let start : tie.Start invariant-loop-from decreases-loop-from = search in
     let next = turn.next_good-next.result in (
       omega (arith, turn.next_good-next.ensures.within, start.requires.0),
-      writing-room (numbers_of (run_at true next.at next.length)) (numbers_left start.args.s.now (next.at + next.length))
+      writing_room (numbers_of (run_at true next.at next.length)) (numbers_left start.args.s.now (next.at + next.length))
           (after_skipped put) refl (omega (arith, start.requires.2)),
     ))
     (λ c. search rules)
     (λ c. search rules)
-    (λ c. let next-good : tie.After-next_good-next invariant-loop-from decreases-loop-from = search in let within = next-good.next_good-next.ensures.within in search rules)
+    (λ c. let next_good : tie.After-next_good-next invariant-loop-from decreases-loop-from = search in let within = next_good.next_good-next.ensures.within in search rules)
     (λ c κs. let turn : tie.After-next_good-next invariant-loop-from decreases-loop-from = search in
     let next = turn.next_good-next.result in
     let size : next.at + next.length - next.at ≡ next.length = omega arith in
@@ -108,7 +108,7 @@ write_runs_spec =
     (λ c. let turn : tie.After-next_good-next invariant-loop-from decreases-loop-from = search in let start : tie.Start invariant-loop-from decreases-loop-from = search in
     let s = start.args.s.now in
     let count = writing_count (sections_left s turn.before.before.loop-from.from) turn.before.before.loop-from.invariant.1 in
-    omega (arith, start.requires.0, sections-most s, sections-length _ _ _ _ turn.next_good-next.ensures))
+    omega (arith, start.requires.0, sections_most s, sections_length _ _ _ _ turn.next_good-next.ensures))
     (λ c. let turn : tie.After-next_good-next invariant-loop-from decreases-loop-from = search in
     let on = next_goes _ _ _ _ turn.next_good-next.ensures turn.before.loop-from-test.true in
     omega (arith, turn.next_good-next.ensures.within))
@@ -118,9 +118,9 @@ write_runs_spec =
     let next = turn.next_good-next.result in
     let found = turn.next_good-next.ensures in (
       found.within,
-      writing-goes (take next.length (drop next.at s)) (sections_left s (next.at + next.length)) turn.before.before.loop-from.invariant.1
-          (sections-turn _ _ _ _ found) (copied copy),
-      writing-goes (numbers_of (run_at true next.at next.length)) (numbers_left s (next.at + next.length))
+      writing_goes (take next.length (drop next.at s)) (sections_left s (next.at + next.length)) turn.before.before.loop-from.invariant.1
+          (sections_turn _ _ _ _ found) (copied copy),
+      writing_goes (numbers_of (run_at true next.at next.length)) (numbers_left s (next.at + next.length))
           (after_skipped (search)) refl put.put_run-entries-in-loop-from.ensures,
     ))
     (λ c. put_length c.before.loop-from.invariant.1.1)
@@ -129,6 +129,6 @@ write_runs_spec =
     let inv = c.before.loop-from.invariant in
     let s = start.args.s.now in
     let end = c.loop-from-test.false in
-    let bytes = writing-ends inv.1 (sections-end s _ end) in
-    let told = writing-ends inv.2 (numbers-end s _ end) in
-    ((omega (arith, bytes.after), runs-told s _ (omega (arith, told.after))), (bytes.written, told.written))))
+    let bytes = writing_ends inv.1 (sections_end s _ end) in
+    let told = writing_ends inv.2 (numbers_end s _ end) in
+    ((omega (arith, bytes.after), runs_told s _ (omega (arith, told.after))), (bytes.written, told.written))))

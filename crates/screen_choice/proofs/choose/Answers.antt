@@ -5,14 +5,14 @@ use borrow.Author.Rules.{rules}
 use borrow.Author.Tests.{not-true, not-false}
 use Rattle.crc.specs.Crc.{AreBytes}
 use Rattle.screen_choice.specs.Walk.{worth_of}
-use Rattle.screen_choice.proofs.Chosen.{holds, tabled, choice-no-code, choice-no-instant, choice-refused, choice-walked}
+use Rattle.screen_choice.proofs.Chosen.{holds, tabled, choice_no_code, choice_no_instant, choice_refused, choice_walked}
 use Rattle.screen_choice.proofs.choose.Goals as goal
 
 pub returns-then-not-is_code : goal.returns-then-not-is_code
-returns-then-not-is_code c = choice-no-code _ _ _ _ (sym c.is_code.ensures ∙ not-true _ c.if-not-is_code.true-raw)
+returns-then-not-is_code c = choice_no_code _ _ _ _ (sym c.is_code.ensures ∙ not-true _ c.if-not-is_code.true-raw)
 
 pub returns-then-not-is_instant : goal.returns-then-not-is_instant
-returns-then-not-is_instant c = choice-no-instant _ _ _ _ (sym c.is_code.ensures ∙ not-false _ c.if-not-is_code.false-raw)
+returns-then-not-is_instant c = choice_no_instant _ _ _ _ (sym c.is_code.ensures ∙ not-false _ c.if-not-is_code.false-raw)
     (sym c.is_instant.ensures ∙ not-true _ c.if-not-is_instant.true-raw)
 
 pub pack-own-requires : goal.pack-own-requires
@@ -30,12 +30,12 @@ walked-requires c = let args = c.args in
     )
 
 pub returns-in-Refused : goal.returns-in-Refused
-returns-in-Refused c = choice-refused _ _ _ _ (sym c.is_code.ensures ∙ not-false _ c.if-not-is_code.false-raw)
+returns-in-Refused c = choice_refused _ _ _ _ (sym c.is_code.ensures ∙ not-false _ c.if-not-is_code.false-raw)
     (sym c.is_instant.ensures ∙ not-false _ c.if-not-is_instant.false-raw) _ (sym c.in-Refused.is ∙ c.read.ensures)
 
 pub returns-in-At : goal.returns-in-At
 returns-in-At c = let bytes : AreBytes c.args.s.now = record { byte = λ i. (c.type_inv.s i).fits } in
-    choice-walked _ _ _ _ (sym c.is_code.ensures ∙ not-false _ c.if-not-is_code.false-raw)
+    choice_walked _ _ _ _ (sym c.is_code.ensures ∙ not-false _ c.if-not-is_code.false-raw)
     (sym c.is_instant.ensures ∙ not-false _ c.if-not-is_instant.false-raw) bytes _ (sym c.in-At.is ∙ c.read.ensures) _ _
     c.pack-own.ensures (c.worth_of-count.ensures ∙ ap worth_of c.message_count.ensures)
     c.walked.result

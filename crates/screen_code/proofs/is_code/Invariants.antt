@@ -5,7 +5,7 @@ use native.Mathlib.Omega.{arith}
 use borrow.Author.Rules.{rules}
 use lib.ListN.{length, get_or, take, drop}
 use Rattle.body_formats.specs.Format.{decimal}
-use Rattle.screen_code.proofs.Same.{code_short, code-end, code-on, code-stop}
+use Rattle.screen_code.proofs.Same.{code_short, code_end, code_on, code_stop}
 use Rattle.screen_code.proofs.is_code.Given as goal
 
 abbrev pub invariant-loop-i : goal.invariant-loop-i

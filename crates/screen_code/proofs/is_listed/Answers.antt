@@ -5,7 +5,7 @@ use native.Mathlib.Omega.{arith}
 use lib.ListN.{length}
 use Rattle.body_formats.specs.Resource.{resource_bytes}
 use Rattle.screen_code.specs.Code.{InBody, listed}
-use Rattle.screen_code.proofs.Listed.{listed_here, listed-on, listed-none}
+use Rattle.screen_code.proofs.Listed.{listed_here, listed_on, listed_none}
 use Rattle.screen_code.proofs.is_listed.Goals as goal
 
 pub loop-left-init : goal.loop-left-init
@@ -24,8 +24,8 @@ pub loop-left-preserved : goal.loop-left-preserved
 loop-left-preserved c = let l = c.loop-left in (
   λ k h. (omega (arith, l.invariant.0 (suc k) (omega arith))),
   l.invariant.1,
-  listed-on _ _ _ _ _ l.invariant.2 (omega arith) (sym c.same_at.ensures ∙ c.if-same_at.false),
+  listed_on _ _ _ _ _ l.invariant.2 (omega arith) (sym c.same_at.ensures ∙ c.if-same_at.false),
 )
 
 pub returns : goal.returns
-returns c = let l = c.loop-left in listed-none _ _ _ _ _ l.invariant.2 (omega arith)
+returns c = let l = c.loop-left in listed_none _ _ _ _ _ l.invariant.2 (omega arith)

@@ -5,7 +5,7 @@ use native.Mathlib.Omega.{arith}
 use lib.ListN.{length}
 use Rattle.body_formats.specs.Resource.{resource_bytes}
 use Rattle.screen_code.specs.Code.{InBody, listed}
-use Rattle.screen_code.proofs.Listed.{listed_here, listed-on, listed-none}
+use Rattle.screen_code.proofs.Listed.{listed_here, listed_on, listed_none}
 use Rattle.screen_code.proofs.is_listed.Given as goal
 
 abbrev pub invariant-loop-left : goal.invariant-loop-left

@@ -6,7 +6,7 @@ use borrow.Author.Rules.{rules}
 use lib.ListN.{length, take, length-set}
 use Rattle.body_formats.specs.Resource.{resource}
 use Rattle.screen_code.proofs.Same.{code_long}
-use Rattle.screen_code.proofs.Printed.{put_first, first_byte, next-byte, put_next, put_all}
+use Rattle.screen_code.proofs.Printed.{put_first, first_byte, next_byte, put_next, put_all}
 use Rattle.screen_code.proofs.pack.Goals as goal
 
 pub bounds-code-0 : goal.bounds-code-0
@@ -28,7 +28,7 @@ loop-i-preserved c = let pre = c.requires in
       omega arith,
       omega arith,
       simp length-set l.invariant.2,
-      put_next _ pre _ l.i l.invariant.2 l.invariant.3 _ (omega arith) (c.pair-in-loop-i.ensures ∙ sym (next-byte _ pre l.i l.invariant.0 (omega arith))),
+      put_next _ pre _ l.i l.invariant.2 l.invariant.3 _ (omega arith) (c.pair-in-loop-i.ensures ∙ sym (next_byte _ pre l.i l.invariant.0 (omega arith))),
     )
 
 pub returns : goal.returns

@@ -6,7 +6,7 @@ use borrow.Author.Rules.{rules}
 use lib.ListN.{length, take, length-set}
 use Rattle.body_formats.specs.Resource.{resource}
 use Rattle.screen_code.proofs.Same.{code_long}
-use Rattle.screen_code.proofs.Printed.{put_first, first_byte, next-byte, put_next, put_all}
+use Rattle.screen_code.proofs.Printed.{put_first, first_byte, next_byte, put_next, put_all}
 use Rattle.screen_code.proofs.pack.Given as goal
 
 abbrev pub invariant-loop-i : goal.invariant-loop-i

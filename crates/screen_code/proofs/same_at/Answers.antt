@@ -5,7 +5,7 @@ use native.Mathlib.Omega.{arith}
 use borrow.Author.Rules.{rules}
 use lib.ListN.{length, get_or, take, drop}
 use Rattle.screen_code.specs.Code.{same, same_at}
-use Rattle.screen_code.proofs.Same.{at_end, at_on, at-stop}
+use Rattle.screen_code.proofs.Same.{at_end, at_on, at_stop}
 use Rattle.screen_code.proofs.same_at.Goals as goal
 
 pub loop-k-init : goal.loop-k-init
@@ -14,7 +14,7 @@ loop-k-init c = (omega arith, c.requires.1, c.requires.0, refl)
 
 pub returns-then-s-p : goal.returns-then-s-p
 returns-then-s-p c = let l = c.loop-k in
-    at-stop _ _ _ l.k l.invariant.1 l.invariant.2 l.invariant.3 (omega arith) c.if-s-p.true
+    at_stop _ _ _ l.k l.invariant.1 l.invariant.2 l.invariant.3 (omega arith) c.if-s-p.true
 
 pub loop-k-preserved : goal.loop-k-preserved
 loop-k-preserved c = let l = c.loop-k in

@@ -5,7 +5,7 @@ use native.Mathlib.Omega.{arith}
 use borrow.Author.Rules.{rules}
 use lib.ListN.{length, get_or, take, drop}
 use Rattle.screen_code.specs.Code.{same, same_at}
-use Rattle.screen_code.proofs.Same.{at_end, at_on, at-stop}
+use Rattle.screen_code.proofs.Same.{at_end, at_on, at_stop}
 use Rattle.screen_code.proofs.same_at.Given as goal
 
 abbrev pub invariant-loop-k : goal.invariant-loop-k

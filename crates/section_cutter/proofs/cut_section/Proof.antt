@@ -11,7 +11,7 @@ use Rattle.section_cutter.specs.Cutting.{counted_of, Allowed}
 use Rattle.section_reader.specs.Section.{is_kind}
 use Rattle.section_cutter.specs.declared.Counted.TheVariants.{Sections}
 use Rattle.section_cutter.proofs.Counting.{begins_within, count_most, counted_some}
-use Rattle.section_cutter.proofs.Cuts.{by_refusal, cut-other-kind, cut-other-version, cut-other-extension, cut-not-counted, cut-past-last, cut-asked}
+use Rattle.section_cutter.proofs.Cuts.{by_refusal, cut_other_kind, cut_other_version, cut_other_extension, cut_not_counted, cut_past_last, cut_asked}
 use Rattle.section_reader.proofs.Reading.{kind_within}
 use Rattle.section_cutter.proofs.cut_section.Statement.{statement}
 use Rattle.section_cutter.proofs.cut_section.Tie as tie
@@ -45,15 +45,15 @@ cut_section_spec =
     tie.close
     (tie.spec
     (λ c κs. search rules)
-    (λ c. by_refusal _ _ _ (cut-other-kind _ _ _ _ _ _ (sym c.before.is_kind.ensures ∙ not-true _ c.if-not-is_kind.true-raw)))
+    (λ c. by_refusal _ _ _ (cut_other_kind _ _ _ _ _ _ (sym c.before.is_kind.ensures ∙ not-true _ c.if-not-is_kind.true-raw)))
     (λ c. by_refusal _ _ _
-    (⊎_elim (λ w. cut-other-version _ _ _ _ _ _ (kind_known c.before) w)
-    (λ w. cut-other-extension _ _ _ _ _ _ (kind_known c.before) w.1)
+    (⊎_elim (λ w. cut_other_version _ _ _ _ _ _ (kind_known c.before) w)
+    (λ w. cut_other_extension _ _ _ _ _ _ (kind_known c.before) w.1)
     c.then-version-gt-VERSION_MOST.either))
     (λ c κs. search rules)
     (λ c. search rules)
     (λ c. search rules)
-    (λ c. let d = c.before in by_refusal _ _ _ (cut-past-last _ _ _ _ _ _ (allowed (search)) _ (counted_known d) c.if-count-number.true))
+    (λ c. let d = c.before in by_refusal _ _ _ (cut_past_last _ _ _ _ _ _ (allowed (search)) _ (counted_known d) c.if-count-number.true))
     (λ c. let k = kind_within _ (allowed (search)).kind_of in search rules)
     (λ c. search rules)
     (λ c. search rules)
@@ -65,8 +65,8 @@ cut_section_spec =
     let b = begins_within _ _ (rw s.0 at c.before.if-count-number.false) in
     ((allowed (search)).version_high, omega arith))
     (λ c. let d : tie.After-section_count = search in
-    by_refusal _ _ _ (cut-not-counted _ _ _ _ _ _ (allowed d.before) _ (sym d.section_count.ensures ∙ c.in-Refused.is)))
+    by_refusal _ _ _ (cut_not_counted _ _ _ _ _ _ (allowed d.before) _ (sym d.section_count.ensures ∙ c.in-Refused.is)))
     (λ c. search rules)
     (λ c. let e : tie.Else-count-number = search in
     let d = e.before in
-    cut-asked _ _ _ _ _ _ (allowed (search)) _ (counted_known d) e.if-count-number.false _ _ _ c.before.before.cut_part.ensures))
+    cut_asked _ _ _ _ _ _ (allowed (search)) _ (counted_known d) e.if-count-number.false _ _ _ c.before.before.cut_part.ensures))

@@ -7,10 +7,10 @@ use borrow.Author.Rules.{rules}
 use borrow.Author.Tests.{not-true, not-false}
 use lib.ListN.{get_or}
 use Rattle.ground_numbers.specs.Sizes.{section_length_most}
-use Rattle.ground_numbers.proofs.Ranges.{within-known}
+use Rattle.ground_numbers.proofs.Ranges.{within_known}
 use Rattle.section_reader.specs.Section.{is_kind, fixed_bits, section_length, length_in_range}
-use Rattle.section_reader.proofs.Reading.{too_short, other_kind, fixed-bit-zero, length-outside}
-use Rattle.section_reader.proofs.Reading.{other_length, Framed, number-above, check-not-zero, good}
+use Rattle.section_reader.proofs.Reading.{too_short, other_kind, fixed_bit_zero, length_outside}
+use Rattle.section_reader.proofs.Reading.{other_length, Framed, number_above, check_not_zero, good}
 use Rattle.section_reader.proofs.read_section.Statement.{statement}
 use Rattle.section_reader.proofs.read_section.Tie as tie
 
@@ -43,7 +43,7 @@ unfolding begun_length
 length_known c = sym (length_tested c.before) ∙ not-false _ c.if-not-length_in_range.false-raw
 
 counted : (c : tie.Else-not-length_in_range) → c.before.before.section_length-length.result ≤ section_length_most
-counted c = (within-known 9 _ section_length_most (sym c.before.length_in_range.ensures ∙ not-false _ c.if-not-length_in_range.false-raw)).1
+counted c = (within_known 9 _ section_length_most (sym c.before.length_in_range.ensures ∙ not-false _ c.if-not-length_in_range.false-raw)).1
 
 framed : (c : tie.Else-s-length) → Framed (begun_length c.before.before).args.s.now
 unfolding begun_kind begun_length
@@ -63,19 +63,19 @@ read_section_spec =
     (λ c κs. search rules)
     (λ c. sym (other_kind _ (omega arith) (sym (kind_tested c.before) ∙ not-true _ c.if-not-is_kind.true-raw)))
     (λ c κs. search rules)
-    (λ c. sym (fixed-bit-zero _ (omega arith) (kind_known c.before.before) (sym c.before.fixed_bits.ensures ∙ not-true _ c.if-not-fixed_bits.true-raw)))
+    (λ c. sym (fixed_bit_zero _ (omega arith) (kind_known c.before.before) (sym c.before.fixed_bits.ensures ∙ not-true _ c.if-not-fixed_bits.true-raw)))
     (λ c κs. search rules)
     (λ c κs. search rules)
     (λ c. let d : tie.Else-not-fixed_bits = search in
-    sym (length-outside _ (omega arith) (kind_known d.before.before) (fixed_known d) (sym (length_tested c.before) ∙ not-true _ c.if-not-length_in_range.true-raw)))
+    sym (length_outside _ (omega arith) (kind_known d.before.before) (fixed_known d) (sym (length_tested c.before) ∙ not-true _ c.if-not-length_in_range.true-raw)))
     (λ c. omega (arith, counted c))
     (λ c. let d : tie.Else-not-fixed_bits = search in
     sym (other_length _ (omega arith) (kind_known d.before.before) (fixed_known d) (length_known c.before) (omega arith)))
     (λ c. search rules)
     (λ c. search rules)
-    (λ c. let whole : tie.Else-s-length = search in sym (number-above _ (framed whole) (omega arith)))
+    (λ c. let whole : tie.Else-s-length = search in sym (number_above _ (framed whole) (omega arith)))
     (λ c κs. search rules)
-    (λ c. let whole : tie.Else-s-length = search in sym (check-not-zero _ (framed whole) (omega arith) (omega arith)))
+    (λ c. let whole : tie.Else-s-length = search in sym (check_not_zero _ (framed whole) (omega arith) (omega arith)))
     (λ c κs. search rules)
     (λ c. search rules)
     (λ c. let whole : tie.Else-s-length = search in sym (good _ (framed whole) (omega arith) _ c.heading_of.ensures (omega arith))))

@@ -5,10 +5,10 @@ use native.Mathlib.Omega.{arith}
 use borrow.Author.Rules.{rules}
 use borrow.Author.Tests.{not-true, not-false}
 use Rattle.ground_numbers.specs.Sizes.{section_length_most}
-use Rattle.ground_numbers.proofs.Ranges.{within-known}
+use Rattle.ground_numbers.proofs.Ranges.{within_known}
 use Rattle.section_reader.specs.Section.{section_length, length_in_range}
 use Rattle.section_reader.specs.declared.Stated.TheVariants.{Length}
-use Rattle.section_reader.proofs.Reading.{cut_off, none-stated, states}
+use Rattle.section_reader.proofs.Reading.{cut_off, none_stated, states}
 use Rattle.section_reader.proofs.stated_length.Statement.{statement}
 use Rattle.section_reader.proofs.stated_length.Tie as tie
 
@@ -22,7 +22,7 @@ unfolding begun
 tested c = c.length_in_range.ensures ∙ ap length_in_range c.before.section_length-length.ensures
 
 counted : (c : tie.Else-not-length_in_range) → c.before.before.section_length-length.result ≤ section_length_most
-counted c = (within-known 9 _ section_length_most (sym c.before.length_in_range.ensures ∙ not-false _ c.if-not-length_in_range.false-raw)).1
+counted c = (within_known 9 _ section_length_most (sym c.before.length_in_range.ensures ∙ not-false _ c.if-not-length_in_range.false-raw)).1
 
 pub stated_length_spec : {M : Type 1} → statement M
 unfolding begun
@@ -32,7 +32,7 @@ stated_length_spec =
     (λ c. sym (cut_off _ (omega arith)))
     (λ c κs. search rules)
     (λ c κs. search rules)
-    (λ c. sym (none-stated _ (omega arith) (sym (tested c.before) ∙ not-true _ c.if-not-length_in_range.true-raw)))
+    (λ c. sym (none_stated _ (omega arith) (sym (tested c.before) ∙ not-true _ c.if-not-length_in_range.true-raw)))
     (λ c. omega (arith, counted c))
     (λ c. ap (λ (n : ℕ). Length (n + 3)) c.before.before.section_length-length.ensures
     ∙ sym (states _ (omega arith) (sym (tested c.before) ∙ not-false _ c.if-not-length_in_range.false-raw))))

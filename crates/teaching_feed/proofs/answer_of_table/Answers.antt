@@ -2,20 +2,20 @@
 use mathlib.Core.Path.{sym, ◌∙◌}
 use Rattle.ground_choices.proofs.Tests.{met, unmet}
 use Rattle.teaching_questions.proofs.Saying.{payload_part}
-use Rattle.teaching_feed.proofs.Answering.{table-clash, table-spoiled, table-again, table-new}
+use Rattle.teaching_feed.proofs.Answering.{table_clash, table_spoiled, table_again, table_new}
 use Rattle.teaching_feed.proofs.answer_of_table.Goals as goal
 
 pub returns-then-differs_from_one : goal.returns-then-differs_from_one
-returns-then-differs_from_one c = table-clash _ _ _ _ (payload_part _) _ c.differs_from_one.ensures c.if-differs_from_one.true
+returns-then-differs_from_one c = table_clash _ _ _ _ (payload_part _) _ c.differs_from_one.ensures c.if-differs_from_one.true
 
 pub returns-then-not-agree : goal.returns-then-not-agree
-returns-then-not-agree c = table-spoiled _ _ _ _ (payload_part _) _ c.differs_from_one.ensures c.if-differs_from_one.false
+returns-then-not-agree c = table_spoiled _ _ _ _ (payload_part _) _ c.differs_from_one.ensures c.if-differs_from_one.false
     (unmet c.agree.result c.agree.ensures c.if-not-agree.true-raw)
 
 pub returns-then-has_come : goal.returns-then-has_come
-returns-then-has_come c = table-again _ _ _ _ (payload_part _) _ c.differs_from_one.ensures c.if-differs_from_one.false
+returns-then-has_come c = table_again _ _ _ _ (payload_part _) _ c.differs_from_one.ensures c.if-differs_from_one.false
     (met c.agree.result c.agree.ensures c.if-not-agree.false-raw) (sym c.has_come.ensures ∙ c.if-has_come.true)
 
 pub returns : goal.returns
-returns c = table-new _ _ _ _ (payload_part _) _ c.differs_from_one.ensures c.if-differs_from_one.false
+returns c = table_new _ _ _ _ (payload_part _) _ c.differs_from_one.ensures c.if-differs_from_one.false
     (met c.agree.result c.agree.ensures c.if-not-agree.false-raw) (sym c.has_come.ensures ∙ c.if-has_come.false)

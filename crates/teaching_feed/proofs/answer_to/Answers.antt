@@ -1,20 +1,20 @@
 -- `teaching_feed::answer_to` meets its contract: in each arm the string is read as the arm's case.
 use mathlib.Core.Path.{sym, ◌∙◌}
 use borrow.Author.Tests.{not-true, not-false}
-use Rattle.teaching_questions.proofs.Saying.{say-good, said-section}
-use Rattle.teaching_feed.proofs.Answering.{to-bad, to-old, to-good}
+use Rattle.teaching_questions.proofs.Saying.{say_good, said_section}
+use Rattle.teaching_feed.proofs.Answering.{to_bad, to_old, to_good}
 use Rattle.teaching_feed.proofs.answer_to.Goals as goal
 
 pub returns-then-not-h : goal.returns-then-not-h
-returns-then-not-h c = to-old _ _ _ _ _ (sym c.read_section.ensures ∙ c.in-Good.is) (not-true _ c.if-not-h.true)
+returns-then-not-h c = to_old _ _ _ _ _ (sym c.read_section.ensures ∙ c.in-Good.is) (not-true _ c.if-not-h.true)
 
 pub answer_of_good-requires : goal.answer_of_good-requires
 answer_of_good-requires c = let good = sym c.read_section.ensures ∙ c.in-Good.is in
-    let h = said-section _ _ (sym (say-good _ _ _ good (not-false _ c.if-not-h.false))) in
+    let h = said_section _ _ (sym (say_good _ _ _ good (not-false _ c.if-not-h.false))) in
     (h.versioned, h.long)
 
 pub returns-in-Refused : goal.returns-in-Refused
-returns-in-Refused c = to-bad _ _ _ _ (sym c.read_section.ensures ∙ c.in-Refused.is)
+returns-in-Refused c = to_bad _ _ _ _ (sym c.read_section.ensures ∙ c.in-Refused.is)
 
 pub returns-else-not-h : goal.returns-else-not-h
-returns-else-not-h c = to-good _ _ _ _ _ (sym c.read_section.ensures ∙ c.in-Good.is) (not-false _ c.if-not-h.false) _ c.answer_of_good.ensures
+returns-else-not-h c = to_good _ _ _ _ _ (sym c.read_section.ensures ∙ c.in-Good.is) (not-false _ c.if-not-h.false) _ c.answer_of_good.ensures

@@ -7,7 +7,7 @@ use lib.ListN.{length}
 use Rattle.gathering_account.specs.Account.{in_order}
 use Rattle.gathering_account.specs.Latest.{sections_of_table}
 use Rattle.teaching_rows.specs.Rows.{strings_in}
-use Rattle.teaching_hand_out.proofs.Joining.{length-turn, order_none, length_end}
+use Rattle.teaching_hand_out.proofs.Joining.{length_turn, order_none, length_end}
 use Rattle.teaching_hand_out.proofs.body_length.Given as goal
 
 abbrev pub invariant-loop-k : goal.invariant-loop-k

@@ -8,7 +8,7 @@ use Rattle.ground_placing.specs.Placed.{placed}
 use Rattle.gathering_account.specs.Account.{in_order}
 use Rattle.gathering_account.specs.Latest.{sections_of_table}
 use Rattle.teaching_rows.specs.Rows.{strings_in}
-use Rattle.teaching_hand_out.proofs.Joining.{length-turn, room-turn, part_room, joined-turn, joined_size}
+use Rattle.teaching_hand_out.proofs.Joining.{length_turn, room_turn, part_room, joined_turn, joined_size}
 use Rattle.teaching_hand_out.proofs.Joining.{order_none, order_most, joined_none, joined_end}
 use Rattle.teaching_hand_out.proofs.join.Goals as goal
 
@@ -39,7 +39,7 @@ pub overflow_add-n : goal.overflow_add-n
 overflow_add-n c = let here = c.loop-k in
     omega (
       arith,
-      room-turn _ _ _ _ _ c.contents_of-part.ensures here.n (c.args.t.last + 1)
+      room_turn _ _ _ _ _ c.contents_of-part.ensures here.n (c.args.t.last + 1)
           (length c.args.out.now)
           here.invariant.3 (omega arith)
           c.requires,
@@ -52,9 +52,9 @@ loop-k-preserved c = let here = c.loop-k in
     let room = c.requires in
     let most = order_most here.k (c.args.t.last + 1) S (omega arith) in
     let next = order_most (here.k + 1) (c.args.t.last + 1) S (omega arith) in
-    let joined = joined-turn _ _ _ _ _ part c.args.out.now _ _ here.n here.invariant.3 here.invariant.4
+    let joined = joined_turn _ _ _ _ _ part c.args.out.now _ _ here.n here.invariant.3 here.invariant.4
     (omega (arith, most, room)) c.copy_at.ensures in
-    (omega arith, refl, joined_size _ _ _ joined (omega (arith, next, room)), length-turn _ _ _ _ _ part here.n here.invariant.3, joined)
+    (omega arith, refl, joined_size _ _ _ joined (omega (arith, next, room)), length_turn _ _ _ _ _ part here.n here.invariant.3, joined)
 
 pub returns : goal.returns
 returns c = let here = c.loop-k in joined_end _ _ here.out here.k _ here.invariant.4 (omega arith)

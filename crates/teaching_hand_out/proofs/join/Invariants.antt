@@ -8,7 +8,7 @@ use Rattle.ground_placing.specs.Placed.{placed}
 use Rattle.gathering_account.specs.Account.{in_order}
 use Rattle.gathering_account.specs.Latest.{sections_of_table}
 use Rattle.teaching_rows.specs.Rows.{strings_in}
-use Rattle.teaching_hand_out.proofs.Joining.{length-turn, room-turn, part_room, joined-turn, joined_size}
+use Rattle.teaching_hand_out.proofs.Joining.{length_turn, room_turn, part_room, joined_turn, joined_size}
 use Rattle.teaching_hand_out.proofs.Joining.{order_none, order_most, joined_none, joined_end}
 use Rattle.teaching_hand_out.proofs.join.Given as goal
 

@@ -3,14 +3,14 @@ use mathlib.Core.Path.{sym}
 use borrow.Author.Rules.{rules}
 use lib.Seq.{length-take-le}
 use Rattle.ground_choices.proofs.Tests.{met, unmet}
-use Rattle.teaching_hand_out.proofs.Telling.{within-buffer, lacking-12, lacking-kept}
+use Rattle.teaching_hand_out.proofs.Telling.{within_buffer, lacking_12, lacking_kept}
 use Rattle.teaching_hand_out.proofs.missing.Goals as goal
 
 pub returns-then-not-in_use : goal.returns-then-not-in_use
-returns-then-not-in_use c = lacking-12 _ _ _ (unmet c.in_use.result c.in_use.ensures c.if-not-in_use.true-raw)
+returns-then-not-in_use c = lacking_12 _ _ _ (unmet c.in_use.result c.in_use.ensures c.if-not-in_use.true-raw)
 
 pub slice_bounds-missing_kept-end : goal.slice_bounds-missing_kept-end
-slice_bounds-missing_kept-end c = sym (length-take-le _ _ (within-buffer _ _ 0 (met c.in_use.result c.in_use.ensures c.if-not-in_use.false-raw)))
+slice_bounds-missing_kept-end c = sym (length-take-le _ _ (within_buffer _ _ 0 (met c.in_use.result c.in_use.ensures c.if-not-in_use.false-raw)))
 
 pub returns : goal.returns
-returns c = lacking-kept _ _ _ (met c.in_use.result c.in_use.ensures c.if-not-in_use.false-raw) _ c.missing_kept.ensures
+returns c = lacking_kept _ _ _ (met c.in_use.result c.in_use.ensures c.if-not-in_use.false-raw) _ c.missing_kept.ensures

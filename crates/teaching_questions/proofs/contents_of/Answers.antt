@@ -3,7 +3,7 @@ use Prim.Native.Nat.{◌-◌}
 use mathlib.Core.Path.{refl, sym, ◌∙◌}
 use native.Mathlib.Omega.{arith}
 use Rattle.gathering_account.specs.Account.{contents_of}
-use Rattle.teaching_questions.proofs.Contents.{contents-end, contents-on, contents-found, long}
+use Rattle.teaching_questions.proofs.Contents.{contents_end, contents_on, contents_found, long}
 use Rattle.teaching_questions.proofs.contents_of.Goals as goal
 
 pub loop-t-init : goal.loop-t-init
@@ -23,12 +23,12 @@ overflow_sub-result c = omega (arith, c.row_end-end.ensures.is)
 pub returns-then-is_number : goal.returns-then-is_number
 returns-then-is_number c = let here = c.loop-t in
     let begins = sym c.row_begins.ensures ∙ c.loop-t-test.true in
-    contents-found _ _ _ here.at here.invariant.1 begins _ c.row_end-end.ensures _ c.is_number.ensures c.if-is_number.true
+    contents_found _ _ _ here.at here.invariant.1 begins _ c.row_end-end.ensures _ c.is_number.ensures c.if-is_number.true
 
 pub loop-t-preserved : goal.loop-t-preserved
 loop-t-preserved c = let here = c.loop-t in
     let begins = sym c.row_begins.ensures ∙ c.loop-t-test.true in
-    (omega arith, contents-on _ _ _ here.at here.invariant.1 begins _ c.row_end-end.ensures _ c.is_number.ensures c.if-is_number.false)
+    (omega arith, contents_on _ _ _ here.at here.invariant.1 begins _ c.row_end-end.ensures _ c.is_number.ensures c.if-is_number.false)
 
 pub returns : goal.returns
-returns c = let here = c.loop-t in contents-end _ _ _ here.at here.invariant.1 (sym c.row_begins.ensures ∙ c.loop-t-test.false)
+returns c = let here = c.loop-t in contents_end _ _ _ here.at here.invariant.1 (sym c.row_begins.ensures ∙ c.loop-t-test.false)

@@ -2,7 +2,7 @@
 use Prim.Native.Nat.{◌-◌}
 use mathlib.Core.Path.{refl, sym, ◌∙◌}
 use native.Mathlib.Omega.{arith}
-use Rattle.teaching_questions.proofs.Walking.{some_differs, some_end, some-found, some-on}
+use Rattle.teaching_questions.proofs.Walking.{some_differs, some_end, some_found, some_on}
 use Rattle.teaching_questions.proofs.differs_from_one.Goals as goal
 
 pub loop-t-init : goal.loop-t-init
@@ -13,12 +13,12 @@ row_end-end-requires c = sym c.row_begins.ensures ∙ c.loop-t-test.true
 
 pub returns-then-contradicts : goal.returns-then-contradicts
 returns-then-contradicts c = let begins = sym c.row_begins.ensures ∙ c.loop-t-test.true in
-    some-found (some_differs _) _ _ _ c.loop-t.invariant.1 begins _ c.row_end-end.ensures _ c.contradicts.ensures c.if-contradicts.true
+    some_found (some_differs _) _ _ _ c.loop-t.invariant.1 begins _ c.row_end-end.ensures _ c.contradicts.ensures c.if-contradicts.true
 
 pub loop-t-preserved : goal.loop-t-preserved
 loop-t-preserved c = let begins = sym c.row_begins.ensures ∙ c.loop-t-test.true in (
   omega arith,
-  some-on (some_differs _) _ _ _ c.loop-t.invariant.1 begins _ c.row_end-end.ensures _ c.contradicts.ensures c.if-contradicts.false,
+  some_on (some_differs _) _ _ _ c.loop-t.invariant.1 begins _ c.row_end-end.ensures _ c.contradicts.ensures c.if-contradicts.false,
 )
 
 pub returns : goal.returns

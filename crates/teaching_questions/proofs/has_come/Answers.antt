@@ -2,7 +2,7 @@
 use Prim.Native.Nat.{◌-◌}
 use mathlib.Core.Path.{refl, sym, ◌∙◌}
 use native.Mathlib.Omega.{arith}
-use Rattle.teaching_questions.proofs.Walking.{some_present, some_end, some-found, some-on}
+use Rattle.teaching_questions.proofs.Walking.{some_present, some_end, some_found, some_on}
 use Rattle.teaching_questions.proofs.has_come.Goals as goal
 
 pub loop-t-init : goal.loop-t-init
@@ -13,12 +13,12 @@ row_end-end-requires c = sym c.row_begins.ensures ∙ c.loop-t-test.true
 
 pub returns-then-is_number : goal.returns-then-is_number
 returns-then-is_number c = let begins = sym c.row_begins.ensures ∙ c.loop-t-test.true in
-    some-found (some_present _) _ _ _ c.loop-t.invariant.1 begins _ c.row_end-end.ensures _ c.is_number.ensures c.if-is_number.true
+    some_found (some_present _) _ _ _ c.loop-t.invariant.1 begins _ c.row_end-end.ensures _ c.is_number.ensures c.if-is_number.true
 
 pub loop-t-preserved : goal.loop-t-preserved
 loop-t-preserved c = let begins = sym c.row_begins.ensures ∙ c.loop-t-test.true in (
   omega arith,
-  some-on (some_present _) _ _ _ c.loop-t.invariant.1 begins _ c.row_end-end.ensures _ c.is_number.ensures c.if-is_number.false,
+  some_on (some_present _) _ _ _ c.loop-t.invariant.1 begins _ c.row_end-end.ensures _ c.is_number.ensures c.if-is_number.false,
 )
 
 pub returns : goal.returns

@@ -2,7 +2,7 @@
 use mathlib.Core.Path.{refl, ◌∙◌}
 use native.Mathlib.Omega.{arith}
 use Rattle.ground_choices.proofs.Tests.{met, unmet}
-use Rattle.teaching_questions.proofs.Missing.{count_start, count_one, count_none, count-end}
+use Rattle.teaching_questions.proofs.Missing.{count_start, count_one, count_none, count_end}
 use Rattle.teaching_questions.proofs.missing_count.Goals as goal
 use Rattle.teaching_questions.proofs.missing_count.Goals.{then-not-has_come, else-not-has_come}
 
@@ -29,4 +29,4 @@ loop-k-preserved c =
     ]
 
 pub returns : goal.returns
-returns c = let here = c.loop-k in count-end _ here.k here.missing here.invariant.3 _ (omega arith)
+returns c = let here = c.loop-k in count_end _ here.k here.missing here.invariant.3 _ (omega arith)

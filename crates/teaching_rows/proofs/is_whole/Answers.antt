@@ -2,7 +2,7 @@
 use Prim.Native.Nat.{◌-◌}
 use mathlib.Core.Path.{refl, sym, ◌∙◌}
 use native.Mathlib.Omega.{arith}
-use Rattle.teaching_rows.proofs.Rows.{taken-row, taken_none, whole_taken}
+use Rattle.teaching_rows.proofs.Rows.{taken_row, taken_none, whole_taken}
 use Rattle.teaching_rows.proofs.is_whole.Goals as goal
 
 pub loop-at-init : goal.loop-at-init
@@ -17,7 +17,7 @@ loop-at-smaller c = omega (arith, c.row_end-at.ensures.is, c.row_end-at.ensures.
 pub loop-at-preserved : goal.loop-at-preserved
 loop-at-preserved c = let inv = c.loop-at.invariant in
     let end = c.row_end-at.ensures in
-    (end.within, omega (arith, inv.1, taken-row _ _ (sym c.row_begins.ensures ∙ c.loop-at-test.true) _ end))
+    (end.within, omega (arith, inv.1, taken_row _ _ (sym c.row_begins.ensures ∙ c.loop-at-test.true) _ end))
 
 pub returns : goal.returns
 returns c = let at = c.loop-at in

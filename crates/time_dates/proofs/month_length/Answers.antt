@@ -1,7 +1,7 @@
 -- `time_dates::month_length` meets its contract: February's length is the leap year's or not, and four months have 30 days.
 use mathlib.Core.Path.{sym, ◌∙◌}
 use borrow.Author.Rules.{rules}
-use Rattle.time_dates.proofs.Dates.{february, thirty, thirty-one}
+use Rattle.time_dates.proofs.Dates.{february, thirty, thirty_one}
 use Rattle.time_dates.proofs.month_length.Goals as goal
 
 pub returns-then-is_leap : goal.returns-then-is_leap
@@ -14,4 +14,4 @@ pub returns-then-month : goal.returns-then-month
 returns-then-month c = thirty _ _ c.if-month-eq2.false c.if-month.true
 
 pub returns : goal.returns
-returns c = thirty-one _ _ c.if-month-eq2.false c.if-month.false
+returns c = thirty_one _ _ c.if-month-eq2.false c.if-month.false

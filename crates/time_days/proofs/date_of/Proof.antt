@@ -31,9 +31,9 @@ date_of_spec =
     (λ c. search rules)
     (λ c. search rules)
     (λ c. omega (arith, within (search)))
-    (λ c. let at-month-of : tie.After-month_of-k = search in
+    (λ c. let at_month_of : tie.After-month_of-k = search in
     let start : tie.Start = search in
-    let k = at-month-of.month_of-k.result in
+    let k = at_month_of.month_of-k.result in
     let e : tie.Else-not-in_range = search in
     let n = start.args.day in
     ap (λ (s : ℕ). On (date_at k (n - s + 1))) c.start_of-start.ensures

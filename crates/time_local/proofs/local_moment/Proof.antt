@@ -8,7 +8,7 @@ use Rattle.time_days.specs.Calendar.{day_of}
 use Rattle.ground_choices.proofs.Tests.{met, unmet}
 use Rattle.time_local.specs.declared.LocalTime.{LocalTime}
 use Rattle.time_local.specs.Clock.{is_clock, second_of}
-use Rattle.time_local.proofs.Clocks.{ClockWithin, clock_within, no_day, on-day}
+use Rattle.time_local.proofs.Clocks.{ClockWithin, clock_within, no_day, on_day_lem}
 use Rattle.time_local.proofs.local_moment.Statement.{statement}
 use Rattle.time_local.proofs.local_moment.Tie as tie
 
@@ -19,13 +19,13 @@ module _ (c : tie.After-is_clock) where
   abbrev t : LocalTime
   t = begun.args.t
 
-  abbrev at-day : tie.In-Day
-  at-day = search
+  abbrev at_day : tie.In-Day
+  at_day = search
 
-  found : day_of t.year t.month t.day ≡ Day at-day.in-Day.day
+  found : day_of t.year t.month t.day ≡ Day at_day.in-Day.day
   found =
       let asked : tie.After-day_of = search in
-      sym asked.day_of.ensures ∙ at-day.in-Day.is
+      sym asked.day_of.ensures ∙ at_day.in-Day.is
 
 -- and passed
 passed : (c : tie.Else-not-is_clock) → is_clock (t c.before) ≡ true
@@ -43,10 +43,10 @@ local_moment_spec =
     (λ c. search rules)
     (λ c. search rules)
     (λ c κs. search rules)
-    (λ c. sym (on-day _ (found c.before) (unmet _ c.before.is_clock.ensures c.if-not-is_clock.true-raw)))
+    (λ c. sym (on_day_lem _ (found c.before) (unmet _ c.before.is_clock.ensures c.if-not-is_clock.true-raw)))
     (λ c. omega (arith, bounds c.before))
     (λ c. omega (arith, bounds (search)))
     (λ c. omega (arith, bounds (search)))
     (λ c. omega (arith, bounds (search)))
     (λ c. sym (no_day _ (sym c.before.day_of.ensures ∙ c.in-Refused.is)))
-    (λ c. sym (on-day _ (found (search)) (passed (search)))))
+    (λ c. sym (on_day_lem _ (found (search)) (passed (search)))))

@@ -6,7 +6,7 @@ use mir.Facts.{to_z-of_z}
 use Rattle.time_fields.specs.declared.Timed.TheVariants.{At}
 use Rattle.time_offset.specs.Offset.{to_utc}
 use Rattle.time_local.specs.Clock.{local_moment, written, packed_as}
-use Rattle.time_local.proofs.Clocks.{packs-moment, no_moment, no-utc}
+use Rattle.time_local.proofs.Clocks.{packs_moment, no_moment, no_utc}
 use Rattle.time_local.proofs.packed.Statement.{statement}
 use Rattle.time_local.proofs.packed.Tie as tie
 
@@ -38,9 +38,9 @@ packed_spec =
     (λ c. search rules)
     (λ c. let asked = c.before in
     let start : tie.Start = search in
-    sym (packs-moment _ _ start.requires (found asked) (sym (field asked) ∙ c.in-Field.is)))
+    sym (packs_moment _ _ start.requires (found asked) (sym (field asked) ∙ c.in-Field.is)))
     (λ c. let asked = c.before in
     let start : tie.Start = search in
-    sym (no-utc _ _ start.requires (found asked) (sym (field asked) ∙ c.in-Refused-field_at.is)))
+    sym (no_utc _ _ start.requires (found asked) (sym (field asked) ∙ c.in-Refused-field_at.is)))
     (λ c. let start : tie.Start = search in
     sym (no_moment _ _ start.requires (sym c.before.local_moment.ensures ∙ c.in-Refused.is))))

@@ -7,7 +7,7 @@ use lib.Signed.{quot_z, rem_z}
 use mir.Syntax.{w32}
 use mir.Val.{to_z, of_z}
 use Rattle.time_offset.specs.Offset.{floor_div, floor_mod}
-use Rattle.time_offset.proofs.Signed.{same, sum, opposite, Known, then, known-below, known-from-0, unsigned}
+use Rattle.time_offset.proofs.Signed.{same, sum, opposite, Known, then, known_below, known_from_0, unsigned}
 use Rattle.time_offset.proofs.floor.Statement.{statement}
 use Rattle.time_offset.proofs.floor.Tie as tie
 
@@ -19,7 +19,7 @@ module _ (c : tie.Then-minutes-lt0) where
   z = c.before.args.minutes
 
   start : (k : ℕ) × Known w32 z (negsuc k)
-  start = known-below w32 z c.before.ranges.minutes c.if-minutes-lt0.true
+  start = known_below w32 z c.before.ranges.minutes c.if-minutes-lt0.true
 
   abbrev k : ℕ
   k = start.0
@@ -53,7 +53,7 @@ module _ (c : tie.Else-minutes-lt0) where
   z' = c.before.args.minutes
 
   start' : (k : ℕ) × Known w32 z' (pos k)
-  start' = known-from-0 w32 z' c.before.ranges.minutes c.if-minutes-lt0.false
+  start' = known_from_0 w32 z' c.before.ranges.minutes c.if-minutes-lt0.false
 
   days' : Known w32 (quot_z (read z') (pos 1440)) (pos (start'.0 / 1440))
   days' = then start'.1 (λ (y : ℤ). quot_z y (pos 1440)) refl (omega (arith, start'.1.small))

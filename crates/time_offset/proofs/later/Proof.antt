@@ -20,7 +20,7 @@ use Rattle.time_offset.specs.declared.Floored.{Floored}
 use Rattle.time_offset.specs.Offset.{floor_div, floor_mod, minute_moved, day_moved, second_moved, moved}
 use Rattle.time_offset.proofs.Signed.{Known, known, unsigned}
 use Rattle.time_offset.proofs.Floors.{left_below}
-use Rattle.time_offset.proofs.Moving.{minute-size, days-size, day_to, day-to, day-small, arrived, moved_outside, moved_to}
+use Rattle.time_offset.proofs.Moving.{minute_size, days_size, day_to, day_to_lem, day_small, arrived, moved_outside, moved_to}
 use Rattle.time_offset.proofs.later.Statement.{statement}
 use Rattle.time_offset.proofs.later.Tie as tie
 
@@ -41,13 +41,13 @@ record Carried (m : Moment) (minutes : ℤ) (q : Floored) : Type 0 where
   is : to m q ≡ arrived (day_to m minutes) (second_moved m minutes)
 
 module _ (m : Moment) (minutes : ℤ) (f : SFits w32 minutes) (short : mag minutes < 1440) (i : Instant m) where
-  total-known : Known w32 (total m minutes) (minute_moved m minutes)
+  total_known : Known w32 (total m minutes) (minute_moved m minutes)
   unfolding minute_moved
-  total-known =
+  total_known =
       known
       (ap (λ (z : ℤ). z +ℤ to_z w32 (of_z w32 minutes)) (to_z_pos w32 (omega arith))
       ∙ ap (λ (z : ℤ). pos (m.second / 60) +ℤ z) (to_z-of_z f))
-      (omega (arith, minute-size m minutes i short))
+      (omega (arith, minute_size m minutes i short))
 
   carried : (q : Floored)
       → (q.days ≡ floor_div (to_z w32 (of_z w32 (total m minutes))) 1440)
@@ -56,15 +56,15 @@ module _ (m : Moment) (minutes : ℤ) (f : SFits w32 minutes) (short : mag minut
   unfolding day_moved second_moved
   carried q e =
       let days : Known w32 q.days (floor_div (minute_moved m minutes) 1440) =
-      known (e.0 ∙ ap (λ (z : ℤ). floor_div z 1440) total-known.back) (omega (arith, days-size m minutes i short)) in
+      known (e.0 ∙ ap (λ (z : ℤ). floor_div z 1440) total_known.back) (omega (arith, days_size m minutes i short)) in
       let d : Known w32 (day m q) (pos (day_to m minutes)) =
       known
       (ap (λ (z : ℤ). z +ℤ to_z w32 (of_z w32 q.days)) (to_z_pos w32 (omega arith))
       ∙ ap (λ (z : ℤ). pos m.day +ℤ z) days.back
-      ∙ day-to m minutes i short)
-      (day-small m minutes i short) in
+      ∙ day_to_lem m minutes i short)
+      (day_small m minutes i short) in
       let minute : q.minute ≡ floor_mod (minute_moved m minutes) 1440 =
-      e.1 ∙ ap (λ (z : ℤ). floor_mod z 1440) total-known.back in
+      e.1 ∙ ap (λ (z : ℤ). floor_mod z 1440) total_known.back in
       record {
         day_known = d;
         day_fits = omega (arith, d.small);
@@ -94,7 +94,7 @@ module _ (c : tie.After-floor-carried) where
   answer {t = t} p e =
       let i = here (search) in
       ap (λ (m : Moment). cond t (At m) (Refused (ImpossibleDay 0))) there.is
-      ∙ sym (moved_to _ _ _ i.0 (day-to _ _ i.1 start.requires) (ap is_instant (sym there.is) ∙ sym p ∙ e))
+      ∙ sym (moved_to _ _ _ i.0 (day_to_lem _ _ i.1 start.requires) (ap is_instant (sym there.is) ∙ sym p ∙ e))
 
 pub later_spec : {M : Type 1} → statement M
 later_spec =
@@ -103,7 +103,7 @@ later_spec =
     (λ c κs. search rules)
     (λ c. sym (moved_outside _ _ (unmet _ c.before.is_instant.ensures c.if-not-is_instant.true-raw)))
     (λ c. search rules)
-    (λ c. (total-known _ _ c.before.before.before.ranges.minutes c.before.before.before.requires (here c.before).1).fits)
+    (λ c. (total_known _ _ c.before.before.before.ranges.minutes c.before.before.before.requires (here c.before).1).fits)
     (λ c κs. search rules)
     (λ c. record { sfits = omega (arith, (here (search)).1) })
     (λ c. (there (search)).day_known.fits)

@@ -5,7 +5,7 @@ use mir.Facts.{to_z-of_z}
 use Rattle.time_local.specs.Clock.{unpack_of}
 use Rattle.time_local.specs.declared.Unpacked.TheVariants.{At}
 use Rattle.time_printing.specs.Printing.{prints}
-use Rattle.time_printing.proofs.Calls.{by_refusal, by_same, start-at, start-refused, unpacked-typable}
+use Rattle.time_printing.proofs.Calls.{by_refusal, by_same, start_at, start_refused, unpacked_typable}
 use Rattle.time_printing.proofs.print_start.Statement.{statement}
 use Rattle.time_printing.proofs.print_start.Tie as tie
 
@@ -28,11 +28,11 @@ print_start_spec =
     (tie.spec
     (λ c κs. search rules)
     (λ c. search rules)
-    (λ c κs. unpacked-typable _ _ _ (told c))
+    (λ c κs. unpacked_typable _ _ _ (told c))
     (λ c. search rules)
     (λ c κs. search rules)
     (λ c. search rules)
     (λ c. search rules)
     (λ c. let put : tie.After-put = search in let made : tie.After-characters-text = search in let start : tie.Start = search in
-    by_same _ _ start.args.out.now _ _ (start-at _ _ _ (told (search)) ∙ ap prints (sym made.characters-text.ensures)) put.put.ensures)
-    (λ c. by_refusal _ _ _ (start-refused _ _ _ (sym (matched (search)) ∙ c.in-Refused.is))))
+    by_same _ _ start.args.out.now _ _ (start_at _ _ _ (told (search)) ∙ ap prints (sym made.characters-text.ensures)) put.put.ensures)
+    (λ c. by_refusal _ _ _ (start_refused _ _ _ (sym (matched (search)) ∙ c.in-Refused.is))))

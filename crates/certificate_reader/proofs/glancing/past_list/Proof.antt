@@ -3,8 +3,8 @@ use Prim.Native.Nat.{◌+◌, ◌≤◌}
 use native.Mathlib.Omega.{arith}
 use borrow.Author.Rules.{rules}
 use Rattle.body_formats.specs.Format.{opaque}
-use Rattle.body_glance.proofs.Runs.{Coming, coming-turn, coming-done}
-use Rattle.certificate_reader.proofs.Glances.{part-good, list-good}
+use Rattle.body_glance.proofs.Runs.{Coming, coming_turn, coming_done}
+use Rattle.certificate_reader.proofs.Glances.{part_good, list_good}
 use Rattle.certificate_reader.proofs.glancing.past_list.Statement.{statement}
 use Rattle.certificate_reader.proofs.glancing.past_list.Tie as tie
 
@@ -37,7 +37,7 @@ past_list_spec =
     (λ c. let size : tie.After-short_length-n invariant-loop-left decreases-loop-left = search in
     let turn : tie.In-loop-left invariant-loop-left decreases-loop-left = search in
     let known : tie.After-shared_slice_known-2-1 invariant-loop-left decreases-loop-left = search in
-    let one = part-good _ _ _ (λ i. (known.shared_slice_known-2-1.given i).fits) size.short_length-n.ensures in
-    (coming-turn (opaque _) _ _ _ turn.before.loop-left.invariant.0 turn.loop-left-test.true one, omega arith))
+    let one = part_good _ _ _ (λ i. (known.shared_slice_known-2-1.given i).fits) size.short_length-n.ensures in
+    (coming_turn (opaque _) _ _ _ turn.before.loop-left.invariant.0 turn.loop-left-test.true one, omega arith))
     (λ c. let loop : tie.At-loop-left invariant-loop-left decreases-loop-left = search in
-    (omega arith, λ some. list-good _ _ _ (coming-done (opaque _) _ _ _ loop.loop-left.invariant.0 (omega arith)))))
+    (omega arith, λ some. list_good _ _ _ (coming_done (opaque _) _ _ _ loop.loop-left.invariant.0 (omega arith)))))

@@ -5,8 +5,8 @@ use native.Mathlib.Omega.{arith}
 use borrow.Author.Rules.{rules}
 use Rattle.ground_choices.proofs.Tests.{met}
 use Rattle.body_formats.specs.Format.{opaque}
-use Rattle.body_form_glance.proofs.Forms.{lays-to, part_laid}
-use Rattle.body_form_glance.proofs.Rows.{Coming, coming-turn, coming-done}
+use Rattle.body_form_glance.proofs.Forms.{lays_to, part_laid}
+use Rattle.body_form_glance.proofs.Rows.{Coming, coming_turn, coming_done}
 use Rattle.certificate_writer.proofs.Glances.{limit_most}
 use Rattle.certificate_writer.proofs.glancing.parts_bytes.Given as goal
 

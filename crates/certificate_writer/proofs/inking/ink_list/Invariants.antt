@@ -5,9 +5,9 @@ use native.Mathlib.Omega.{arith}
 use borrow.Author.Rules.{rules}
 use Rattle.body_formats.specs.Format.{opaque}
 use Rattle.body_ink.proofs.Pairs.{moved}
-use Rattle.body_ink.proofs.Numbers.{a_count, numeral-ready, numeral-inked}
-use Rattle.body_ink.proofs.Strings.{part-ready}
-use Rattle.body_ink.proofs.Lists.{Underway, list_count, list-ready, list-inked, times_start, times-next, times-turn, times-done}
+use Rattle.body_ink.proofs.Numbers.{a_count, numeral_ready, numeral_inked}
+use Rattle.body_ink.proofs.Strings.{part_ready}
+use Rattle.body_ink.proofs.Lists.{Underway, list_count, list_ready, list_inked, times_start, times_next, times_turn, times_done}
 use Rattle.certificate_writer.proofs.inking.ink_list.Given as goal
 
 abbrev pub invariant-loop-left : goal.invariant-loop-left

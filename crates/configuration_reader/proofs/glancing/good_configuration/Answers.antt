@@ -5,7 +5,7 @@ use lib.ListN.{length}
 use native.Mathlib.Omega.{arith}
 use borrow.Author.Rules.{rules}
 use borrow.Author.Tests.{not-false, eqb-true}
-use Rattle.body_glance.proofs.Runs.{Coming, coming-turn, coming-done}
+use Rattle.body_glance.proofs.Runs.{Coming, coming_turn, coming_done}
 use Rattle.body_glance.proofs.Leaves.{not_good}
 use Rattle.configuration.specs.Configuration.{command}
 use Rattle.configuration_reader.proofs.Glances.{command_good, configuration_good}
@@ -29,12 +29,12 @@ returns-then-not-good_said c = not_good
 pub loop-left-preserved : goal.loop-left-preserved
 loop-left-preserved c = let one = command_good _ refl (λ i. (c.type_inv.s i).fits) c.two_bytes-n.ensures.0
     (omega arith) (c.good_said.ensures (not-false _ c.if-not-good_said.false-raw)) in
-    (coming-turn command _ _ _ c.loop-left.invariant.0 c.loop-left-test.true one, omega arith)
+    (coming_turn command _ _ _ c.loop-left.invariant.0 c.loop-left-test.true one, omega arith)
 
 pub returns-then-l-at-lt2 : goal.returns-then-l-at-lt2
 returns-then-l-at-lt2 c = not_good
 
 pub returns : goal.returns
 returns c e = let rest : length c.args.s.now - c.loop-left.at - 2 ≡ c.two_bytes.result = eqb-true _ _ e in
-    configuration_good (λ i. (c.type_inv.s i).fits) (coming-done command _ _ _ c.loop-left.invariant.0 (omega arith))
+    configuration_good (λ i. (c.type_inv.s i).fits) (coming_done command _ _ _ c.loop-left.invariant.0 (omega arith))
     (omega (arith, c.two_bytes.ensures.0, rest))

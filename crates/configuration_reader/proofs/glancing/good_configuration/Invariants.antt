@@ -5,7 +5,7 @@ use lib.ListN.{length}
 use native.Mathlib.Omega.{arith}
 use borrow.Author.Rules.{rules}
 use borrow.Author.Tests.{not-false, eqb-true}
-use Rattle.body_glance.proofs.Runs.{Coming, coming-turn, coming-done}
+use Rattle.body_glance.proofs.Runs.{Coming, coming_turn, coming_done}
 use Rattle.body_glance.proofs.Leaves.{not_good}
 use Rattle.configuration.specs.Configuration.{command}
 use Rattle.configuration_reader.proofs.Glances.{command_good, configuration_good}

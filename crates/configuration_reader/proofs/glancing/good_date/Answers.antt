@@ -2,8 +2,8 @@
 use mathlib.Core.Path.{sym, ◌∙◌}
 use native.Mathlib.Omega.{arith}
 use borrow.Author.Rules.{rules}
-use Rattle.configuration_reader.proofs.Glances.{date-good}
+use Rattle.configuration_reader.proofs.Glances.{date_good}
 use Rattle.configuration_reader.proofs.glancing.good_date.Goals as goal
 
 pub returns : goal.returns
-returns c e = date-good c.two_bytes-year.ensures.0 c.wide.ensures.0 c.wide-2.ensures.0 (sym c.is_day.ensures ∙ e)
+returns c e = date_good c.two_bytes-year.ensures.0 c.wide.ensures.0 c.wide-2.ensures.0 (sym c.is_day.ensures ∙ e)

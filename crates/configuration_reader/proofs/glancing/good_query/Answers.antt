@@ -2,7 +2,7 @@
 use native.Mathlib.Omega.{arith}
 use borrow.Author.Rules.{rules}
 use Rattle.body_glance.proofs.Leaves.{not_good}
-use Rattle.configuration_reader.proofs.Glances.{query-good}
+use Rattle.configuration_reader.proofs.Glances.{query_good}
 use Rattle.configuration_reader.proofs.glancing.good_query.Goals as goal
 
 pub returns-then-l-p-lt2 : goal.returns-then-l-p-lt2
@@ -12,4 +12,4 @@ pub returns-then-l-p : goal.returns-then-l-p
 returns-then-l-p c = not_good
 
 pub returns : goal.returns
-returns c e = query-good (omega arith) (λ i. (c.type_inv.s i).fits) c.wide-n.ensures.0 (c.good_terminals.ensures e)
+returns c e = query_good (omega arith) (λ i. (c.type_inv.s i).fits) c.wide-n.ensures.0 (c.good_terminals.ensures e)

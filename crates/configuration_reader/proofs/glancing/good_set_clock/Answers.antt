@@ -3,7 +3,7 @@ use native.Mathlib.Omega.{arith}
 use borrow.Author.Rules.{rules}
 use borrow.Author.Tests.{not-false}
 use Rattle.body_glance.proofs.Leaves.{not_good}
-use Rattle.configuration_reader.proofs.Glances.{set-clock-good}
+use Rattle.configuration_reader.proofs.Glances.{set_clock_good}
 use Rattle.configuration_reader.proofs.glancing.good_set_clock.Goals as goal
 
 pub returns-then-l-p-ne7 : goal.returns-then-l-p-ne7
@@ -13,4 +13,4 @@ pub returns-then-not-good_date : goal.returns-then-not-good_date
 returns-then-not-good_date c = not_good
 
 pub returns : goal.returns
-returns c e = set-clock-good (omega arith) (omega arith) (c.good_date.ensures (not-false _ c.if-not-good_date.false-raw)) (c.good_clock.ensures e)
+returns c e = set_clock_good (omega arith) (omega arith) (c.good_date.ensures (not-false _ c.if-not-good_date.false-raw)) (c.good_clock.ensures e)

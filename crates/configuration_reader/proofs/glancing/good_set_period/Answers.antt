@@ -2,11 +2,11 @@
 use native.Mathlib.Omega.{arith}
 use borrow.Author.Rules.{rules}
 use Rattle.body_glance.proofs.Leaves.{not_good}
-use Rattle.configuration_reader.proofs.Glances.{set-period-good}
+use Rattle.configuration_reader.proofs.Glances.{set_period_good}
 use Rattle.configuration_reader.proofs.glancing.good_set_period.Goals as goal
 
 pub returns-then-l-p-lt5 : goal.returns-then-l-p-lt5
 returns-then-l-p-lt5 c = not_good
 
 pub returns : goal.returns
-returns c e = set-period-good (omega arith) (λ i. (c.type_inv.s i).fits) (c.good_terminals.ensures e)
+returns c e = set_period_good (omega arith) (λ i. (c.type_inv.s i).fits) (c.good_terminals.ensures e)

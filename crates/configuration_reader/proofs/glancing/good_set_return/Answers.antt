@@ -3,7 +3,7 @@ use native.Mathlib.Omega.{arith}
 use borrow.Author.Rules.{rules}
 use Rattle.ground_choices.proofs.Tests.{met}
 use Rattle.body_glance.proofs.Leaves.{not_good}
-use Rattle.configuration_reader.proofs.Glances.{set-return-good}
+use Rattle.configuration_reader.proofs.Glances.{set_return_good}
 use Rattle.configuration_reader.proofs.glancing.good_set_return.Goals as goal
 
 pub returns-then-l-p-lt3 : goal.returns-then-l-p-lt3
@@ -25,6 +25,6 @@ pub returns-then-not-is_address : goal.returns-then-not-is_address
 returns-then-not-is_address c = not_good
 
 pub returns : goal.returns
-returns c e = set-return-good (omega arith) (λ i. (c.type_inv.s i).fits) c.wide-kind.ensures.0 c.if-kind-lt1.false
+returns c e = set_return_good (omega arith) (λ i. (c.type_inv.s i).fits) c.wide-kind.ensures.0 c.if-kind-lt1.false
     c.if-kind-gt3.false c.wide-long.ensures.0 (omega arith) (met _ c.length_fits.ensures c.if-not-length_fits.false-raw)
     (met _ c.is_address.ensures c.if-not-is_address.false-raw) (c.good_terminals.ensures e)

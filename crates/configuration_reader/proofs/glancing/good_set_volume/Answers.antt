@@ -2,7 +2,7 @@
 use native.Mathlib.Omega.{arith}
 use borrow.Author.Rules.{rules}
 use Rattle.body_glance.proofs.Leaves.{not_good}
-use Rattle.configuration_reader.proofs.Glances.{set-volume-good}
+use Rattle.configuration_reader.proofs.Glances.{set_volume_good}
 use Rattle.configuration_reader.proofs.glancing.good_set_volume.Goals as goal
 
 pub returns-then-l-p-lt2 : goal.returns-then-l-p-lt2
@@ -12,4 +12,4 @@ pub returns-then-s-p-gt100 : goal.returns-then-s-p-gt100
 returns-then-s-p-gt100 c = not_good
 
 pub returns : goal.returns
-returns c e = set-volume-good (omega arith) (λ i. (c.type_inv.s i).fits) c.if-s-p-gt100.false (c.good_terminals.ensures e)
+returns c e = set_volume_good (omega arith) (λ i. (c.type_inv.s i).fits) c.if-s-p-gt100.false (c.good_terminals.ensures e)

@@ -2,7 +2,7 @@
 use native.Mathlib.Omega.{arith}
 use borrow.Author.Rules.{rules}
 use Rattle.body_glance.proofs.Leaves.{not_good}
-use Rattle.configuration_reader.proofs.Glances.{tune-good}
+use Rattle.configuration_reader.proofs.Glances.{tune_good}
 use Rattle.configuration_reader.proofs.glancing.good_tune.Goals as goal
 
 pub returns-then-l-p-lt10 : goal.returns-then-l-p-lt10
@@ -12,4 +12,4 @@ pub returns-then-s-p-gt5 : goal.returns-then-s-p-gt5
 returns-then-s-p-gt5 c = not_good
 
 pub returns : goal.returns
-returns c e = tune-good (omega arith) (λ i. (c.type_inv.s i).fits) c.if-s-p-gt5.false (c.good_terminals.ensures e)
+returns c e = tune_good (omega arith) (λ i. (c.type_inv.s i).fits) c.if-s-p-gt5.false (c.good_terminals.ensures e)

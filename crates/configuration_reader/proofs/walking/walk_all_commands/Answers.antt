@@ -2,7 +2,7 @@
 use native.Mathlib.Omega.{arith}
 use borrow.Author.Rules.{rules}
 use Rattle.body_formats.specs.Format.{times}
-use Rattle.body_walk.proofs.Counts.{Ahead, ahead_start, times-turn, times-done}
+use Rattle.body_walk.proofs.Counts.{Ahead, ahead_start, times_turn, times_done}
 use Rattle.configuration.specs.Configuration.{command}
 use Rattle.configuration.proofs.Lawful.{command_lawful}
 use Rattle.configuration_reader.proofs.walking.walk_all_commands.Goals as goal
@@ -11,10 +11,10 @@ pub loop-left-init : goal.loop-left-init
 loop-left-init c = ahead_start
 
 pub loop-left-preserved : goal.loop-left-preserved
-loop-left-preserved c = times-turn command c.loop-left.left command_lawful c.loop-left-test.true c.loop-left.invariant c.walk_command-at.ensures (search rules)
+loop-left-preserved c = times_turn command c.loop-left.left command_lawful c.loop-left-test.true c.loop-left.invariant c.walk_command-at.ensures (search rules)
 
 pub shape_of-tape : goal.shape_of-tape
 shape_of-tape c = c.loop-left.invariant.same
 
 pub returns : goal.returns
-returns c = times-done command c.loop-left.left (omega arith) c.loop-left.invariant
+returns c = times_done command c.loop-left.left (omega arith) c.loop-left.invariant

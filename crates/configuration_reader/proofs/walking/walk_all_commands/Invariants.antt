@@ -2,7 +2,7 @@
 use native.Mathlib.Omega.{arith}
 use borrow.Author.Rules.{rules}
 use Rattle.body_formats.specs.Format.{times}
-use Rattle.body_walk.proofs.Counts.{Ahead, ahead_start, times-turn, times-done}
+use Rattle.body_walk.proofs.Counts.{Ahead, ahead_start, times_turn, times_done}
 use Rattle.configuration.specs.Configuration.{command}
 use Rattle.configuration.proofs.Lawful.{command_lawful}
 use Rattle.configuration_reader.proofs.walking.walk_all_commands.Given as goal

@@ -3,7 +3,7 @@ use native.Mathlib.Omega.{arith}
 use borrow.Author.Rules.{rules}
 use Rattle.body_formats.specs.Format.{number, times}
 use Rattle.body_formats.proofs.Parts.{number_lawful}
-use Rattle.body_walk.proofs.Counts.{Ahead, ahead_start, times-turn, times-done}
+use Rattle.body_walk.proofs.Counts.{Ahead, ahead_start, times_turn, times_done}
 use Rattle.configuration_reader.proofs.walking.walk_all_parameters.Given as goal
 
 abbrev pub invariant-loop-left : goal.invariant-loop-left

@@ -2,7 +2,7 @@
 use borrow.Author.Rules.{rules}
 use Rattle.time_days.specs.Calendar.{has_day}
 use Rattle.configuration.specs.Configuration.{date}
-use Rattle.configuration.proofs.Clocks.{day-fault}
+use Rattle.configuration.proofs.Clocks.{day_fault_lem}
 use Rattle.configuration_reader.proofs.ClockWalks.{three_walk}
 use Rattle.configuration_reader.proofs.walking.walk_date.Goals as goal
 
@@ -32,5 +32,5 @@ shape_of-tape c = search rules
 
 pub returns : goal.returns
 unfolding date
-returns c = three_walk 2 has_day (λ z at. day-fault z.0 z.1.0 z.1.1 at) _
+returns c = three_walk 2 has_day (λ z at. day_fault_lem z.0 z.1.0 z.1.1 at) _
     c.walk_count-year.ensures c.walk_count-month.ensures c.walk_count-day.ensures c.is_day.ensures c.possible.ensures

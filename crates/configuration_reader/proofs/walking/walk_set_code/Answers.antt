@@ -2,7 +2,7 @@
 use borrow.Author.Rules.{rules}
 use Rattle.ground_refusal.specs.declared.Refusal.TheVariants.{PastPart}
 use Rattle.body_formats.specs.Resource.{resource_pairs}
-use Rattle.body_formats.proofs.Leaves.{digits-lawful}
+use Rattle.body_formats.proofs.Leaves.{digits_lawful}
 use Rattle.body_formats.proofs.Parts.{opaque_lawful}
 use Rattle.body_walk.proofs.Pairs.{pair, exact_walk}
 use Rattle.configuration.specs.Configuration.{said}
@@ -26,5 +26,5 @@ shape_of-tape c = search rules
 
 pub returns : goal.returns
 unfolding said
-returns c = exact_walk PastPart (pair (opaque_lawful 1) (digits-lawful resource_pairs).formal
+returns c = exact_walk PastPart (pair (opaque_lawful 1) (digits_lawful resource_pairs).formal
     c.walk_part-a.ensures c.walk_digits-b.ensures) c.leave.ensures

@@ -5,15 +5,15 @@ use Rattle.ground_refusal.specs.declared.Refusal.TheVariants.{PastPart}
 use Rattle.body_formats.specs.Format.{◌▷◌, number, among}
 use Rattle.body_formats.proofs.Classes.{Lawful}
 use Rattle.body_formats.proofs.Bits.{among_lawful}
-use Rattle.body_formats.proofs.Parts.{number_lawful, followed-lawful, exact_filling}
-use Rattle.body_walk.proofs.Pairs.{exact-last, exact_pair}
+use Rattle.body_formats.proofs.Parts.{number_lawful, followed_lawful, exact_filling}
+use Rattle.body_walk.proofs.Pairs.{exact_last, exact_pair}
 use Rattle.body_walk.proofs.Counts.{told_walk}
 use Rattle.configuration.specs.Configuration.{terminals, address, said}
-use Rattle.configuration.proofs.Lawful.{terminals_lawful, address-lawful}
+use Rattle.configuration.proofs.Lawful.{terminals_lawful, address_lawful}
 use Rattle.configuration_reader.proofs.walking.walk_set_return.Goals as goal
 
 from_address : (kind : ℕ) → Lawful (address kind ▷ terminals)
-from_address kind = followed-lawful _ _ (address-lawful kind) (λ a. terminals_lawful)
+from_address kind = followed_lawful _ _ (address_lawful kind) (λ a. terminals_lawful)
 
 pub walk_told_among-kind-requires : goal.walk_told_among-kind-requires
 unfolding said
@@ -33,7 +33,7 @@ shape_of-tape c = search rules
 
 pub returns : goal.returns
 unfolding said
-returns c = exact-last PastPart (among 1 3 (number 1)) (λ kind. address kind ▷ terminals)
+returns c = exact_last PastPart (among 1 3 (number 1)) (λ kind. address kind ▷ terminals)
     (told_walk (among_lawful 1 3 (number 1) (number_lawful 1)) (λ kind. (exact_filling PastPart _ (from_address kind)).formal)
     c.walk_told_among-kind.ensures
-    (exact_pair PastPart (address-lawful _) terminals_lawful c.walk_address-a.ensures c.walk_terminals.ensures))
+    (exact_pair PastPart (address_lawful _) terminals_lawful c.walk_address-a.ensures c.walk_terminals.ensures))

@@ -4,7 +4,7 @@ use Rattle.ground_refusal.specs.declared.Refusal.TheVariants.{PastPart}
 use Rattle.body_formats.specs.Format.{◌▷◌, number, among}
 use Rattle.body_formats.proofs.Classes.{Lawful}
 use Rattle.body_formats.proofs.Bits.{among_lawful}
-use Rattle.body_formats.proofs.Parts.{number_lawful, followed-lawful}
+use Rattle.body_formats.proofs.Parts.{number_lawful, followed_lawful}
 use Rattle.body_walk.proofs.Pairs.{exact_pair}
 use Rattle.configuration.specs.Configuration.{terminals, said}
 use Rattle.configuration.proofs.Lawful.{terminals_lawful}
@@ -15,10 +15,10 @@ mapping_lawful = among_lawful 0 5 (number 1) (number_lawful 1)
 
 -- the fields from each on keep the laws of formats
 from_mapping : Lawful (among 0 5 (number 1) ▷ terminals)
-from_mapping = followed-lawful _ _ mapping_lawful (λ a. terminals_lawful)
+from_mapping = followed_lawful _ _ mapping_lawful (λ a. terminals_lawful)
 
 from_rate : Lawful (number 4 ▷ (among 0 5 (number 1) ▷ terminals))
-from_rate = followed-lawful _ _ (number_lawful 4) (λ a. from_mapping)
+from_rate = followed_lawful _ _ (number_lawful 4) (λ a. from_mapping)
 
 pub walk_number-a-requires : goal.walk_number-a-requires
 unfolding said

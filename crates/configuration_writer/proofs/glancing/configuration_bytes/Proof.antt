@@ -4,8 +4,8 @@ use mathlib.Core.Path.{◌≡◌, refl}
 use lib.ListN.{length, get_or}
 use native.Mathlib.Omega.{arith}
 use borrow.Author.Rules.{rules}
-use Rattle.body_form_glance.proofs.Forms.{untold, lays-to}
-use Rattle.body_form_glance.proofs.Rows.{Coming, coming-turn, coming-done}
+use Rattle.body_form_glance.proofs.Forms.{untold, lays_to}
+use Rattle.body_form_glance.proofs.Rows.{Coming, coming_turn, coming_done}
 use Rattle.configuration.specs.Configuration.{command}
 use Rattle.configuration_writer.proofs.Glances.{command_laid, configuration_laid}
 use Rattle.configuration_writer.proofs.glancing.configuration_bytes.Statement.{statement}
@@ -29,7 +29,7 @@ configuration_bytes_spec =
     (λ c. search rules)
     (λ c. (omega arith, untold))
     (λ c. search rules)
-    (λ c. (λ xs j m l. (xs, lays-to refl (omega arith) l), omega arith, omega arith, omega arith, omega arith, refl))
+    (λ c. (λ xs j m l. (xs, lays_to refl (omega arith) l), omega arith, omega arith, omega arith, omega arith, refl))
     (λ c. (omega arith, untold))
     (λ c. search rules)
     (λ c. search rules)
@@ -47,7 +47,7 @@ configuration_bytes_spec =
     let v = turn.before.loop-left.invariant in
     let seen = content.see_said-content.ensures in
     let one = command_laid _ refl (omega arith) (omega arith) seen.few (seen.good (omega arith)) in (
-      coming-turn command _ _ _ _ v.0 _ (omega (arith, v.2)) turn.loop-left-test.true one,
+      coming_turn command _ _ _ _ v.0 _ (omega (arith, v.2)) turn.loop-left-test.true one,
       seen.inside,
       omega (arith, v.2, seen.few),
       omega (arith, v.3, seen.few),
@@ -62,6 +62,6 @@ configuration_bytes_spec =
     (λ c. let loop : tie.At-loop-left invariant-loop-left decreases-loop-left = search in
     let end : tie.After-last_part-signature invariant-loop-left decreases-loop-left = search in
     let v = loop.loop-left.invariant in
-    let done = coming-done command _ _ _ _ v.0 (omega arith) in
+    let done = coming_done command _ _ _ _ v.0 (omega arith) in
     let whole = configuration_laid (omega arith) (omega arith) (done.0, done.1) (end.last_part-signature.ensures.1 (omega arith)) in
-    (omega arith, λ some. (whole.0, lays-to refl (omega (arith, v.2)) whole.1))))
+    (omega arith, λ some. (whole.0, lays_to refl (omega (arith, v.2)) whole.1))))

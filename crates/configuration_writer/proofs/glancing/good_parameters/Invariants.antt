@@ -3,8 +3,8 @@ use Prim.Native.Nat.{◌+◌, ◌-◌, ◌≤◌}
 use mathlib.Core.Path.{◌≡◌, refl}
 use native.Mathlib.Omega.{arith}
 use borrow.Author.Rules.{rules}
-use Rattle.body_form_glance.proofs.Forms.{not_good, lays-to, lays-number}
-use Rattle.body_form_glance.proofs.Rows.{Coming, coming-turn, coming-done}
+use Rattle.body_form_glance.proofs.Forms.{not_good, lays_to, lays_number}
+use Rattle.body_form_glance.proofs.Rows.{Coming, coming_turn, coming_done}
 use Rattle.body_formats.specs.Format.{number}
 use Rattle.configuration_writer.proofs.glancing.good_parameters.Given as goal
 

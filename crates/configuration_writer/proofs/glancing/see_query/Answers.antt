@@ -4,7 +4,7 @@ use native.Mathlib.Omega.{arith}
 use borrow.Author.Rules.{rules}
 use borrow.Author.Tests.{not-false}
 use Rattle.body_form_glance.proofs.Forms.{none_seen}
-use Rattle.configuration_writer.proofs.Glances.{seen_list, query-laid}
+use Rattle.configuration_writer.proofs.Glances.{seen_list, query_laid}
 use Rattle.configuration_writer.proofs.glancing.see_query.Goals as goal
 
 pub returns-then-tape-k-lt1 : goal.returns-then-tape-k-lt1
@@ -24,4 +24,4 @@ listed-requires c = (c.resource_list-terminals.ensures.few, omega arith, c.resou
 
 pub returns : goal.returns
 returns c = seen_list _ _ c.resource_list-terminals.ensures (omega arith) c.listed.ensures.none c.listed.ensures.some
-    (λ j m g. query-laid refl (omega arith) (omega arith) (c.good_parameters.ensures (not-false _ c.if-not-good_parameters.false-raw)) g)
+    (λ j m g. query_laid refl (omega arith) (omega arith) (c.good_parameters.ensures (not-false _ c.if-not-good_parameters.false-raw)) g)

@@ -3,7 +3,7 @@ use mathlib.Core.Path.{refl}
 use native.Mathlib.Omega.{arith}
 use borrow.Author.Rules.{rules}
 use borrow.Author.Tests.{leb-true}
-use Rattle.body_form_glance.proofs.Forms.{none_seen, lays-rest}
+use Rattle.body_form_glance.proofs.Forms.{none_seen, lays_rest}
 use Rattle.configuration_writer.proofs.Glances.{seen_to}
 use Rattle.ground_choices.proofs.Tests.{met}
 use Rattle.configuration_writer.proofs.glancing.see_rest.Goals as goal
@@ -19,4 +19,4 @@ returns-then-not-good_span c = none_seen c.unseen-then-not-good_span.ensures
 
 pub returns : goal.returns
 returns c = seen_to refl refl (omega arith) (omega arith)
-    (_, lays-rest _ _ _ refl refl (omega arith) (leb-true _ _ (met _ c.good_span.ensures c.if-not-good_span.false-raw)))
+    (_, lays_rest _ _ _ refl refl (omega arith) (leb-true _ _ (met _ c.good_span.ensures c.if-not-good_span.false-raw)))

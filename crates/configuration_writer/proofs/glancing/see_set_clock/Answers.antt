@@ -3,7 +3,7 @@ use mathlib.Core.Path.{refl}
 use native.Mathlib.Omega.{arith}
 use borrow.Author.Rules.{rules}
 use Rattle.body_form_glance.proofs.Forms.{none_seen}
-use Rattle.configuration_writer.proofs.Glances.{seen_to, date-laid, clock-laid, set-clock-laid}
+use Rattle.configuration_writer.proofs.Glances.{seen_to, date_laid, clock_laid, set_clock_laid}
 use Rattle.ground_choices.proofs.Tests.{met}
 use Rattle.configuration_writer.proofs.glancing.see_set_clock.Goals as goal
 
@@ -18,5 +18,5 @@ returns-then-not-is_time c = none_seen c.unseen-then-not-is_time.ensures
 
 pub returns : goal.returns
 returns c = seen_to refl refl (omega arith) (omega arith)
-    (set-clock-laid (date-laid (omega arith) (met _ c.is_day.ensures c.if-not-is_day.false-raw))
-    (clock-laid (omega arith) (met _ c.is_time.ensures c.if-not-is_time.false-raw)))
+    (set_clock_laid (date_laid (omega arith) (met _ c.is_day.ensures c.if-not-is_day.false-raw))
+    (clock_laid (omega arith) (met _ c.is_time.ensures c.if-not-is_time.false-raw)))

@@ -5,7 +5,7 @@ use borrow.Author.Rules.{rules}
 use borrow.Author.Tests.{leb-true}
 use borrow.Author.Tests.{not-false}
 use Rattle.body_form_glance.proofs.Forms.{none_seen}
-use Rattle.configuration_writer.proofs.Glances.{seen_to, set-code-laid}
+use Rattle.configuration_writer.proofs.Glances.{seen_to, set_code_laid}
 use Rattle.ground_choices.proofs.Tests.{met}
 use Rattle.configuration_writer.proofs.glancing.see_set_code.Goals as goal
 
@@ -23,5 +23,5 @@ returns-then-not-good_digits c = none_seen c.unseen-then-not-good_digits.ensures
 
 pub returns : goal.returns
 returns c = seen_to refl refl (omega arith) (omega arith)
-    (set-code-laid refl (omega arith) (omega arith) (leb-true _ _ (met _ c.good_span.ensures c.if-not-good_span.false-raw))
+    (set_code_laid refl (omega arith) (omega arith) (leb-true _ _ (met _ c.good_span.ensures c.if-not-good_span.false-raw))
     (c.good_digits.ensures (not-false _ c.if-not-good_digits.false-raw)))

@@ -2,7 +2,7 @@
 use native.Mathlib.Omega.{arith}
 use borrow.Author.Rules.{rules}
 use Rattle.body_form_glance.proofs.Forms.{none_seen}
-use Rattle.configuration_writer.proofs.Glances.{seen_list, set-period-laid}
+use Rattle.configuration_writer.proofs.Glances.{seen_list, set_period_laid}
 use Rattle.configuration_writer.proofs.glancing.see_set_period.Goals as goal
 
 pub returns-then-tape-k-lt1 : goal.returns-then-tape-k-lt1
@@ -16,4 +16,4 @@ listed-requires c = (c.resource_list-terminals.ensures.few, omega arith, c.resou
 
 pub returns : goal.returns
 returns c = seen_list _ _ c.resource_list-terminals.ensures (omega arith) c.listed.ensures.none c.listed.ensures.some
-    (λ j m g. set-period-laid (omega arith) (omega arith) g)
+    (λ j m g. set_period_laid (omega arith) (omega arith) g)

@@ -6,7 +6,7 @@ use native.Mathlib.Omega.{arith}
 use borrow.Author.Rules.{rules}
 use borrow.Author.Tests.{leb-true}
 use Rattle.body_form_glance.proofs.Forms.{none_seen}
-use Rattle.configuration_writer.proofs.Glances.{seen_list, set-return-laid}
+use Rattle.configuration_writer.proofs.Glances.{seen_list, set_return_laid}
 use Rattle.ground_choices.proofs.Tests.{met}
 use Rattle.configuration_writer.proofs.glancing.see_set_return.Statement.{statement}
 use Rattle.configuration_writer.proofs.glancing.see_set_return.Tie as tie
@@ -66,5 +66,5 @@ see_set_return_spec =
     let address : tie.After-is_address = search in
     let is : tie.Else-not-is_address = search in
     seen_list _ _ terminals.resource_list-terminals.ensures (omega arith) c.listed.ensures.0 c.listed.ensures.1
-    (λ j m g. set-return-laid refl from.if-kind-lt1.false until.if-kind-gt3.false refl (omega arith) (omega arith) (inside placed)
+    (λ j m g. set_return_laid refl from.if-kind-lt1.false until.if-kind-gt3.false refl (omega arith) (omega arith) (inside placed)
     (met _ long.length_fits.ensures fits.if-not-length_fits.false-raw) (met _ address.is_address.ensures is.if-not-is_address.false-raw) g)))

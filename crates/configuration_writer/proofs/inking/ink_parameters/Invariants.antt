@@ -5,8 +5,8 @@ use native.Mathlib.Omega.{arith}
 use borrow.Author.Rules.{rules}
 use Rattle.body_formats.specs.Format.{number}
 use Rattle.body_ink.proofs.Pairs.{moved}
-use Rattle.body_ink.proofs.Numbers.{a_count, a_number, numeral-ready, numeral-inked}
-use Rattle.body_ink.proofs.Lists.{Underway, list_count, list-ready, list-inked, times_start, times-next, times-turn, times-done}
+use Rattle.body_ink.proofs.Numbers.{a_count, a_number, numeral_ready, numeral_inked}
+use Rattle.body_ink.proofs.Lists.{Underway, list_count, list_ready, list_inked, times_start, times_next, times_turn, times_done}
 use Rattle.configuration_writer.proofs.inking.ink_parameters.Given as goal
 
 abbrev pub invariant-loop-left : goal.invariant-loop-left

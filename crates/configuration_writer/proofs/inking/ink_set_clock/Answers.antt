@@ -2,8 +2,8 @@
 use native.Mathlib.Omega.{arith}
 use borrow.Author.Rules.{rules}
 use Rattle.ground_refusal.specs.declared.Refusal.TheVariants.{PastPart}
-use Rattle.body_ink.proofs.Pairs.{pair-inked, only-inked, exact-inked}
-use Rattle.body_ink.proofs.Numbers.{a_count, numeral-inked}
+use Rattle.body_ink.proofs.Pairs.{pair_inked, only_inked, exact_inked}
+use Rattle.body_ink.proofs.Numbers.{a_count, numeral_inked}
 use Rattle.configuration.specs.Configuration.{date, clock, said}
 use Rattle.configuration_writer.proofs.Inkings.{clock_ready}
 use Rattle.configuration_writer.proofs.inking.ink_set_clock.Goals as goal
@@ -134,10 +134,10 @@ shape_of-out c = search rules
 
 pub returns : goal.returns
 unfolding said date clock
-returns c = exact-inked (pair-inked
-    (only-inked (pair-inked (numeral-inked (a_count 2) c.number.ensures (omega arith) (omega arith))
-    (pair-inked (numeral-inked (a_count 1) c.number-2.ensures (omega arith) (omega arith))
-    (numeral-inked (a_count 1) c.number-3.ensures (omega arith) (omega arith)))) _)
-    (only-inked (pair-inked (numeral-inked (a_count 1) c.number-4.ensures (omega arith) (omega arith))
-    (pair-inked (numeral-inked (a_count 1) c.number-5.ensures (omega arith) (omega arith))
-    (numeral-inked (a_count 1) c.number-6.ensures (omega arith) (omega arith)))) _)) PastPart
+returns c = exact_inked (pair_inked
+    (only_inked (pair_inked (numeral_inked (a_count 2) c.number.ensures (omega arith) (omega arith))
+    (pair_inked (numeral_inked (a_count 1) c.number-2.ensures (omega arith) (omega arith))
+    (numeral_inked (a_count 1) c.number-3.ensures (omega arith) (omega arith)))) _)
+    (only_inked (pair_inked (numeral_inked (a_count 1) c.number-4.ensures (omega arith) (omega arith))
+    (pair_inked (numeral_inked (a_count 1) c.number-5.ensures (omega arith) (omega arith))
+    (numeral_inked (a_count 1) c.number-6.ensures (omega arith) (omega arith)))) _)) PastPart

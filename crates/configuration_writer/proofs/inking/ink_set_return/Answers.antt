@@ -5,9 +5,9 @@ use native.Mathlib.Omega.{arith}
 use borrow.Author.Rules.{rules}
 use Rattle.body_formats.specs.Format.{◌▷◌}
 use Rattle.ground_refusal.specs.declared.Refusal.TheVariants.{PastPart}
-use Rattle.body_ink.proofs.Pairs.{moved, ended, first, second, pair-inked, exact-inked}
-use Rattle.body_ink.proofs.Numbers.{numeral-inked, number-then}
-use Rattle.body_ink.proofs.Strings.{part-ready}
+use Rattle.body_ink.proofs.Pairs.{moved, ended, first, second, pair_inked, exact_inked}
+use Rattle.body_ink.proofs.Numbers.{numeral_inked, number_then}
+use Rattle.body_ink.proofs.Strings.{part_ready}
 use Rattle.configuration.specs.Configuration.{terminals, address, said}
 use Rattle.configuration_writer.proofs.Inkings.{a_kind, return_ready, address_ready, address_inked}
 use Rattle.configuration_writer.proofs.inking.ink_set_return.Goals as goal
@@ -38,7 +38,7 @@ part-past-requires c = address_ready _ (moved (first _ _ (return_ready c.require
 
 pub overflow_add-k-2 : goal.overflow_add-k-2
 unfolding said terminals
-overflow_add-k-2 c = omega (arith, part-ready 1 (address_ready _ (first _ _ (return_ready c.requires).3)))
+overflow_add-k-2 c = omega (arith, part_ready 1 (address_ready _ (first _ _ (return_ready c.requires).3)))
 
 pub resources-requires : goal.resources-requires
 unfolding said terminals
@@ -51,5 +51,5 @@ shape_of-out c = search rules
 
 pub returns : goal.returns
 unfolding said terminals
-returns c = exact-inked (number-then a_kind (λ kind. address kind ▷ terminals) (numeral-inked a_kind c.number.ensures refl refl)
-    (pair-inked (address_inked _ (ended c.part-past.ensures refl (omega arith))) c.resources.ensures)) PastPart
+returns c = exact_inked (number_then a_kind (λ kind. address kind ▷ terminals) (numeral_inked a_kind c.number.ensures refl refl)
+    (pair_inked (address_inked _ (ended c.part-past.ensures refl (omega arith))) c.resources.ensures)) PastPart

@@ -3,35 +3,35 @@ use mathlib.Core.Path.{refl}
 use native.Mathlib.Omega.{arith}
 use borrow.Author.Rules.{rules}
 use Rattle.ground_refusal.specs.declared.Refusal.TheVariants.{PastPart}
-use Rattle.body_ink.proofs.Pairs.{moved, first, pair-inked, exact-ready, exact-inked}
-use Rattle.body_ink.proofs.Numbers.{numeral-ready, numeral-inked, after_number}
+use Rattle.body_ink.proofs.Pairs.{moved, first, pair_inked, exact_ready, exact_inked}
+use Rattle.body_ink.proofs.Numbers.{numeral_ready, numeral_inked, after_number}
 use Rattle.configuration.specs.Configuration.{terminals, said}
 use Rattle.configuration_writer.proofs.Inkings.{a_volume}
 use Rattle.configuration_writer.proofs.inking.ink_set_volume.Goals as goal
 
 pub offset_bounds-tape-k : goal.offset_bounds-tape-k
 unfolding said terminals
-offset_bounds-tape-k c = omega (arith, numeral-ready a_volume (first _ _ (exact-ready PastPart c.requires)))
+offset_bounds-tape-k c = omega (arith, numeral_ready a_volume (first _ _ (exact_ready PastPart c.requires)))
 
 pub bounds-tape-k : goal.bounds-tape-k
 unfolding said terminals
-bounds-tape-k c = omega (arith, numeral-ready a_volume (first _ _ (exact-ready PastPart c.requires)))
+bounds-tape-k c = omega (arith, numeral_ready a_volume (first _ _ (exact_ready PastPart c.requires)))
 
 pub number-requires : goal.number-requires
 unfolding said terminals
-number-requires c = omega (arith, numeral-ready a_volume (first _ _ (exact-ready PastPart c.requires)))
+number-requires c = omega (arith, numeral_ready a_volume (first _ _ (exact_ready PastPart c.requires)))
 
 pub overflow_add-k : goal.overflow_add-k
 unfolding said terminals
-overflow_add-k c = omega (arith, numeral-ready a_volume (first _ _ (exact-ready PastPart c.requires)))
+overflow_add-k c = omega (arith, numeral_ready a_volume (first _ _ (exact_ready PastPart c.requires)))
 
 pub overflow_add-at : goal.overflow_add-at
 unfolding said terminals
-overflow_add-at c = omega (arith, numeral-ready a_volume (first _ _ (exact-ready PastPart c.requires)))
+overflow_add-at c = omega (arith, numeral_ready a_volume (first _ _ (exact_ready PastPart c.requires)))
 
 pub resources-requires : goal.resources-requires
 unfolding said terminals
-resources-requires c = moved (after_number a_volume _ (exact-ready PastPart c.requires)) refl refl (search rules)
+resources-requires c = moved (after_number a_volume _ (exact_ready PastPart c.requires)) refl refl (search rules)
 
 pub shape_of-out : goal.shape_of-out
 unfolding said terminals
@@ -39,4 +39,4 @@ shape_of-out c = search rules
 
 pub returns : goal.returns
 unfolding said terminals
-returns c = exact-inked (pair-inked (numeral-inked a_volume c.number.ensures refl refl) c.resources.ensures) PastPart
+returns c = exact_inked (pair_inked (numeral_inked a_volume c.number.ensures refl refl) c.resources.ensures) PastPart

@@ -3,8 +3,8 @@ use mathlib.Core.Path.{refl}
 use native.Mathlib.Omega.{arith}
 use borrow.Author.Rules.{rules}
 use Rattle.ground_refusal.specs.declared.Refusal.TheVariants.{PastPart}
-use Rattle.body_ink.proofs.Pairs.{moved, pair-inked, exact-inked}
-use Rattle.body_ink.proofs.Numbers.{a_number, numeral-inked}
+use Rattle.body_ink.proofs.Pairs.{moved, pair_inked, exact_inked}
+use Rattle.body_ink.proofs.Numbers.{a_number, numeral_inked}
 use Rattle.configuration.specs.Configuration.{terminals, said}
 use Rattle.configuration_writer.proofs.Inkings.{mapping, tune_ready}
 use Rattle.configuration_writer.proofs.inking.ink_tune.Goals as goal
@@ -79,6 +79,6 @@ shape_of-out c = search rules
 
 pub returns : goal.returns
 unfolding said terminals
-returns c = exact-inked (pair-inked (numeral-inked (a_number 4) c.number.ensures refl refl)
-    (pair-inked (numeral-inked (a_number 4) c.number-2.ensures (omega arith) (omega arith))
-    (pair-inked (numeral-inked mapping c.number-3.ensures (omega arith) (omega arith)) c.resources.ensures))) PastPart
+returns c = exact_inked (pair_inked (numeral_inked (a_number 4) c.number.ensures refl refl)
+    (pair_inked (numeral_inked (a_number 4) c.number-2.ensures (omega arith) (omega arith))
+    (pair_inked (numeral_inked mapping c.number-3.ensures (omega arith) (omega arith)) c.resources.ensures))) PastPart

@@ -4,7 +4,7 @@ use borrow.Author.Rules.{rules}
 use Rattle.ground_refusal.specs.declared.Refusal.TheVariants.{ImpossibleDay}
 use Rattle.body_formats.specs.Reading.{unless}
 use Rattle.configuration.specs.Configuration.{clock}
-use Rattle.configuration_writer.proofs.Judged.{clock_fault, three-fine, three-faulty}
+use Rattle.configuration_writer.proofs.Judged.{clock_fault, three_fine, three_faulty}
 use Rattle.configuration_writer.proofs.measuring.pen_clock.Goals as goal
 
 pub pen_count-hour-requires : goal.pen_count-hour-requires
@@ -25,7 +25,7 @@ is_time-requires c = search rules
 
 pub returns-then-is_time : goal.returns-then-is_time
 unfolding clock
-returns-then-is_time c pool = three-fine clock_fault (c.pen_count-hour.ensures pool) (c.pen_count-minute.ensures pool) (c.pen_count-second.ensures pool)
+returns-then-is_time c pool = three_fine clock_fault (c.pen_count-hour.ensures pool) (c.pen_count-minute.ensures pool) (c.pen_count-second.ensures pool)
     (λ at. ap (λ b. unless b (ImpossibleDay at)) (sym c.is_time.ensures ∙ c.if-is_time.true))
 
 pub entry-requires : goal.entry-requires
@@ -39,5 +39,5 @@ refuse-requires c = search rules
 pub returns : goal.returns
 unfolding clock
 returns c pool = c.refuse.ensures
-    ∙ three-faulty clock_fault (c.pen_count-hour.ensures pool) (c.pen_count-minute.ensures pool) (c.pen_count-second.ensures pool) ImpossibleDay
+    ∙ three_faulty clock_fault (c.pen_count-hour.ensures pool) (c.pen_count-minute.ensures pool) (c.pen_count-second.ensures pool) ImpossibleDay
     (λ at. ap (λ b. unless b (ImpossibleDay at)) (sym c.is_time.ensures ∙ c.if-is_time.false)) _ c.entry.ensures

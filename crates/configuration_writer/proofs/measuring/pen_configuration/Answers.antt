@@ -1,6 +1,6 @@
 -- `configuration_writer::measuring::pen_configuration` meets its contract: its commands and then its signature, under their names.
 use borrow.Author.Rules.{rules}
-use Rattle.body_pen.proofs.Pairs.{pair-pen, view_pen, exact_pen}
+use Rattle.body_pen.proofs.Pairs.{pair_pen, view_pen, exact_pen}
 use Rattle.configuration.specs.Configuration.{fields, configuration}
 use Rattle.configuration_writer.proofs.measuring.pen_configuration.Goals as goal
 
@@ -14,4 +14,4 @@ pen_part-requires c = search rules
 
 pub returns : goal.returns
 unfolding configuration fields
-returns c = simp (exact_pen, view_pen, pair-pen) (cc)
+returns c = simp (exact_pen, view_pen, pair_pen) (cc)

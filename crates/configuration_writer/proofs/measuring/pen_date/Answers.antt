@@ -4,8 +4,8 @@ use borrow.Author.Rules.{rules}
 use Rattle.ground_refusal.specs.declared.Refusal.TheVariants.{ImpossibleDay}
 use Rattle.body_formats.specs.Reading.{unless}
 use Rattle.configuration.specs.Configuration.{date}
-use Rattle.configuration.proofs.Clocks.{day-fault}
-use Rattle.configuration_writer.proofs.Judged.{date_fault, three-fine, three-faulty}
+use Rattle.configuration.proofs.Clocks.{day_fault_lem}
+use Rattle.configuration_writer.proofs.Judged.{date_fault, three_fine, three_faulty}
 use Rattle.configuration_writer.proofs.measuring.pen_date.Goals as goal
 
 pub pen_count-year-requires : goal.pen_count-year-requires
@@ -26,8 +26,8 @@ is_day-requires c = search rules
 
 pub returns-then-is_day : goal.returns-then-is_day
 unfolding date
-returns-then-is_day c pool = three-fine date_fault (c.pen_count-year.ensures pool) (c.pen_count-month.ensures pool) (c.pen_count-day.ensures pool)
-    (λ at. day-fault _ _ _ at ∙ ap (λ b. unless b (ImpossibleDay at)) (sym c.is_day.ensures ∙ c.if-is_day.true))
+returns-then-is_day c pool = three_fine date_fault (c.pen_count-year.ensures pool) (c.pen_count-month.ensures pool) (c.pen_count-day.ensures pool)
+    (λ at. day_fault_lem _ _ _ at ∙ ap (λ b. unless b (ImpossibleDay at)) (sym c.is_day.ensures ∙ c.if-is_day.true))
 
 pub entry-requires : goal.entry-requires
 unfolding date
@@ -40,5 +40,5 @@ refuse-requires c = search rules
 pub returns : goal.returns
 unfolding date
 returns c pool = c.refuse.ensures
-    ∙ three-faulty date_fault (c.pen_count-year.ensures pool) (c.pen_count-month.ensures pool) (c.pen_count-day.ensures pool) ImpossibleDay
-    (λ at. day-fault _ _ _ at ∙ ap (λ b. unless b (ImpossibleDay at)) (sym c.is_day.ensures ∙ c.if-is_day.false)) _ c.entry.ensures
+    ∙ three_faulty date_fault (c.pen_count-year.ensures pool) (c.pen_count-month.ensures pool) (c.pen_count-day.ensures pool) ImpossibleDay
+    (λ at. day_fault_lem _ _ _ at ∙ ap (λ b. unless b (ImpossibleDay at)) (sym c.is_day.ensures ∙ c.if-is_day.false)) _ c.entry.ensures

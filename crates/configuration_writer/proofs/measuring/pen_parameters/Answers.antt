@@ -4,7 +4,7 @@ use mathlib.Core.List.{List}
 use Prim.Native.Nat.{ℕ}
 use native.Mathlib.Omega.{arith}
 use borrow.Author.Rules.{rules}
-use Rattle.body_pen.proofs.Lists.{Underway, list_start, list-pen, times-turn, times-stop, times-done}
+use Rattle.body_pen.proofs.Lists.{Underway, list_start, list_pen, times_turn, times_stop, times_done}
 use Rattle.body_formats.specs.Format.{number}
 use Rattle.configuration_writer.proofs.measuring.pen_parameters.Goals as goal
 
@@ -12,11 +12,11 @@ pub loop-left-init : goal.loop-left-init
 loop-left-init c pool = list_start (c.pen_count-things.ensures pool)
 
 pub returns-in-Refused : goal.returns-in-Refused
-returns-in-Refused c pool = times-stop (c.loop-left.invariant pool) c.loop-left-test.true (c.pen_number.ensures pool) _ c.in-Refused.is
-    ∙ sym (list-pen _ (c.pen_count-things.ensures pool))
+returns-in-Refused c pool = times_stop (c.loop-left.invariant pool) c.loop-left-test.true (c.pen_number.ensures pool) _ c.in-Refused.is
+    ∙ sym (list_pen _ (c.pen_count-things.ensures pool))
 
 pub loop-left-preserved : goal.loop-left-preserved
-loop-left-preserved c pool = times-turn (c.loop-left.invariant pool) c.loop-left-test.true (c.pen_number.ensures pool) _ c.in-At.is
+loop-left-preserved c pool = times_turn (c.loop-left.invariant pool) c.loop-left-test.true (c.pen_number.ensures pool) _ c.in-At.is
 
 pub returns : goal.returns
-returns c pool = times-done (c.loop-left.invariant pool) (omega arith) ∙ sym (list-pen _ (c.pen_count-things.ensures pool))
+returns c pool = times_done (c.loop-left.invariant pool) (omega arith) ∙ sym (list_pen _ (c.pen_count-things.ensures pool))

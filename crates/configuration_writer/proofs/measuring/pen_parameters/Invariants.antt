@@ -4,7 +4,7 @@ use mathlib.Core.List.{List}
 use Prim.Native.Nat.{ℕ}
 use native.Mathlib.Omega.{arith}
 use borrow.Author.Rules.{rules}
-use Rattle.body_pen.proofs.Lists.{Underway, list_start, list-pen, times-turn, times-stop, times-done}
+use Rattle.body_pen.proofs.Lists.{Underway, list_start, list_pen, times_turn, times_stop, times_done}
 use Rattle.body_formats.specs.Format.{number}
 use Rattle.configuration_writer.proofs.measuring.pen_parameters.Given as goal
 

@@ -3,11 +3,11 @@ use Prim.Native.Nat.{◌≤◌}
 use native.Mathlib.Omega.{arith}
 use borrow.Author.Rules.{rules}
 use borrow.Author.Tests.{eqb-true}
-use Rattle.body_glance.proofs.Finds.{reads-to}
-use Rattle.body_glance.proofs.Runs.{reads_list, Coming, coming-turn, coming-done}
+use Rattle.body_glance.proofs.Finds.{reads_to}
+use Rattle.body_glance.proofs.Runs.{reads_list, Coming, coming_turn, coming_done}
 use Rattle.body_glance.proofs.Leaves.{not_good}
 use Rattle.content.specs.Content.{auxiliary, auxiliaries}
-use Rattle.content_reader.proofs.Glances.{reads-few, reads-auxiliary}
+use Rattle.content_reader.proofs.Glances.{reads_few, reads_auxiliary}
 use Rattle.content_reader.proofs.glancing.good_auxiliaries.Goals as goal
 
 pub bounds-s-p : goal.bounds-s-p
@@ -76,11 +76,11 @@ loop-left-smaller c = search rules
 
 pub loop-left-preserved : goal.loop-left-preserved
 unfolding auxiliaries
-loop-left-preserved c = let found = reads-auxiliary _ _ _ (λ i. (c.type_inv.s i).fits) _ c.three_or_four_bytes-n.ensures in
-    (omega arith, coming-turn (auxiliary _) _ _ _ c.loop-left.invariant.1 c.loop-left-test.true found)
+loop-left-preserved c = let found = reads_auxiliary _ _ _ (λ i. (c.type_inv.s i).fits) _ c.three_or_four_bytes-n.ensures in
+    (omega arith, coming_turn (auxiliary _) _ _ _ c.loop-left.invariant.1 c.loop-left-test.true found)
 
 pub returns : goal.returns
 unfolding auxiliaries
-returns c e = let files = coming-done (auxiliary _) _ _ _ c.loop-left.invariant.1 (omega arith) in
-    let counted = reads_list (auxiliary _) (reads-few _ _ 4 0 2 _ (omega arith) (omega arith) (omega arith) (omega arith)) files.1 in
-    (_, reads-to (eqb-true _ _ e) counted)
+returns c e = let files = coming_done (auxiliary _) _ _ _ c.loop-left.invariant.1 (omega arith) in
+    let counted = reads_list (auxiliary _) (reads_few _ _ 4 0 2 _ (omega arith) (omega arith) (omega arith) (omega arith)) files.1 in
+    (_, reads_to (eqb-true _ _ e) counted)

@@ -3,11 +3,11 @@ use Prim.Native.Nat.{◌≤◌}
 use native.Mathlib.Omega.{arith}
 use borrow.Author.Rules.{rules}
 use borrow.Author.Tests.{eqb-true}
-use Rattle.body_glance.proofs.Finds.{reads-to}
-use Rattle.body_glance.proofs.Runs.{reads_list, Coming, coming-turn, coming-done}
+use Rattle.body_glance.proofs.Finds.{reads_to}
+use Rattle.body_glance.proofs.Runs.{reads_list, Coming, coming_turn, coming_done}
 use Rattle.body_glance.proofs.Leaves.{not_good}
 use Rattle.content.specs.Content.{auxiliary, auxiliaries}
-use Rattle.content_reader.proofs.Glances.{reads-few, reads-auxiliary}
+use Rattle.content_reader.proofs.Glances.{reads_few, reads_auxiliary}
 use Rattle.content_reader.proofs.glancing.good_auxiliaries.Given as goal
 
 abbrev pub invariant-loop-left : goal.invariant-loop-left

@@ -4,7 +4,7 @@ use native.Mathlib.Omega.{arith}
 use borrow.Author.Rules.{rules}
 use borrow.Author.Tests.{not-false}
 use Rattle.ground_refusal.specs.declared.Refusal.TheVariants.{LeftOver}
-use Rattle.body_glance.proofs.Finds.{reads-pair, reads-view, fills-exact}
+use Rattle.body_glance.proofs.Finds.{reads_pair, reads_view, fills_exact}
 use Rattle.body_glance.proofs.Leaves.{not_good}
 use Rattle.content.specs.Content.{fields, content}
 use Rattle.content_reader.proofs.glancing.good_content.Goals as goal
@@ -28,4 +28,4 @@ good_languages-requires c = search rules
 pub returns : goal.returns
 unfolding content fields
 returns c e = let first = c.good_identifier.ensures (not-false _ c.if-not-good_identifier.false-raw) in
-    (_, fills-exact LeftOver (le_refl _) (reads-view _ _ (reads-pair first.1 (c.good_languages.ensures e).1)))
+    (_, fills_exact LeftOver (le_refl _) (reads_view _ _ (reads_pair first.1 (c.good_languages.ensures e).1)))

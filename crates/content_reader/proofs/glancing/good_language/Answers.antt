@@ -4,7 +4,7 @@ use native.Mathlib.Omega.{arith}
 use borrow.Author.Rules.{rules}
 use borrow.Author.Tests.{not-false}
 use Rattle.body_glance.proofs.Leaves.{not_good}
-use Rattle.content_reader.proofs.Glances.{reads-fields}
+use Rattle.content_reader.proofs.Glances.{reads_fields}
 use Rattle.content_reader.proofs.glancing.good_language.Goals as goal
 
 pub returns-then-l-p-lt8 : goal.returns-then-l-p-lt8
@@ -26,6 +26,6 @@ pub returns-then-l-at : goal.returns-then-l-at
 returns-then-l-at c = not_good
 
 pub returns : goal.returns
-returns c e = reads-fields _ _ _ (λ i. (c.type_inv.s i).fits) _ _ _
+returns c e = reads_fields _ _ _ (λ i. (c.type_inv.s i).fits) _ _ _
     (sym c.all_among.ensures ∙ not-false _ c.if-not-all_among.false-raw) (omega arith) (omega arith)
     c.two_bytes-text.ensures.0 c.wide-agency.ensures.0 (c.good_auxiliaries.ensures e)

@@ -6,11 +6,11 @@ use native.Mathlib.Omega.{arith}
 use borrow.Author.Rules.{rules}
 use borrow.Author.Tests.{eqb-true, not-false}
 use Rattle.body_formats.proofs.Classes.{Bytes}
-use Rattle.body_glance.proofs.Finds.{reads-to, reads-pair, reads-opaque}
-use Rattle.body_glance.proofs.Runs.{reads_list, Coming, coming-turn, coming-done}
+use Rattle.body_glance.proofs.Finds.{reads_to, reads_pair, reads_opaque}
+use Rattle.body_glance.proofs.Runs.{reads_list, Coming, coming_turn, coming_done}
 use Rattle.body_glance.proofs.Leaves.{not_good}
 use Rattle.content.specs.Content.{language}
-use Rattle.content_reader.proofs.Glances.{reads-few, reads-language}
+use Rattle.content_reader.proofs.Glances.{reads_few, reads_language}
 use Rattle.content_reader.proofs.glancing.good_languages.Statement.{statement}
 use Rattle.content_reader.proofs.glancing.good_languages.Tie as tie
 
@@ -51,8 +51,8 @@ good_languages_spec =
     let n : tie.After-three_or_four_bytes-n invariant-loop-left decreases-loop-left = search in
     let fields : tie.After-good_language invariant-loop-left decreases-loop-left = search in
     let filled = fields.good_language.ensures (not-false _ c.if-not-good_language.false-raw) in
-    let found = reads-language _ _ _ (bytes known) _ n.three_or_four_bytes-n.ensures (omega arith) filled in
-    (omega arith, coming-turn (language _) _ _ _ turn.before.loop-left.invariant.1 turn.loop-left-test.true found))
+    let found = reads_language _ _ _ (bytes known) _ n.three_or_four_bytes-n.ensures (omega arith) filled in
+    (omega arith, coming_turn (language _) _ _ _ turn.before.loop-left.invariant.1 turn.loop-left-test.true found))
     (λ c. search rules)
     (λ c. not_good)
     (λ c. search rules)
@@ -60,7 +60,7 @@ good_languages_spec =
     (λ c κs. search rules)
     (λ c e. let known : tie.After-shared_slice_known-1 invariant-loop-left decreases-loop-left = search in
     let loop : tie.At-loop-left invariant-loop-left decreases-loop-left = search in
-    let languages = coming-done (language _) _ _ _ loop.loop-left.invariant.1 (omega arith) in
-    let counted = reads_list (language _) (reads-few _ _ 4 1 5 _ (omega arith) (omega arith) (omega arith) (omega arith)) languages.1 in
+    let languages = coming_done (language _) _ _ _ loop.loop-left.invariant.1 (omega arith) in
+    let counted = reads_list (language _) (reads_few _ _ 4 1 5 _ (omega arith) (omega arith) (omega arith) (omega arith)) languages.1 in
     let rest : length known.before.args.s.now - loop.loop-left.at - 2 ≡ c.two_bytes.result = eqb-true _ _ e in
-    (_, reads-pair counted (reads-to (omega arith) (reads-opaque _ _ 2 (bytes known)).1))))
+    (_, reads_pair counted (reads_to (omega arith) (reads_opaque _ _ 2 (bytes known)).1))))

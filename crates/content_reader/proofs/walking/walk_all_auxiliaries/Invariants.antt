@@ -2,9 +2,9 @@
 use native.Mathlib.Omega.{arith}
 use borrow.Author.Rules.{rules}
 use Rattle.body_formats.specs.Format.{times}
-use Rattle.body_walk.proofs.Counts.{Ahead, ahead_start, times-turn, times-done}
+use Rattle.body_walk.proofs.Counts.{Ahead, ahead_start, times_turn, times_done}
 use Rattle.content.specs.Content.{auxiliary}
-use Rattle.content.proofs.Lawful.{auxiliary-lawful}
+use Rattle.content.proofs.Lawful.{auxiliary_lawful}
 use Rattle.content_reader.proofs.walking.walk_all_auxiliaries.Given as goal
 
 abbrev pub invariant-loop-left : goal.invariant-loop-left

@@ -2,9 +2,9 @@
 use native.Mathlib.Omega.{arith}
 use borrow.Author.Rules.{rules}
 use Rattle.body_formats.specs.Format.{times}
-use Rattle.body_walk.proofs.Counts.{Ahead, ahead_start, times-turn, times-done}
+use Rattle.body_walk.proofs.Counts.{Ahead, ahead_start, times_turn, times_done}
 use Rattle.content.specs.Content.{language}
-use Rattle.content.proofs.Lawful.{language-lawful}
+use Rattle.content.proofs.Lawful.{language_lawful}
 use Rattle.content_reader.proofs.walking.walk_all_languages.Given as goal
 
 abbrev pub invariant-loop-left : goal.invariant-loop-left

@@ -2,11 +2,11 @@
 use native.Mathlib.Omega.{arith}
 use borrow.Author.Rules.{rules}
 use Rattle.body_formats.specs.Format.{reserved}
-use Rattle.body_formats.proofs.Leaves.{reserved-lawful}
+use Rattle.body_formats.proofs.Leaves.{reserved_lawful}
 use Rattle.body_formats.proofs.Bits.{among_lawful}
 use Rattle.body_walk.proofs.Counts.{list_walk}
 use Rattle.content.specs.Content.{auxiliaries}
-use Rattle.content.proofs.Lawful.{auxiliary-lawful}
+use Rattle.content.proofs.Lawful.{auxiliary_lawful}
 use Rattle.content_reader.proofs.walking.walk_auxiliaries.Goals as goal
 
 pub walk_reserved_among-files-requires : goal.walk_reserved_among-files-requires
@@ -23,5 +23,5 @@ shape_of-tape c = search rules
 
 pub returns : goal.returns
 unfolding auxiliaries
-returns c = list_walk (among_lawful 0 2 (reserved 4 0) (reserved-lawful 4 0 (omega arith))) (auxiliary-lawful _)
+returns c = list_walk (among_lawful 0 2 (reserved 4 0) (reserved_lawful 4 0 (omega arith))) (auxiliary_lawful _)
     c.walk_reserved_among-files.ensures c.walk_all_auxiliaries.ensures

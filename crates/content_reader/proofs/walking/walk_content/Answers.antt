@@ -6,26 +6,26 @@ use borrow.Author.Rules.{rules}
 use Rattle.ground_refusal.specs.declared.Refusal.TheVariants.{LeftOver}
 use Rattle.body_formats.specs.Format.{◌▷◌, among, reserved, list_of, opaque}
 use Rattle.body_formats.proofs.Classes.{Lawful}
-use Rattle.body_formats.proofs.Leaves.{reserved-lawful}
+use Rattle.body_formats.proofs.Leaves.{reserved_lawful}
 use Rattle.body_formats.proofs.Identifiers.{identifier_lawful}
 use Rattle.body_formats.proofs.Bits.{among_lawful}
-use Rattle.body_formats.proofs.Parts.{followed-lawful, opaque_lawful}
+use Rattle.body_formats.proofs.Parts.{followed_lawful, opaque_lawful}
 use Rattle.body_formats.proofs.Lists.{list_lawful}
 use Rattle.body_walk.proofs.Pairs.{pair, view_walk, exact_walk}
 use Rattle.body_walk.proofs.Counts.{list_walk}
 use Rattle.content.specs.Content.{language, fields, content}
-use Rattle.content.proofs.Lawful.{language-lawful}
+use Rattle.content.proofs.Lawful.{language_lawful}
 use Rattle.content_reader.proofs.walking.walk_content.Goals as goal
 
 count_lawful : Lawful (among 1 5 (reserved 4 0))
-count_lawful = among_lawful 1 5 (reserved 4 0) (reserved-lawful 4 0 (omega arith))
+count_lawful = among_lawful 1 5 (reserved 4 0) (reserved_lawful 4 0 (omega arith))
 
 languages_lawful : (w : ℕ) → Lawful (list_of (among 1 5 (reserved 4 0)) (language w))
-languages_lawful w = list_lawful (language w) (language-lawful w) _ count_lawful
+languages_lawful w = list_lawful (language w) (language_lawful w) _ count_lawful
 
 -- the fields from the languages on keep the laws of formats
 from_languages : (w : ℕ) → Lawful (list_of (among 1 5 (reserved 4 0)) (language w) ▷ opaque 2)
-from_languages w = followed-lawful _ _ (languages_lawful w) (λ a. opaque_lawful 2)
+from_languages w = followed_lawful _ _ (languages_lawful w) (λ a. opaque_lawful 2)
 
 pub walk_identifier-a-requires : goal.walk_identifier-a-requires
 unfolding content fields
@@ -57,6 +57,6 @@ returns c = exact_walk LeftOver
     (view_walk _ _ (λ a. refl)
     (pair identifier_lawful (from_languages _).formal c.walk_identifier-a.ensures
     (pair (languages_lawful _) (opaque_lawful 2).formal
-    (list_walk count_lawful (language-lawful _) c.walk_reserved_among-languages.ensures c.walk_all_languages-b.ensures)
+    (list_walk count_lawful (language_lawful _) c.walk_reserved_among-languages.ensures c.walk_all_languages-b.ensures)
     c.walk_part-c.ensures)))
     c.finish.ensures

@@ -4,26 +4,26 @@ use native.Mathlib.Omega.{arith}
 use borrow.Author.Rules.{rules}
 use Rattle.body_formats.specs.Format.{◌▷◌, among, reserved, opaque}
 use Rattle.body_formats.proofs.Classes.{Lawful}
-use Rattle.body_formats.proofs.Leaves.{reserved-lawful}
+use Rattle.body_formats.proofs.Leaves.{reserved_lawful}
 use Rattle.body_formats.proofs.Bits.{among_lawful, bytes_among_lawful}
-use Rattle.body_formats.proofs.Parts.{followed-lawful, opaque_lawful}
+use Rattle.body_formats.proofs.Parts.{followed_lawful, opaque_lawful}
 use Rattle.body_walk.proofs.Pairs.{pair}
 use Rattle.content.specs.Content.{auxiliaries, language_fields}
-use Rattle.content.proofs.Lawful.{auxiliaries-lawful}
+use Rattle.content.proofs.Lawful.{auxiliaries_lawful}
 use Rattle.content_reader.proofs.walking.walk_language_fields.Goals as goal
 
 set_lawful : Lawful (among 0 4 (reserved 5 0))
-set_lawful = among_lawful 0 4 (reserved 5 0) (reserved-lawful 5 0 (omega arith))
+set_lawful = among_lawful 0 4 (reserved 5 0) (reserved_lawful 5 0 (omega arith))
 
 module _ (w : ℕ) where
-  from-agency : Lawful (opaque 1 ▷ auxiliaries w)
-  from-agency = followed-lawful _ _ (opaque_lawful 1) (λ a. auxiliaries-lawful w)
+  from_agency : Lawful (opaque 1 ▷ auxiliaries w)
+  from_agency = followed_lawful _ _ (opaque_lawful 1) (λ a. auxiliaries_lawful w)
 
-  from-text : Lawful (opaque 2 ▷ (opaque 1 ▷ auxiliaries w))
-  from-text = followed-lawful _ _ (opaque_lawful 2) (λ a. from-agency)
+  from_text : Lawful (opaque 2 ▷ (opaque 1 ▷ auxiliaries w))
+  from_text = followed_lawful _ _ (opaque_lawful 2) (λ a. from_agency)
 
-  from-set : Lawful (among 0 4 (reserved 5 0) ▷ (opaque 2 ▷ (opaque 1 ▷ auxiliaries w)))
-  from-set = followed-lawful _ _ set_lawful (λ a. from-text)
+  from_set : Lawful (among 0 4 (reserved 5 0) ▷ (opaque 2 ▷ (opaque 1 ▷ auxiliaries w)))
+  from_set = followed_lawful _ _ set_lawful (λ a. from_text)
 
 pub walk_bytes-a-requires : goal.walk_bytes-a-requires
 unfolding language_fields
@@ -51,7 +51,7 @@ shape_of-tape c = search rules
 
 pub returns : goal.returns
 unfolding language_fields
-returns c = pair (bytes_among_lawful 0x61 0x7A 3) (from-set _).formal c.walk_bytes-a.ensures
-    (pair set_lawful (from-text _).formal c.walk_reserved_among-set.ensures.past
-    (pair (opaque_lawful 2) (from-agency _).formal c.walk_part-c.ensures
-    (pair (opaque_lawful 1) (auxiliaries-lawful _).formal c.walk_part-d.ensures c.walk_auxiliaries.ensures)))
+returns c = pair (bytes_among_lawful 0x61 0x7A 3) (from_set _).formal c.walk_bytes-a.ensures
+    (pair set_lawful (from_text _).formal c.walk_reserved_among-set.ensures.past
+    (pair (opaque_lawful 2) (from_agency _).formal c.walk_part-c.ensures
+    (pair (opaque_lawful 1) (auxiliaries_lawful _).formal c.walk_part-d.ensures c.walk_auxiliaries.ensures)))

@@ -4,8 +4,8 @@ use lib.ListN.{length}
 use native.Mathlib.Omega.{arith}
 use borrow.Author.Rules.{rules}
 use Rattle.body_ink.proofs.Pairs.{moved}
-use Rattle.body_ink.proofs.Numbers.{numeral-inked}
-use Rattle.body_ink.proofs.Lists.{Underway, list-ready, list-inked, times_start, times-next, times-turn, times-done}
+use Rattle.body_ink.proofs.Numbers.{numeral_inked}
+use Rattle.body_ink.proofs.Lists.{Underway, list_ready, list_inked, times_start, times_next, times_turn, times_done}
 use Rattle.content.specs.Content.{auxiliary, auxiliaries}
 use Rattle.content_writer.proofs.Inkings.{files_count, auxiliary_entries, count_ready}
 use Rattle.content_writer.proofs.inking.ink_auxiliaries.Goals as goal
@@ -36,15 +36,15 @@ overflow_add-entry c = omega (arith, count_ready 0 2 _ c.requires)
 
 pub loop-left-init : goal.loop-left-init
 unfolding auxiliaries
-loop-left-init c = (refl, times_start (moved (list-ready files_count _ c.requires) refl refl (search rules)))
+loop-left-init c = (refl, times_start (moved (list_ready files_count _ c.requires) refl refl (search rules)))
 
 pub ink_auxiliary-past-requires : goal.ink_auxiliary-past-requires
 unfolding auxiliaries
-ink_auxiliary-past-requires c = times-next c.loop-left.invariant.1 c.loop-left-test.true
+ink_auxiliary-past-requires c = times_next c.loop-left.invariant.1 c.loop-left-test.true
 
 pub overflow_add-entry-in-loop-left : goal.overflow_add-entry-in-loop-left
 unfolding auxiliaries
-overflow_add-entry-in-loop-left c = omega (arith, auxiliary_entries _ (times-next c.loop-left.invariant.1 c.loop-left-test.true))
+overflow_add-entry-in-loop-left c = omega (arith, auxiliary_entries _ (times_next c.loop-left.invariant.1 c.loop-left-test.true))
 
 pub overflow_sub-left : goal.overflow_sub-left
 unfolding auxiliaries
@@ -56,7 +56,7 @@ loop-left-smaller c = search rules
 
 pub loop-left-preserved : goal.loop-left-preserved
 unfolding auxiliaries
-loop-left-preserved c = (search rules, times-turn c.loop-left.invariant.1 c.loop-left-test.true c.ink_auxiliary-past.ensures)
+loop-left-preserved c = (search rules, times_turn c.loop-left.invariant.1 c.loop-left-test.true c.ink_auxiliary-past.ensures)
 
 pub shape_of-out : goal.shape_of-out
 unfolding auxiliaries
@@ -64,4 +64,4 @@ shape_of-out c = search rules
 
 pub returns : goal.returns
 unfolding auxiliaries
-returns c = list-inked files_count _ (numeral-inked files_count c.number.ensures refl refl) (times-done c.loop-left.invariant.1 (omega arith))
+returns c = list_inked files_count _ (numeral_inked files_count c.number.ensures refl refl) (times_done c.loop-left.invariant.1 (omega arith))

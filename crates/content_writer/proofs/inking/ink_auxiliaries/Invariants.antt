@@ -4,8 +4,8 @@ use lib.ListN.{length}
 use native.Mathlib.Omega.{arith}
 use borrow.Author.Rules.{rules}
 use Rattle.body_ink.proofs.Pairs.{moved}
-use Rattle.body_ink.proofs.Numbers.{numeral-inked}
-use Rattle.body_ink.proofs.Lists.{Underway, list-ready, list-inked, times_start, times-next, times-turn, times-done}
+use Rattle.body_ink.proofs.Numbers.{numeral_inked}
+use Rattle.body_ink.proofs.Lists.{Underway, list_ready, list_inked, times_start, times_next, times_turn, times_done}
 use Rattle.content.specs.Content.{auxiliary, auxiliaries}
 use Rattle.content_writer.proofs.Inkings.{files_count, auxiliary_entries, count_ready}
 use Rattle.content_writer.proofs.inking.ink_auxiliaries.Given as goal

@@ -31,5 +31,5 @@ ink_language_spec =
     (λ c κs. omega (arith, reached (search)))
     (λ c. search rules)
     (λ c. let number : tie.After-number = search in
-    let ink-language-fields : tie.After-ink_language_fields-past = search in
-    language_inked _ ink-language-fields.ink_language_fields-past.ensures number.number.ensures))
+    let ink_language_fields : tie.After-ink_language_fields-past = search in
+    language_inked _ ink_language_fields.ink_language_fields-past.ensures number.number.ensures))

@@ -2,9 +2,9 @@
 use mathlib.Core.Path.{refl}
 use native.Mathlib.Omega.{arith}
 use borrow.Author.Rules.{rules}
-use Rattle.body_ink.proofs.Pairs.{moved, pair-inked, only-inked}
-use Rattle.body_ink.proofs.Numbers.{numeral-inked}
-use Rattle.body_ink.proofs.Strings.{bytes-inked}
+use Rattle.body_ink.proofs.Pairs.{moved, pair_inked, only_inked}
+use Rattle.body_ink.proofs.Numbers.{numeral_inked}
+use Rattle.body_ink.proofs.Strings.{bytes_inked}
 use Rattle.content.specs.Content.{language_fields}
 use Rattle.content_writer.proofs.Inkings.{character_set_lem, fields_ready}
 use Rattle.content_writer.proofs.inking.ink_language_fields.Goals as goal
@@ -63,5 +63,5 @@ shape_of-out c = search rules
 
 pub returns : goal.returns
 unfolding language_fields
-returns c = pair-inked (only-inked (bytes-inked 3 c.copy.ensures (omega arith) (omega arith)) _)
-    (pair-inked (numeral-inked character_set_lem c.number.ensures (omega arith) (omega arith)) c.ink_language_parts.ensures)
+returns c = pair_inked (only_inked (bytes_inked 3 c.copy.ensures (omega arith) (omega arith)) _)
+    (pair_inked (numeral_inked character_set_lem c.number.ensures (omega arith) (omega arith)) c.ink_language_parts.ensures)

@@ -4,8 +4,8 @@ use lib.ListN.{length}
 use native.Mathlib.Omega.{arith}
 use borrow.Author.Rules.{rules}
 use Rattle.body_ink.proofs.Pairs.{moved}
-use Rattle.body_ink.proofs.Numbers.{numeral-inked}
-use Rattle.body_ink.proofs.Lists.{Underway, list-ready, list-inked, times_start, times-next, times-turn, times-done}
+use Rattle.body_ink.proofs.Numbers.{numeral_inked}
+use Rattle.body_ink.proofs.Lists.{Underway, list_ready, list_inked, times_start, times_next, times_turn, times_done}
 use Rattle.content.specs.Content.{language}
 use Rattle.content_writer.proofs.Inkings.{languages_count, count_ready}
 use Rattle.content_writer.proofs.inking.ink_languages.Goals as goal
@@ -29,13 +29,13 @@ pub overflow_add-entry : goal.overflow_add-entry
 overflow_add-entry c = omega (arith, count_ready 1 5 _ c.requires)
 
 pub loop-left-init : goal.loop-left-init
-loop-left-init c = (refl, times_start (moved (list-ready languages_count _ c.requires) refl refl (search rules)))
+loop-left-init c = (refl, times_start (moved (list_ready languages_count _ c.requires) refl refl (search rules)))
 
 pub ink_language-next-requires : goal.ink_language-next-requires
-ink_language-next-requires c = times-next c.loop-left.invariant.1 c.loop-left-test.true
+ink_language-next-requires c = times_next c.loop-left.invariant.1 c.loop-left-test.true
 
 pub loop-left-preserved : goal.loop-left-preserved
-loop-left-preserved c = (search rules, times-turn c.loop-left.invariant.1 c.loop-left-test.true c.ink_language-next.ensures)
+loop-left-preserved c = (search rules, times_turn c.loop-left.invariant.1 c.loop-left-test.true c.ink_language-next.ensures)
 
 pub returns : goal.returns
-returns c = list-inked languages_count _ (numeral-inked languages_count c.number.ensures refl refl) (times-done c.loop-left.invariant.1 (omega arith))
+returns c = list_inked languages_count _ (numeral_inked languages_count c.number.ensures refl refl) (times_done c.loop-left.invariant.1 (omega arith))

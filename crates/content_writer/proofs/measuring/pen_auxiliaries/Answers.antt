@@ -2,7 +2,7 @@
 use mathlib.Core.Path.{sym, ◌∙◌}
 use native.Mathlib.Omega.{arith}
 use borrow.Author.Rules.{rules}
-use Rattle.body_pen.proofs.Lists.{Underway, list_start, list-pen, times-turn, times-stop, times-done}
+use Rattle.body_pen.proofs.Lists.{Underway, list_start, list_pen, times_turn, times_stop, times_done}
 use Rattle.content.specs.Content.{auxiliary, auxiliaries}
 use Rattle.content_writer.proofs.measuring.pen_auxiliaries.Goals as goal
 
@@ -24,8 +24,8 @@ enum_known-r c = search rules
 
 pub returns-in-Refused : goal.returns-in-Refused
 unfolding auxiliaries
-returns-in-Refused c = times-stop c.loop-left.invariant c.loop-left-test.true c.pen_auxiliary.ensures _ c.in-Refused.is
-    ∙ sym (list-pen _ (c.pen_reserved_among-things.ensures _))
+returns-in-Refused c = times_stop c.loop-left.invariant c.loop-left-test.true c.pen_auxiliary.ensures _ c.in-Refused.is
+    ∙ sym (list_pen _ (c.pen_reserved_among-things.ensures _))
 
 pub enum_known-size : goal.enum_known-size
 unfolding auxiliaries
@@ -41,8 +41,8 @@ loop-left-smaller c = search rules
 
 pub loop-left-preserved : goal.loop-left-preserved
 unfolding auxiliaries
-loop-left-preserved c = times-turn c.loop-left.invariant c.loop-left-test.true c.pen_auxiliary.ensures _ c.in-At.is
+loop-left-preserved c = times_turn c.loop-left.invariant c.loop-left-test.true c.pen_auxiliary.ensures _ c.in-At.is
 
 pub returns : goal.returns
 unfolding auxiliaries
-returns c = times-done c.loop-left.invariant (omega arith) ∙ sym (list-pen _ (c.pen_reserved_among-things.ensures _))
+returns c = times_done c.loop-left.invariant (omega arith) ∙ sym (list_pen _ (c.pen_reserved_among-things.ensures _))

@@ -1,6 +1,6 @@
 -- `content_writer::measuring::pen_content` meets its contract: its identifier, its languages and then its signature, under their names.
 use borrow.Author.Rules.{rules}
-use Rattle.body_pen.proofs.Pairs.{pair-pen, view_pen, exact_pen}
+use Rattle.body_pen.proofs.Pairs.{pair_pen, view_pen, exact_pen}
 use Rattle.content.specs.Content.{fields, content}
 use Rattle.content_writer.proofs.measuring.pen_content.Goals as goal
 
@@ -18,4 +18,4 @@ pen_part-requires c = search rules
 
 pub returns : goal.returns
 unfolding content fields
-returns c = simp (exact_pen, view_pen, pair-pen) (cc)
+returns c = simp (exact_pen, view_pen, pair_pen) (cc)

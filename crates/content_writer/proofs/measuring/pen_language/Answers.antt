@@ -1,7 +1,7 @@
 -- `content_writer::measuring::pen_language` meets its contract: its length, its fields, which fill it, and then what the length may be.
 use borrow.Author.Rules.{rules}
 use Rattle.body_pen.proofs.Lengths.{length_pen}
-use Rattle.body_pen.proofs.Pairs.{pair-pen, view_pen, exact_pen}
+use Rattle.body_pen.proofs.Pairs.{pair_pen, view_pen, exact_pen}
 use Rattle.content.specs.Content.{language_fields, language}
 use Rattle.content_writer.proofs.measuring.pen_language.Goals as goal
 
@@ -35,4 +35,4 @@ close-requires c = search rules
 
 pub returns : goal.returns
 unfolding language language_fields
-returns c = rw length_pen (simp (exact_pen, view_pen, pair-pen) (cc (c.pen_reserved_among-set.ensures c.args.pool.now).past))
+returns c = rw length_pen (simp (exact_pen, view_pen, pair_pen) (cc (c.pen_reserved_among-set.ensures c.args.pool.now).past))

@@ -2,10 +2,10 @@
 use Prim.Native.Nat.{◌-◌, ◌≤◌}
 use native.Mathlib.Omega.{arith}
 use borrow.Author.Rules.{rules}
-use Rattle.body_glance.proofs.Runs.{Filling, filling-turn, filling-done}
+use Rattle.body_glance.proofs.Runs.{Filling, filling_turn, filling_done}
 use Rattle.body_glance.proofs.Leaves.{not_good}
 use Rattle.index.specs.Index.{descriptor}
-use Rattle.index_channel_reader.proofs.Glances.{descriptor-good}
+use Rattle.index_channel_reader.proofs.Glances.{descriptor_good}
 use Rattle.index_channel_reader.proofs.glancing.good_descriptors.Goals as goal
 
 pub loop-at-init : goal.loop-at-init
@@ -19,10 +19,10 @@ returns-then-l-at c = not_good
 
 pub loop-at-preserved : goal.loop-at-preserved
 loop-at-preserved c = (
-  filling-turn descriptor _ c.loop-at.invariant.0 (omega arith) (omega arith) (omega arith)
-      (descriptor-good _ _ (λ i. (c.type_inv.s i).fits) (omega arith)),
+  filling_turn descriptor _ c.loop-at.invariant.0 (omega arith) (omega arith) (omega arith)
+      (descriptor_good _ _ (λ i. (c.type_inv.s i).fits) (omega arith)),
   omega arith,
 )
 
 pub returns : goal.returns
-returns c e = filling-done descriptor _ c.loop-at.invariant.0 (omega arith)
+returns c e = filling_done descriptor _ c.loop-at.invariant.0 (omega arith)

@@ -4,10 +4,10 @@ use mathlib.Core.Path.{refl}
 use native.Mathlib.Omega.{arith}
 use borrow.Author.Rules.{rules}
 use borrow.Author.Tests.{not-false, eqb-true}
-use Rattle.body_glance.proofs.Runs.{Coming, coming-turn, coming-done}
+use Rattle.body_glance.proofs.Runs.{Coming, coming_turn, coming_done}
 use Rattle.body_glance.proofs.Leaves.{not_good}
 use Rattle.index.specs.Index.{message}
-use Rattle.index_reader.proofs.Glances.{message-good, index_good}
+use Rattle.index_reader.proofs.Glances.{message_good, index_good}
 use Rattle.index_reader.proofs.glancing.good_index.Goals as goal
 
 pub returns-then-l-lt1 : goal.returns-then-l-lt1
@@ -27,8 +27,8 @@ returns-then-not-good_message c = not_good
 
 pub loop-left-preserved : goal.loop-left-preserved
 loop-left-preserved c = (
-  coming-turn message _ _ _ c.loop-left.invariant.0 c.loop-left-test.true
-      (message-good _ _ (λ i. (c.type_inv.s i).fits) (omega (arith, c.two_bytes-n.ensures.0)) (omega arith)
+  coming_turn message _ _ _ c.loop-left.invariant.0 c.loop-left-test.true
+      (message_good _ _ (λ i. (c.type_inv.s i).fits) (omega (arith, c.two_bytes-n.ensures.0)) (omega arith)
       (c.good_message.ensures (not-false _ c.if-not-good_message.false-raw))),
   omega arith,
 )
@@ -37,5 +37,5 @@ pub returns-then-l-at-lt2-2 : goal.returns-then-l-at-lt2-2
 returns-then-l-at-lt2-2 c = not_good
 
 pub returns : goal.returns
-returns c e = index_good _ (λ i. (c.type_inv.s i).fits) refl (coming-done message _ _ _ c.loop-left.invariant.0 (omega arith)) (omega arith)
+returns c e = index_good _ (λ i. (c.type_inv.s i).fits) refl (coming_done message _ _ _ c.loop-left.invariant.0 (omega arith)) (omega arith)
     c.two_bytes.ensures.0 (eqb-true _ _ e)

@@ -4,10 +4,10 @@ use mathlib.Core.Path.{refl}
 use native.Mathlib.Omega.{arith}
 use borrow.Author.Rules.{rules}
 use borrow.Author.Tests.{not-false, eqb-true}
-use Rattle.body_glance.proofs.Runs.{Coming, coming-turn, coming-done}
+use Rattle.body_glance.proofs.Runs.{Coming, coming_turn, coming_done}
 use Rattle.body_glance.proofs.Leaves.{not_good}
 use Rattle.index.specs.Index.{message}
-use Rattle.index_reader.proofs.Glances.{message-good, index_good}
+use Rattle.index_reader.proofs.Glances.{message_good, index_good}
 use Rattle.index_reader.proofs.glancing.good_index.Given as goal
 
 abbrev pub invariant-loop-left : goal.invariant-loop-left

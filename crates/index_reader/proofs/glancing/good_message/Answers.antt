@@ -2,7 +2,7 @@
 use borrow.Author.Rules.{rules}
 use borrow.Author.Tests.{not-false}
 use Rattle.body_glance.proofs.Leaves.{not_good}
-use Rattle.index_reader.proofs.Glances.{fields-good}
+use Rattle.index_reader.proofs.Glances.{fields_good}
 use Rattle.index_reader.proofs.glancing.good_message.Goals as goal
 
 pub returns-then-l-p-lt38 : goal.returns-then-l-p-lt38
@@ -18,6 +18,6 @@ pub returns-then-not-good_resources : goal.returns-then-not-good_resources
 returns-then-not-good_resources c = not_good
 
 pub returns : goal.returns
-returns c e = fields-good _ _ (λ i. (c.type_inv.s i).fits) _ c.wide-resources.ensures.0
+returns c e = fields_good _ _ (λ i. (c.type_inv.s i).fits) _ c.wide-resources.ensures.0
     (c.good_head.ensures (not-false _ c.if-not-good_head.false-raw)) (c.good_resources.ensures (not-false _ c.if-not-good_resources.false-raw))
     (c.good_flagged.ensures e)

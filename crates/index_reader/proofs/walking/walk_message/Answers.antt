@@ -2,7 +2,7 @@
 use mathlib.Core.Path.{refl}
 use borrow.Author.Rules.{rules}
 use Rattle.ground_refusal.specs.declared.Refusal.TheVariants.{PastPart}
-use Rattle.body_formats.proofs.Parts.{followed-lawful, length_counts}
+use Rattle.body_formats.proofs.Parts.{followed_lawful, length_counts}
 use Rattle.body_walk.proofs.Pairs.{pair, view_walk, exact_walk}
 use Rattle.body_walk.proofs.Counts.{counted_walk}
 use Rattle.index.specs.Index.{named, unnamed, message, message_fields}
@@ -39,6 +39,6 @@ unfolding message message_fields
 returns c = counted_walk (length_counts 2 _) inner_filling c.enter-part.ensures
     (exact_walk PastPart
     (view_walk named unnamed (λ a. refl)
-    (pair head_lawful (followed-lawful _ _ resources_lawful (λ a. flagged_lawful)).formal c.walk_head-a.ensures
+    (pair head_lawful (followed_lawful _ _ resources_lawful (λ a. flagged_lawful)).formal c.walk_head-a.ensures
     (pair resources_lawful flagged_lawful.formal c.walk_resources-b.ensures c.walk_flagged-c.ensures)))
     c.leave.ensures)

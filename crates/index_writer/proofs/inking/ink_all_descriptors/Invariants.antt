@@ -3,7 +3,7 @@ use mathlib.Core.Path.{◌≡◌, refl}
 use lib.ListN.{length}
 use native.Mathlib.Omega.{arith}
 use borrow.Author.Rules.{rules}
-use Rattle.body_ink.proofs.Lists.{Underway, many-count, many-ready, many-inked, times_start, times-next, times-turn, times-done}
+use Rattle.body_ink.proofs.Lists.{Underway, many_count, many_ready, many_inked, times_start, times_next, times_turn, times_done}
 use Rattle.index.specs.Index.{descriptor}
 use Rattle.index_writer.proofs.Inkings.{descriptor_entries}
 use Rattle.index_writer.proofs.inking.ink_all_descriptors.Given as goal

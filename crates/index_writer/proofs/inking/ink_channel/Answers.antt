@@ -2,8 +2,8 @@
 use mathlib.Core.Path.{refl}
 use native.Mathlib.Omega.{arith}
 use borrow.Author.Rules.{rules}
-use Rattle.body_ink.proofs.Pairs.{moved, view-inked, pair-inked}
-use Rattle.body_ink.proofs.Numbers.{a_number, after_bits, numeral-inked}
+use Rattle.body_ink.proofs.Pairs.{moved, view_inked, pair_inked}
+use Rattle.body_ink.proofs.Numbers.{a_number, after_bits, numeral_inked}
 use Rattle.index.specs.Index.{channel_fields, channel}
 use Rattle.index_writer.proofs.Inkings.{channel_ready}
 use Rattle.index_writer.proofs.inking.ink_channel.Goals as goal
@@ -102,8 +102,8 @@ shape_of-out c = search rules
 
 pub returns : goal.returns
 unfolding channel channel_fields
-returns c = view-inked (pair-inked (numeral-inked (a_number 2) c.number.ensures refl refl)
-    (pair-inked (numeral-inked (a_number 2) c.number-2.ensures (omega arith) (omega arith))
-    (pair-inked (numeral-inked (a_number 2) c.number-3.ensures (omega arith) (omega arith))
-    (pair-inked (numeral-inked (after_bits 3 1) c.number-4.ensures (omega arith) (omega arith)) c.ink_channel_parts.ensures))))
+returns c = view_inked (pair_inked (numeral_inked (a_number 2) c.number.ensures refl refl)
+    (pair_inked (numeral_inked (a_number 2) c.number-2.ensures (omega arith) (omega arith))
+    (pair_inked (numeral_inked (a_number 2) c.number-3.ensures (omega arith) (omega arith))
+    (pair_inked (numeral_inked (after_bits 3 1) c.number-4.ensures (omega arith) (omega arith)) c.ink_channel_parts.ensures))))
     _ _ (λ a. refl)

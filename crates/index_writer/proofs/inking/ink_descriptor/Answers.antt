@@ -3,33 +3,33 @@ use mathlib.Core.Path.{refl}
 use native.Mathlib.Omega.{arith}
 use borrow.Author.Rules.{rules}
 use Rattle.body_ink.proofs.Pairs.{moved, ended}
-use Rattle.body_ink.proofs.Strings.{tagged-ready, tagged-inked}
+use Rattle.body_ink.proofs.Strings.{tagged_ready, tagged_inked}
 use Rattle.index.specs.Index.{descriptor}
 use Rattle.index_writer.proofs.inking.ink_descriptor.Goals as goal
 
 pub offset_bounds-tape-k : goal.offset_bounds-tape-k
 unfolding descriptor
-offset_bounds-tape-k c = omega (arith, tagged-ready 1 _ _ c.requires (λ a. refl))
+offset_bounds-tape-k c = omega (arith, tagged_ready 1 _ _ c.requires (λ a. refl))
 
 pub bounds-tape-k : goal.bounds-tape-k
 unfolding descriptor
-bounds-tape-k c = omega (arith, tagged-ready 1 _ _ c.requires (λ a. refl))
+bounds-tape-k c = omega (arith, tagged_ready 1 _ _ c.requires (λ a. refl))
 
 pub number-requires : goal.number-requires
 unfolding descriptor
-number-requires c = omega (arith, tagged-ready 1 _ _ c.requires (λ a. refl))
+number-requires c = omega (arith, tagged_ready 1 _ _ c.requires (λ a. refl))
 
 pub overflow_add-k : goal.overflow_add-k
 unfolding descriptor
-overflow_add-k c = omega (arith, tagged-ready 1 _ _ c.requires (λ a. refl))
+overflow_add-k c = omega (arith, tagged_ready 1 _ _ c.requires (λ a. refl))
 
 pub overflow_add-at : goal.overflow_add-at
 unfolding descriptor
-overflow_add-at c = omega (arith, tagged-ready 1 _ _ c.requires (λ a. refl))
+overflow_add-at c = omega (arith, tagged_ready 1 _ _ c.requires (λ a. refl))
 
 pub part-requires : goal.part-requires
 unfolding descriptor
-part-requires c = moved (tagged-ready 1 _ _ c.requires (λ a. refl)).3 refl refl (search rules)
+part-requires c = moved (tagged_ready 1 _ _ c.requires (λ a. refl)).3 refl refl (search rules)
 
 pub shape_of-out : goal.shape_of-out
 unfolding descriptor
@@ -37,4 +37,4 @@ shape_of-out c = search rules
 
 pub returns : goal.returns
 unfolding descriptor
-returns c = tagged-inked 1 _ _ c.number.ensures (ended c.part.ensures refl (omega arith)) (λ a. refl)
+returns c = tagged_inked 1 _ _ c.number.ensures (ended c.part.ensures refl (omega arith)) (λ a. refl)

@@ -5,7 +5,7 @@ use Rattle.ground_numbers.specs.Sizes.{body_most}
 use native.Mathlib.Omega.{arith}
 use borrow.Author.Rules.{rules}
 use Rattle.body_ink.proofs.Pairs.{inside, reaches}
-use Rattle.body_ink.proofs.Lengths.{counted_ready, counted-inked, length12_prints}
+use Rattle.body_ink.proofs.Lengths.{counted_ready, counted_inked, length12_prints}
 use Rattle.body_formats.specs.Format.{length12}
 use Rattle.index.specs.Index.{descriptors}
 use Rattle.index_writer.proofs.inking.ink_descriptors.Statement.{statement}
@@ -34,5 +34,5 @@ ink_descriptors_spec =
     (λ c κs. omega (arith, reached (search)))
     (λ c. search rules)
     (λ c. let number : tie.After-number = search in
-    let ink-all-descriptors : tie.After-ink_all_descriptors-past = search in
-    counted-inked length12 2 (λ n. 0xF000 + n) length12_prints ink-all-descriptors.ink_all_descriptors-past.ensures number.number.ensures))
+    let ink_all_descriptors : tie.After-ink_all_descriptors-past = search in
+    counted_inked length12 2 (λ n. 0xF000 + n) length12_prints ink_all_descriptors.ink_all_descriptors-past.ensures number.number.ensures))

@@ -8,8 +8,8 @@ use lib.ListN.{get_or, length}
 use native.Mathlib.Omega.{arith}
 use borrow.Author.Rules.{rules}
 use Rattle.body_formats.specs.Format.{under}
-use Rattle.body_ink.proofs.Pairs.{moved, first, under-ready, under_none, under_some}
-use Rattle.body_ink.proofs.Numbers.{after_bits, reserved_below, numeral-ready, numeral-inked, after_number, number-then}
+use Rattle.body_ink.proofs.Pairs.{moved, first, under_ready, under_none, under_some}
+use Rattle.body_ink.proofs.Numbers.{after_bits, reserved_below, numeral_ready, numeral_inked, after_number, number_then}
 use Rattle.index.specs.Index.{channel, flagged}
 use Rattle.index_writer.proofs.inking.ink_flagged.Goals as goal
 
@@ -19,7 +19,7 @@ flag_ready : {pool tape : List ℕ} {at k room : ℕ} → Ready flagged pool tap
 unfolding flagged
 flag_ready g =
     let flag = first _ _ g in
-    let r = numeral-ready (after_bits 7 0) flag in
+    let r = numeral_ready (after_bits 7 0) flag in
     (r.0, r.1, r.2, reserved_below 7 0 flag)
 
 pub offset_bounds-tape-k : goal.offset_bounds-tape-k
@@ -52,7 +52,7 @@ shape_of-out-then-flag-eq0 c = search rules
 
 pub returns-then-flag-eq0 : goal.returns-then-flag-eq0
 unfolding flagged
-returns-then-flag-eq0 c = number-then (after_bits 7 0) (λ flag. under channel flag) (numeral-inked (after_bits 7 0) c.number.ensures refl refl)
+returns-then-flag-eq0 c = number_then (after_bits 7 0) (λ flag. under channel flag) (numeral_inked (after_bits 7 0) c.number.ensures refl refl)
     (under_none channel _ c.if-flag-eq0.true _ _ _)
 
 pub overflow_add-k : goal.overflow_add-k
@@ -65,7 +65,7 @@ overflow_add-at c = omega (arith, flag_ready c.requires)
 
 pub ink_channel-requires : goal.ink_channel-requires
 unfolding flagged
-ink_channel-requires c = under-ready (get_or c.args.tape.now c.args.k 0) (omega arith)
+ink_channel-requires c = under_ready (get_or c.args.tape.now c.args.k 0) (omega arith)
     (moved (after_number (after_bits 7 0) (λ flag. under channel flag) c.requires) refl refl (search rules))
 
 pub shape_of-out : goal.shape_of-out
@@ -74,5 +74,5 @@ shape_of-out c = search rules
 
 pub returns : goal.returns
 unfolding flagged
-returns c = number-then (after_bits 7 0) (λ flag. under channel flag) (numeral-inked (after_bits 7 0) c.number.ensures refl refl)
+returns c = number_then (after_bits 7 0) (λ flag. under channel flag) (numeral_inked (after_bits 7 0) c.number.ensures refl refl)
     (under_some c.ink_channel.ensures (get_or c.args.tape.now c.args.k 0) (omega arith))

@@ -2,9 +2,9 @@
 use native.Mathlib.Omega.{arith}
 use borrow.Author.Rules.{rules}
 use Rattle.body_formats.specs.Identifier.{unreal_day, identifier}
-use Rattle.body_ink.proofs.Pairs.{pair-inked, only-inked}
-use Rattle.body_ink.proofs.Numbers.{a_number, numeral-inked, nibbles-inked}
-use Rattle.body_ink.proofs.Strings.{bytes-inked}
+use Rattle.body_ink.proofs.Pairs.{pair_inked, only_inked}
+use Rattle.body_ink.proofs.Numbers.{a_number, numeral_inked, nibbles_inked}
+use Rattle.body_ink.proofs.Strings.{bytes_inked}
 use Rattle.index.specs.Index.{head}
 use Rattle.index_writer.proofs.Inkings.{a_time, an_end, identifier_ready, head_ready}
 use Rattle.index_writer.proofs.inking.ink_head.Goals as goal
@@ -140,9 +140,9 @@ shape_of-out c = search rules
 
 pub returns : goal.returns
 unfolding head identifier
-returns c = pair-inked (only-inked c.digits.ensures unreal_day)
-    (pair-inked (numeral-inked (a_number 2) c.number.ensures (omega arith) (omega arith))
-    (pair-inked (numeral-inked a_time c.number-2.ensures (omega arith) (omega arith))
-    (pair-inked (numeral-inked an_end c.number-3.ensures (omega arith) (omega arith))
-    (pair-inked (only-inked (bytes-inked 5 c.copy.ensures (omega arith) (omega arith)) _)
-    (nibbles-inked 1 4 (omega arith) c.number-4.ensures (omega arith) (omega arith))))))
+returns c = pair_inked (only_inked c.digits.ensures unreal_day)
+    (pair_inked (numeral_inked (a_number 2) c.number.ensures (omega arith) (omega arith))
+    (pair_inked (numeral_inked a_time c.number-2.ensures (omega arith) (omega arith))
+    (pair_inked (numeral_inked an_end c.number-3.ensures (omega arith) (omega arith))
+    (pair_inked (only_inked (bytes_inked 5 c.copy.ensures (omega arith) (omega arith)) _)
+    (nibbles_inked 1 4 (omega arith) c.number-4.ensures (omega arith) (omega arith))))))

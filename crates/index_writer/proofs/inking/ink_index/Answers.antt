@@ -2,18 +2,18 @@
 use mathlib.Core.Path.{refl}
 use borrow.Author.Rules.{rules}
 use Rattle.ground_refusal.specs.declared.Refusal.TheVariants.{LeftOver}
-use Rattle.body_ink.proofs.Pairs.{first, second, pair-inked, view-ready, view-inked, exact-ready, exact-inked}
+use Rattle.body_ink.proofs.Pairs.{first, second, pair_inked, view_ready, view_inked, exact_ready, exact_inked}
 use Rattle.body_ink.proofs.Writers.{whole}
 use Rattle.index.specs.Index.{fields, index}
 use Rattle.index_writer.proofs.inking.ink_index.Goals as goal
 
 pub ink_messages-past-requires : goal.ink_messages-past-requires
 unfolding index fields
-ink_messages-past-requires c = first _ _ (view-ready _ _ (exact-ready LeftOver c.requires) (λ a. refl))
+ink_messages-past-requires c = first _ _ (view_ready _ _ (exact_ready LeftOver c.requires) (λ a. refl))
 
 pub part-requires : goal.part-requires
 unfolding index fields
-part-requires c = second c.ink_messages-past.ensures (view-ready _ _ (exact-ready LeftOver c.requires) (λ a. refl))
+part-requires c = second c.ink_messages-past.ensures (view_ready _ _ (exact_ready LeftOver c.requires) (λ a. refl))
 
 pub shape_of-out : goal.shape_of-out
 unfolding index fields
@@ -21,4 +21,4 @@ shape_of-out c = search rules
 
 pub returns : goal.returns
 unfolding index fields
-returns c = whole (exact-inked (view-inked (pair-inked c.ink_messages-past.ensures c.part.ensures) _ _ (λ a. refl)) LeftOver)
+returns c = whole (exact_inked (view_inked (pair_inked c.ink_messages-past.ensures c.part.ensures) _ _ (λ a. refl)) LeftOver)

@@ -4,7 +4,7 @@ use Rattle.body_ink.specs.Inked.{Inked}
 use mathlib.Core.Path.{refl}
 use native.Mathlib.Omega.{arith}
 use borrow.Author.Rules.{rules}
-use Rattle.body_ink.proofs.Pairs.{moved, ended, inside, reaches, first, second, pair-inked}
+use Rattle.body_ink.proofs.Pairs.{moved, ended, inside, reaches, first, second, pair_inked}
 use Rattle.index.specs.Index.{message_fields}
 use Rattle.index_writer.proofs.Inkings.{head_ready, message_ready, message_inked}
 use Rattle.index_writer.proofs.inking.ink_message.Statement.{statement}
@@ -21,7 +21,7 @@ unfolding message_fields begun
 fields c =
     let resources : tie.After-resources-resources = search in
     let ink-head : tie.After-ink_head = search in
-    pair-inked (ended ink-head.ink_head.ensures (omega arith) refl) (pair-inked resources.resources-resources.ensures c.ink_flagged-past.ensures)
+    pair_inked (ended ink-head.ink_head.ensures (omega arith) refl) (pair_inked resources.resources-resources.ensures c.ink_flagged-past.ensures)
 
 pub ink_message_spec : {M : Type 1} → statement M
 unfolding message_fields begun

@@ -4,8 +4,8 @@ use lib.ListN.{length}
 use native.Mathlib.Omega.{arith}
 use borrow.Author.Rules.{rules}
 use Rattle.body_ink.proofs.Pairs.{moved}
-use Rattle.body_ink.proofs.Numbers.{a_count, numeral-ready, numeral-inked}
-use Rattle.body_ink.proofs.Lists.{Underway, list_count, list-ready, list-inked, times_start, times-next, times-turn, times-done}
+use Rattle.body_ink.proofs.Numbers.{a_count, numeral_ready, numeral_inked}
+use Rattle.body_ink.proofs.Lists.{Underway, list_count, list_ready, list_inked, times_start, times_next, times_turn, times_done}
 use Rattle.index.specs.Index.{message}
 use Rattle.index_writer.proofs.inking.ink_messages.Given as goal
 

@@ -2,8 +2,8 @@
 use mathlib.Core.Path.{refl}
 use native.Mathlib.Omega.{arith}
 use borrow.Author.Rules.{rules}
-use Rattle.body_ink.proofs.Pairs.{moved, view-inked, pair-inked}
-use Rattle.body_ink.proofs.Numbers.{a_number, after_bits, numeral-inked}
+use Rattle.body_ink.proofs.Pairs.{moved, view_inked, pair_inked}
+use Rattle.body_ink.proofs.Numbers.{a_number, after_bits, numeral_inked}
 use Rattle.index.specs.Index.{stream_fields, stream}
 use Rattle.index_writer.proofs.Inkings.{stream_ready}
 use Rattle.index_writer.proofs.inking.ink_stream.Goals as goal
@@ -62,6 +62,6 @@ shape_of-out c = search rules
 
 pub returns : goal.returns
 unfolding stream stream_fields
-returns c = view-inked (pair-inked (numeral-inked (a_number 1) c.number.ensures refl refl)
-    (pair-inked (numeral-inked (after_bits 3 1) c.number-2.ensures (omega arith) (omega arith)) c.ink_descriptors.ensures))
+returns c = view_inked (pair_inked (numeral_inked (a_number 1) c.number.ensures refl refl)
+    (pair_inked (numeral_inked (after_bits 3 1) c.number-2.ensures (omega arith) (omega arith)) c.ink_descriptors.ensures))
     _ _ (λ a. refl)

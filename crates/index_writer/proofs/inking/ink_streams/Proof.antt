@@ -5,7 +5,7 @@ use Rattle.ground_numbers.specs.Sizes.{body_most}
 use native.Mathlib.Omega.{arith}
 use borrow.Author.Rules.{rules}
 use Rattle.body_ink.proofs.Pairs.{inside, reaches}
-use Rattle.body_ink.proofs.Lengths.{counted_ready, counted-inked, length_of_prints}
+use Rattle.body_ink.proofs.Lengths.{counted_ready, counted_inked, length_of_prints}
 use Rattle.body_formats.specs.Format.{length_of}
 use Rattle.index.specs.Index.{streams}
 use Rattle.index_writer.proofs.inking.ink_streams.Statement.{statement}
@@ -33,5 +33,5 @@ ink_streams_spec =
     (λ c κs. omega (arith, reached (search)))
     (λ c. search rules)
     (λ c. let number : tie.After-number = search in
-    let ink-all-streams : tie.After-ink_all_streams-past = search in
-    counted-inked (length_of 2) 2 (λ n. n) (length_of_prints 2) ink-all-streams.ink_all_streams-past.ensures number.number.ensures))
+    let ink_all_streams : tie.After-ink_all_streams-past = search in
+    counted_inked (length_of 2) 2 (λ n. n) (length_of_prints 2) ink_all_streams.ink_all_streams-past.ensures number.number.ensures))

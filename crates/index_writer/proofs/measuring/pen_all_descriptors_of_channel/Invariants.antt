@@ -2,7 +2,7 @@
 use mathlib.Core.Path.{sym, ◌∙◌}
 use native.Mathlib.Omega.{arith}
 use borrow.Author.Rules.{rules}
-use Rattle.body_pen.proofs.Lists.{Underway, list_start, many-pen, times-turn, times-stop, times-done}
+use Rattle.body_pen.proofs.Lists.{Underway, list_start, many_pen, times_turn, times_stop, times_done}
 use Rattle.index.specs.Index.{descriptor}
 use Rattle.index_writer.proofs.measuring.pen_all_descriptors_of_channel.Given as goal
 

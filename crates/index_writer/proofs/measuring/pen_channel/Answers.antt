@@ -1,6 +1,6 @@
 -- `index_writer::measuring::pen_channel` meets its contract: its fields one after the other, under their names.
 use borrow.Author.Rules.{rules}
-use Rattle.body_pen.proofs.Pairs.{pair-pen, view_pen}
+use Rattle.body_pen.proofs.Pairs.{pair_pen, view_pen}
 use Rattle.index.specs.Index.{channel_fields, channel}
 use Rattle.index_writer.proofs.measuring.pen_channel.Goals as goal
 
@@ -31,5 +31,5 @@ pen_streams-requires c = search rules
 pub returns : goal.returns
 unfolding channel channel_fields
 returns c = let pool = c.args.pool.now in
-    simp (view_pen, pair-pen)
+    simp (view_pen, pair_pen)
     (cc (c.pen_number-a.ensures pool, c.pen_number-b.ensures pool, c.pen_number-c.ensures pool, (c.pen_reserved-pid.ensures pool).past))

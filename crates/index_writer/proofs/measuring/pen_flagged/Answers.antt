@@ -2,7 +2,7 @@
 use mathlib.Core.Path.{sym, ◌∙◌}
 use native.Mathlib.Omega.{arith}
 use borrow.Author.Rules.{rules}
-use Rattle.body_pen.proofs.Pairs.{flag-none, flag-some}
+use Rattle.body_pen.proofs.Pairs.{flag_none, flag_some}
 use Rattle.index.specs.Index.{flagged}
 use Rattle.index_writer.proofs.measuring.pen_flagged.Goals as goal
 
@@ -12,7 +12,7 @@ pen_reserved-flag-requires c = search rules
 
 pub returns-then-n-eq0 : goal.returns-then-n-eq0
 unfolding flagged
-returns-then-n-eq0 c = sym (flag-none _ (c.pen_reserved-flag.ensures _) c.if-n-eq0.true)
+returns-then-n-eq0 c = sym (flag_none _ (c.pen_reserved-flag.ensures _) c.if-n-eq0.true)
 
 pub pen_channel-requires : goal.pen_channel-requires
 unfolding flagged
@@ -20,4 +20,4 @@ pen_channel-requires c = search rules
 
 pub returns : goal.returns
 unfolding flagged
-returns c = c.pen_channel.ensures ∙ sym (flag-some _ (c.pen_reserved-flag.ensures _) (omega arith))
+returns c = c.pen_channel.ensures ∙ sym (flag_some _ (c.pen_reserved-flag.ensures _) (omega arith))

@@ -1,6 +1,6 @@
 -- `index_writer::measuring::pen_head` meets its contract: its fields one after the other.
 use borrow.Author.Rules.{rules}
-use Rattle.body_pen.proofs.Pairs.{pair-pen}
+use Rattle.body_pen.proofs.Pairs.{pair_pen}
 use Rattle.index.specs.Index.{head}
 use Rattle.index_writer.proofs.measuring.pen_head.Goals as goal
 
@@ -31,4 +31,4 @@ pen_nibbles-requires c = search rules
 pub returns : goal.returns
 unfolding head
 returns c = let pool = c.args.pool.now in
-    simp pair-pen (cc (c.pen_number-b.ensures pool, c.pen_time-c.ensures pool, c.pen_end-d.ensures pool, c.pen_nibbles.ensures pool))
+    simp pair_pen (cc (c.pen_number-b.ensures pool, c.pen_time-c.ensures pool, c.pen_end-d.ensures pool, c.pen_nibbles.ensures pool))

@@ -1,7 +1,7 @@
 -- `index_writer::measuring::pen_message` meets its contract: its length, its fields, which fill it, and then what the length may be.
 use borrow.Author.Rules.{rules}
 use Rattle.body_pen.proofs.Lengths.{length_pen}
-use Rattle.body_pen.proofs.Pairs.{pair-pen, view_pen, exact_pen}
+use Rattle.body_pen.proofs.Pairs.{pair_pen, view_pen, exact_pen}
 use Rattle.index.specs.Index.{message_fields, message}
 use Rattle.index_writer.proofs.measuring.pen_message.Goals as goal
 
@@ -27,4 +27,4 @@ close-requires c = search rules
 
 pub returns : goal.returns
 unfolding message message_fields
-returns c = rw length_pen (simp (exact_pen, view_pen, pair-pen) (cc))
+returns c = rw length_pen (simp (exact_pen, view_pen, pair_pen) (cc))

@@ -2,7 +2,7 @@
 use mathlib.Core.Path.{sym, ◌∙◌}
 use native.Mathlib.Omega.{arith}
 use borrow.Author.Rules.{rules}
-use Rattle.body_pen.proofs.Lists.{Underway, list_start, list-pen, times-turn, times-stop, times-done}
+use Rattle.body_pen.proofs.Lists.{Underway, list_start, list_pen, times_turn, times_stop, times_done}
 use Rattle.index.specs.Index.{message}
 use Rattle.index_writer.proofs.measuring.pen_messages.Given as goal
 

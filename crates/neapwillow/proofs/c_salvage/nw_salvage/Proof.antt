@@ -13,6 +13,6 @@ nw_salvage_spec =
     (λ c κs. search rules)
     (λ c. search rules)
     (λ c. search rules)
-    (λ c. let at-salvage : tie.After-salvage = search in
-    let e = at-salvage.salvage.ensures in
+    (λ c. let at_salvage : tie.After-salvage = search in
+    let e = at_salvage.salvage.ensures in
     (c.salvaged_answer.ensures ∙ ap salvaged_answer e.0, (e.1.0, e.1.1))))
