@@ -4,24 +4,24 @@
 use program_salvage_lines::MOST_OUTPUT;
 use salvage::{CAPTURE_MOST, Salvaged};
 use std::io;
-use std::io::{Read, Write};
+use std::io::Write;
 
 // One byte more than the longest capture, to tell a longer one.
-const ENOUGH: u64 = CAPTURE_MOST as u64 + 1;
+const ENOUGH: usize = CAPTURE_MOST + 1;
 
 // Three numbers for each of the 10,083 runs that a capture can have.
 const NUMBERS: usize = 30_249;
 
 fn main(rt: HostRuntime) -> io::Result<()> {
-    let mut capture = Vec::new(rt.alloc());
-    rt.stdin().take(ENOUGH).read_to_end(&mut capture)?;
+    let mut capture = [0u8; ENOUGH];
+    let got = program_reading::read_full(&mut rt.stdin(), &mut capture)?;
     let mut sections = [0u8; CAPTURE_MOST];
     let mut runs = [0u32; NUMBERS];
-    match salvage::salvage(&capture, &mut sections, &mut runs) {
+    match salvage::salvage(&capture[..got], &mut sections, &mut runs) {
         Salvaged::Of(bytes, _runs) => rt.stdout().write_all(&sections[..bytes])?,
         Salvaged::Refused(_why) => {}
     }
     let mut list = [0u8; MOST_OUTPUT];
-    let length = program_salvage_lines::report(&capture, &mut list);
+    let length = program_salvage_lines::report(&capture[..got], &mut list);
     rt.stderr().write_all(&list[..length])
 }
