@@ -10,7 +10,7 @@ check of a crate serves several faults, an edit names for each of them the decla
 
 A declaration is a lemma of a file of proofs/, or a goal of a function, which stands in its proofs/FUNCTION/Answers.antt; a goal that the prover
 finds by itself is named so too, though it, or the whole file, is not written. The check must give an error of that declaration in that file
-which is its own: not one that says no more than that another declaration was not admitted.
+which is its own: not one that says no more than that another declaration was not admitted, or that a name is gone.
 
 edits.py KIT JOBS tries each edit on a copy of its crate, over what `rt check` has kept in the crates' out/, so many at once. What one came to is kept
 by the sum of all that its check read, below the user's cache, so that the next run, in another checkout too, tries what changed. With `lacks`
@@ -39,9 +39,10 @@ import rtlib  # noqa: E402 (the kit's, which knows how rt calls the prover)
 KEPT = os.path.join(os.environ.get('XDG_CACHE_HOME') or os.path.expanduser('~/.cache'), 'neapwillow', 'edits')
 PARTS = ['src', 'specs', 'proofs']
 KEYS = ['fault', 'says', 'refused', 'file', 'old', 'new']
-# An error of a declaration, by file and name, and what one says that only rests on a refused declaration; a function for which no proof is found.
+# An error of a declaration, by file and name; what one says that only rests on a refused declaration, or names what the edit took away, which tells
+# nothing of the contract; a function for which no proof is found.
 ERROR = re.compile(r'(?:\./)?(?P<file>\S+?):\d+:\d+: error: `(?P<name>[^`]*)`')
-CONSEQUENCE = re.compile('so this cannot be checked|, which was rejected|was not admitted')
+CONSEQUENCE = re.compile('so this cannot be checked|, which was rejected|was not admitted|has no field|is not in scope|has no `')
 NOT_FOUND = re.compile(r'fn \S+: no proof: .*?\bin (?:\./)?(?P<file>proofs/\S+?); `search` did not prove (?P<names>.*)')
 problems = []
 
@@ -117,7 +118,7 @@ def sum_of_kit():
 def kept_as(edit, crate):
     """The file in which it is kept what this edit came to on these texts."""
     changes = [fault.replacements for fault in edit.faults]
-    told = repr((sum_of_kit(), changes, [(it.name, sum_of(it)) for it in [crate, *crate.below()]]))
+    told = repr((sum_of_kit(), CONSEQUENCE.pattern, changes, [(it.name, sum_of(it)) for it in [crate, *crate.below()]]))
     return os.path.join(KEPT, hashlib.sha256(told.encode()).hexdigest())
 
 
