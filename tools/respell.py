@@ -62,8 +62,10 @@ def declared(texts):
     """The repository's own words, those of them that are fields of a record, and those that only stand for another."""
     words, bound, fields = set(), set(), set()
     for path, text in texts.items():
+        goals = {m[2] for m in USED.finditer(text) if re.search(r"\.(Tie|Goals|Given|Statement)$", m[1])}
         for m in TOP.finditer(text):
-            if not re.match(r"\s*(?:goal|g|given|walk)\.", m[2]) and not re.fullmatch(r"(?:invariant|decreases|returns)-?.*", m[1]):
+            kind = re.match(r"\s*(\w+)\.", m[2])
+            if not (kind and kind[1] in goals) and not re.fullmatch(r"(?:invariant|decreases|returns)-?.*", m[1]):
                 words.add(m[1])
         for m in BOUND.finditer(text):
             bound.add(m[1] or m[2])

@@ -142,21 +142,21 @@ module _ (bytes : ℕ) (box : Box) (s : List ℕ) (are_bytes : AreBytes s) (h : 
         go true b k = unroomed (table t S) (newer_begins b) c l r
         go false b k = fixed_not_short x h box.store l k r
 
-    good-calm : g.spoiled ≡ 0 → Kept g box.store S → (v : Verdict) → verdict_of g box.store s ≡ v → Decided g box.store h p v
+    good_calm : g.spoiled ≡ 0 → Kept g box.store S → (v : Verdict) → verdict_of g box.store s ≡ v → Decided g box.store h p v
         → Stands bytes (feed box s) (account_after (has_room bytes) (table t S) (heard s))
     unfolding state_by store_by
-    good-calm z k v f (old c) = still (table t S) (calm_stands x l z k) _ f _ (unheard (table t S) c)
-    good-calm z k v f (other c b a) = still (table t S) (calm_stands x l z k) _ f _ (passes c b a)
-    good-calm z k v f (short c b r) = still (table t S) (calm_stands x l z k) _ f _ (shuts c b r)
-    good-calm z k v f (begun c b r) = starts (table t S) (newer_begins b) c l r f
-    good-calm z k v f (spoiled c b a r y) = absurd (y z)
-    good-calm z k v f (new y u) =
+    good_calm z k v f (old c) = still (table t S) (calm_stands x l z k) _ f _ (unheard (table t S) c)
+    good_calm z k v f (other c b a) = still (table t S) (calm_stands x l z k) _ f _ (passes c b a)
+    good_calm z k v f (short c b r) = still (table t S) (calm_stands x l z k) _ f _ (shuts c b r)
+    good_calm z k v f (begun c b r) = starts (table t S) (newer_begins b) c l r f
+    good_calm z k v f (spoiled c b a r y) = absurd (y z)
+    good_calm z k v f (new y u) =
         let a = fixed_heading_lem x h y.agreed in
         rw (counts y.current y.agreed)
         (takes g t S x.begun.of_table x.long k z x.same (sym a.last ∙ x.same.last) y.roomy l u (feed_by box s (Take h) f))
-    good-calm z k v f (again y u q) =
+    good_calm z k v f (again y u q) =
         rw (counts y.current y.agreed, feed_by box s Repeat f) (calm_stands x l z (kept_again g box.store S k section u q))
-    good-calm z k v f (clash y u q) =
+    good_calm z k v f (clash y u q) =
         let no = kept_clash g box.store S k section u q in
         let clashes : agreeing (S ++ section ∷ []) ≡ false = sym (refuted (agreeing (S ++ section ∷ [])) (λ e. no (agreeing_is _ e))) in
         let front = undisputed_clash S section (agree_agreeing S (kept_agree k)) clashes in
@@ -183,7 +183,7 @@ module _ (bytes : ℕ) (box : Box) (s : List ℕ) (are_bytes : AreBytes s) where
       → (v : Verdict) → verdict_of box.state box.store s ≡ v → Decided box.state box.store h (payload_of s) v
       → Stands bytes (feed box s) (account_after (has_room bytes) a (heard s))
   feed_good (fresh_stands z l) h n e = good_fresh bytes box s are_bytes h n e z l
-  feed_good (calm_stands {t} {S} x l z k) h n e = good-calm bytes box s are_bytes h n e t S x l z k
+  feed_good (calm_stands {t} {S} x l z k) h n e = good_calm bytes box s are_bytes h n e t S x l z k
   feed_good (spoiled_stands {t} {S} x l z k o) h n e = good_spoiled bytes box s are_bytes h n e t S x l z k o
 
   pub feed_stands : {a : Account} → Stands bytes box a → Stands bytes (feed box s) (account_after (has_room bytes) a (heard s))

@@ -17,7 +17,7 @@ use Rattle.gathering_state.proofs.Lists.{missing_before}
 use Rattle.gathering_state.proofs.State.{begun_possible, begun_some, fresh_possible}
 use Rattle.gathering_hand_out.specs.Handing.{body_held as joined_body, complete_of}
 use Rattle.gathering_hand_out.specs.declared.Completeness.TheVariants.{Complete as AllThere, Refused as NotAllThere}
-use Rattle.gathering_hand_out.proofs.Handing.{missing_some, Whole, complete_fresh, complete_spoiled, complete-calm, whole_complete}
+use Rattle.gathering_hand_out.proofs.Handing.{missing_some, Whole, complete_fresh, complete_spoiled, complete_calm, whole_complete}
 use Rattle.gathering_account.specs.Account.{Section, Account, idle, table, Agree, Present, Covered, Complete, contents_of, in_order, body_of}
 use Rattle.gathering_account.specs.Gathers.{Box, SmallestMissing}
 use Rattle.gathering_account.proofs.Keeping.{Kept, kept_agree}
@@ -94,7 +94,7 @@ module _ (g : Gathering) (store : List ℕ) (t : Heading) (S : List Section) (x 
         smallest = λ j i. present j (omega arith) i;
       } in
       finds_missing k (kept_agree kept) s
-      (complete-calm g (length store) (begun_possible g x.begun) (begun_some g x.begun) roomy calm ∙ sym (missing_some (lengths g) k refl l))
+      (complete_calm g (length store) (begun_possible g x.begun) (begun_some g x.begun) roomy calm ∙ sym (missing_some (lengths g) k refl l))
   calm_finds false e =
       let m = ltb-false (smallest_missing (lengths g)) (length (lengths g)) e in
       let c = covered m in

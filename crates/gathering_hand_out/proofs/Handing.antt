@@ -69,12 +69,12 @@ module _ (g : Gathering) (bytes : ℕ) where
         unfolding complete_of
         complete_spoiled s = simp (p, b, r, ne_eqb _ _ s)
 
-        pub complete-calm : g.spoiled ≡ 0 → complete_of g bytes ≡ missing_of (lengths g)
+        pub complete_calm : g.spoiled ≡ 0 → complete_of g bytes ≡ missing_of (lengths g)
         unfolding complete_of
-        complete-calm s = simp (p, b, r, eq-eqb _ _ s)
+        complete_calm s = simp (p, b, r, eq-eqb _ _ s)
 
   pub whole_complete : Whole g bytes → complete_of g bytes ≡ Complete
-  whole_complete w = complete-calm w.possible w.begun w.roomy w.calm ∙ sym (missing_none (lengths g) _ refl w.full)
+  whole_complete w = complete_calm w.possible w.begun w.roomy w.calm ∙ sym (missing_none (lengths g) _ refl w.full)
 
   refused_not_complete : (r : Refusal) → NotComplete r ≡ Complete → ⊥
   refused_not_complete r e = let z : ◌≡◌ {A = ℕ} 0 1 = cc in omega arith

@@ -69,10 +69,10 @@ module _ (g : Gathering) where
       }
 
   -- all of it but the bytes, which are tested last
-  pub fresh-but : g.kind ≡ 0 → g.extension ≡ 0 → g.version ≡ 0 → g.last ≡ 0 → g.spoiled ≡ 0 → greatest g.held ≡ 0 → g.missing ≡ 0
+  pub fresh_but : g.kind ≡ 0 → g.extension ≡ 0 → g.version ≡ 0 → g.last ≡ 0 → g.spoiled ≡ 0 → greatest g.held ≡ 0 → g.missing ≡ 0
       → eqb g.bytes 0 ≡ is_fresh g
   unfolding is_fresh
-  fresh-but k x v n s h m = simp (eq-eqb _ _ k, eq-eqb _ _ x, eq-eqb _ _ v, eq-eqb _ _ n, eq-eqb _ _ s, eq-eqb _ _ h, eq-eqb _ _ m)
+  fresh_but k x v n s h m = simp (eq-eqb _ _ k, eq-eqb _ _ x, eq-eqb _ _ v, eq-eqb _ _ n, eq-eqb _ _ s, eq-eqb _ _ h, eq-eqb _ _ m)
 
   pub not_fresh : (Fresh g → ⊥) → false ≡ is_fresh g
   not_fresh f = refuted (is_fresh g) (λ e. f (fresh_fields e))
@@ -188,9 +188,9 @@ unfolding is_kind
 zero_no_kind k e f = false≢true (rw e at f)
 
 module _ (g : Gathering) where
-  pub possible-none : g.kind ≡ 0 → possible_of g ≡ is_fresh g
+  pub possible_none : g.kind ≡ 0 → possible_of g ≡ is_fresh g
   unfolding possible_of
-  possible-none k = rw (← not_begun g (λ b. zero_no_kind g.kind k b.of_table.kind)) (or_false (is_fresh g))
+  possible_none k = rw (← not_begun g (λ b. zero_no_kind g.kind k b.of_table.kind)) (or_false (is_fresh g))
     where
       or_false : (b : Bool) → b || false ≡ b
       or_false true = refl
@@ -202,7 +202,7 @@ module _ (g : Gathering) where
 
   pub possible_fresh : possible_of g ≡ true → nothing_begun g ≡ true → Fresh g
   unfolding nothing_begun
-  possible_fresh p k = fresh_fields g (sym (possible-none (eqb-true _ _ k)) ∙ p)
+  possible_fresh p k = fresh_fields g (sym (possible_none (eqb-true _ _ k)) ∙ p)
 
   pub possible_begun : possible_of g ≡ true → nothing_begun g ≡ false → Begun g
   unfolding nothing_begun
@@ -227,7 +227,7 @@ module _ (g : Gathering) where
 
 pub fresh_possible : possible_of fresh_state ≡ true
 unfolding fresh_state
-fresh_possible = possible-none fresh_state refl ∙ fresh_one
+fresh_possible = possible_none fresh_state refl ∙ fresh_one
 
 -- ---- the kept numbers
 

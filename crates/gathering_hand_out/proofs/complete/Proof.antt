@@ -10,7 +10,7 @@ use mir.Val.{Fits}
 use Rattle.gathering_state.specs.State.{state_of, possible_of, nothing_begun, has_room, lengths}
 use Rattle.gathering_state.specs.declared.Gathering.{Gathering}
 use Rattle.ground_choices.proofs.Tests.{unmet, met}
-use Rattle.gathering_hand_out.proofs.Handing.{complete_impossible, complete_fresh, complete_short, complete_spoiled, complete-calm}
+use Rattle.gathering_hand_out.proofs.Handing.{complete_impossible, complete_fresh, complete_short, complete_spoiled, complete_calm}
 use Rattle.gathering_hand_out.proofs.complete.Statement.{statement}
 use Rattle.gathering_hand_out.proofs.complete.Tie as tie
 
@@ -50,4 +50,4 @@ complete_spec =
     let f : Fits w8 start.args.m.last = search rules in
     omega arith)
     (λ c. let calm : tie.Else-m-ne0 = search in
-    c.missing.ensures ∙ sym (complete-calm _ _ (possible (search)) (begun (search)) (roomy (search)) calm.if-m-ne0.false)))
+    c.missing.ensures ∙ sym (complete_calm _ _ (possible (search)) (begun (search)) (roomy (search)) calm.if-m-ne0.false)))

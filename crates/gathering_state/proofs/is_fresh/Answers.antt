@@ -1,6 +1,6 @@
 -- `gathering_state::is_fresh` meets its contract: a field that is not 0 is not the fresh state's, and where none is found the state is fresh.
 use native.Mathlib.Omega.{arith}
-use Rattle.gathering_state.proofs.State.{fresh-but, not_fresh}
+use Rattle.gathering_state.proofs.State.{fresh_but, not_fresh}
 use Rattle.gathering_state.proofs.is_fresh.Goals as goal
 
 pub returns-then-m-ne0 : goal.returns-then-m-ne0
@@ -25,4 +25,4 @@ pub returns-then-m-ne0-6 : goal.returns-then-m-ne0-6
 returns-then-m-ne0-6 c = not_fresh _ (λ f. omega arith)
 
 pub returns : goal.returns
-returns c = fresh-but _ (omega arith) (omega arith) (omega arith) (omega arith) (omega arith) (omega arith) (omega arith)
+returns c = fresh_but _ (omega arith) (omega arith) (omega arith) (omega arith) (omega arith) (omega arith) (omega arith)
