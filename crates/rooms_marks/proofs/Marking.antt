@@ -19,10 +19,6 @@ module _ (marks : List ℕ) (n r : ℕ) where
   pub once_start : all_once marks 1 n ≡ all_once marks 1 (n + 1 - 1)
   once_start = let m : n + 1 - 1 ≡ n = omega arith in rw m
 
-  pub free_stop : r ≤ n → get_or marks r 0 ≡ 0 → free_mark marks r (n + 1 - r) ≡ r
-  unfolding free_mark
-  free_stop l e = let m : n + 1 - r ≡ suc (n - r) = omega arith in rw (m, eq-eqb (get_or marks r 0) 0 e)
-
   pub free_step : r ≤ n → (get_or marks r 0 ≡ 0 → ⊥) → free_mark marks r (n + 1 - r) ≡ free_mark marks (r + 1) (n + 1 - (r + 1))
   unfolding free_mark
   free_step l e = let m : n + 1 - r ≡ suc (n + 1 - (r + 1)) = omega arith in rw (m, ne_eqb (get_or marks r 0) 0 e, add-one r)
@@ -42,6 +38,12 @@ module _ (marks : List ℕ) (n r : ℕ) where
   pub once_end : n < r → all_once marks r (n + 1 - r) ≡ true
   unfolding all_once
   once_end l = let m : n + 1 - r ≡ 0 = omega arith in rw m
+
+-- a room that is not marked is the first from there on
+pub free_stop : (marks : List ℕ) (r n : ℕ) → 0 < n → get_or marks r 0 ≡ 0 → free_mark marks r n ≡ r
+unfolding free_mark
+free_stop marks r zero l e = absurd (omega arith)
+free_stop marks r (suc n) l e = rw (eq-eqb (get_or marks r 0) 0 e)
 
 -- ---- marking
 

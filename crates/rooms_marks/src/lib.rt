@@ -51,6 +51,7 @@ fn marks_of(one: &[u16], two: &[u16]) -> Marks
 }
 
 // The first room that is not marked, and one more; 0 where every one of the n is.
+#[tactic(auto, using(crate::proofs::Marking::free_stop))]
 fn first_unmarked(marks: &[u8], n: usize) -> usize
     requires { n < length marks.now }
     ensures { result ≡ free_mark marks.now 1 n }

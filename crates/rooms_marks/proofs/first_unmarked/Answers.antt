@@ -2,17 +2,14 @@
 use Prim.Native.Nat.{◌-◌}
 use mathlib.Core.Path.{sym, ◌∙◌}
 use native.Mathlib.Omega.{arith}
-use Rattle.rooms_marks.proofs.Marking.{free_start, free_stop, free_step, free_end}
+use Rattle.rooms_marks.proofs.Marking.{free_start, free_step, free_end}
 use Rattle.rooms_marks.proofs.first_unmarked.Goals as goal
 
 pub loop-r-init : goal.loop-r-init
 loop-r-init c = (omega arith, omega arith, free_start _ c.args.n 1)
 
-pub returns-then-marks-r-eq0 : goal.returns-then-marks-r-eq0
-returns-then-marks-r-eq0 c = sym (c.loop-r.invariant.2 ∙ free_stop _ _ _ (omega arith) c.if-marks-r-eq0.true)
-
 pub loop-r-preserved : goal.loop-r-preserved
-loop-r-preserved c = (omega arith, omega arith, c.loop-r.invariant.2 ∙ free_step _ _ _ (omega arith) c.if-marks-r-eq0.false)
+loop-r-preserved c = (omega arith, omega arith, c.loop-r.invariant.2 ∙ free_step _ _ _ (omega arith) (omega arith))
 
 pub returns : goal.returns
 returns c = sym (c.loop-r.invariant.2 ∙ free_end _ _ _ (omega arith))
