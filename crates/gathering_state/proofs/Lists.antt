@@ -64,14 +64,15 @@ zeros_at (suc n) (suc i) = zeros_at n i
 
 -- ---- the smallest missing number
 
+-- a missing number is the smallest from there on
+pub missing_stop : (s : List ℕ) (k : ℕ) → k < length s → get_or s k 0 ≡ 0 → smallest_missing (drop k s) ≡ 0
+unfolding smallest_missing
+missing_stop s k h t = rw (drop-cons s k 0 h, eq-eqb (get_or s k 0) 0 t)
+
 module _ (s : List ℕ) (k : ℕ) (e : smallest_missing s ≡ k + smallest_missing (drop k s)) where
   pub missing_end : length s ≤ k → k ≡ smallest_missing s
   unfolding smallest_missing
   missing_end h = rw (e, drop_of_length-le s h, add-zero)
-
-  pub missing_stop : k < length s → get_or s k 0 ≡ 0 → k ≡ smallest_missing s
-  unfolding smallest_missing
-  missing_stop h t = rw (e, drop-cons s k 0 h, eq-eqb (get_or s k 0) 0 t, add-zero)
 
   pub missing_step : k < length s → (get_or s k 0 ≡ 0 → ⊥) → smallest_missing s ≡ (k + 1) + smallest_missing (drop (k + 1) s)
   unfolding smallest_missing

@@ -2,17 +2,14 @@
 use Prim.Native.Nat.{◌-◌}
 use native.Mathlib.Omega.{arith}
 use Rattle.gathering_state.specs.Lists.{smallest_missing}
-use Rattle.gathering_state.proofs.Lists.{missing_end, missing_stop, missing_step}
+use Rattle.gathering_state.proofs.Lists.{missing_end, missing_step}
 use Rattle.gathering_state.proofs.smallest_missing.Goals as goal
 
 pub loop-k-init : goal.loop-k-init
 loop-k-init c = (omega arith, omega arith)
 
 pub loop-k-preserved : goal.loop-k-preserved
-loop-k-preserved c = (omega arith, missing_step _ _ c.loop-k.invariant.1 (omega arith) c.if-s-k-eq0.false)
+loop-k-preserved c = (omega arith, missing_step _ _ c.loop-k.invariant.1 (omega arith) (omega arith))
 
 pub returns-after-loop-k : goal.returns-after-loop-k
 returns-after-loop-k c = missing_end _ _ c.loop-k.invariant.1 (omega arith)
-
-pub returns-then-s-k-eq0 : goal.returns-then-s-k-eq0
-returns-then-s-k-eq0 c = missing_stop _ _ c.loop-k.invariant.1 (omega arith) c.if-s-k-eq0.true
