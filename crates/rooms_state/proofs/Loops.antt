@@ -1,12 +1,9 @@
--- Laws of the loop over a part's numbers and rooms: one turn, a stop, the end; and of one number and its room.
+-- Laws of the loop over a part's numbers and rooms: one turn, a stop, the end.
 use Prim.Native.Nat.{ℕ, suc, ◌+◌, ◌≤◌, ◌<◌}
 use mathlib.Core.Path.{◌≡◌, ◌∙◌, ap}
 use mathlib.Core.Bool.{Bool, true, false, ◌&&◌}
 use mathlib.Core.List.{List}
 use native.Mathlib.Numerals.{add-one}
-use native.Mathlib.Omega.{arith}
-use borrow.Author.Tests.{eq-eqb, ne_eqb, lt-ltb}
-use lib.Dec.{eqb, leb}
 use lib.ListN.{length, get_or, drop, drop_of_length-le}
 use lib.Seq.{drop-cons}
 use Rattle.rooms_state.specs.State.{pair_test, matched}
@@ -25,18 +22,3 @@ module _ (n : ℕ) (s t : List ℕ) (i : ℕ) (l : length s ≡ length t) where
   pub pair_end : length s ≤ i → matched n (drop i s) (drop i t) ≡ true
   unfolding matched
   pair_end h = rw (drop_of_length-le s h)
-
--- ---- one number and its room
-
-module _ (n h r : ℕ) where
-  pub unheld_pair : h ≡ 0 → eqb r 0 ≡ pair_test n h r
-  unfolding pair_test
-  unheld_pair e = rw (eq-eqb h 0 e)
-
-  pub no_room_pair : (h ≡ 0 → ⊥) → r ≡ 0 → false ≡ pair_test n h r
-  unfolding pair_test
-  no_room_pair d e = rw (ne_eqb h 0 d, e)
-
-  pub room_pair : (h ≡ 0 → ⊥) → (r ≡ 0 → ⊥) → leb r n ≡ pair_test n h r
-  unfolding pair_test
-  room_pair d e = rw (ne_eqb h 0 d, lt-ltb 0 r (omega arith))

@@ -51,6 +51,7 @@ pub fn is_network(network: u32) -> bool
 // ---- possible states
 
 // Has a held number one of the n rooms, and an unheld one none?
+#[tactic(auto, unfolding(crate::specs::State::pair_test))]
 fn is_paired(h: u16, r: u16, n: usize) -> bool
     ensures { result ≡ pair_test n h r }
 {
