@@ -42,12 +42,11 @@ complete_spec =
     (λ c. sym (complete_fresh _ _ (possible (search)) (eq-eqb _ _ c.if-m-eq0.true)))
     (λ c κs. search rules)
     (λ c. sym (complete_short _ _ (possible (search)) (begun (search)) (unmet _ c.before.has_room.ensures c.if-not-has_room.true-raw)))
-    (λ c. sym (complete_spoiled _ _ (possible (search)) (begun (search)) (roomy (search)) c.if-m-ne0.true))
+    (λ c. sym (complete_spoiled _ _ (possible (search)) (begun (search)) (roomy (search)) (omega arith)))
     (λ c. search rules)
     (λ c. search rules)
     (λ c κs. let start : tie.Start = search in
     let n : length start.args.held.now ≡ 256 = search rules in
     let f : Fits w8 start.args.m.last = search rules in
     omega arith)
-    (λ c. let calm : tie.Else-m-ne0 = search in
-    c.missing.ensures ∙ sym (complete_calm _ _ (possible (search)) (begun (search)) (roomy (search)) calm.if-m-ne0.false)))
+    (λ c. c.missing.ensures ∙ sym (complete_calm _ _ (possible (search)) (begun (search)) (roomy (search)) (omega arith))))
