@@ -1,11 +1,11 @@
 -- `section_reader::read_section` meets its contract: each refusal in its turn, and then the heading and the length of the payload.
-use Prim.Native.Nat.{◌≤◌}
+use Prim.Native.Nat.{◌+◌, ◌≤◌}
 use mathlib.Core.Bool.{true}
 use mathlib.Core.Path.{◌≡◌, sym, ap, ◌∙◌}
 use native.Mathlib.Omega.{arith}
 use borrow.Author.Rules.{rules}
 use borrow.Author.Tests.{not-true, not-false}
-use lib.ListN.{get_or}
+use lib.ListN.{length, get_or}
 use Rattle.ground_numbers.specs.Sizes.{section_length_most}
 use Rattle.ground_numbers.proofs.Ranges.{within_known}
 use Rattle.section_reader.specs.Section.{is_kind, fixed_bits, section_length, length_in_range}
@@ -45,11 +45,11 @@ length_known c = sym (length_tested c.before) ∙ not-false _ c.if-not-length_in
 counted : (c : tie.Else-not-length_in_range) → c.before.before.section_length-length.result ≤ section_length_most
 counted c = (within_known 9 _ section_length_most (sym c.before.length_in_range.ensures ∙ not-false _ c.if-not-length_in_range.false-raw)).1
 
-framed : (c : tie.Else-s-length) → Framed (begun_length c.before.before).args.s.now
+framed : (c : tie.Else-not-length_in_range) → let s = (begun_length c.before).args.s.now in length s ≡ section_length s + 3 → Framed s
 unfolding begun_kind begun_length
-framed c =
+framed c e =
     let d : tie.Else-not-fixed_bits = search in
-    record { long = omega arith; kind = kind_known d.before.before; fixed = fixed_known d; counted = length_known c.before; whole = omega arith }
+    record { long = omega arith; kind = kind_known d.before.before; fixed = fixed_known d; counted = length_known c; whole = e }
 
 pub read_section_spec : {M : Type 1} → statement M
 unfolding begun_kind begun_length
@@ -73,9 +73,9 @@ read_section_spec =
     sym (other_length _ (omega arith) (kind_known d.before.before) (fixed_known d) (length_known c.before) (omega arith)))
     (λ c. search rules)
     (λ c. search rules)
-    (λ c. let whole : tie.Else-s-length = search in sym (number_above _ (framed whole) (omega arith)))
+    (λ c. let here : tie.Else-not-length_in_range = search in sym (number_above _ (framed here (omega arith)) (omega arith)))
     (λ c κs. search rules)
-    (λ c. let whole : tie.Else-s-length = search in sym (check_not_zero _ (framed whole) (omega arith) (omega arith)))
+    (λ c. let here : tie.Else-not-length_in_range = search in sym (check_not_zero _ (framed here (omega arith)) (omega arith) (omega arith)))
     (λ c κs. search rules)
     (λ c. search rules)
-    (λ c. let whole : tie.Else-s-length = search in sym (good _ (framed whole) (omega arith) _ c.heading_of.ensures (omega arith))))
+    (λ c. let here : tie.Else-not-length_in_range = search in sym (good _ (framed here (omega arith)) (omega arith) _ c.heading_of.ensures (omega arith))))
