@@ -11,6 +11,7 @@ const DIGITS: usize = 23;
 const BYTES: usize = 12;
 
 // Whether these are 23 bytes of one digit each.
+#[tactic(auto, using(crate::proofs::Same::code_stop))]
 pub fn is_code(code: &[u8]) -> bool
     ensures { result ≡ is_code code.now }
 {

@@ -5,7 +5,7 @@ use native.Mathlib.Omega.{arith}
 use borrow.Author.Rules.{rules}
 use lib.ListN.{length, get_or, take, drop}
 use Rattle.body_formats.specs.Format.{decimal}
-use Rattle.screen_code.proofs.Same.{code_short, code_end, code_on, code_stop}
+use Rattle.screen_code.proofs.Same.{code_short, code_end, code_on}
 use Rattle.screen_code.proofs.is_code.Goals as goal
 
 pub returns-then-code-ne-DIGITS : goal.returns-then-code-ne-DIGITS
@@ -14,12 +14,9 @@ returns-then-code-ne-DIGITS c = code_short _ c.if-code-ne-DIGITS.true
 pub loop-i-init : goal.loop-i-init
 loop-i-init c = (omega arith, c.if-code-ne-DIGITS.false, refl)
 
-pub returns-then-code-i-gt9 : goal.returns-then-code-i-gt9
-returns-then-code-i-gt9 c = let l = c.loop-i in code_stop _ l.invariant.1 l.i l.invariant.2 (omega arith) c.if-code-i-gt9.true
-
 pub loop-i-preserved : goal.loop-i-preserved
 loop-i-preserved c = let l = c.loop-i in
-    (omega arith, l.invariant.1, code_on _ l.invariant.1 l.i l.invariant.2 (omega arith) c.if-code-i-gt9.false)
+    (omega arith, l.invariant.1, code_on _ l.invariant.1 l.i l.invariant.2 (omega arith) (omega arith))
 
 pub returns : goal.returns
 returns c = let l = c.loop-i in code_end _ l.invariant.1 l.i l.invariant.2 (omega arith)
