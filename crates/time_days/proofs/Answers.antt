@@ -79,6 +79,10 @@ module _ (y m d : ℕ) where
   unfolding day_of
   day_refused h = fails (has_day y m d) _ _ (λ t. h (day_number y m d) (accepts t))
 
+  -- a date without a day
+  pub no_day : d < 1 → day_answer.Refused (ImpossibleDay 0) ≡ day_of y m d
+  no_day h = sym (day_refused (λ n v. omega arith))
+
   pub day_accepted : (n : ℕ) → day_of y m d ≡ day_answer.Day n → IsDay n y m d
   unfolding day_of
   day_accepted n e =

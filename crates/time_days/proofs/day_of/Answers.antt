@@ -14,9 +14,6 @@ returns-then-month-lt1 c = sym (day_refused _ _ _ (λ n v. omega arith))
 pub returns-then-month-gt12 : goal.returns-then-month-gt12
 returns-then-month-gt12 c = sym (day_refused _ _ _ (λ n v. omega arith))
 
-pub returns-then-day-lt1 : goal.returns-then-day-lt1
-returns-then-day-lt1 c = sym (day_refused _ _ _ (λ n v. omega arith))
-
 pub returns-then-months-lt-FIRST_MONTH : goal.returns-then-months-lt-FIRST_MONTH
 returns-then-months-lt-FIRST_MONTH c = sym (day_refused _ _ _ (λ n v. omega arith))
 
