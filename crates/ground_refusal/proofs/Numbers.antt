@@ -9,14 +9,14 @@ use Rattle.ground_refusal.specs.Numbers.{refusal_number, is_number, refusal_plac
 use Rattle.ground_refusal.specs.declared.Refusal.{Refusal}
 use Rattle.ground_refusal.specs.declared.Refusal.TheVariants.{SectionTooShort, OtherKind, FixedBitZero, SectionLengthOutside, OtherLength, NumberAboveLast, CheckNotZero, NotCurrent, OtherHeading, StoreTooShort, Contradiction, ImpossibleState, Missing, PastBody, PastPart, LeftOver, ReservedBitZero, DigitAboveNine, OutsideSet, ImpossibleDay, OutputTooSmall, TooLarge, OtherChecksum, NotOfTheForm, NotAPacket, NoSyncByte, OtherPid, Scrambled, PastPacket, NoFreeRoom, CaptureTooLong, TeachingBufferFull}
 
--- each number beside its refusal, at a place
+-- each number beside its refusal, at a place; the last below the gap is named, so that of its number `listed` alone speaks
 abbrev beside : ℕ → List (ℕ × Refusal)
 beside at =
     (1, SectionTooShort) ∷ (2, OtherKind) ∷ (3, FixedBitZero) ∷ (4, SectionLengthOutside) ∷ (5, OtherLength)
     ∷ (6, NumberAboveLast) ∷ (7, CheckNotZero) ∷ (8, NotCurrent) ∷ (9, OtherHeading) ∷ (10, StoreTooShort) ∷ (11, Contradiction)
     ∷ (12, ImpossibleState) ∷ (13, Missing at) ∷ (14, PastBody at) ∷ (15, PastPart at) ∷ (16, LeftOver at)
     ∷ (17, ReservedBitZero at) ∷ (18, DigitAboveNine at) ∷ (19, OutsideSet at) ∷ (20, ImpossibleDay at) ∷ (21, OutputTooSmall)
-    ∷ (22, TooLarge) ∷ (23, OtherChecksum) ∷ (24, NotOfTheForm)
+    ∷ (22, TooLarge) ∷ (23, OtherChecksum) ∷ (refusal_number NotOfTheForm, NotOfTheForm)
     ∷ (30, NotAPacket) ∷ (31, NoSyncByte) ∷ (32, OtherPid) ∷ (33, Scrambled) ∷ (34, PastPacket)
     ∷ (35, NoFreeRoom) ∷ (36, CaptureTooLong) ∷ (37, TeachingBufferFull) ∷ []
 
