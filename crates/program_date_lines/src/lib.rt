@@ -15,6 +15,7 @@ use time_fields::Fielded;
 pub const MOST_OUTPUT: usize = 1_114_131;
 
 // Where the line that begins at `from` ends: at its LF, or at the input's end.
+#[tactic(auto, using(crate::proofs::Lines::length_at_feed, crate::proofs::Lines::length_at_other, crate::proofs::Lines::length_at_end))]
 fn line_end(input: &[u8], from: usize) -> usize
     requires { from ≤ length input.now }
     ensures { (result ≡ from + line_length (drop from input.now)) × (result ≤ length input.now) }
@@ -85,6 +86,7 @@ fn put_lines(out: &mut [u8], at: usize, input: &[u8]) -> usize
 
 // Writes the whole report at the start of the output, and answers its length. The output's other bytes stay. The last clause
 // follows from the second: it is for a caller that lends the report's part of the output.
+#[tactic(auto, using(crate::proofs::Lines::report_over, ground_placing::proofs::Placing::placed_next, ground_placing::proofs::Placing::placed_whole))]
 pub fn report(input: &[u8], out: &mut [u8; MOST_OUTPUT]) -> usize
     ensures length { result ≡ length (report_of input.now) }
     ensures bytes { out.new ≡ report_of input.now ++ drop result out.old }

@@ -1,11 +1,8 @@
 -- `program_date_lines::line_end` meets its contract: the line ends as far past the byte looked at as what is left of it is long.
 use Prim.Native.Nat.{◌+◌, ◌-◌, ◌≤◌}
 use mathlib.Core.Path.{◌≡◌}
-use native.Mathlib.Omega.{arith}
-use borrow.Author.Rules.{rules}
 use lib.ListN.{length, drop}
 use Rattle.program_date_lines.specs.Lines.{line_length}
-use Rattle.program_date_lines.proofs.Lines.{length_at_feed, length_at_other, length_at_end}
 use Rattle.program_date_lines.proofs.line_end.Given as goal
 
 abbrev pub invariant-loop-end : goal.invariant-loop-end

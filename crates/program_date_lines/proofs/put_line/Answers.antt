@@ -1,6 +1,5 @@
 -- `program_date_lines::put_line` meets its contract: the number, a space, the answer and LF, one after the other.
 use mathlib.Core.List.{◌++◌}
-use borrow.Author.Rules.{rules}
 use Rattle.program_printing.specs.Characters.{ascii, decimal_of}
 use Rattle.program_date_lines.specs.Report.{time_answered, line_of}
 use Rattle.ground_placing.proofs.Putting.{room_first, put_room, put_then}
