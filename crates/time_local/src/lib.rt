@@ -46,6 +46,7 @@ pub enum Unpacked {
 }
 
 // Whether a time of day is one: at most 23, 59, 59.
+#[tactic(auto, using(crate::proofs::Clocks::late_hour, crate::proofs::Clocks::late_minute, crate::proofs::Clocks::by_second))]
 fn is_clock(t: LocalTime) -> bool
     ensures { result ≡ is_clock t }
 {
