@@ -1,12 +1,12 @@
 -- Whole numbers as differences of two numbers from 0, so that linear arithmetic proves what is said of them; and what the machine's bits give back of them.
 use mathlib.Core.Path.{◌≡◌, refl, sym, ap, ◌∙◌, subst}
-use mathlib.Core.Bool.{Bool, true, false, not, cond, true≢false}
+use mathlib.Core.Bool.{Bool, true, false, cond, true≢false}
 use Prim.Native.Nat.{ℕ, zero, suc, ◌+◌, ◌-◌, ◌≤◌, ◌<◌, ◌^◌}
 use native.Mathlib.Omega.{arith}
 use lib.Dec.{T, ltb}
-use borrow.Author.Tests.{ltb-true, ltb-false, le-leb, lt-leb}
+use borrow.Author.Tests.{ltb-true, ltb-false}
 use lib.IntN.{ℤ, pos, negsuc, ◌+ℤ◌, neg_ℤ, sub_ℕ, nat_abs}
-use lib.Signed.{lt_z, le_z, mag, non_neg}
+use lib.Signed.{lt_z, mag, non_neg}
 use mir.Syntax.{Width}
 use mir.Val.{Fits, SFits, to_z, of_z, bits, hbits}
 use mir.Facts.{to_z-of_z}
@@ -98,12 +98,3 @@ module _ (w : Width) (z : ℤ) (f : SFits w z) where
 
   pub known_from_0 : lt_z (to_z w (of_z w z)) (pos 0) ≡ false → (k : ℕ) × Known w z (pos k)
   known_from_0 e = let b = not_below z (ap (λ (y : ℤ). lt_z y (pos 0)) (sym (to_z-of_z f)) ∙ e) in (b.0, given f b.1)
-
--- a number is at least another where it is not below it
-pub not_below_le : (x y : ℤ) (t : Bool) → lt_z x y ≡ t → le_z y x ≡ not t
-not_below_le (pos a) (pos b) true e = lt-leb b a (ltb-true a b e)
-not_below_le (pos a) (pos b) false e = le-leb b a (ltb-false a b e)
-not_below_le (pos a) (negsuc b) t e = ap not e
-not_below_le (negsuc a) (pos b) t e = ap not e
-not_below_le (negsuc a) (negsuc b) true e = lt-leb a b (ltb-true b a e)
-not_below_le (negsuc a) (negsuc b) false e = le-leb a b (ltb-false b a e)

@@ -52,6 +52,7 @@ fn later(m: Moment, minutes: i32) -> Timed
 }
 
 // Whether an offset is one of −720 to +840 minutes, east positive.
+#[tactic(auto, unfolding(crate::specs::Offset::is_offset))]
 pub fn permitted(offset: i32) -> bool
     ensures { result ≡ is_offset offset }
 {
