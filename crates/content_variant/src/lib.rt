@@ -15,6 +15,7 @@ pub enum Width {
 }
 
 // "a named variant, 24 or 32 bits", "19 for any other variant".
+#[tactic(auto, unfolding(crate::specs::Variant::width_of))]
 pub fn width_of(variant: u32) -> Width
     ensures { result ≡ width_of variant }
 {
