@@ -437,6 +437,7 @@ pub fn body_end(x: Walk) -> Step
 }
 
 // How many entries a walk that began with this room asks for: 21 where the tape is too small for them.
+#[tactic(auto, using(crate::proofs::Leaves::entries_small, crate::proofs::Leaves::entries_fit))]
 pub fn entries_needed(x: Walk, room: usize) -> Step
     ensures { result ≡ entries_needed room x }
 {
