@@ -77,6 +77,7 @@ pub fn skip_entries(s: &[u8], l: usize, p: usize, h: usize, w: usize, n: u64) ->
 }
 
 // Where the i-th of n entries begins, of which the first begins at p; 19 where there is none.
+#[tactic(auto, using(crate::proofs::Entries::nth_past, crate::proofs::Entries::nth_there))]
 pub fn nth_entry(s: &[u8], l: usize, p: usize, h: usize, w: usize, n: u64, i: u64) -> Step
     requires { (h ≤ 7) × (w ≤ 7) }
     ensures { result ≡ step_of (nth_of (headed_part h w) n i s.now l p) }
