@@ -217,6 +217,7 @@ pub fn flag(s: &[u8], at: usize, n: usize) -> Number
 }
 
 // The flag, and where the channel begins; 19 where the flag is 0.
+#[tactic(auto, using(crate::proofs::Answers::channel_is, crate::proofs::Answers::channel_none, crate::proofs::Answers::channel_no))]
 fn channel_at(s: &[u8], at: usize, n: usize) -> Number
     ensures { result ≡ number_of (channel_at s.now at n) }
 {
