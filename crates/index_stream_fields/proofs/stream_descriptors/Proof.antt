@@ -31,9 +31,6 @@ stream_descriptors_spec =
     let field : tie.After-two_bytes-field = search in
     let part = there looked in
     let read = field.two_bytes-field.ensures in
-    let all : tie.Then-field-ge61440 = search in
-    let few : tie.Then-m-lt1024 = search in
-    descriptors_glanced _ (λ i. (known.shared_slice_known-1.given i).fits) _ _ part.1 _ read.1 part.0 read.0 all.if-field-ge61440.true
-    few.if-m-lt1024.true c.if-m-n.true)
+    descriptors_glanced _ (λ i. (known.shared_slice_known-1.given i).fits) _ _ part.1 _ read.1 part.0 read.0 (omega arith) (omega arith) (omega arith))
     (λ c κs. search rules)
     (λ c. search rules))
