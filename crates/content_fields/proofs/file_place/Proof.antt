@@ -11,18 +11,12 @@ file_place_spec =
     (tie.spec
     (λ c κs. search rules)
     (λ c h. absurd (omega arith))
-    (λ c. let q = c.before.before.count_place-q.ensures (omega arith) in omega (arith, q.inside, q.lies))
+    (λ c. let q = c.count_place-q.ensures (omega arith) in omega (arith, q.inside, q.lies))
     (λ c κs. search rules)
     (λ c h. absurd (omega arith))
     (λ c h. absurd (omega arith))
-    (λ c. let place : tie.After-count_place-q = search in
-    let q = place.count_place-q.ensures (omega arith) in omega (arith, q.inside, q.lies))
-    (λ c. let place : tie.After-count_place-q = search in
-    let q = place.count_place-q.ensures (omega arith) in omega (arith, q.inside, q.lies))
-    (λ c κs. let place : tie.After-count_place-q = search in
-    let q = place.count_place-q.ensures (omega arith) in (q.inside, omega arith, omega arith))
-    (λ c h. let byte : tie.After-wide-count = search in
-    let place : tie.After-count_place-q = search in
-    let count = place.count_place-q.ensures (omega arith) in
-    file_there _ _ (λ i. (place.before.shared_slice_known-1.given i).fits) _ _ _ _ _ _ count byte.wide-count.ensures.0 (omega arith) (omega arith)
-    (c.nth_file.ensures h)))
+    (λ c. let q = c.count_place-q.ensures (omega arith) in omega (arith, q.inside, q.lies))
+    (λ c. let q = c.count_place-q.ensures (omega arith) in omega (arith, q.inside, q.lies))
+    (λ c κs. let q = c.count_place-q.ensures (omega arith) in (q.inside, omega arith, omega arith))
+    (λ c h. file_there _ _ (λ i. (c.shared_slice_known-1.given i).fits) _ _ _ _ _ _ (c.count_place-q.ensures (omega arith))
+    c.wide-count.ensures.0 (omega arith) (omega arith) (c.nth_file.ensures h)))
