@@ -53,7 +53,7 @@ static inline size_t nw_choice_length(nw_choice a) { return (size_t)(a.packed >>
  * 22, and 14 to 20 in the body. Never 21, for nothing is written. Body and code may overlap.
  *
  * The body is judged as nw_index_read does it, and then gone over once more, each message in its turn. No
- * list of messages is kept, and no digits are laid out. Stack: 304 bytes. */
+ * list of messages is kept, and no digits are laid out. Stack: 528 bytes. */
 nw_choice nw_screen_choose(uint32_t kind, const uint8_t *body, size_t n, const uint8_t *code, size_t digits,
                            uint32_t day, uint32_t second);
 

@@ -203,12 +203,12 @@ static inline const char *nw_refusal_text(unsigned number)
 
 /* CRC_32 of the n bytes at s: polynomial 0x04C11DB7, register of all ones at the start. Over a whole
  * section, its last four bytes included, it is 0 exactly if the section's check is right.
- * Stack: 48 bytes. */
+ * Stack: 64 bytes. */
 uint32_t nw_crc32(const uint8_t *s, size_t n);
 
 /* CRC-16 of the n bytes at s: polynomial 0x1021, register of all ones at the start. Of an identifier's
  * 18 bytes it is NOT the extension of the content table, which leaves out the four reserved bits:
- * nw_message_extension, nw_content_extension and nw_content_write tell that one. Stack: 32 bytes. */
+ * nw_message_extension, nw_content_extension and nw_content_write tell that one. Stack: 64 bytes. */
 uint32_t nw_crc16(const uint8_t *s, size_t n);
 
 /* ---- Days -------------------------------------------------------------------------------------
@@ -221,7 +221,7 @@ uint32_t nw_crc16(const uint8_t *s, size_t n);
 nw_answer nw_day_of(uint32_t year, uint32_t month, uint32_t day);
 
 /* The date of a day: what nw_day_of turns back into it.
- * Value: the date. Refusal 20: a day outside the range. Stack: 3,392 bytes. */
+ * Value: the date. Refusal 20: a day outside the range. Stack: 3,408 bytes. */
 nw_date nw_date_of(uint32_t day);
 
 /* The weekday of a day. Value: 1 for Monday to 7 for Sunday. Refusal 20: a day outside the range.
@@ -243,7 +243,7 @@ nw_answer nw_time_pack(uint32_t year, uint32_t month, uint32_t day, uint32_t hou
 
 /* The local date and time of a UTC field. Value: these.
  * Refusals, in this order: 19, the offset is outside its range, or the field has more than 40 bits;
- * 18, a digit is above 9; 20, as for nw_time_pack. Stack: 3,488 bytes. */
+ * 18, a digit is above 9; 20, as for nw_time_pack. Stack: 3,536 bytes. */
 nw_time nw_time_unpack(uint64_t field, int32_t offset);
 
 /* The UTC field of a local time in text: exactly dd/mm/yyyy hh:mm:ss, 19 bytes, day first.
@@ -255,7 +255,7 @@ nw_answer nw_time_read_text(const uint8_t *text, size_t n, int32_t offset);
  * Value: one of enum nw_showing; a live message never ends. Refusals, in this order: 20, the day is
  * outside its range or the second above 86,399; then those of the start field, then of the end field
  * (19, more than 40 bits; 18, a digit above 9; 20, impossible). The start may not be live (18).
- * Stack: 48 bytes. */
+ * Stack: 176 bytes. */
 nw_answer nw_time_showing(uint64_t start, uint64_t end, uint32_t day, uint32_t second);
 enum nw_showing { NW_BEFORE = 0, NW_ON = 1, NW_ENDED = 2 };
 
@@ -270,11 +270,11 @@ enum nw_showing { NW_BEFORE = 0, NW_ON = 1, NW_ENDED = 2 };
  * how many; bytes of out after them stay. Refusals, in this order, with nothing written: 19, the offset
  * is outside its range, or the field has more than 40 bits; 18, a digit is above 9, so a live one; 20, the
  * time is impossible, or its UTC or local day lies outside the range of days; 21, out is too small.
- * Stack: 3,584 bytes. */
+ * Stack: 3,600 bytes. */
 nw_answer nw_time_print_start(uint64_t field, int32_t offset, uint8_t *out, size_t room);
 
 /* Prints an end field: NW_LIVE as the word live, four characters, any other as nw_time_print_start. A live
- * one is refused with 19 for the offset and 21 alone. Stack: 3,584 bytes. */
+ * one is refused with 19 for the offset and 21 alone. Stack: 3,600 bytes. */
 nw_answer nw_time_print_end(uint64_t field, int32_t offset, uint8_t *out, size_t room);
 
 /* Both times of a form, start and end, each in text as nw_time_read_text takes it. Where live is not 0 a
@@ -282,7 +282,7 @@ nw_answer nw_time_print_end(uint64_t field, int32_t offset, uint8_t *out, size_t
  * start's field and then the end's, which is NW_LIVE if it was asked for. Refusals, in this order, with
  * nothing written: 19, the offset; 24 and 20 of the start; 24 and 20 of the end. The word live that is
  * typed is 24. That the end comes after the start is not looked at. fields is never NULL.
- * Stack: 3,760 bytes. */
+ * Stack: 3,776 bytes. */
 nw_answer nw_times_read_text(const uint8_t *start, size_t n, const uint8_t *end, size_t m, uint32_t live,
                              int32_t offset, uint64_t fields[2]);
 
@@ -300,7 +300,7 @@ nw_answer nw_times_read_text(const uint8_t *start, size_t n, const uint8_t *end,
 enum nw_kind { NW_CONFIGURATION = 0xFB, NW_CERTIFICATE = 0xFC, NW_INDEX = 0xFD, NW_CONTENT = 0xFE };
 
 /* Judges any byte string. Value: the heading; the payload is the n - 12 bytes from s + 8 on. Refusals 1
- * to 7, in this order. A section that is not current is good all the same. Stack: 96 bytes. */
+ * to 7, in this order. A section that is not current is good all the same. Stack: 176 bytes. */
 nw_heading nw_section_read(const uint8_t *s, size_t n);
 
 /* The stated length of the section that begins at s, where n bytes are at hand: so many are
@@ -318,7 +318,7 @@ nw_answer nw_section_count(size_t length);
  * bytes of out after them stay. Refusals, in this order, with nothing written: 2, no such kind; 19,
  * a version above 31 or an extension above 65,535; 14, an empty body; 22, more than NW_MOST_BODY
  * bytes; 6, a number past the last; 21, out is too small for the section: NW_MOST_SECTION bytes are
- * enough for any. The body must not overlap out. Stack: 112 bytes. */
+ * enough for any. The body must not overlap out. Stack: 128 bytes. */
 nw_answer nw_section_cut(const uint8_t *body, size_t n, uint32_t kind, uint32_t extension,
                          uint32_t version, uint32_t number, uint8_t *out, size_t room);
 
@@ -361,7 +361,7 @@ static inline nw_run nw_run_at(const uint32_t *list, size_t i)
  * A capture of good sections is gone over once. The worst, in which each byte begins a section that
  * only fails its check, costs a check of up to 4,096 bytes at each byte: no more than 2^28 steps, and
  * twice that where out or list have less room than the macros above tell.
- * Stack: 176 bytes. */
+ * Stack: 288 bytes. */
 nw_salvaged nw_salvage(const uint8_t *capture, size_t n, uint8_t *out, size_t room, uint32_t *list,
                        size_t numbers);
 
@@ -388,7 +388,7 @@ nw_salvaged nw_salvage(const uint8_t *capture, size_t n, uint8_t *out, size_t ro
  * ring of 16. Value: the bytes written, NW_PACKED_BYTES(n); bytes of out after them stay. The next
  * section's counter is (counter + value / NW_PACKET_BYTES) % 16. Refusals, in this order, with nothing
  * written: 1 to 7, as nw_section_read; 19, a counter above 15; 21, out is too small.
- * Stack: 192 bytes. */
+ * Stack: 320 bytes. */
 nw_answer nw_packet_pack(const uint8_t *section, size_t n, uint32_t counter, uint8_t *out, size_t room);
 
 /* Takes one packet, and writes the sections that it completes at the start of out, one right after the
@@ -406,7 +406,7 @@ nw_answer nw_packet_pack(const uint8_t *section, size_t n, uint32_t counter, uin
  * Refusals, in this order, and a refused packet changes nothing, not even the counter: 30, n is not 188;
  * 31, no sync byte; 32, another PID: pass it over; 33, scrambled; 34, a pointer or an adaptation field
  * past the packet's end, or adaptation control 00; 21, out is too small for the sections together.
- * Stack: 144 bytes. */
+ * Stack: 176 bytes. */
 nw_answer nw_packet_unpack(uint8_t state[NW_UNPACKER_BYTES], const uint8_t *packet, size_t n, uint8_t *out,
                            size_t room);
 
@@ -456,7 +456,7 @@ typedef struct nw_gathering {
  * its number, or the gathering is spoiled already. A refused call changes nothing, 8 and 10 for a newer
  * version neither, but that 11 for a contradiction spoils the gathering, which keeps its counts: make the
  * state fresh to begin again, or wait for a newer version. While nothing is begun, and for a newer
- * version's section, there is no 9 and no 11. Stack: 1,248 bytes. */
+ * version's section, there is no 9 and no 11. Stack: 1,312 bytes. */
 nw_answer nw_gathering_feed(nw_gathering *g, uint8_t *store, size_t store_bytes, const uint8_t *s,
                             size_t n);
 enum nw_fed { NW_FED_TAKEN = 0, NW_FED_HELD_ALREADY = 1 };
@@ -466,7 +466,7 @@ enum nw_fed { NW_FED_TAKEN = 0, NW_FED_HELD_ALREADY = 1 };
  * held and no contradiction was fed. Refusals, in this order, with nothing written: 12, not a
  * possible state; 13, nothing is begun (place 0); 10, the store is too short; 11, spoiled; 13, with
  * the smallest missing number as its place; 21, out is too small: g->bytes are enough, and no body is
- * longer than NW_MOST_BODY bytes. Stack: 688 bytes. */
+ * longer than NW_MOST_BODY bytes. Stack: 656 bytes. */
 nw_answer nw_gathering_hand_out(const nw_gathering *g, const uint8_t *store, size_t store_bytes,
                                 uint8_t *out, size_t out_bytes);
 
@@ -476,7 +476,7 @@ nw_answer nw_gathering_hand_out(const nw_gathering *g, const uint8_t *store, siz
  * what it wants to know of the table. Bytes of the store after the body stay, old payloads too. Packed
  * exactly when every number is held and no contradiction was fed. Refusals, in this order, with nothing
  * changed: 12, not a possible state; 13, nothing is begun (place 0); 10, the store is too short; 11,
- * spoiled; 13, with the smallest missing number as its place. There is no 21. Stack: 672 bytes.
+ * spoiled; 13, with the smallest missing number as its place. There is no 21. Stack: 656 bytes.
  *
  * All that a box with one store needs; the body stands in the store until the next feed:
  *
@@ -544,7 +544,7 @@ size_t nw_networks_start(nw_networks *x, size_t store_bytes);
  * already; 35, the section would be taken, and every room is held. There is no 10. A refused call changes
  * nothing, so that a first section refused with 35 begins nothing, but that 11 for a contradiction spoils
  * the network's gathering, which keeps its counts and its rooms: end it to begin again, or wait for a
- * newer version. Stack: 28,464 bytes. */
+ * newer version. Stack: 22,752 bytes. */
 nw_answer nw_networks_feed(nw_networks *x, uint32_t network, uint8_t *store, size_t store_bytes,
                            const uint8_t *s, size_t n);
 
@@ -554,18 +554,18 @@ nw_answer nw_networks_feed(nw_networks *x, uint32_t network, uint8_t *store, siz
  * with nothing written: 19, a network other than 1 or 2; 12, as for nw_networks_feed; 13, nothing is
  * begun (place 0); 11, spoiled; 13, with the smallest missing number as its place; 21, out is too small:
  * gathering.bytes of that network are enough, and no body is longer than NW_MOST_BODY bytes. There is no
- * 10. Stack: 8,544 bytes. */
+ * 10. Stack: 2,768 bytes. */
 nw_answer nw_networks_hand_out(const nw_networks *x, uint32_t network, const uint8_t *store,
                                size_t store_bytes, uint8_t *out, size_t out_bytes);
 
 /* Ends a network's gathering, begun or not, whole, spoiled or neither: its part of the state is fresh
  * again, and its rooms are free. The other network's part stays, and nothing of the store is touched,
  * whose length alone is asked for. Value: 0. Refusals, in this order, with nothing changed: 19, a network
- * other than 1 or 2; 12, as for nw_networks_feed. Stack: 8,496 bytes. */
+ * other than 1 or 2; 12, as for nw_networks_feed. Stack: 4,800 bytes. */
 nw_answer nw_networks_end(nw_networks *x, uint32_t network, size_t store_bytes);
 
 /* How many rooms both networks hold together, and how many of the store's rooms nobody holds. Together
- * they are what nw_networks_start answered. Refusal 12: as for nw_networks_feed. Stack: 8,480 bytes.
+ * they are what nw_networks_start answered. Refusal 12: as for nw_networks_feed. Stack: 2,704 bytes.
  *
  * All that a box between two networks needs, with memory for one table of 256 sections on either side:
  *
@@ -615,7 +615,7 @@ nw_answer nw_networks_free_rooms(const nw_networks *x, size_t store_bytes);
  * order: 37, the buffer has no room for NW_TAUGHT_BYTES(n) bytes after those in use, whatever they
  * are; 12, the bytes in use are no whole rows; then as nw_gathering_feed with a store of
  * store_bytes bytes: 1 to 7, 8, 9, 10, 11. With 37 and 12 nothing is kept and nothing changes: from
- * the first 37 on the quick gathering may know more. used is never NULL. Stack: 464 bytes. */
+ * the first 37 on the quick gathering may know more. used is never NULL. Stack: 592 bytes. */
 nw_answer nw_teaching_feed(uint8_t *buffer, size_t room, size_t *used, size_t store_bytes,
                            const uint8_t *s, size_t n);
 
@@ -625,20 +625,20 @@ nw_answer nw_teaching_feed(uint8_t *buffer, size_t room, size_t *used, size_t st
  * no whole rows; 13, nothing is begun (place 0); 11, two payloads of one number differ; 13, with
  * the smallest missing number as its place; 21, out is too small: no body is longer than
  * NW_MOST_BODY bytes. There is no 37, and no 10, since a table that found no room never began.
- * Stack: 432 bytes. */
+ * Stack: 480 bytes. */
 nw_answer nw_teaching_hand_out(const uint8_t *buffer, size_t room, size_t used, size_t store_bytes,
                                uint8_t *out, size_t out_bytes);
 
 /* The heading of the section that began the table: of the latest takeover, and of the first section
  * taken where there was none. Its kind, extension, version and last number are the quick state's.
- * Refusals: 12, the bytes in use are no whole rows; 13, nothing is begun (place 0). Stack: 272
+ * Refusals: 12, the bytes in use are no whole rows; 13, nothing is begun (place 0). Stack: 352
  * bytes. */
 nw_heading nw_teaching_heading(const uint8_t *buffer, size_t room, size_t used, size_t store_bytes);
 
 /* Value: how many of the table's last + 1 sections are missing, as the quick state's field missing
  * has it. Of a spoiled table only what came before the first contradiction counts. Which number is
  * the smallest is told by nw_teaching_hand_out. Refusals: 12, the bytes in use are no whole rows;
- * 13, nothing is begun (place 0), where the quick state has 0. Stack: 368 bytes. */
+ * 13, nothing is begun (place 0), where the quick state has 0. Stack: 496 bytes. */
 nw_answer nw_teaching_missing(const uint8_t *buffer, size_t room, size_t used, size_t store_bytes);
 
 /* ---- Forms ------------------------------------------------------------------------------------
@@ -809,7 +809,7 @@ nw_part nw_certificate_signature(const uint8_t *body, size_t n);
  * with nothing written and place 0: 19, the tape is too short, has entries left over, or a span that is
  * not in the pool; 22, a count or length too large for its field, or more than NW_MOST_BODY bytes; 21,
  * out is too small: nw_certificate_measure tells the room. Out must overlap neither pool nor tape.
- * Stack: 416 bytes. */
+ * Stack: 272 bytes. */
 nw_answer nw_certificate_write(const uint8_t *pool, size_t pool_bytes, const uint64_t *tape,
                                size_t entries, uint8_t *out, size_t room);
 
@@ -817,7 +817,7 @@ nw_answer nw_certificate_write(const uint8_t *pool, size_t pool_bytes, const uin
  * the length of its body, the room that nw_certificate_write needs. Refusals: those of
  * nw_certificate_write but 21, each but 22 with a place: the entry of the tape, from 0, where the field
  * that is wrong begins, bytes at the entry of their start; the first of entries left over.
- * Stack: 240 bytes. */
+ * Stack: 96 bytes. */
 nw_answer nw_certificate_measure(const uint8_t *pool, size_t pool_bytes, const uint64_t *tape,
                                  size_t entries);
 
@@ -825,7 +825,7 @@ nw_answer nw_certificate_measure(const uint8_t *pool, size_t pool_bytes, const u
  * nw_certificate_write writes it again. Value: the entries laid, two for each part and one for each
  * count; entries after them stay. Refusals, with nothing laid: those of nw_certificate_read, then 21,
  * the tape is too short: NW_CERTIFICATE_ENTRIES(n) are enough. The tape must not overlap the body.
- * Stack: 432 bytes. */
+ * Stack: 384 bytes. */
 nw_answer nw_certificate_lay(uint32_t kind, const uint8_t *body, size_t n, uint64_t *tape,
                              size_t entries);
 
@@ -896,14 +896,14 @@ typedef struct nw_record {
  * descriptors counts by its low ten bits, and is then 17 if one of the two bits above them is 1. Bytes
  * left in a message are 15, at the first of them. Reserved bits are a field before the one whose byte
  * they share. NW_LIVE is a good end, and 18 as a start. An end before its start is accepted.
- * Stack: 624 bytes. */
+ * Stack: 640 bytes. */
 nw_answer nw_index_read(uint32_t kind, const uint8_t *body, size_t n);
 
 /* Judges a body and writes a record for each message at the start of list, which has room for so many;
  * records after them stay. Value: the count of messages. Refusals, with no record written: those of
  * nw_index_read, then 21, the list has less room than there are messages: nw_index_message_count tells
  * how many, and NW_MOST_MESSAGES are always enough. The list must not overlap the body.
- * Stack: 672 bytes. */
+ * Stack: 688 bytes. */
 nw_answer nw_index_records(uint32_t kind, const uint8_t *body, size_t n, nw_record *list, size_t room);
 
 /* The messages and the signature, asked for without reading inside a message, whatever else is wrong
@@ -957,7 +957,7 @@ nw_part nw_message_streams(const uint8_t *body, size_t n, size_t at, size_t leng
 /* The local date and time of a message's start or end. Value: as of nw_time_unpack. Refusals, in this
  * order: 19, the offset is outside its range (place 0); those of nw_message_start or nw_message_end,
  * with their places; 18, a live end, which has no local time, or 20, the local day lies outside the
- * range of days (place 0). Stack: 3,536 bytes. */
+ * range of days (place 0). Stack: 3,600 bytes. */
 nw_time nw_message_local_start(const uint8_t *body, size_t n, size_t at, size_t length, int32_t offset);
 nw_time nw_message_local_end(const uint8_t *body, size_t n, size_t at, size_t length, int32_t offset);
 
@@ -999,20 +999,20 @@ nw_answer nw_stream_count(const uint8_t *body, size_t n, size_t at, size_t lengt
  * over; 22, a count or length too large for its field (descriptors: more than 1,023 bytes together), or
  * more than NW_MOST_BODY bytes; 21, out is too small: nw_index_measure tells the room. Out must overlap
  * neither pool nor tape.
- * Stack: 608 bytes. */
+ * Stack: 544 bytes. */
 nw_answer nw_index_write(const uint8_t *pool, size_t pool_bytes, const uint64_t *tape, size_t entries,
                          uint8_t *out, size_t room);
 
 /* Judges and measures a form, as nw_index_write does before it writes, and writes nothing. Value: the
  * length of its body, the room that nw_index_write needs. Refusals: those of nw_index_write but 21, each
  * but 22 with a place: the entry of the tape, from 0, where the field that is wrong begins, bytes at the
- * entry of their start; the first of entries left over. Stack: 368 bytes. */
+ * entry of their start; the first of entries left over. Stack: 304 bytes. */
 nw_answer nw_index_measure(const uint8_t *pool, size_t pool_bytes, const uint64_t *tape, size_t entries);
 
 /* Lays an accepted body onto a tape: the form from which, with the body itself as the pool,
  * nw_index_write writes it again. Value: the entries laid; entries after them stay. Refusals, with
  * nothing laid: those of nw_index_read, then 21, the tape is too short: NW_INDEX_ENTRIES(n) are enough.
- * The tape must not overlap the body. Stack: 624 bytes. */
+ * The tape must not overlap the body. Stack: 608 bytes. */
 nw_answer nw_index_lay(uint32_t kind, const uint8_t *body, size_t n, uint64_t *tape, size_t entries);
 
 /* ---- The content table ------------------------------------------------------------------------
@@ -1072,7 +1072,7 @@ static inline const char *nw_character_set_text(uint64_t number)
  * 4, a language count that is not 1 to 5, an auxiliary count above 2; 20, the identifier has no real
  * day. A length is 14 or 15 too if what it counts passes an end. Bytes left in a language are 15, at the
  * first of them. Reserved bits are a field before the one whose byte they share.
- * Stack: 432 bytes. */
+ * Stack: 480 bytes. */
 nw_answer nw_content_read(uint32_t kind, uint32_t variant, uint32_t extension, const uint8_t *body,
                           size_t n);
 
@@ -1089,7 +1089,7 @@ nw_answer nw_content_read(uint32_t kind, uint32_t variant, uint32_t extension, c
  * Stack: 48 bytes. */
 nw_part nw_content_identifier(const uint8_t *body, size_t n);
 nw_answer nw_content_identifier_digit(const uint8_t *body, size_t n, uint64_t i);
-/* Stack: 48 bytes. */
+/* Stack: 80 bytes. */
 nw_answer nw_content_extension(const uint8_t *body, size_t n);
 /* Stack: 16 bytes. */
 nw_answer nw_content_language_count(const uint8_t *body, size_t n);
@@ -1105,7 +1105,7 @@ nw_part nw_content_signature(const uint8_t *body, size_t n);
  * what stands after the agency, those of its length; for a file, those of the auxiliary count, then 19,
  * there is no i-th (place 0), then 14 or 15 of a type or a length before it; last 14 to 19 of the field
  * itself, at its place, which may lie after the body's end.
- * Stack: 192 bytes. */
+ * Stack: 176 bytes. */
 nw_part nw_language_letters(const uint8_t *body, size_t n, size_t at, size_t length);
 nw_answer nw_language_character_set(const uint8_t *body, size_t n, size_t at, size_t length);
 nw_part nw_language_text(const uint8_t *body, size_t n, size_t at, size_t length);
@@ -1137,7 +1137,7 @@ nw_written nw_content_write(uint32_t variant, const uint8_t *pool, size_t pool_b
  * length of its body alone, the room that nw_content_write needs. Refusals: those of nw_content_write
  * but 21, the variant's 19 and 22 at place 0 and each other with a place: the entry of the tape, from 0,
  * where the field that is wrong begins, bytes at the entry of their start; the first of entries left
- * over. Stack: 272 bytes. */
+ * over. Stack: 256 bytes. */
 nw_answer nw_content_measure(uint32_t variant, const uint8_t *pool, size_t pool_bytes,
                              const uint64_t *tape, size_t entries);
 
@@ -1191,7 +1191,7 @@ enum nw_command {
  * A content shorter than its least, 7, 13, 10, 3, 5, 2, 2 bytes for tags 1 to 7, is 15 at its length;
  * bytes left in it are 15, at the first of them. An address of kind 1 or 2 of another length is 15 at
  * its length, any other wrong return address 19 where it begins. Reserved bits are a field before the
- * digits whose byte they share. Stack: 464 bytes. */
+ * digits whose byte they share. Stack: 496 bytes. */
 nw_answer nw_configuration_read(uint32_t kind, const uint8_t *body, size_t n);
 
 /* How many commands there are, the part that the i-th command fills, from its tag to the end of its
@@ -1231,7 +1231,7 @@ nw_part nw_command_content(const uint8_t *body, size_t n, size_t at);
 nw_answer nw_command_clock_year(const uint8_t *body, size_t n, size_t at);
 nw_answer nw_command_clock_month(const uint8_t *body, size_t n, size_t at);
 nw_answer nw_command_clock_day(const uint8_t *body, size_t n, size_t at);
-/* Stack: 192 bytes. */
+/* Stack: 208 bytes. */
 nw_answer nw_command_clock_hour(const uint8_t *body, size_t n, size_t at);
 nw_answer nw_command_clock_minute(const uint8_t *body, size_t n, size_t at);
 nw_answer nw_command_clock_second(const uint8_t *body, size_t n, size_t at);
@@ -1272,7 +1272,7 @@ nw_answer nw_command_terminal_digit(const uint8_t *body, size_t n, size_t at, ui
  * 18, a digit above 9; 20, an impossible day, once its three numbers are taken, or time, once its
  * three are, however large they are); 19, the tape has entries left over; 22, a count or length too
  * large for its field, or more than NW_MOST_BODY bytes; 21, out is too small: nw_configuration_measure
- * tells the room. Out must overlap neither pool nor tape. Stack: 592 bytes. */
+ * tells the room. Out must overlap neither pool nor tape. Stack: 400 bytes. */
 nw_answer nw_configuration_write(const uint8_t *pool, size_t pool_bytes, const uint64_t *tape,
                                  size_t entries, uint8_t *out, size_t room);
 
@@ -1280,7 +1280,7 @@ nw_answer nw_configuration_write(const uint8_t *pool, size_t pool_bytes, const u
  * Value: the length of its body, the room that nw_configuration_write needs. Refusals: those of
  * nw_configuration_write but 21, each but 22 with a place: the entry of the tape, from 0, where the field
  * that is wrong begins, bytes at the entry of their start, a day at its year, a time at its hour; the
- * first of entries left over. Stack: 336 bytes. */
+ * first of entries left over. Stack: 160 bytes. */
 nw_answer nw_configuration_measure(const uint8_t *pool, size_t pool_bytes, const uint64_t *tape,
                                    size_t entries);
 

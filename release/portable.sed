@@ -9,5 +9,7 @@ s/ "\(target-cpu\|target-features\|tune-cpu\)"="[^"]*"//g
 /^attributes #[1-9]/d
 # Hints that older versions do not know. Each only lets a compiler assume more.
 s/\(= trunc\|= getelementptr inbounds\) nuw /\1 /
+# The address of a pointer, which older versions ask for by a word that tells the compiler more to keep.
+s/= ptrtoaddr ptr \([^ ]*\) to i64/= ptrtoint ptr \1 to i64/
 # Results of 32 bits are made wide as C's callers on riscv64 expect it.
 s/^define noundef i32 @nw_/define noundef signext i32 @nw_/

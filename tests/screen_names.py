@@ -13,7 +13,7 @@ import sys
 ROOT = os.path.join(os.path.dirname(os.path.abspath(__file__)), os.pardir)
 # The types in which offered functions answer, and those that they hold.
 TYPES = {'body_formats::Number', 'body_formats::Step', 'body_formats::Part', 'ground_refusal::Refusal',
-         'time_fields::Moment', 'time_fields::Showing', 'time_fields::Timed', 'time_fields::EndTimed'}
+         'time_fields::Moment', 'time_fields::Showing'}
 OWN = re.compile(r'screen_\w+|neapwillow_screen(_c)?')
 
 
@@ -47,7 +47,8 @@ def used(text, library):
     """The names of the library's crates in a source, a definition or a proof, comments left out."""
     text = re.sub(r'(//|--).*', '', text)
     for crate, name in re.findall(r'\b([a-z]\w*)::(\w+)', text):
-        if crate in library:
+        # A tactic's attribute names definitions so, as `Rattle.CRATE.specs` does elsewhere.
+        if crate in library and name != 'specs':
             yield '%s::%s' % (crate, name)
     for crate, part in re.findall(r'Rattle\.(\w+)\.(\w+)', text):
         if crate in library and part != 'specs' and crate != 'promises':

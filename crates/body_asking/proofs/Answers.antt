@@ -1,5 +1,6 @@
 -- Laws of the code's tests and answers: what a test makes of a reading, and what an answer says of the reading behind it.
 use Prim.Native.Nat.{ℕ, ◌+◌, ◌-◌, ◌≤◌, ◌<◌}
+use Rattle.std.specs.Prelude.{Ok, Err}
 use mathlib.Core.Path.{◌≡◌, refl, sym, ap, ◌∙◌}
 use mathlib.Core.List.{List}
 use mathlib.Core.Bool.{Bool, true, false, ◌&&◌}
@@ -10,11 +11,10 @@ use borrow.Author.Tests.{ltb-true, leb-true, leb-false, le-leb, lt-leb}
 use Rattle.ground_choices.proofs.Tests.{both}
 use Rattle.ground_refusal.specs.declared.Refusal.{Refusal}
 use Rattle.ground_refusal.specs.declared.Refusal.TheVariants.{OutsideSet}
+use Rattle.ground_refusal.proofs.Exits.{ok_pair_inj}
 use Rattle.body_formats.specs.Reading.{Reading, found, refused, need}
 use Rattle.body_formats.specs.Format.{Format, number_at, count, number}
 use Rattle.body_formats.specs.Answers.{step_of, number_of, part_of, number_read, part_read}
-use Rattle.body_formats.specs.declared.Step.TheVariants.{At, Refused as NoStep}
-use Rattle.body_formats.specs.declared.Part.TheVariants.{Of, Refused as NoPart}
 use Rattle.body_formats.proofs.Outcomes.{need_found}
 use Rattle.body_formats.proofs.Classes.{Bytes}
 use Rattle.body_formats.proofs.Bits.{number_is_count}
@@ -69,29 +69,28 @@ module _ (s : List ℕ) (at n : ℕ) where
 
 -- ---- a part after its length of w bytes, which lies inside
 
-pub part_there : (s : List ℕ) → Bytes s → (l : ℕ) → l ≤ length s → (p w m q : ℕ) → m ≡ number_at s p w → q ≡ p + w → q + m ≤ l → Of q m ≡ part_read w s l p
+pub part_there : (s : List ℕ) → Bytes s → (l : ℕ) → l ≤ length s → (p w m q : ℕ) → m ≡ number_at s p w → q ≡ p + w → q + m ≤ l → Ok (q, m) ≡ part_read w s l p
 part_there s b l inside p w m q e f h =
     let told = number_is s l p w (omega arith) (omega arith) m q e f in
     part_of_lem s l p q m (omega arith) _ _ h (le-leb 0 m (omega arith)) ∙ least_is s l p w 0 m q b told ∙ least_none s l p w
 
 -- ---- from an answer back to what was read
 
-pub part_refused : (x : Reading (List ℕ)) (r : Refusal) → NoPart r ≡ part_of x → x ≡ refused r
+pub part_refused : (x : Reading (List ℕ)) (r : Refusal) → Err r ≡ part_of x → x ≡ refused r
 part_refused (refused t) r e = let z : t ≡ r = cc in ap refused z
 part_refused (found xs q) r e = absurd (let z : ◌≡◌ {A = ℕ} 0 1 = cc in omega arith)
 
-pub part_found : (x : Reading (List ℕ)) (a m : ℕ) → Of a m ≡ part_of x → ((xs : List ℕ) (q : ℕ) → x ≡ found xs q → length xs ≤ q)
+pub part_found : (x : Reading (List ℕ)) (a m : ℕ) → Ok (a, m) ≡ part_of x → ((xs : List ℕ) (q : ℕ) → x ≡ found xs q → length xs ≤ q)
     → (xs : List ℕ) × (x ≡ found xs (a + m))
 part_found (found xs q) a m e h =
-    let u : a ≡ q - length xs = cc in
-    let v : m ≡ length xs = cc in
-    (xs, ap (found xs) (let k = h xs q refl in omega arith))
+    let i = ok_pair_inj e in
+    (xs, ap (found xs) (let k = h xs q refl in omega (arith, i.0, i.1)))
 part_found (refused r) a m e h = absurd (let z : ◌≡◌ {A = ℕ} 0 1 = cc in omega arith)
 
-pub step_refused : {A : Type 0} (x : Reading A) (r : Refusal) → NoStep r ≡ step_of x → x ≡ refused r
+pub step_refused : {A : Type 0} (x : Reading A) (r : Refusal) → Err r ≡ step_of x → x ≡ refused r
 step_refused (refused t) r e = let z : t ≡ r = cc in ap refused z
 step_refused (found a q) r e = absurd (let z : ◌≡◌ {A = ℕ} 0 1 = cc in omega arith)
 
-pub step_found : {A : Type 0} (x : Reading A) (q : ℕ) → At q ≡ step_of x → (a : A) × (x ≡ found a q)
+pub step_found : {A : Type 0} (x : Reading A) (q : ℕ) → Ok q ≡ step_of x → (a : A) × (x ≡ found a q)
 step_found (found a r) q e = (a, ap (found a) (let z : r ≡ q = cc in z))
 step_found (refused r) q e = absurd (let z : ◌≡◌ {A = ℕ} 0 1 = cc in omega arith)

@@ -1,5 +1,6 @@
 -- Laws of the way past entries, and of things one after the other that end alike: of whichever the list is read, it ends, and the i-th begins, at the same place.
 use Prim.Native.Nat.{ℕ, zero, suc, ◌+◌, ◌≤◌, ◌<◌}
+use Rattle.std.specs.Prelude.{Ok, Err}
 use mathlib.Core.Path.{◌≡◌, refl, sym, ap, ◌∙◌}
 use mathlib.Core.List.{List, [], ◌∷◌}
 use mathlib.Core.Bool.{Bool, true, false}
@@ -13,9 +14,6 @@ use Rattle.ground_refusal.specs.declared.Refusal.TheVariants.{OutsideSet}
 use Rattle.body_formats.specs.Reading.{Reading, found, refused, and_then, need}
 use Rattle.body_formats.specs.Format.{Format, count, number, bytes, followed, repeat, length_of, counted, opaque}
 use Rattle.body_formats.specs.Answers.{step_of, number_of, ended, ended_all, number_read, part_read, after}
-use Rattle.body_formats.specs.declared.Step.TheVariants.{At, Refused as NoStep}
-use Rattle.body_formats.specs.declared.Number.TheVariants.{Is, Refused as NoNumber}
-use Rattle.body_formats.specs.declared.Part.TheVariants.{Of, Refused as NoPart}
 use Rattle.body_formats.proofs.Outcomes.{found_inj, and_then_found, within_found}
 use Rattle.body_formats.proofs.Bits.{within_refused}
 use Rattle.body_formats.proofs.Readers.{number_found, number_refused, part_found, part_refused}
@@ -25,27 +23,27 @@ use Rattle.body_asking.proofs.Sizes.{only_found}
 -- ---- an entry: its head ends where the number of as many bytes does
 
 module _ (s : List ℕ) (l p h : ℕ) where
-  head_refused : (r : Refusal) → NoNumber r ≡ number_read h s l p → (bytes h).parse s l p ≡ refused r
+  head_refused : (r : Refusal) → Err r ≡ number_read h s l p → (bytes h).parse s l p ≡ refused r
   unfolding number_read count bytes
   head_refused r e = within_refused s l p (p + h) _ _ r (found (take h (drop p s)) (p + h)) (number_refused ((count h).parse s l p) r e)
 
-  head_found : (v q : ℕ) → Is v q ≡ number_read h s l p → (bytes h).parse s l p ≡ found (take h (drop p s)) q
+  head_found : (v q : ℕ) → Ok (v, q) ≡ number_read h s l p → (bytes h).parse s l p ≡ found (take h (drop p s)) q
   unfolding number_read count bytes
   head_found v q e =
       let f = within_found s l p (p + h) _ v q (number_found ((count h).parse s l p) v q e) in
       rw (le-leb (p + h) (length s) f.0, le-leb (p + h) l f.1) (ap (found (take h (drop p s))) (found_inj f.2).1)
 
   module _ (w : ℕ) where
-    pub head_no : (r : Refusal) → NoNumber r ≡ number_read h s l p → NoStep r ≡ ended (headed_part h w) s l p
+    pub head_no : (r : Refusal) → Err r ≡ number_read h s l p → Err r ≡ ended (headed_part h w) s l p
     unfolding ended followed
     head_no r e = rw (head_refused r e)
 
-    module _ (v q : ℕ) (e : Is v q ≡ number_read h s l p) where
-      pub entry_no : (r : Refusal) → NoPart r ≡ part_read w s l q → NoStep r ≡ ended (headed_part h w) s l p
+    module _ (v q : ℕ) (e : Ok (v, q) ≡ number_read h s l p) where
+      pub entry_no : (r : Refusal) → Err r ≡ part_read w s l q → Err r ≡ ended (headed_part h w) s l p
       unfolding ended followed
       entry_no r f = rw (head_found v q e, part_refused s l q w r f)
 
-      pub entry_at : (a m : ℕ) → Of a m ≡ part_read w s l q → At (a + m) ≡ ended (headed_part h w) s l p
+      pub entry_at : (a m : ℕ) → Ok (a, m) ≡ part_read w s l q → Ok (a + m) ≡ ended (headed_part h w) s l p
       unfolding ended followed
       entry_at a m f = rw (head_found v q e, (part_found s l q w a m f).1)
 

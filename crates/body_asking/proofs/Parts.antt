@@ -1,5 +1,6 @@
 -- What a counted part holds, and the fields of an accepted body as they are asked for: the part answered is the one that holds them.
 use Prim.Native.Nat.{ℕ, ◌+◌, ◌/◌, ◌%◌, ◌≤◌, ◌<◌}
+use Rattle.std.specs.Prelude.{Ok, Err}
 use mathlib.Core.Path.{◌≡◌, sym, ap, subst, ◌∙◌}
 use mathlib.Core.List.{List}
 use native.Mathlib.Omega.{arith}
@@ -12,8 +13,6 @@ use Rattle.body_formats.specs.Reading.{found, fine}
 use Rattle.body_formats.specs.Format.{Format, followed, rest, Length, length_of, length12, counted}
 use Rattle.body_formats.specs.Answers.{part_of, nth_digit, digit_read}
 use Rattle.body_formats.specs.Held.{PartHolds}
-use Rattle.body_formats.specs.declared.Number.TheVariants.{Is, Refused as NoNumber}
-use Rattle.body_formats.specs.declared.Part.TheVariants.{Of}
 use Rattle.body_formats.proofs.Outcomes.{found_inj, and_then_found, judged_found, within_found}
 use Rattle.body_formats.proofs.Classes.{Bytes, Filling}
 use Rattle.body_asking.proofs.Sizes.{Sized, count_sized, reserved_sized}
@@ -30,7 +29,7 @@ pub record Holds {A : Type 0} (L : Length) (F : Format A) (s : List ℕ) (l p : 
   pub within_part : at + size ≤ l
   pub inner : F.parse s (at + size) at ≡ found x q
   pub bytes : (counted L rest).parse s l p ≡ found (take size (drop at s)) (at + size)
-  pub part : part_of ((counted L rest).parse s l p) ≡ Of at size
+  pub part : part_of ((counted L rest).parse s l p) ≡ Ok (at, size)
 
 bytes_there : (L : Length) (s : List ℕ) (l p n r : ℕ) → L.field.parse s l p ≡ found n r → r + n % L.limit ≤ length s → r + n % L.limit ≤ l → L.fault n p ≡ fine
     → (counted L rest).parse s l p ≡ found (take (n % L.limit) (drop r s)) (r + n % L.limit)
@@ -107,11 +106,11 @@ part_begins w F f s b l p x q e = part_after_lem (length_of w) w (length_sized w
 
 -- digits asked for one by one: so many as were read are there, and no other
 module _ (D : Format (List ℕ)) (s : List ℕ) (l p : ℕ) (ds : List ℕ) (q : ℕ) (e : D.parse s l p ≡ found ds q) (i : ℕ) where
-  pub digit_there : i < length ds → digit_read D i s l p ≡ Is (get_or ds i 0) (p + (i + 1) / 2)
+  pub digit_there : i < length ds → digit_read D i s l p ≡ Ok (get_or ds i 0, p + (i + 1) / 2)
   unfolding digit_read nth_digit
   digit_there k = rw (e, lt-ltb i (length ds) k)
 
-  pub digit_past : length ds ≤ i → digit_read D i s l p ≡ NoNumber (OutsideSet 0)
+  pub digit_past : length ds ≤ i → digit_read D i s l p ≡ Err (OutsideSet 0)
   unfolding digit_read nth_digit
   digit_past k = rw (e, le-ltb i (length ds) k)
 

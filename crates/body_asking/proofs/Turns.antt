@@ -1,5 +1,7 @@
 -- Things that were read one after the other stand in turn, and the part answered is the one that they fill: by induction over the reading.
 use Prim.Native.Nat.{ℕ, zero, suc, ◌+◌, ◌-◌, ◌≤◌, ◌<◌}
+use Rattle.std.specs.Prelude.{Result, Ok}
+use Rattle.ground_refusal.specs.declared.Refusal.{Refusal}
 use mathlib.Core.Path.{◌≡◌, refl, sym, ap, ap₂, subst, ◌∙◌}
 use mathlib.Core.List.{List, [], ◌∷◌}
 use native.Mathlib.Omega.{arith}
@@ -11,8 +13,6 @@ use Rattle.ground_refusal.specs.declared.Refusal.TheVariants.{PastPart}
 use Rattle.body_formats.specs.Reading.{Reading, found, and_then}
 use Rattle.body_formats.specs.Format.{Format, repeat, opaque, rest, parse_many, many, Length, length_of, counted}
 use Rattle.body_formats.specs.Answers.{part_of}
-use Rattle.body_formats.specs.declared.Part.{Part}
-use Rattle.body_formats.specs.declared.Part.TheVariants.{Of}
 use Rattle.body_formats.proofs.Outcomes.{found_inj, and_then_found, need_found, chosen}
 use Rattle.body_formats.proofs.Classes.{Bytes, Filling}
 use Rattle.body_formats.proofs.Stand.{taken}
@@ -112,7 +112,7 @@ holds_in_turn L k z F f s b l p at from xs q e T t =
     let read = many_read F (q - h.at) s q h.at xs q h.inner in
     let turn = read_in_turn F F s q (λ u x r g. (x, g)) h.at xs q read (λ i. T) (λ i x u r g. t h.in_body_lem x u r g.here) in
     record {
-      is = h.is ∙ ap₂ Of begins size;
+      is = h.is ∙ ap₂ (λ (x y : ℕ). Ok (x, y)) begins size;
       ordered = omega (arith, begins, h.ends);
       in_body_lem = h.in_body_lem;
       in_turn = subst (λ (u : ℕ). InTurn (λ i. T) 0 xs u q) begins turn;
@@ -128,7 +128,7 @@ opaque_fills_at s b l inside w p at from xs q e =
     let f = opaque_found s l p w xs q e in
     let begins : q - length xs ≡ at = omega (arith, n) in (
       record {
-        is = ap part_of e ∙ ap (λ (u : ℕ). Of u (length xs)) begins;
+        is = ap part_of e ∙ ap (λ (u : ℕ). Ok (u, length xs)) begins;
         in_body_lem = omega (arith, n, f.1);
         bytes = ap (λ (u : ℕ). take (length xs) (drop u s)) (sym begins) ∙ f.3;
       },
@@ -150,7 +150,7 @@ follows_length w F f s b p x q e =
     let long : w + h.size ≡ length xs = omega (arith, ends, g.next) in (
       h.size,
       record {
-        is = h.is ∙ ap (λ (u : ℕ). Of u h.size) begins;
+        is = h.is ∙ ap (λ (u : ℕ). Ok (u, h.size)) begins;
         ends = sym ends;
         in_body_lem = h.in_body_lem;
         bytes = ap (λ (u : ℕ). take u (drop p s)) long ∙ taken s p xs g.stands;
@@ -159,6 +159,6 @@ follows_length w F f s b p x q e =
     )
 
 -- so many bytes stand there, with those of the length
-pub follows_takes : (w : ℕ) (s : List ℕ) (part : Part) (xs : List ℕ) (p size q : ℕ) → FollowsLength w s part xs p size q → length xs ≡ w + size
+pub follows_takes : (w : ℕ) (s : List ℕ) (part : Result (ℕ × ℕ) Refusal) (xs : List ℕ) (p size q : ℕ) → FollowsLength w s part xs p size q → length xs ≡ w + size
 follows_takes w s part xs p size q f =
     sym (ap length f.bytes) ∙ length-take-le (w + size) (drop p s) (simp length-drop (omega (arith, f.ends, f.in_body_lem)))

@@ -1,10 +1,9 @@
 -- What a reader has to believe of fields asked for: they stand in a part of the body that the caller tells, or they are not there.
-use Rattle.std.specs.Prelude.{ℕ, ◌+◌, List, ◌&&◌, length, ltb, leb}
+use Rattle.std.specs.Prelude.{ℕ, ◌+◌, List, ◌&&◌, length, ltb, leb, Result, Err}
+use Rattle.ground_refusal.specs.declared.Refusal.{Refusal}
 use Rattle.ground_refusal.specs.declared.Refusal.TheVariants.{OutsideSet}
 use Rattle.body_formats.specs.Reading.{Reading, found, refused, need}
 use Rattle.body_formats.specs.Format.{Format, bytes, ◌▷◌, repeat, opaque}
-use Rattle.body_formats.specs.declared.Number.{Number}
-use Rattle.body_formats.specs.declared.Number.TheVariants.{Refused as NoNumber}
 
 -- ---- a part, told by where it begins and its length
 
@@ -17,9 +16,9 @@ abbrev pub field_in : {A : Type 0} → Format A → ℕ → List ℕ → ℕ →
 field_in F k s at n = in_body s at n (λ l. F.parse s l (at + k))
 
 -- a number asked for at the position found
-abbrev pub asked_at : {A : Type 0} → Reading A → (ℕ → Number) → Number
+abbrev pub asked_at : {A : Type 0} → Reading A → (ℕ → Result (ℕ × ℕ) Refusal) → Result (ℕ × ℕ) Refusal
 asked_at (found a p) k = k p
-asked_at (refused r) k = NoNumber r
+asked_at (refused r) k = Err r
 
 -- ---- a thing of several that fill a part, told by where it begins and how many bytes the part has from there on
 

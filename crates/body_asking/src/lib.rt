@@ -6,7 +6,7 @@ ghost use Rattle.body_formats.specs.Format.{count};
 ghost use Rattle.body_formats.specs.Answers.{step_of, number_of, ended, ended_all};
 ghost use Rattle.body_asking.specs.Asking.{field_in, headed_part, nth_of};
 
-use body_formats::{Number, Part, Step};
+use body_formats::{Number, Step};
 use ground_refusal::Refusal;
 
 // Whether the n bytes from at on lie in the body.
@@ -38,7 +38,7 @@ pub fn number_in(s: &[u8], at: usize, n: usize, k: usize, w: usize) -> Number
     if in_body(s, at, n) {
         return body_numbers::read_number(s, at + n, at + k, w);
     }
-    Number::Refused(Refusal::OutsideSet(0))
+    Err(Refusal::OutsideSet(0))
 }
 
 // Past an entry: h bytes, and a part after its length. The bytes are read as a number, which only says where they end.
@@ -46,34 +46,21 @@ fn skip_entry(s: &[u8], l: usize, p: usize, h: usize, w: usize) -> Step
     requires { (h ≤ 7) × (w ≤ 7) }
     ensures { result ≡ ended (headed_part h w) s.now l p }
 {
-    match body_numbers::read_number(s, l, p, h) {
-        Number::Refused(r) => Step::Refused(r),
-        Number::Is(v, q) => match body_parts::read_part(s, l, q, w) {
-            Part::Refused(r) => Step::Refused(r),
-            Part::Of(a, m) => Step::At(a + m),
-        },
-    }
+    let (v, q) = body_numbers::read_number(s, l, p, h)?;
+    let (a, m) = body_parts::read_part(s, l, q, w)?;
+    Ok(a + m)
 }
 
-// Past n entries.
+// Past n entries. The run alone is that of body_parts::skip_parts: a closure for the step, with its law, is longer.
 pub fn skip_entries(s: &[u8], l: usize, p: usize, h: usize, w: usize, n: u64) -> Step
     requires { (h ≤ 7) × (w ≤ 7) }
     ensures { result ≡ ended_all (headed_part h w) n s.now l p }
 {
     let mut at = p;
-    let mut left = n;
-    while 0 < left {
-        match skip_entry(s, l, at, h, w) {
-            Step::Refused(r) => {
-                return Step::Refused(r);
-            }
-            Step::At(q) => {
-                at = q;
-            }
-        }
-        left = left - 1;
+    for _ in 0..n {
+        at = skip_entry(s, l, at, h, w)?;
     }
-    Step::At(at)
+    Ok(at)
 }
 
 // Where the i-th of n entries begins, of which the first begins at p; 19 where there is none.
@@ -85,5 +72,5 @@ pub fn nth_entry(s: &[u8], l: usize, p: usize, h: usize, w: usize, n: u64, i: u6
     if i < n {
         return skip_entries(s, l, p, h, w, i);
     }
-    Step::Refused(Refusal::OutsideSet(0))
+    Err(Refusal::OutsideSet(0))
 }

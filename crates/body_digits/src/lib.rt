@@ -3,36 +3,20 @@
 
 ghost use Rattle.std.specs.Prelude.{◌≡◌, ◌+◌, ◌≤◌, length, take, drop, leb, ◌&&◌};
 ghost use Rattle.body_formats.specs.Format.{bytes_among, halves, tail, decimal, digits, every};
-ghost use Rattle.body_formats.specs.Answers.{number_of, field_part, reached, nth_digit, digit_read};
+ghost use Rattle.body_formats.specs.Answers.{number_of, field_part, nth_digit, digit_read};
 
-use body_formats::{Number, Part, Step};
+use body_formats::{Number, Part};
+use body_numbers::field_end;
 use ground_numbers::wide;
 use ground_refusal::Refusal;
-
-// Where n bytes at p end, of a field that begins at `at`.
-fn field_end(s: &[u8], l: usize, at: usize, p: usize, n: usize) -> Step
-    ensures { result ≡ reached s.now l at (p + n) }
-{
-    if s.len() < n {
-        return Step::Refused(Refusal::PastBody(at));
-    }
-    if s.len() - n < p {
-        return Step::Refused(Refusal::PastBody(at));
-    }
-    if l < p + n {
-        return Step::Refused(Refusal::PastPart(at));
-    }
-    Step::At(p + n)
-}
 
 // Whether each of the n bytes at p is from lo to hi.
 pub fn all_among(s: &[u8], p: usize, n: usize, lo: u8, hi: u8) -> bool
     requires { p + n ≤ length s.now }
     ensures { result ≡ every (λ x. leb lo x && leb x hi) (take n (drop p s.now)) }
 {
-    let end = p + n;
-    let mut k = p;
-    while k < end {
+    // By `all` the proof didn't close.
+    for k in p..p + n {
         let b = s[k];
         if b < lo {
             return false;
@@ -40,7 +24,6 @@ pub fn all_among(s: &[u8], p: usize, n: usize, lo: u8, hi: u8) -> bool
         if hi < b {
             return false;
         }
-        k = k + 1;
     }
     true
 }
@@ -49,15 +32,11 @@ pub fn all_among(s: &[u8], p: usize, n: usize, lo: u8, hi: u8) -> bool
 pub fn read_bytes(s: &[u8], l: usize, p: usize, n: usize, lo: u8, hi: u8) -> Part
     ensures { result ≡ field_part p ((bytes_among lo hi n).parse s.now l p) }
 {
-    match field_end(s, l, p, p, n) {
-        Step::Refused(r) => Part::Refused(r),
-        Step::At(q) => {
-            if all_among(s, p, n, lo, hi) {
-                return Part::Of(p, n);
-            }
-            Part::Refused(Refusal::OutsideSet(p))
-        }
+    let q = field_end(s, l, p, p, n)?;
+    if all_among(s, p, n, lo, hi) {
+        return Ok((p, n));
     }
+    Err(Refusal::OutsideSet(p))
 }
 
 // Whether the byte at p holds two decimal digits.
@@ -98,17 +77,16 @@ fn by_bytes(s: &[u8], p: usize, n: usize) -> bool
     requires { p + n ≤ length s.now }
     ensures { result ≡ decimal (halves (take n (drop p s.now))) }
 {
-    let mut k: usize = 0;
-    while k < n {
+    for k in 0..n {
         if !one(s, p + k) {
             return false;
         }
-        k = k + 1;
     }
     true
 }
 
-// Whether each of the n bytes at p holds two decimal digits: eight a turn, and the last eight, some of them once more.
+// Whether each of the n bytes at p holds two decimal digits: eight a turn, and the last eight, some of them once more. No run by chunks says that: what
+// they leave would be asked byte by byte.
 pub fn all_decimal(s: &[u8], p: usize, n: usize) -> bool
     requires { p + n ≤ length s.now }
     ensures { result ≡ decimal (halves (take n (drop p s.now))) }
@@ -130,27 +108,19 @@ pub fn all_decimal(s: &[u8], p: usize, n: usize) -> bool
 pub fn read_digits(s: &[u8], l: usize, p: usize, h: usize) -> Part
     ensures { result ≡ field_part p ((digits h).parse s.now l p) }
 {
-    match field_end(s, l, p, p, 1) {
-        Step::Refused(r) => Part::Refused(r),
-        Step::At(q) => {
-            let first = s[p];
-            if first < 240 {
-                return Part::Refused(Refusal::ReservedBitZero(p));
-            }
-            match field_end(s, l, p, q, h) {
-                Step::Refused(r) => Part::Refused(r),
-                Step::At(end) => {
-                    if 249 < first {
-                        return Part::Refused(Refusal::DigitAboveNine(p));
-                    }
-                    if all_decimal(s, q, h) {
-                        return Part::Of(p, end - p);
-                    }
-                    Part::Refused(Refusal::DigitAboveNine(p))
-                }
-            }
-        }
+    let q = field_end(s, l, p, p, 1)?;
+    let first = s[p];
+    if first < 240 {
+        return Err(Refusal::ReservedBitZero(p));
     }
+    let end = field_end(s, l, p, q, h)?;
+    if 249 < first {
+        return Err(Refusal::DigitAboveNine(p));
+    }
+    if all_decimal(s, q, h) {
+        return Ok((p, end - p));
+    }
+    Err(Refusal::DigitAboveNine(p))
 }
 
 // The i-th of the digits in the n bytes at p, of which the first holds one, and the position of the byte that it stands in; 19 where there is none.
@@ -160,22 +130,20 @@ pub fn digit_of(s: &[u8], p: usize, n: usize, i: u64) -> Number
 {
     let k = i / 2 + i % 2;
     if (n as u64) <= k {
-        return Number::Refused(Refusal::OutsideSet(0));
+        return Err(Refusal::OutsideSet(0));
     }
     let at = p + (k as usize);
     let b = wide(s[at]);
     if i % 2 == 0 {
-        return Number::Is(b % 16, at);
+        return Ok((b % 16, at));
     }
-    Number::Is(b / 16, at)
+    Ok((b / 16, at))
 }
 
 // The i-th of the 2 h + 1 digits at p, and the position of the byte that it stands in; 19 where there is none.
 pub fn digit_at(s: &[u8], l: usize, p: usize, h: usize, i: u64) -> Number
     ensures { result ≡ digit_read (digits h) i s.now l p }
 {
-    match read_digits(s, l, p, h) {
-        Part::Refused(r) => Number::Refused(r),
-        Part::Of(a, n) => digit_of(s, a, n, i),
-    }
+    let (a, n) = read_digits(s, l, p, h)?;
+    digit_of(s, a, n, i)
 }

@@ -1,5 +1,6 @@
 -- Laws of what a form lays out in so many bytes: each kind of field, and fields put together.
-use Prim.Native.Nat.{ℕ, zero, suc, ◌+◌, ◌-◌, ◌*◌, ◌%◌, ◌^◌, ◌≤◌, ◌<◌}
+use Prim.Native.Nat.{ℕ, suc, ◌+◌, ◌-◌, ◌*◌, ◌%◌, ◌^◌, ◌≤◌, ◌<◌}
+use Rattle.std.specs.Prelude.{Ok}
 use mathlib.Core.Path.{◌≡◌, refl, sym, ap, ◌∙◌}
 use mathlib.Core.List.{List, ◌∷◌}
 use mathlib.Core.Bool.{Bool, true, false, ◌&&◌, false≢true}
@@ -7,15 +8,13 @@ use native.Mathlib.Omega.{arith}
 use native.Mathlib.Nat.{le_refl}
 use lib.ListN.{length, get_or, take, drop, length-append, length-drop}
 use lib.Seq.{length-take-le, drop-cons}
-use lib.Dec.{leb, ltb}
+use lib.Dec.{leb}
 use borrow.Author.Tests.{le-leb, lt-leb, leb-true, leb-false, lt-ltb, eq-eqb}
 use Rattle.ground_refusal.specs.declared.Refusal.{Refusal}
 use Rattle.ground_numbers.specs.Sizes.{body_most}
-use Rattle.body_formats.specs.Reading.{found, Fault, fine, unless}
-use Rattle.body_formats.specs.Format.{Format, tape_entry, span, only, outside, among, followed, ◌▷◌, view, exact, bytes_of, count, number, halves, paired, tail, decimal, digits, rest, Length, length_of, counted, opaque}
+use Rattle.body_formats.specs.Reading.{found, Fault, fine}
+use Rattle.body_formats.specs.Format.{Format, tape_entry, span, only, among, followed, ◌▷◌, view, exact, count, number, halves, paired, tail, decimal, digits, rest, Length, length_of, counted, opaque}
 use Rattle.body_formats.specs.Body.{measuring, measured}
-use Rattle.body_formats.specs.Answers.{step_of}
-use Rattle.body_formats.specs.declared.Step.TheVariants.{At}
 use Rattle.body_formats.proofs.Leaves.{length_bytes_lem, paired_halves}
 use Rattle.body_formats.proofs.Strings.{first_digit}
 use Rattle.body_form_glance.specs.Lays.{Lays, Told, Seen}
@@ -139,7 +138,7 @@ part_laid pool tape k w e s h t = (_, lays_opaque pool tape k refl refl h (leb-t
 
 -- what a writer measures, where the whole tape lays out a body that is not too long
 pub measured_laid : {A : Type 0} (F : Format A) {pool tape : List ℕ} {a : A} {n : ℕ} → n ≤ body_most → Lays F pool tape 0 a (length tape) n
-    → At n ≡ measured F pool tape
+    → Ok n ≡ measured F pool tape
 unfolding measured measuring
 measured_laid F {pool} {tape} {a} {n} h l =
     rw (l.laid, le-leb (length tape) (length tape) (le_refl (length tape)), l.small, l.long, le-leb n body_most h)

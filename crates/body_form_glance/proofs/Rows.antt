@@ -1,14 +1,14 @@
 -- Laws of things that a form lays out one after the other, as loops pass them.
-use Prim.Native.Nat.{ℕ, zero, suc, ◌+◌, ◌-◌, ◌*◌, ◌^◌, ◌≤◌, ◌<◌}
-use mathlib.Core.Path.{◌≡◌, refl, sym, ap, ◌∙◌}
+use Prim.Native.Nat.{ℕ, suc, ◌+◌, ◌-◌, ◌*◌, ◌^◌, ◌≤◌, ◌<◌}
+use mathlib.Core.Path.{◌≡◌, refl, ◌∙◌}
 use mathlib.Core.List.{List, [], ◌∷◌}
 use native.Mathlib.Omega.{arith}
 use lib.ListN.{length, get_or, length-append}
-use Rattle.body_formats.specs.Format.{Format, repeat, print_all, some, count, times, list_of}
+use Rattle.body_formats.specs.Format.{Format, repeat, print_all, some, times, list_of}
 use Rattle.body_formats.specs.Resource.{resource}
 use Rattle.body_formats.proofs.Elements.{repeat_length}
 use Rattle.body_form_glance.specs.Lays.{Lays, Listed}
-use Rattle.body_form_glance.proofs.Forms.{lays_count}
+use Rattle.body_form_glance.proofs.Forms.{lays_to, lays_count}
 
 -- ---- so many
 
@@ -29,22 +29,30 @@ lays_list {A} {C} F {pool} {tape} {k} {n} {j} {m} {xs} {i} {l} c g =
     let e : length xs ≡ n = repeat_length (F.form pool tape) n j xs i g.laid in
     record { laid = rw c.laid g.laid; long = rw (length-append, e, c.long, g.long); small = rw (e, c.small, g.small) }
 
--- A loop under way: of n things from k on, `left` are still to come, from `at` on, after so many bytes. Whatever these are, they make the whole.
+-- A loop under way: of n things from k on, i are past, and the others are still to come, from `at` on, after so many bytes. Whatever these are, they make the
+-- whole.
 abbrev pub Coming : {A : Type 0} → Format A → List ℕ → List ℕ → ℕ → ℕ → ℕ → ℕ → ℕ → Type 0
-Coming {A} F pool tape n k left at bytes =
-    (xs : List A) (j m : ℕ) → Lays (times left F) pool tape at xs j m → (ys : List A) × Lays (times n F) pool tape k ys j (bytes + m)
+Coming {A} F pool tape n k i at bytes =
+    (xs : List A) (j m : ℕ) → Lays (times (n - i) F) pool tape at xs j m → (ys : List A) × Lays (times n F) pool tape k ys j (bytes + m)
 
-module _ {A : Type 0} (F : Format A) {pool tape : List ℕ} (n : ℕ) {k : ℕ} (left at bytes : ℕ) (c : Coming F pool tape n k left at bytes) where
-  pub coming_turn : {j m : ℕ} (next : ℕ) → next ≡ bytes + m → 0 < left → (a : A) × Lays F pool tape at a j m → Coming F pool tape n k (left - 1) j next
-  coming_turn {j} {m} next e h g xs i l r =
-      let z : suc (left - 1) ≡ left = omega arith in
-      let whole = c (g.0 ∷ xs) i (m + l) (rw z at (lays_more (left - 1) g.1 r)) in
+pub coming_start : {A : Type 0} (F : Format A) {pool tape : List ℕ} (n : ℕ) {k : ℕ} (at bytes : ℕ) → at ≡ k → bytes ≡ 0 → Coming F pool tape n k 0 at bytes
+coming_start F {pool} {tape} n {k} at bytes e f xs j m l =
+    let z : n - 0 ≡ n = omega arith in
+    let b : m ≡ bytes + m = omega arith in
+    (xs, lays_to refl b (rw z at (rw e at l)))
+
+module _ {A : Type 0} (F : Format A) {pool tape : List ℕ} (n : ℕ) {k : ℕ} (i at bytes : ℕ) (c : Coming F pool tape n k i at bytes) where
+  pub coming_turn : {j m : ℕ} (at' next : ℕ) → at' ≡ j → next ≡ bytes + m → i < n → (a : A) × Lays F pool tape at a j m → Coming F pool tape n k (i + 1) at' next
+  coming_turn {j} {m} at' next s e h g xs t l r =
+      let z : suc (n - (i + 1)) ≡ n - i = omega arith in
+      let whole = c (g.0 ∷ xs) t (m + l) (rw z at (lays_more (n - (i + 1)) g.1 (rw s at r))) in
       let same : bytes + (m + l) ≡ next + l = omega arith in
       (whole.0, rw same at whole.1)
 
-  pub coming_done : left ≡ 0 → (ys : List A) × Lays (times n F) pool tape k ys at bytes
+  pub coming_done : n ≤ i → (ys : List A) × Lays (times n F) pool tape k ys at bytes
   coming_done e =
-      let whole = c [] at 0 (rw e (lays_none F pool tape at)) in
+      let z : n - i ≡ 0 = omega arith in
+      let whole = c [] at 0 (rw z (lays_none F pool tape at)) in
       let same : bytes + 0 ≡ bytes = omega arith in
       (whole.0, rw same at whole.1)
 

@@ -97,14 +97,10 @@ fn good_resources(pool: &[u8], tape: &[u64], k: usize, n: usize) -> bool
     requires { k + n * 2 ≤ length tape.now }
     ensures { Good (times n resource) pool.now tape.now k (k + n * 2) (n * 12) result }
 {
-    let mut at = k;
-    let mut left = n;
-    while 0 < left {
-        if !good_resource(pool, tape, at) {
+    for i in 0..n {
+        if !good_resource(pool, tape, k + i * 2) {
             return false;
         }
-        at = at + 2;
-        left = left - 1;
     }
     true
 }

@@ -12,14 +12,12 @@ use lib.Pow.{pow-add, shl_exact}
 use lib.Dec.{ltb, leb}
 use borrow.Author.Tests.{ltb-true, le-leb, lt-leb, lt-ltb, eq-eqb, ne_eqb}
 use Rattle.ground_choices.proofs.Tests.{both, and_of}
-use Rattle.std.specs.Prelude.{if◌then◌else◌}
+use Rattle.std.specs.Prelude.{if◌then◌else◌, Ok, Err}
 use Rattle.ground_refusal.specs.declared.Refusal.{Refusal}
 use Rattle.ground_refusal.specs.declared.Refusal.TheVariants.{PastBody, PastPart, OutsideSet, ReservedBitZero}
 use Rattle.body_formats.specs.Reading.{Reading, found, refused, and_then, need, unless, is_fine, judged, within}
 use Rattle.body_formats.specs.Format.{Format, tape_entry, number_at, count, only, among, number, nibbles, both_among, nibble_among, nibbles_among, below, reserved, bytes, every, bytes_among, rest, length12, counted}
 use Rattle.body_formats.specs.Answers.{number_of, part_of, number_among, number_read}
-use Rattle.body_formats.specs.declared.Number.TheVariants.{Is, Refused as NoNumber}
-use Rattle.body_formats.specs.declared.Part.TheVariants.{Refused as NoPart}
 use Rattle.body_formats.proofs.Stand.{Stands, stands_get, stands_next, stands_byte}
 use Rattle.body_formats.proofs.Outcomes.{found_inj, not_found, and_then_found, need_found, within_found, within_there}
 use Rattle.body_formats.proofs.Classes.{Bytes, Formal, Lawful, moved}
@@ -59,18 +57,18 @@ within_refused {A} {B} s l at end a q r x e = go (leb end (length s)) (leb end l
     go false u f = let z : PastBody at ≡ r = cc in ap refused z
 
 module _ (s : List ℕ) (l p k w : ℕ) where
-  pub reserved_no : (r : Refusal) → NoNumber r ≡ number_read 1 s l p → NoNumber r ≡ number_of ((reserved k w).parse s l p)
+  pub reserved_no : (r : Refusal) → Err r ≡ number_read 1 s l p → Err r ≡ number_of ((reserved k w).parse s l p)
   unfolding number_read count reserved
   reserved_no r e = ap number_of (sym (within_refused s l p (p + 1) _ _ r _ (number_refused ((count 1).parse s l p) r e)))
 
-  module _ (first q : ℕ) (e : Is first q ≡ number_read 1 s l p) where
+  module _ (first q : ℕ) (e : Ok (first, q) ≡ number_read 1 s l p) where
     first_is : (p + 1 ≤ length s) × (p + 1 ≤ l) × (get_or s p 0 ≡ first)
     unfolding number_read count
     first_is =
         let f = within_found s l p (p + 1) _ first q (number_found ((count 1).parse s l p) first q e) in
         (f.0, f.1, sym (one_byte s p) ∙ (found_inj f.2).0)
 
-    pub reserved_zero : (first / 2 ^ (8 - k) ≡ 2 ^ k - 1 → ⊥) → NoNumber (ReservedBitZero p) ≡ number_of ((reserved k w).parse s l p)
+    pub reserved_zero : (first / 2 ^ (8 - k) ≡ 2 ^ k - 1 → ⊥) → Err (ReservedBitZero p) ≡ number_of ((reserved k w).parse s l p)
     unfolding reserved
     reserved_zero h =
         let f = first_is in
@@ -83,11 +81,11 @@ module _ (s : List ℕ) (l p k w : ℕ) where
           let f = first_is in
           rw (add-one w, ← below_power k w, le-leb (p + 1) (length s) f.0, le-leb (p + 1) l f.1, f.2, eq-eqb (first / 2 ^ (8 - k)) (2 ^ k - 1) ones)
 
-      pub reserved_past : (r : Refusal) → NoNumber r ≡ number_read (w + 1) s l p → NoNumber r ≡ number_of ((reserved k w).parse s l p)
+      pub reserved_past : (r : Refusal) → Err r ≡ number_read (w + 1) s l p → Err r ≡ number_of ((reserved k w).parse s l p)
       unfolding number_read count
       reserved_past r g = ap number_of (sym (past_bits ∙ within_refused s l p (p + (w + 1)) _ _ r _ (number_refused ((count (w + 1)).parse s l p) r g)))
 
-      pub reserved_is : (v end : ℕ) → Is v end ≡ number_read (w + 1) s l p → Is (v % 2 ^ (8 * w + (8 - k))) end ≡ number_of ((reserved k w).parse s l p)
+      pub reserved_is : (v end : ℕ) → Ok (v, end) ≡ number_read (w + 1) s l p → Ok (v % 2 ^ (8 * w + (8 - k)), end) ≡ number_of ((reserved k w).parse s l p)
       unfolding number_read count
       reserved_is v end g =
           let f = within_found s l p (p + (w + 1)) _ v end (number_found ((count (w + 1)).parse s l p) v end g) in
@@ -96,18 +94,18 @@ module _ (s : List ℕ) (l p k w : ℕ) where
 
 -- ---- a part after a 12-bit length
 
-pub reserved_inside : (s : List ℕ) (l p k w n q : ℕ) → Is n q ≡ number_of ((reserved k w).parse s l p) → q ≤ length s
+pub reserved_inside : (s : List ℕ) (l p k w n q : ℕ) → Ok (n, q) ≡ number_of ((reserved k w).parse s l p) → q ≤ length s
 unfolding reserved
 reserved_inside s l p k w n q e =
     let f = within_found s l p (p + suc w) _ n q (reserved_found k s l p _ n q (number_found ((reserved k w).parse s l p) n q e)).1 in
     rw (← (found_inj f.2).1) f.0
 
 module _ (s : List ℕ) (l p : ℕ) where
-  pub part12_no : (r : Refusal) → NoNumber r ≡ number_of ((reserved 4 1).parse s l p) → NoPart r ≡ part_of ((counted length12 rest).parse s l p)
+  pub part12_no : (r : Refusal) → Err r ≡ number_of ((reserved 4 1).parse s l p) → Err r ≡ part_of ((counted length12 rest).parse s l p)
   unfolding length12
   part12_no r e = length_no length12 s l p r e
 
-  pub part12_is : (n q : ℕ) → Is n q ≡ number_of ((reserved 4 1).parse s l p)
+  pub part12_is : (n q : ℕ) → Ok (n, q) ≡ number_of ((reserved 4 1).parse s l p)
       → part_of (within s l p (q + n % 1024) (judged (unless (ltb n 1024) (ReservedBitZero p)) (rest.parse s (q + n % 1024) q)))
       ≡ part_of ((counted length12 rest).parse s l p)
   unfolding length12
@@ -116,13 +114,13 @@ module _ (s : List ℕ) (l p : ℕ) where
 -- ---- a number of a stated set
 
 module _ (lo hi p v q : ℕ) where
-  pub among_less : v < lo → NoNumber (OutsideSet p) ≡ number_among lo hi p (Is v q)
+  pub among_less : v < lo → Err (OutsideSet p) ≡ number_among lo hi p (Ok (v, q))
   among_less h = rw (lt-leb lo v h)
 
-  pub among_more : lo ≤ v → hi < v → NoNumber (OutsideSet p) ≡ number_among lo hi p (Is v q)
+  pub among_more : lo ≤ v → hi < v → Err (OutsideSet p) ≡ number_among lo hi p (Ok (v, q))
   among_more h k = rw (le-leb lo v h, lt-leb v hi k)
 
-  pub among_is : lo ≤ v → v ≤ hi → Is v q ≡ number_among lo hi p (Is v q)
+  pub among_is : lo ≤ v → v ≤ hi → Ok (v, q) ≡ number_among lo hi p (Ok (v, q))
   among_is h k = rw (le-leb lo v h, le-leb v hi k)
 
 pub number_among_lem : (lo hi : ℕ) (F : Format ℕ) (s : List ℕ) (l p : ℕ) → number_among lo hi p (number_of (F.parse s l p)) ≡ number_of ((among lo hi F).parse s l p)
@@ -133,7 +131,7 @@ number_among_lem lo hi F s l p = go (F.parse s l p)
     go (refused r) = refl
     go (found v q) = choose (leb lo v && leb v hi)
       where
-        choose : (t : Bool) → (if t then Is v q else NoNumber (OutsideSet p)) ≡ number_of (judged (unless t (OutsideSet p)) (found v q))
+        choose : (t : Bool) → (if t then Ok (v, q) else Err (OutsideSet p)) ≡ number_of (judged (unless t (OutsideSet p)) (found v q))
         choose true = refl
         choose false = refl
 

@@ -13,13 +13,13 @@ abbrev pub Bytes : List ℕ → Type 0
 Bytes s = (i : ℕ) → get_or s i 0 < 256
 
 -- a well-formed value: a writer refuses no field of it, and no count or length is too large
-pub record Ok {A : Type 0} (F : Format A) (a : A) : Type 0 where
+pub record Proper {A : Type 0} (F : Format A) (a : A) : Type 0 where
   pub writable : F.writable a ≡ true
   pub small : F.too_large a ≡ false
 
 -- a is well-formed and its bytes stand at p, up to q, in the part that ends at l
 pub record Found {A : Type 0} (F : Format A) (s : List ℕ) (l p : ℕ) (a : A) (q : ℕ) : Type 0 where
-  pub ok : Ok F a
+  pub ok : Proper F a
   pub stands : Stands s p (F.print a)
   pub next : q ≡ p + length (F.print a)
   pub inside : q ≤ l
@@ -41,14 +41,14 @@ pub record Formal {A : Type 0} (F : Format A) : Type 0 where
 
 -- a format that says itself where it ends
 pub record Lawful {A : Type 0} (F : Format A) : Type 0 where
-  pub back : (s : List ℕ) (l p : ℕ) (a : A) → Ok F a → Stands s p (F.print a) → p + length (F.print a) ≤ l → l ≤ length s
+  pub back : (s : List ℕ) (l p : ℕ) (a : A) → Proper F a → Stands s p (F.print a) → p + length (F.print a) ≤ l → l ≤ length s
       → F.parse s l p ≡ found a (p + length (F.print a))
   pub forth : Forth F
   pub formal : Formal F
 
 -- a format that reaches to the end of its part
 pub record Filling {A : Type 0} (F : Format A) : Type 0 where
-  pub back : (s : List ℕ) (l p : ℕ) (a : A) → Ok F a → Stands s p (F.print a) → p + length (F.print a) ≡ l → l ≤ length s
+  pub back : (s : List ℕ) (l p : ℕ) (a : A) → Proper F a → Stands s p (F.print a) → p + length (F.print a) ≡ l → l ≤ length s
       → F.parse s l p ≡ found a l
   pub forth : Forth F
   pub ends : (s : List ℕ) (l p : ℕ) (a : A) (q : ℕ) → Bytes s → l ≤ length s → p ≤ l → F.parse s l p ≡ found a q → q ≡ l

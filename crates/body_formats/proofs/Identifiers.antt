@@ -1,5 +1,6 @@
 -- The laws of a message's identifier: tables, walks, pens and fields asked for cite these, and not what its format is made of.
 use Prim.Native.Nat.{ℕ, ◌+◌, ◌*◌, ◌/◌, ◌%◌, ◌≤◌, ◌<◌}
+use Rattle.std.specs.Prelude.{Ok, Err}
 use mathlib.Core.Path.{◌≡◌, refl, sym, ap, ap₂, ◌∙◌}
 use mathlib.Core.List.{List, [], ◌∷◌}
 use mathlib.Core.Bool.{Bool, true, false}
@@ -17,7 +18,6 @@ use Rattle.body_formats.specs.Reading.{Reading, found, and_then, Fault, unless, 
 use Rattle.body_formats.specs.Format.{halves, paired, tail, decimal, only, digits}
 use Rattle.body_formats.specs.Identifier.{identifier_pairs, identifier_bytes, identifier_year, identifier_month, identifier_day, has_real_day, unreal_day, identifier}
 use Rattle.body_formats.specs.Answers.{number_of, field_part, nth_digit, digit_read}
-use Rattle.body_formats.specs.declared.Part.TheVariants.{Of, Refused as NoPart}
 use Rattle.body_formats.proofs.Outcomes.{and_then_found, judged_found}
 use Rattle.body_formats.proofs.Classes.{Bytes, Lawful}
 use Rattle.body_formats.proofs.Leaves.{digits_lawful}
@@ -102,7 +102,7 @@ module _ (s : List ℕ) (l p : ℕ) (ds : List ℕ) (q : ℕ) (e : identifier.pa
   identifier_many b = digits_many s l p identifier_pairs ds q plain b
 
 -- the part answered is the one that it fills
-pub identifier_fills : (s : List ℕ) (l p a n : ℕ) → Bytes s → Of a n ≡ field_part p (identifier.parse s l p)
+pub identifier_fills : (s : List ℕ) (l p a n : ℕ) → Bytes s → Ok (a, n) ≡ field_part p (identifier.parse s l p)
     → (a ≡ p) × (n ≡ identifier_bytes) × Fills identifier s l p identifier_bytes
 unfolding identifier only
 identifier_fills s l p a n b e =
@@ -128,12 +128,12 @@ abbrev pub digits_in : List ℕ → ℕ → ℕ → List ℕ
 digits_in s p n = tail (halves (take n (drop p s)))
 
 module _ (s : List ℕ) (l p : ℕ) where
-  pub identifier_no : (r : Refusal) → NoPart r ≡ field_part p ((digits identifier_pairs).parse s l p) → NoPart r ≡ field_part p (identifier.parse s l p)
+  pub identifier_no : (r : Refusal) → Err r ≡ field_part p ((digits identifier_pairs).parse s l p) → Err r ≡ field_part p (identifier.parse s l p)
   unfolding identifier only
   identifier_no r e = rw (field_refused p ((digits identifier_pairs).parse s l p) r e)
 
   -- the digits are there, and their day decides
-  module _ (b : Bytes s) (a n : ℕ) (e : Of a n ≡ field_part p ((digits identifier_pairs).parse s l p)) where
+  module _ (b : Bytes s) (a n : ℕ) (e : Ok (a, n) ≡ field_part p ((digits identifier_pairs).parse s l p)) where
     pub digits_there : (a ≡ p) × (n ≡ identifier_bytes) × (p + n ≤ length s)
     digits_there = let f = digits_value s l p identifier_pairs a n b e in (f.0, f.1, f.2)
 
@@ -141,20 +141,20 @@ module _ (s : List ℕ) (l p : ℕ) where
     unfolding identifier only
     by_day = rw (digits_value s l p identifier_pairs a n b e).3
 
-    pub identifier_unreal : has_real_day (digits_in s a identifier_bytes) ≡ false → NoPart (ImpossibleDay a) ≡ field_part p (identifier.parse s l p)
+    pub identifier_unreal : has_real_day (digits_in s a identifier_bytes) ≡ false → Err (ImpossibleDay a) ≡ field_part p (identifier.parse s l p)
     identifier_unreal t =
         let f = digits_there in
         let u : has_real_day (digits_in s p n) ≡ false = ap₂ (λ (x m : ℕ). has_real_day (digits_in s x m)) (sym f.0) f.1 ∙ t in
         rw (by_day, u, f.0)
 
-    pub identifier_real : has_real_day (digits_in s a identifier_bytes) ≡ true → Of a n ≡ field_part p (identifier.parse s l p)
+    pub identifier_real : has_real_day (digits_in s a identifier_bytes) ≡ true → Ok (a, n) ≡ field_part p (identifier.parse s l p)
     identifier_real t =
         let f = digits_there in
         let u : has_real_day (digits_in s p n) ≡ true = ap₂ (λ (x m : ℕ). has_real_day (digits_in s x m)) (sym f.0) f.1 ∙ t in
         e ∙ ap (field_part p) ((digits_value s l p identifier_pairs a n b e).3 ∙ sym (by_day ∙ rw u))
 
   -- each of its digits, asked for in the bytes of the part
-  pub identifier_each : (a n : ℕ) → Bytes s → Of a n ≡ field_part p (identifier.parse s l p)
+  pub identifier_each : (a n : ℕ) → Bytes s → Ok (a, n) ≡ field_part p (identifier.parse s l p)
       → (a + n ≤ length s) × ((i : ℕ) → number_of (nth_digit (digits_in s a n) i a) ≡ digit_read identifier i s l p)
   identifier_each a n b e =
       let f = field_found p (identifier.parse s l p) a n e in

@@ -8,12 +8,11 @@ use native.Mathlib.Nat.{le_refl}
 use lib.ListN.{length}
 use lib.Dec.{leb}
 use borrow.Author.Tests.{le-leb, lt-leb}
-use Rattle.std.specs.Prelude.{if◌then◌else◌}
+use Rattle.std.specs.Prelude.{if◌then◌else◌, Ok, Err}
 use Rattle.ground_refusal.specs.declared.Refusal.{Refusal}
 use Rattle.body_formats.specs.Reading.{Reading, found, refused, and_then}
 use Rattle.body_formats.specs.Format.{Format, parse_many, many}
 use Rattle.body_formats.specs.Answers.{step_of, ended}
-use Rattle.body_formats.specs.declared.Step.TheVariants.{At, Refused as NoStep}
 use Rattle.body_formats.proofs.Classes.{Bytes, Lawful}
 use Rattle.body_formats.proofs.Readers.{step_found, step_refused}
 
@@ -49,11 +48,11 @@ module _ {A : Type 0} (F : Format A) (f : Lawful F) (takes : (a : A) → 0 < len
       let e : l - p ≡ suc (l - (p + 1)) = omega arith in
       rw (e, lt-leb l p h)
 
-  pub many_stop : (p : ℕ) (r : Refusal) → p < l → NoStep r ≡ ended F s l p → NoStep r ≡ ended (many F) s l p
+  pub many_stop : (p : ℕ) (r : Refusal) → p < l → Err r ≡ ended F s l p → Err r ≡ ended (many F) s l p
   unfolding ended many
   many_stop p r h e = rw (unrolled p h, step_refused F s l p r e)
 
-  pub many_go : (p q : ℕ) → p < l → At q ≡ ended F s l p → ended (many F) s l p ≡ ended (many F) s l q
+  pub many_go : (p q : ℕ) → p < l → Ok q ≡ ended F s l p → ended (many F) s l p ≡ ended (many F) s l q
   unfolding ended many
   many_go p q h e =
       let g = step_found F s l p q e in

@@ -17,7 +17,7 @@ use Rattle.body_formats.specs.Reading.{Reading, found}
 use Rattle.body_formats.specs.Format.{tape_entry, span, number_at, bytes_of, count, reserved_first, below, reserved, bytes, halves, paired, tail, decimal, digits}
 use Rattle.body_formats.proofs.Stand.{Stands, stands_nil, stands_left, stands_right, stands_join, stands_take, taken, stands_get, stands_next, stands_byte}
 use Rattle.body_formats.proofs.Outcomes.{found_inj, and_then_found, need_found, within_found, within_there}
-use Rattle.body_formats.proofs.Classes.{Bytes, Ok, Forth, Lawful, moved}
+use Rattle.body_formats.proofs.Classes.{Bytes, Proper, Forth, Lawful, moved}
 
 -- ---- entries of a tape
 
@@ -62,11 +62,11 @@ number_stands s p (suc w) b h =
     (stands_join s p (bytes_of w (number_at s p w)) (get_or s (p + w) 0 ∷ []) (number_stands s p w b (omega arith))
     (rw length_bytes_lem (stands_byte s (p + w) (omega arith))))
 
-pub count_small : (w x : ℕ) → x < 256 ^ w → Ok (count w) x
+pub count_small : (w x : ℕ) → x < 256 ^ w → Proper (count w) x
 unfolding count
 count_small w x h = record { writable = refl; small = rw (lt-ltb x (256 ^ w) h) }
 
-pub small_count : (w x : ℕ) → Ok (count w) x → x < 256 ^ w
+pub small_count : (w x : ℕ) → Proper (count w) x → x < 256 ^ w
 unfolding count
 small_count w x o = ltb-true x (256 ^ w) (not-false (ltb x (256 ^ w)) o.small)
 
@@ -263,7 +263,7 @@ module _ (h : ℕ) where
   halves_of (b ∷ bs) n e =
       (ap (λ (x : ℕ). paired (x ∷ b % 16 ∷ halves bs)) (sym e) ∙ paired_halves (b ∷ bs), omega (arith, length_halves bs))
 
-  digits_back : (s : List ℕ) (l p : ℕ) (ds : List ℕ) → Ok (digits h) ds → Stands s p (paired (15 ∷ ds)) → p + length (paired (15 ∷ ds)) ≤ l → l ≤ length s
+  digits_back : (s : List ℕ) (l p : ℕ) (ds : List ℕ) → Proper (digits h) ds → Stands s p (paired (15 ∷ ds)) → p + length (paired (15 ∷ ds)) ≤ l → l ≤ length s
       → (digits h).parse s l p ≡ found ds (p + length (paired (15 ∷ ds)))
   unfolding digits
   digits_back s l p ds o t e k =

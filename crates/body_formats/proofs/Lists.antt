@@ -14,7 +14,7 @@ use Rattle.body_formats.specs.Reading.{found}
 use Rattle.body_formats.specs.Format.{Format, tape_entry, repeat, print_all, every, some, tape_all, list_of, parse_many, many}
 use Rattle.body_formats.proofs.Stand.{Stands, stands_nil, stands_left, stands_right, stands_join, stands_next}
 use Rattle.body_formats.proofs.Outcomes.{found_inj, and_then_found, need_found, neither, chosen}
-use Rattle.body_formats.proofs.Classes.{Bytes, Ok, Found, Forth, Formal, Lawful, Filling}
+use Rattle.body_formats.proofs.Classes.{Bytes, Proper, Found, Forth, Formal, Lawful, Filling}
 use Rattle.body_formats.proofs.Leaves.{entry_laid}
 
 -- n well-formed things stand one after the other at p, up to q, in the part that ends at l
@@ -109,7 +109,7 @@ module _ {A : Type 0} (F : Format A) (f : Lawful F) where
   -- ---- after a count
 
   module _ (C : Format ℕ) (c : Lawful C) where
-    list_back : (s : List ℕ) (l p : ℕ) (xs : List A) → Ok (list_of C F) xs → Stands s p (C.print (length xs) ++ print_all F.print xs)
+    list_back : (s : List ℕ) (l p : ℕ) (xs : List A) → Proper (list_of C F) xs → Stands s p (C.print (length xs) ++ print_all F.print xs)
         → p + length (C.print (length xs)) + length (print_all F.print xs) ≤ l → l ≤ length s
         → (list_of C F).parse s l p ≡ found xs (p + length (C.print (length xs)) + length (print_all F.print xs))
     unfolding list_of

@@ -16,7 +16,7 @@ use Rattle.body_formats.specs.Reading.{found, Fault, fine, unless, is_fine}
 use Rattle.body_formats.specs.Format.{Format, bytes_of, count, only, outside, number, below, reserved, followed, nothing, under, view, rest, exact, Length, length_of, least_of, length12, counted, opaque}
 use Rattle.body_formats.proofs.Stand.{Stands, stands_nil, stands_left, stands_right, stands_join, stands_take, taken}
 use Rattle.body_formats.proofs.Outcomes.{found_inj, and_then_found, need_found, judged_found, within_found, within_there, fine_of, neither}
-use Rattle.body_formats.proofs.Classes.{Bytes, Ok, Found, Forth, Formal, Lawful, Filling, moved}
+use Rattle.body_formats.proofs.Classes.{Bytes, Proper, Found, Forth, Formal, Lawful, Filling, moved}
 use Rattle.body_formats.proofs.Leaves.{length_bytes_lem, span_laid, count_lawful, count_small, small_count, reserved_lawful}
 
 -- ---- value sets: whether a value is in the set does not depend on its place
@@ -25,7 +25,7 @@ module _ {A : Type 0} (fault : A → ℕ → Fault) (F : Format A) (even : (a : 
   at_any : (a : A) (p q : ℕ) → fault a p ≡ fine → fault a q ≡ fine
   at_any a p q h = fine_of (fault a q) (even a q ∙ sym (even a p) ∙ ap is_fine h)
 
-  pub only_ok : (a : A) → Ok (only fault F) a → Ok F a × (fault a 0 ≡ fine)
+  pub only_ok : (a : A) → Proper (only fault F) a → Proper F a × (fault a 0 ≡ fine)
   unfolding only
   only_ok a o =
       let t = both (F.writable a) (is_fine (fault a 0)) o.writable in
@@ -46,7 +46,7 @@ module _ {A : Type 0} (fault : A → ℕ → Fault) (F : Format A) (even : (a : 
         steady = u.steady;
       }
 
-  only_back : (s : List ℕ) (l p : ℕ) (a : A) (q : ℕ) → Ok (only fault F) a → (Ok F a → F.parse s l p ≡ found a q) → (only fault F).parse s l p ≡ found a q
+  only_back : (s : List ℕ) (l p : ℕ) (a : A) (q : ℕ) → Proper (only fault F) a → (Proper F a → F.parse s l p ≡ found a q) → (only fault F).parse s l p ≡ found a q
   unfolding only
   only_back s l p a q o e =
       let c = only_ok a o in
@@ -106,7 +106,7 @@ number_lawful w = outside_lawful (λ x. ltb x (256 ^ w)) (count w) (count_lawful
 -- ---- one after the other
 
 module _ {A : Type 0} {B : A → Type 0} (F : Format A) (G : (a : A) → Format (B a)) (f : Lawful F) where
-  followed_ok : (x : (a : A) × B a) → Ok (followed F G) x → Ok F x.0 × Ok (G x.0) x.1
+  followed_ok : (x : (a : A) × B a) → Proper (followed F G) x → Proper F x.0 × Proper (G x.0) x.1
   unfolding followed
   followed_ok x o =
       let r = both _ _ o.writable in
@@ -132,7 +132,7 @@ module _ {A : Type 0} {B : A → Type 0} (F : Format A) (G : (a : A) → Format 
       let v = g i.0 s l i.1 j.0 j.1 b k u.inside j.2 in
       moved (followed F G) s l p (found_inj j.3) (found_followed s l p i.0 i.1 j.0 j.1 u v)
 
-  followed_back : (s : List ℕ) (l p : ℕ) (a : A) (b : B a) (q : ℕ) → Ok F a → Stands s p (F.print a) → p + length (F.print a) ≤ l → l ≤ length s
+  followed_back : (s : List ℕ) (l p : ℕ) (a : A) (b : B a) (q : ℕ) → Proper F a → Stands s p (F.print a) → p + length (F.print a) ≤ l → l ≤ length s
       → (G a).parse s l (p + length (F.print a)) ≡ found b q → (followed F G).parse s l p ≡ found (a, b) q
   unfolding followed
   followed_back s l p a b q o t h k e = rw (f.back s l p a o t h k, e)
@@ -280,18 +280,18 @@ exact_filling left_over F f =
 -- a length that can count the parts of F: small ones fit its field, none of F's is refused, and those accepted are small
 pub record Counts {A : Type 0} (L : Length) (F : Format A) : Type 0 where
   pub lawful : Lawful L.field
-  pub holds : (n : ℕ) → n < L.limit → Ok L.field n
-  pub accepts : (a : A) (p : ℕ) → Ok F a → length (F.print a) < L.limit → L.fault (length (F.print a)) p ≡ fine
-  pub limits : (n p : ℕ) → Ok L.field n → L.fault n p ≡ fine → n < L.limit
+  pub holds : (n : ℕ) → n < L.limit → Proper L.field n
+  pub accepts : (a : A) (p : ℕ) → Proper F a → length (F.print a) < L.limit → L.fault (length (F.print a)) p ≡ fine
+  pub limits : (n p : ℕ) → Proper L.field n → L.fault n p ≡ fine → n < L.limit
 
 module _ {A : Type 0} (L : Length) (F : Format A) (c : Counts L F) (f : Filling F) where
-  counted_ok : (a : A) → Ok (counted L F) a → Ok F a × (length (F.print a) < L.limit)
+  counted_ok : (a : A) → Proper (counted L F) a → Proper F a × (length (F.print a) < L.limit)
   unfolding counted
   counted_ok a o =
       let m = neither (not (ltb (length (F.print a)) L.limit)) (F.too_large a) o.small in
       (record { writable = o.writable; small = m.1 }, ltb-true (length (F.print a)) L.limit (not-false (ltb (length (F.print a)) L.limit) m.0))
 
-  counted_back : (s : List ℕ) (l p : ℕ) (a : A) → Ok F a → length (F.print a) < L.limit
+  counted_back : (s : List ℕ) (l p : ℕ) (a : A) → Proper F a → length (F.print a) < L.limit
       → Stands s p (L.field.print (length (F.print a)) ++ F.print a)
       → p + length (L.field.print (length (F.print a))) + length (F.print a) ≤ l → l ≤ length s
       → (counted L F).parse s l p ≡ found a (p + length (L.field.print (length (F.print a))) + length (F.print a))
@@ -353,7 +353,7 @@ length_counts w F =
     }
 
 -- where no part of F is shorter, its length is never refused
-pub least_counts : {A : Type 0} (w least : ℕ) (F : Format A) → ((a : A) → Ok F a → least ≤ length (F.print a)) → Counts (least_of w least) F
+pub least_counts : {A : Type 0} (w least : ℕ) (F : Format A) → ((a : A) → Proper F a → least ≤ length (F.print a)) → Counts (least_of w least) F
 unfolding least_of
 least_counts w least F enough =
     record {

@@ -1,6 +1,7 @@
 -- Where a refusal stands: a reader's at the body's end at the latest, a form's at the tape's end, a writer's at 0. A law for each way of
 -- making a format.
 use Prim.Native.Nat.{ℕ, zero, suc, ◌+◌, ◌-◌, ◌/◌, ◌%◌, ◌^◌, ◌≤◌, zero-le}
+use Rattle.time_fields.specs.declared.Moment.{Moment}
 use mathlib.Core.Path.{◌≡◌, refl}
 use mathlib.Core.List.{List, [], ◌∷◌}
 use mathlib.Core.Bool.{Bool, true, false, not, ◌&&◌, cond}
@@ -9,15 +10,12 @@ use native.Mathlib.Nat.{le_refl, le_of_eq, le_trans}
 use lib.ListN.{length, get_or, take, drop}
 use lib.Dec.{ltb, leb, eqb}
 use borrow.Author.Tests.{leb-true}
-use Rattle.std.specs.Prelude.{if◌then◌else◌}
+use Rattle.std.specs.Prelude.{if◌then◌else◌, Result, Ok, Err, None}
 use Rattle.ground_refusal.specs.Numbers.{refusal_place}
 use Rattle.ground_refusal.specs.declared.Refusal.{Refusal}
 use Rattle.ground_refusal.specs.declared.Refusal.TheVariants.{PastPart, ReservedBitZero, DigitAboveNine, OutsideSet, ImpossibleDay}
 use Rattle.ground_refusal.proofs.Numbers.{placeless_is}
 use Rattle.time_fields.specs.Field.{read_time, read_end, is_decimal as decimal_field, possible, moment_of, live_mark, as_end}
-use Rattle.time_fields.specs.declared.Timed.{Timed}
-use Rattle.time_fields.specs.declared.Timed.TheVariants.{At, Refused}
-use Rattle.time_fields.specs.declared.EndTimed.TheVariants.{Live}
 use Rattle.body_formats.specs.Reading.{Reading, found, refused, and_then, need, Fault, fine, faulty, unless, judged, within}
 use Rattle.body_formats.specs.Format.{Format, tape_entry, span, count, only, outside, among, number, nibbles, both_among, nibble_among, nibbles_among, reserved_first, below, reserved, bytes, halves, tail, decimal, digits, followed, nothing, under, view, repeat, every, bytes_among, times, list_of, rest, exact, parse_many, many, Length, length_of, least_of, length12, counted, opaque}
 use Rattle.body_formats.specs.Time.{time_fault, end_fault, time, end_time}
@@ -25,7 +23,6 @@ use Rattle.body_formats.specs.Resource.{resource_pairs, resource, resources}
 use Rattle.body_formats.specs.Answers.{step_of}
 use Rattle.ground_numbers.specs.Sizes.{body_most}
 use Rattle.body_formats.specs.Body.{reading, body_read, measuring, measured, fitting, writing, body_written, laying, body_laid}
-use Rattle.body_formats.specs.declared.Step.TheVariants.{Refused as NoStep}
 
 -- ---- readings
 
@@ -293,8 +290,8 @@ opaque_placed w = length_placed w rest rest_placed
 
 -- ---- times and resources
 
-refused_until : {place : ℕ} (t : Bool) (r : Refusal) (x : Timed) → refusal_place r ≤ place → FaultUntil place (time_fault x)
-    → FaultUntil place (time_fault (cond t (Refused r) x))
+refused_until : {place : ℕ} (t : Bool) (r : Refusal) (x : Result Moment Refusal) → refusal_place r ≤ place → FaultUntil place (time_fault x)
+    → FaultUntil place (time_fault (cond t (Err r) x))
 refused_until true r x h g = stands h
 refused_until false r x h g = g
 
@@ -303,16 +300,16 @@ unfolding read_time
 time_until f at =
     refused_until (leb (2 ^ 40) f) (OutsideSet at) _ (le_refl at)
     (refused_until (not (decimal_field f)) (DigitAboveNine at) _ (le_refl at)
-    (refused_until (not (possible f)) (ImpossibleDay at) (At (moment_of f)) (le_refl at) none))
+    (refused_until (not (possible f)) (ImpossibleDay at) (Ok (moment_of f)) (le_refl at) none))
 
 end_until : (f at : ℕ) → FaultUntil at (end_fault (read_end f at))
 unfolding read_end
 end_until f at = go (eqb f live_mark) (read_time f at) (time_until f at)
   where
-    go : (t : Bool) (x : Timed) → FaultUntil at (time_fault x) → FaultUntil at (end_fault (cond t Live (as_end x)))
+    go : (t : Bool) (x : Result Moment Refusal) → FaultUntil at (time_fault x) → FaultUntil at (end_fault (cond t (Ok None) (as_end x)))
     go true x h = none
-    go false (At m) h = none
-    go false (Refused r) h = h
+    go false (Ok m) h = none
+    go false (Err r) h = h
 
 pub time_placed : Placed time
 unfolding time
@@ -328,7 +325,7 @@ resources_placed = list_placed resource (digits_placed resource_pairs) (count 1)
 -- ---- whole bodies
 
 -- the place that is answered
-pub step_place : {A : Type 0} {place last : ℕ} (x : Reading A) → Until place last x → (r : Refusal) → step_of x ≡ NoStep r → refusal_place r ≤ place
+pub step_place : {A : Type 0} {place last : ℕ} (x : Reading A) → Until place last x → (r : Refusal) → step_of x ≡ Err r → refusal_place r ≤ place
 step_place (found a q) h r e = absurd (let z : ◌≡◌ {A = ℕ} 0 1 = cc in omega arith)
 step_place (refused t) (stands h) r e = let same : t ≡ r = cc in rw same at h
 
@@ -340,11 +337,11 @@ module _ {A : Type 0} (F : Format A) (f : Placed F) where
         need_until (eqb kind own) _ zero-le (λ t.
         need_until (leb (length s) body_most) _ zero-le (λ u. f.read s (length s) 0 (le_refl (length s)) zero-le))
 
-    pub read_place : (r : Refusal) → body_read F own kind s ≡ NoStep r → refusal_place r ≤ length s
+    pub read_place : (r : Refusal) → body_read F own kind s ≡ Err r → refusal_place r ≤ length s
     unfolding body_read
     read_place = step_place (reading F own kind s) reading_until
 
-    pub laid_place : (room : ℕ) (r : Refusal) → body_laid F own kind s room ≡ NoStep r → refusal_place r ≤ length s
+    pub laid_place : (room : ℕ) (r : Refusal) → body_laid F own kind s room ≡ Err r → refusal_place r ≤ length s
     unfolding body_laid laying
     laid_place room =
         step_place (laying F own kind s room) (then_until {last' = room} (reading F own kind s) _ reading_until (λ a q m.
@@ -359,7 +356,7 @@ module _ {A : Type 0} (F : Format A) (f : Placed F) where
         need_until (not (F.too_large a)) _ zero-le (λ u.
         need_until (leb (length (F.print a)) body_most) _ zero-le (λ v. ends (leb-true _ _ v)))))
 
-    pub measured_place : (r : Refusal) → measured F pool tape ≡ NoStep r → refusal_place r ≤ length tape
+    pub measured_place : (r : Refusal) → measured F pool tape ≡ Err r → refusal_place r ≤ length tape
     unfolding measured
     measured_place = step_place (measuring F pool tape) measuring_until
 
@@ -373,6 +370,6 @@ module _ {A : Type 0} (F : Format A) (pool tape : List ℕ) (room : ℕ) where
       go (found a n) = need_until (leb n room) _ zero-le (λ t. ends (leb-true _ _ t))
       go (refused r) = stands (le_of_eq (placeless_is r).1)
 
-  pub written_place : (r : Refusal) → body_written F pool tape room ≡ NoStep r → refusal_place r ≡ 0
+  pub written_place : (r : Refusal) → body_written F pool tape room ≡ Err r → refusal_place r ≡ 0
   unfolding body_written
   written_place r e = let none = step_place (writing F pool tape room) writing_until r e in omega arith

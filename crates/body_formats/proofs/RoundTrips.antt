@@ -17,7 +17,7 @@ use Rattle.ground_numbers.specs.Sizes.{body_most}
 use Rattle.body_formats.specs.Body.{reading, measuring, fitting, writing, output_written, laying, laid_tape}
 use Rattle.body_formats.proofs.Stand.{stands_all, stands_whole}
 use Rattle.body_formats.proofs.Outcomes.{found_inj, not_found, and_then_found, need_found}
-use Rattle.body_formats.proofs.Classes.{Bytes, Ok, Filling}
+use Rattle.body_formats.proofs.Classes.{Bytes, Proper, Filling}
 
 -- what is measured is the length of the value that the form lays out, none of whose counts and lengths is too large
 pub measured_value : {A : Type 0} (F : Format A) (pool tape : List ℕ) (a : A) (m : ℕ) → measuring F pool tape ≡ found a m
@@ -49,7 +49,7 @@ written_measured {A} F pool tape room a m e = go (measuring F pool tape) e
 
 module _ {A : Type 0} (F : Format A) (f : Filling F) (own : ℕ) where
   -- each well-formed table, printed, reads back as itself
-  pub reads_back : (a : A) → Ok F a → length (F.print a) ≤ body_most → reading F own own (F.print a) ≡ found a (length (F.print a))
+  pub reads_back : (a : A) → Proper F a → length (F.print a) ≤ body_most → reading F own own (F.print a) ≡ found a (length (F.print a))
   unfolding reading
   reads_back a o h =
       let whole = f.back (F.print a) (length (F.print a)) 0 a o (stands_whole (F.print a)) (omega arith) (le_refl (length (F.print a))) in
@@ -65,7 +65,7 @@ module _ {A : Type 0} (F : Format A) (f : Filling F) (own : ℕ) where
         (eqb-true kind own t.0, leb-true (length s) body_most u.0, u.1)
 
     -- each accepted body prints back to its bytes
-    pub prints_back : (F.print a ≡ s) × Ok F a
+    pub prints_back : (F.print a ≡ s) × Proper F a
     prints_back =
         let p = accepted.2 in
         let u = f.forth s (length s) 0 a q b (le_refl (length s)) zero-le p in
@@ -97,16 +97,16 @@ module _ {A : Type 0} (F : Format A) (f : Filling F) (own : ℕ) where
 
   -- what was written is the value's bytes, which read back as it
   pub written_reads_back : (pool tape : List ℕ) (room : ℕ) (a : A) (m : ℕ) → writing F pool tape room ≡ found a m
-      → (m ≡ length (F.print a)) × (m ≤ room) × Ok F a × (reading F own own (F.print a) ≡ found a m)
+      → (m ≡ length (F.print a)) × (m ≤ room) × Proper F a × (reading F own own (F.print a) ≡ found a m)
   written_reads_back pool tape room a m e =
       let w = written_measured F pool tape room a m e in
       let v = measured_value F pool tape a m w.0 in
-      let ok : Ok F a = record { writable = f.formal.sound pool tape 0 a v.0 v.1; small = v.2 } in
+      let ok : Proper F a = record { writable = f.formal.sound pool tape 0 a v.0 v.1; small = v.2 } in
       (v.3, w.1, ok, reads_back a ok (omega (arith, v.3, v.4)) ∙ ap (found a) (sym v.3))
 
   -- exactly the printed tables are accepted
   pub accepted_exactly : (s : List ℕ) → Bytes s → (a : A) (q : ℕ)
-      → (reading F own own s ≡ found a q → (s ≡ F.print a) × Ok F a × (length s ≤ body_most) × (q ≡ length s))
+      → (reading F own own s ≡ found a q → (s ≡ F.print a) × Proper F a × (length s ≤ body_most) × (q ≡ length s))
   accepted_exactly s b a q e =
       let w = prints_back own s b a q e in
       let t = accepted own s b a q e in
@@ -116,13 +116,13 @@ module _ {A : Type 0} (F : Format A) (f : Filling F) (own : ℕ) where
 -- all of it, for one table
 pub record RoundTrips {A : Type 0} (F : Format A) (own : ℕ) : Type 0 where
   -- each well-formed table, printed, reads back as itself
-  pub reads_back : (a : A) → Ok F a → length (F.print a) ≤ body_most → reading F own own (F.print a) ≡ found a (length (F.print a))
+  pub reads_back : (a : A) → Proper F a → length (F.print a) ≤ body_most → reading F own own (F.print a) ≡ found a (length (F.print a))
   -- exactly the printed tables are accepted
   pub accepted_exactly : (s : List ℕ) → Bytes s → (a : A) (q : ℕ) → reading F own own s ≡ found a q
-      → (s ≡ F.print a) × Ok F a × (length s ≤ body_most) × (q ≡ length s)
+      → (s ≡ F.print a) × Proper F a × (length s ≤ body_most) × (q ≡ length s)
   -- whatever is written reads back as the table that its form lays out
   pub written_reads_back : (pool tape : List ℕ) (room : ℕ) (a : A) (m : ℕ) → writing F pool tape room ≡ found a m
-      → (m ≡ length (F.print a)) × (m ≤ room) × Ok F a × (reading F own own (F.print a) ≡ found a m)
+      → (m ≡ length (F.print a)) × (m ≤ room) × Proper F a × (reading F own own (F.print a) ≡ found a m)
   -- each accepted body, laid out with itself as the pool, is written to its bytes
   pub writes_back : (kind : ℕ) (s : List ℕ) → Bytes s → (a : A) (q : ℕ) → reading F own kind s ≡ found a q → (out : List ℕ) → length s ≤ length out
       → (writing F s (F.tape a 0) (length out) ≡ found a (length s)) × (output_written F s (F.tape a 0) out ≡ placed out 0 s)

@@ -1,5 +1,7 @@
 -- Laws of fields of several bytes and of time fields: what the code answers, a law for each way through, and what an answer says.
 use Prim.Native.Nat.{ℕ, zero, suc, ◌+◌, ◌-◌, ◌/◌, ◌%◌, ◌≤◌, ◌<◌}
+use Rattle.std.specs.Prelude.{Result, Ok, Err, Option}
+use Rattle.time_fields.specs.declared.Moment.{Moment}
 use mathlib.Core.Path.{◌≡◌, refl, sym, ap, ap₂, ◌∙◌}
 use mathlib.Core.List.{List, [], ◌∷◌}
 use mathlib.Core.Bool.{Bool, true, false, ◌&&◌}
@@ -11,21 +13,17 @@ use lib.Seq.{drop-cons, get_or-take, get_or-drop, length-take-le}
 use lib.Dec.{leb, ltb, eqb}
 use borrow.Author.Tests.{leb-true, eqb-true, le-leb, lt-leb, lt-ltb, le-ltb, eq-eqb, ne_eqb}
 use Rattle.ground_choices.proofs.Tests.{both}
+use Rattle.ground_refusal.proofs.Exits.{ok_pair_inj}
 use Rattle.ground_refusal.specs.declared.Refusal.{Refusal}
 use Rattle.ground_refusal.specs.declared.Refusal.TheVariants.{PastBody, PastPart, ReservedBitZero, DigitAboveNine, OutsideSet}
 use Rattle.time_fields.specs.Field.{read_time, read_end}
-use Rattle.time_fields.specs.declared.Timed.{Timed}
-use Rattle.time_fields.specs.declared.EndTimed.{EndTimed}
 use Rattle.body_formats.specs.Reading.{Reading, found, refused, and_then, need, Fault, judged, within}
 use Rattle.body_formats.specs.Format.{Format, only, number, bytes, every, bytes_among, halves, tail, decimal, digits}
 use Rattle.body_formats.specs.Time.{time_fault, end_fault, time, end_time}
 use Rattle.body_formats.specs.Answers.{step_of, number_of, field_part, reached, number_read, nth_digit, digit_read}
-use Rattle.body_formats.specs.declared.Step.TheVariants.{At, Refused as NoStep}
-use Rattle.body_formats.specs.declared.Number.TheVariants.{Is, Refused as NoNumber}
-use Rattle.body_formats.specs.declared.Part.TheVariants.{Of, Refused as NoPart}
 use Rattle.body_formats.proofs.Stand.{taken, stands_whole}
 use Rattle.body_formats.proofs.Outcomes.{found_inj, need_found, within_found}
-use Rattle.body_formats.proofs.Classes.{Bytes, Ok, Found}
+use Rattle.body_formats.proofs.Classes.{Bytes, Proper, Found}
 use Rattle.body_formats.proofs.Leaves.{reserved_found, length_halves, digits_lawful}
 use Rattle.body_formats.proofs.Readers.{field_found, field_refused}
 use Rattle.body_formats.proofs.Bits.{number_is_count}
@@ -33,41 +31,41 @@ use Rattle.body_formats.proofs.Bits.{number_is_count}
 -- ---- where a field ends
 
 module _ (s : List ℕ) (l at end : ℕ) where
-  pub end_14 : length s < end → NoStep (PastBody at) ≡ reached s l at end
+  pub end_14 : length s < end → Err (PastBody at) ≡ reached s l at end
   unfolding reached
   end_14 h = rw (lt-leb end (length s) h)
 
-  pub end_15 : end ≤ length s → l < end → NoStep (PastPart at) ≡ reached s l at end
+  pub end_15 : end ≤ length s → l < end → Err (PastPart at) ≡ reached s l at end
   unfolding reached
   end_15 h k = rw (le-leb end (length s) h, lt-leb end l k)
 
-  pub end_at : end ≤ length s → end ≤ l → At end ≡ reached s l at end
+  pub end_at : end ≤ length s → end ≤ l → Ok end ≡ reached s l at end
   unfolding reached
   end_at h k = rw (le-leb end (length s) h, le-leb end l k)
 
   -- a field that does not end where it must is refused, whatever it holds
-  pub end_no : {A : Type 0} (x : Reading A) (r : Refusal) → NoStep r ≡ reached s l at end → within s l at end x ≡ refused r
+  pub end_no : {A : Type 0} (x : Reading A) (r : Refusal) → Err r ≡ reached s l at end → within s l at end x ≡ refused r
   unfolding reached
   end_no x r e = go (leb end (length s)) (leb end l) e
     where
-      go : (a b : Bool) → NoStep r ≡ step_of {A = Unit} (need a (PastBody at) (need b (PastPart at) (found tt end))) → need a (PastBody at) (need b (PastPart at) x) ≡ refused r
+      go : (a b : Bool) → Err r ≡ step_of {A = Unit} (need a (PastBody at) (need b (PastPart at) (found tt end))) → need a (PastBody at) (need b (PastPart at) x) ≡ refused r
       go false b f = let z : PastBody at ≡ r = cc in ap refused z
       go true false f = let z : PastPart at ≡ r = cc in ap refused z
       go true true f = absurd (let z : ◌≡◌ {A = ℕ} 0 1 = cc in omega arith)
 
-  pub end_in : (q : ℕ) → At q ≡ reached s l at end → (q ≡ end) × (end ≤ length s) × (end ≤ l)
+  pub end_in : (q : ℕ) → Ok q ≡ reached s l at end → (q ≡ end) × (end ≤ length s) × (end ≤ l)
   unfolding reached
   end_in q e =
       let t = go (leb end (length s)) (leb end l) e in
       (t.0, leb-true end (length s) t.1, leb-true end l t.2)
     where
-      go : (a b : Bool) → At q ≡ step_of {A = Unit} (need a (PastBody at) (need b (PastPart at) (found tt end))) → (q ≡ end) × (a ≡ true) × (b ≡ true)
+      go : (a b : Bool) → Ok q ≡ step_of {A = Unit} (need a (PastBody at) (need b (PastPart at) (found tt end))) → (q ≡ end) × (a ≡ true) × (b ≡ true)
       go false b f = absurd (let z : ◌≡◌ {A = ℕ} 0 1 = cc in omega arith)
       go true false f = absurd (let z : ◌≡◌ {A = ℕ} 0 1 = cc in omega arith)
       go true true f = let z : q ≡ end = cc in (z, refl, refl)
 
   -- in one that does, what it holds decides
-  pub end_past : {A : Type 0} (x : Reading A) (q : ℕ) → At q ≡ reached s l at end → within s l at end x ≡ x
+  pub end_past : {A : Type 0} (x : Reading A) (q : ℕ) → Ok q ≡ reached s l at end → within s l at end x ≡ x
   end_past x q e =
       let t = end_in q e in
       rw (le-leb end (length s) t.1, le-leb end l t.2)
@@ -108,16 +106,16 @@ module _ (lo hi : ℕ) (s : List ℕ) (k end : ℕ) (all : Bool) (left : all ≡
     bytes_next m = every_more _ s k end all left here there (rw (le-leb lo (get_or s k 0) h, le-leb (get_or s k 0) hi m))
 
 module _ (s : List ℕ) (l p n lo hi : ℕ) where
-  pub bytes_no : (r : Refusal) → NoStep r ≡ reached s l p (p + n) → NoPart r ≡ field_part p ((bytes_among lo hi n).parse s l p)
+  pub bytes_no : (r : Refusal) → Err r ≡ reached s l p (p + n) → Err r ≡ field_part p ((bytes_among lo hi n).parse s l p)
   unfolding only bytes
   bytes_no r e = rw (end_no s l p (p + n) (found (take n (drop p s)) (p + n)) r e)
 
-  module _ (q : ℕ) (e : At q ≡ reached s l p (p + n)) where
-    pub bytes_19 : every (λ x. leb lo x && leb x hi) (take n (drop p s)) ≡ false → NoPart (OutsideSet p) ≡ field_part p ((bytes_among lo hi n).parse s l p)
+  module _ (q : ℕ) (e : Ok q ≡ reached s l p (p + n)) where
+    pub bytes_19 : every (λ x. leb lo x && leb x hi) (take n (drop p s)) ≡ false → Err (OutsideSet p) ≡ field_part p ((bytes_among lo hi n).parse s l p)
     unfolding only bytes
     bytes_19 t = rw (end_past s l p (p + n) (found (take n (drop p s)) (p + n)) q e, t)
 
-    pub bytes_of : every (λ x. leb lo x && leb x hi) (take n (drop p s)) ≡ true → Of p n ≡ field_part p ((bytes_among lo hi n).parse s l p)
+    pub bytes_of : every (λ x. leb lo x && leb x hi) (take n (drop p s)) ≡ true → Ok (p, n) ≡ field_part p ((bytes_among lo hi n).parse s l p)
     unfolding only bytes
     bytes_of t = rw (end_past s l p (p + n) (found (take n (drop p s)) (p + n)) q e, t, add-sub_cancel_left p n)
 
@@ -160,26 +158,26 @@ unfolding decimal halves
 first_digit s p h k = rw (drop-cons s p 0 k, add-one p)
 
 module _ (s : List ℕ) (l p h : ℕ) where
-  pub digits_no : (r : Refusal) → NoStep r ≡ reached s l p (p + 1) → NoPart r ≡ field_part p ((digits h).parse s l p)
+  pub digits_no : (r : Refusal) → Err r ≡ reached s l p (p + 1) → Err r ≡ field_part p ((digits h).parse s l p)
   unfolding digits
   digits_no r e = rw (end_no s l p (p + 1) _ r e)
 
   -- the first byte is there
-  module _ (q : ℕ) (e : At q ≡ reached s l p (p + 1)) where
-    pub digits_17 : get_or s p 0 < 240 → NoPart (ReservedBitZero p) ≡ field_part p ((digits h).parse s l p)
+  module _ (q : ℕ) (e : Ok q ≡ reached s l p (p + 1)) where
+    pub digits_17 : get_or s p 0 < 240 → Err (ReservedBitZero p) ≡ field_part p ((digits h).parse s l p)
     unfolding digits
     digits_17 k = rw (end_past s l p (p + 1) _ q e, ne_eqb (get_or s p 0 / 16) 15 (λ z. omega (arith, z, k)))
 
     -- and begins with four ones
     module _ (b : Bytes s) (ones : 240 ≤ get_or s p 0) where
-      pub digits_past : (r : Refusal) → NoStep r ≡ reached s l p (q + h) → NoPart r ≡ field_part p ((digits h).parse s l p)
+      pub digits_past : (r : Refusal) → Err r ≡ reached s l p (q + h) → Err r ≡ field_part p ((digits h).parse s l p)
       unfolding digits
       digits_past r f =
           let z : q + h ≡ p + suc h = omega (arith, (end_in s l p (p + 1) q e).0) in
           rw (end_past s l p (p + 1) _ q e, eq-eqb (get_or s p 0 / 16) 15 (omega (arith, b p)), end_no s l p (p + suc h) _ r (f ∙ ap (reached s l p) z))
 
       -- and the whole field is there
-      module _ (end : ℕ) (f : At end ≡ reached s l p (q + h)) where
+      module _ (end : ℕ) (f : Ok end ≡ reached s l p (q + h)) where
         tested : (digits h).parse s l p
             ≡ need (ltb (get_or s p 0 % 16) 10 && decimal (halves (take h (drop q s)))) (DigitAboveNine p) (found (tail (halves (take (suc h) (drop p s)))) end)
         unfolding digits
@@ -197,49 +195,48 @@ module _ (s : List ℕ) (l p h : ℕ) where
               i.0,
             )
 
-        pub digits_18_first : 249 < get_or s p 0 → NoPart (DigitAboveNine p) ≡ field_part p ((digits h).parse s l p)
+        pub digits_18_first : 249 < get_or s p 0 → Err (DigitAboveNine p) ≡ field_part p ((digits h).parse s l p)
         digits_18_first k = rw (tested, le-ltb (get_or s p 0 % 16) 10 (omega (arith, b p)))
 
         module _ (k : get_or s p 0 ≤ 249) where
-          pub digits_18_later : decimal (halves (take h (drop q s))) ≡ false → NoPart (DigitAboveNine p) ≡ field_part p ((digits h).parse s l p)
+          pub digits_18_later : decimal (halves (take h (drop q s))) ≡ false → Err (DigitAboveNine p) ≡ field_part p ((digits h).parse s l p)
           digits_18_later d = rw (tested, lt-ltb (get_or s p 0 % 16) 10 (omega (arith, b p)), d)
 
-          pub digits_of : decimal (halves (take h (drop q s))) ≡ true → Of p (end - p) ≡ field_part p ((digits h).parse s l p)
+          pub digits_of : decimal (halves (take h (drop q s))) ≡ true → Ok (p, end - p) ≡ field_part p ((digits h).parse s l p)
           digits_of d = rw (tested, lt-ltb (get_or s p 0 % 16) 10 (omega (arith, b p)), d)
 
 -- ---- time fields: a number of five bytes, and what is wrong with it at its place
 
 module _ (fault : ℕ → ℕ → Fault) (s : List ℕ) (l p : ℕ) (b : Bytes s) where
-  five_no : (r : Refusal) → NoNumber r ≡ number_read 5 s l p → NoNumber r ≡ number_of ((only fault (number 5)).parse s l p)
+  five_no : (r : Refusal) → Err r ≡ number_read 5 s l p → Err r ≡ number_of ((only fault (number 5)).parse s l p)
   unfolding only
   five_no r e = go ((number 5).parse s l p) (e ∙ number_is_count 5 s l p b)
     where
-      go : (x : Reading ℕ) → NoNumber r ≡ number_of x → NoNumber r ≡ number_of (and_then x (λ v q. judged (fault v p) (found v q)))
+      go : (x : Reading ℕ) → Err r ≡ number_of x → Err r ≡ number_of (and_then x (λ v q. judged (fault v p) (found v q)))
       go (refused t) f = f
       go (found v q) f = absurd (let z : ◌≡◌ {A = ℕ} 0 1 = cc in omega arith)
 
-  five_judged : (v q : ℕ) → Is v q ≡ number_read 5 s l p → number_of (judged (fault v p) (found v q)) ≡ number_of ((only fault (number 5)).parse s l p)
+  five_judged : (v q : ℕ) → Ok (v, q) ≡ number_read 5 s l p → number_of (judged (fault v p) (found v q)) ≡ number_of ((only fault (number 5)).parse s l p)
   unfolding only
   five_judged v q e = go ((number 5).parse s l p) (e ∙ number_is_count 5 s l p b)
     where
-      go : (x : Reading ℕ) → Is v q ≡ number_of x → number_of (judged (fault v p) (found v q)) ≡ number_of (and_then x (λ w r. judged (fault w p) (found w r)))
+      go : (x : Reading ℕ) → Ok (v, q) ≡ number_of x → number_of (judged (fault v p) (found v q)) ≡ number_of (and_then x (λ w r. judged (fault w p) (found w r)))
       go (refused t) f = absurd (let z : ◌≡◌ {A = ℕ} 0 1 = cc in omega arith)
       go (found w r) f =
-          let x : v ≡ w = cc in
-          let y : q ≡ r = cc in
-          ap₂ (λ (w r : ℕ). number_of (judged (fault w p) (found w r))) x y
+          let i = ok_pair_inj f in
+          ap₂ (λ (w r : ℕ). number_of (judged (fault w p) (found w r))) i.0 i.1
 
 module _ (s : List ℕ) (l p : ℕ) (b : Bytes s) where
-  pub time_no : (r : Refusal) → NoNumber r ≡ number_read 5 s l p → (NoNumber r ≡ number_of (time.parse s l p)) × (NoNumber r ≡ number_of (end_time.parse s l p))
+  pub time_no : (r : Refusal) → Err r ≡ number_read 5 s l p → (Err r ≡ number_of (time.parse s l p)) × (Err r ≡ number_of (end_time.parse s l p))
   unfolding time end_time
   time_no r e = (five_no (λ f at. time_fault (read_time f at)) s l p b r e, five_no (λ f at. end_fault (read_end f at)) s l p b r e)
 
   -- what crate times says of the number
-  pub time_said : (v q : ℕ) (t : Timed) → Is v q ≡ number_read 5 s l p → t ≡ read_time v p → number_of (judged (time_fault t) (found v q)) ≡ number_of (time.parse s l p)
+  pub time_said : (v q : ℕ) (t : Result Moment Refusal) → Ok (v, q) ≡ number_read 5 s l p → t ≡ read_time v p → number_of (judged (time_fault t) (found v q)) ≡ number_of (time.parse s l p)
   unfolding time
   time_said v q t e g = rw g (five_judged (λ f at. time_fault (read_time f at)) s l p b v q e)
 
-  pub end_said : (v q : ℕ) (t : EndTimed) → Is v q ≡ number_read 5 s l p → t ≡ read_end v p → number_of (judged (end_fault t) (found v q)) ≡ number_of (end_time.parse s l p)
+  pub end_said : (v q : ℕ) (t : Result (Option Moment) Refusal) → Ok (v, q) ≡ number_read 5 s l p → t ≡ read_end v p → number_of (judged (end_fault t) (found v q)) ≡ number_of (end_time.parse s l p)
   unfolding end_time
   end_said v q t e g = rw g (five_judged (λ f at. end_fault (read_end f at)) s l p b v q e)
 
@@ -268,10 +265,10 @@ module _ (s : List ℕ) (l p h : ℕ) (ds : List ℕ) (q : ℕ) (e : (digits h).
   pub digits_fit : (q ≡ p + (h + 1)) × (q ≤ length s)
   digits_fit = let f = digits_found in (omega (arith, f.3), omega (arith, f.0, f.3))
 
-  pub digits_part : Of p (h + 1) ≡ field_part p ((digits h).parse s l p)
+  pub digits_part : Ok (p, h + 1) ≡ field_part p ((digits h).parse s l p)
   digits_part =
       let z : h + 1 ≡ q - p = omega (arith, digits_found.3) in
-      ap (Of p) z ∙ ap (field_part p) (sym e)
+      ap (λ b. Ok (p, b)) z ∙ ap (field_part p) (sym e)
 
   -- whatever part they stand in, their bytes stand in the body
   digits_stand : Bytes s → Found (digits h) s (length s) p ds q
@@ -284,20 +281,19 @@ module _ (s : List ℕ) (l p h : ℕ) (ds : List ℕ) (q : ℕ) (e : (digits h).
   digits_many b = eqb-true (length ds) (h + h + 1) (both (eqb (length ds) (h + h + 1)) (decimal ds) (digits_stand b).ok.writable).0
 
 -- digits are read back from the bytes that they take
-pub digits_take : (h : ℕ) (ds : List ℕ) → Ok (digits h) ds → h + 1 ≡ length ((digits h).print ds)
+pub digits_take : (h : ℕ) (ds : List ℕ) → Proper (digits h) ds → h + 1 ≡ length ((digits h).print ds)
 digits_take h ds o =
     let bs = (digits h).print ds in
     let n = length bs in
     let e = (digits_lawful h).back bs n 0 ds o (stands_whole bs) (omega arith) (le_refl n) in
-    let z : Of 0 (h + 1) ≡ Of 0 (0 + n - 0) = digits_part bs n 0 h ds (0 + n) e ∙ ap (field_part 0) e in
-    let y : h + 1 ≡ 0 + n - 0 = cc in
-    omega arith
+    let z = ok_pair_inj (digits_part bs n 0 h ds (0 + n) e ∙ ap (field_part 0) e) in
+    omega (arith, z.1)
 
 pub digits_entries : (h : ℕ) (ds : List ℕ) (at : ℕ) → (digits h).tape ds at ≡ at ∷ (h + 1) ∷ []
 unfolding digits
 digits_entries h ds at = rw (add-one h)
 
-pub digits_fill : (s : List ℕ) (l p h a n : ℕ) → Bytes s → Of a n ≡ field_part p ((digits h).parse s l p) → (a ≡ p) × (n ≡ h + 1) × Fills (digits h) s l p (h + 1)
+pub digits_fill : (s : List ℕ) (l p h a n : ℕ) → Bytes s → Ok (a, n) ≡ field_part p ((digits h).parse s l p) → (a ≡ p) × (n ≡ h + 1) × Fills (digits h) s l p (h + 1)
 digits_fill s l p h a n b e =
     let f = field_found p ((digits h).parse s l p) a n e in
     let g = digits_found s l p h f.0 f.1 f.2 in
@@ -364,24 +360,24 @@ module _ (s : List ℕ) (p n : ℕ) (there : p + n ≤ length s) where
       ∙ (halves_get (take n (drop p s)) (k + 1)).0 ∙ ap (λ b. b / 16) (byte_at (k + 1) h)
 
   module _ (i : ℕ) where
-    pub digit_none : n ≤ i / 2 + i % 2 → NoNumber (OutsideSet 0) ≡ number_of (nth_digit ds i p)
+    pub digit_none : n ≤ i / 2 + i % 2 → Err (OutsideSet 0) ≡ number_of (nth_digit ds i p)
     unfolding nth_digit
     digit_none k = rw (le-ltb i (length ds) (omega (arith, many)))
 
     module _ (k : i / 2 + i % 2 < n) (at x : ℕ) (here : at ≡ p + (i / 2 + i % 2)) where
-      digit_is : x ≡ get_or ds i 0 → Is x at ≡ number_of (nth_digit ds i p)
+      digit_is : x ≡ get_or ds i 0 → Ok (x, at) ≡ number_of (nth_digit ds i p)
       unfolding nth_digit
       digit_is v =
           let z : at ≡ p + (i + 1) / 2 = omega (arith, here) in
           rw (lt-ltb i (length ds) (omega (arith, many)), v, z)
 
-      pub digit_low : i % 2 ≡ 0 → x ≡ get_or s at 0 % 16 → Is x at ≡ number_of (nth_digit ds i p)
+      pub digit_low : i % 2 ≡ 0 → x ≡ get_or s at 0 % 16 → Ok (x, at) ≡ number_of (nth_digit ds i p)
       digit_low even g =
           let z : i / 2 + i / 2 ≡ i = omega arith in
           let y : at ≡ p + i / 2 = omega (arith, here) in
           digit_is (g ∙ ap (λ (j : ℕ). get_or s j 0 % 16) y ∙ sym (low_digit (i / 2) (omega arith)) ∙ ap (λ (j : ℕ). get_or ds j 0) z)
 
-      pub digit_high : (i % 2 ≡ 0 → ⊥) → x ≡ get_or s at 0 / 16 → Is x at ≡ number_of (nth_digit ds i p)
+      pub digit_high : (i % 2 ≡ 0 → ⊥) → x ≡ get_or s at 0 / 16 → Ok (x, at) ≡ number_of (nth_digit ds i p)
       digit_high odd g =
           let z : i / 2 + i / 2 + 1 ≡ i = omega arith in
           let y : at ≡ p + (i / 2 + 1) = omega (arith, here) in
@@ -389,7 +385,7 @@ module _ (s : List ℕ) (p n : ℕ) (there : p + n ≤ length s) where
 
 -- of the digits that D reads
 module _ (D : Format (List ℕ)) (s : List ℕ) (l p i : ℕ) where
-  pub digit_no : (r : Refusal) → NoPart r ≡ field_part p (D.parse s l p) → NoNumber r ≡ digit_read D i s l p
+  pub digit_no : (r : Refusal) → Err r ≡ field_part p (D.parse s l p) → Err r ≡ digit_read D i s l p
   unfolding digit_read
   digit_no r e = rw (field_refused p (D.parse s l p) r e)
 
@@ -399,7 +395,7 @@ module _ (D : Format (List ℕ)) (s : List ℕ) (l p i : ℕ) where
   digit_of_lem a n q h e = rw (h, e)
 
 -- what digits read are
-pub digits_value : (s : List ℕ) (l p h a n : ℕ) → Bytes s → Of a n ≡ field_part p ((digits h).parse s l p)
+pub digits_value : (s : List ℕ) (l p h a n : ℕ) → Bytes s → Ok (a, n) ≡ field_part p ((digits h).parse s l p)
     → (a ≡ p) × (n ≡ h + 1) × (p + n ≤ length s) × ((digits h).parse s l p ≡ found (tail (halves (take n (drop p s)))) (p + n))
 digits_value s l p h a n b e =
     let f = digits_fill s l p h a n b e in
@@ -409,7 +405,7 @@ digits_value s l p h a n b e =
     (f.0, f.1, omega (arith, f.1, f.2.in_body_lem), f.2.parsed ∙ ap₂ (λ (ds : List ℕ) (q : ℕ). found ds q) (sym v ∙ ap (λ (m : ℕ). tail (halves (take m (drop p s)))) z) y)
 
 -- each of them, asked for in the bytes of the part
-pub digits_each : (s : List ℕ) (l p h a n : ℕ) → Bytes s → Of a n ≡ field_part p ((digits h).parse s l p)
+pub digits_each : (s : List ℕ) (l p h a n : ℕ) → Bytes s → Ok (a, n) ≡ field_part p ((digits h).parse s l p)
     → (a + n ≤ length s) × ((i : ℕ) → number_of (nth_digit (tail (halves (take n (drop a s)))) i a) ≡ digit_read (digits h) i s l p)
 digits_each s l p h a n b e =
     let v = digits_value s l p h a n b e in

@@ -1,14 +1,13 @@
 -- The laws of time fields: whether a number is a time does not depend on its place.
 use Prim.Native.Nat.{ℕ, ◌^◌}
+use Rattle.std.specs.Prelude.{Result, Ok, Err, None}
+use Rattle.ground_refusal.specs.declared.Refusal.{Refusal}
 use mathlib.Core.Path.{◌≡◌, refl}
 use mathlib.Core.Bool.{Bool, true, false, not, cond}
 use lib.Dec.{leb, eqb}
 use Rattle.ground_refusal.specs.declared.Refusal.TheVariants.{DigitAboveNine, OutsideSet, ImpossibleDay}
 use Rattle.time_fields.specs.Field.{read_time, read_end, is_decimal, possible, moment_of, live_mark, as_end}
 use Rattle.time_fields.specs.declared.Moment.{Moment}
-use Rattle.time_fields.specs.declared.Timed.{Timed}
-use Rattle.time_fields.specs.declared.Timed.TheVariants.{At, Refused}
-use Rattle.time_fields.specs.declared.EndTimed.TheVariants.{Live}
 use Rattle.body_formats.specs.Reading.{is_fine}
 use Rattle.body_formats.specs.Format.{number}
 use Rattle.body_formats.specs.Time.{time_fault, end_fault, time, end_time}
@@ -16,8 +15,8 @@ use Rattle.body_formats.proofs.Classes.{Lawful}
 use Rattle.body_formats.proofs.Parts.{only_lawful, number_lawful}
 
 -- the answer at a place, by the three tests
-answer : Bool → Bool → Bool → Moment → ℕ → Timed
-answer a b c m p = cond a (Refused (OutsideSet p)) (cond b (Refused (DigitAboveNine p)) (cond c (Refused (ImpossibleDay p)) (At m)))
+answer : Bool → Bool → Bool → Moment → ℕ → Result Moment Refusal
+answer a b c m p = cond a (Err (OutsideSet p)) (cond b (Err (DigitAboveNine p)) (cond c (Err (ImpossibleDay p)) (Ok m)))
 
 tests_even : (a b c : Bool) (m : Moment) (p : ℕ)
     → (is_fine (time_fault (answer a b c m p)) ≡ is_fine (time_fault (answer a b c m 0)))
@@ -38,7 +37,7 @@ end_even : (f p : ℕ) → is_fine (end_fault (read_end f p)) ≡ is_fine (end_f
 unfolding read_end
 end_even f p = go (eqb f live_mark)
   where
-    go : (t : Bool) → is_fine (end_fault (cond t Live (as_end (read_time f p)))) ≡ is_fine (end_fault (cond t Live (as_end (read_time f 0))))
+    go : (t : Bool) → is_fine (end_fault (cond t (Ok None) (as_end (read_time f p)))) ≡ is_fine (end_fault (cond t (Ok None) (as_end (read_time f 0))))
     go true = refl
     go false = (time_even f p).1
 

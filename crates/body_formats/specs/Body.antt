@@ -1,5 +1,6 @@
 -- What a reader has to believe of whole bodies: what their reader answers, and what their writer writes.
-use Rattle.std.specs.Prelude.{ℕ, List, not, length, leb, eqb}
+use Rattle.std.specs.Prelude.{ℕ, List, not, length, leb, eqb, Result}
+use Rattle.ground_refusal.specs.declared.Refusal.{Refusal}
 use Rattle.ground_placing.specs.Placed.{placed}
 use Rattle.ground_numbers.specs.Sizes.{body_most}
 use Rattle.ground_refusal.specs.Numbers.{placeless}
@@ -7,7 +8,6 @@ use Rattle.ground_refusal.specs.declared.Refusal.TheVariants.{OtherKind, Outside
 use Rattle.body_formats.specs.Reading.{Reading, found, refused, and_then, need}
 use Rattle.body_formats.specs.Format.{Format, nothing}
 use Rattle.body_formats.specs.Answers.{step_of}
-use Rattle.body_formats.specs.declared.Step.{Step}
 
 -- "2 for a wrong kind, then 22" ("a body above 1,045,504 bytes"), "come first", and then the fields
 unfoldable pub reading : {A : Type 0} → Format A → ℕ → ℕ → List ℕ → Reading A
@@ -25,7 +25,7 @@ measuring F pool tape =
     (need (leb (length (F.print a)) body_most) TooLarge (found a (length (F.print a))))))
 
 -- how long the body of a form is, whatever room there is, or why and at which entry it is refused
-unfoldable pub measured : {A : Type 0} → Format A → List ℕ → List ℕ → Step
+unfoldable pub measured : {A : Type 0} → Format A → List ℕ → List ℕ → Result ℕ Refusal
 measured F pool tape = step_of (measuring F pool tape)
 
 -- "and always 0 from writers", "then 21": the same, where a writer has room for so many bytes
@@ -45,15 +45,15 @@ unfoldable pub output_written : {A : Type 0} → Format A → List ℕ → List 
 output_written F pool tape out = written_over F out (writing F pool tape (length out))
 
 -- where a body's table ends, or why it is refused
-unfoldable pub body_read : {A : Type 0} → Format A → ℕ → ℕ → List ℕ → Step
+unfoldable pub body_read : {A : Type 0} → Format A → ℕ → ℕ → List ℕ → Result ℕ Refusal
 body_read F own kind s = step_of (reading F own kind s)
 
 -- what is asked of a body before its fields
-unfoldable pub opened : ℕ → ℕ → List ℕ → Step
+unfoldable pub opened : ℕ → ℕ → List ℕ → Result ℕ Refusal
 opened own kind s = body_read nothing own kind s
 
 -- how long the written body is, or why it is refused
-unfoldable pub body_written : {A : Type 0} → Format A → List ℕ → List ℕ → ℕ → Step
+unfoldable pub body_written : {A : Type 0} → Format A → List ℕ → List ℕ → ℕ → Result ℕ Refusal
 body_written F pool tape room = step_of (writing F pool tape room)
 
 -- an accepted body laid out for a writer, with itself as the pool: the table and the number of its entries; a tape too small is 21
@@ -62,7 +62,7 @@ laying F own kind s room =
     and_then (reading F own kind s) (λ a q.
     need (leb (length (F.tape a 0)) room) OutputTooSmall (found a (length (F.tape a 0))))
 
-unfoldable pub body_laid : {A : Type 0} → Format A → ℕ → ℕ → List ℕ → ℕ → Step
+unfoldable pub body_laid : {A : Type 0} → Format A → ℕ → ℕ → List ℕ → ℕ → Result ℕ Refusal
 body_laid F own kind s room = step_of (laying F own kind s room)
 
 abbrev pub laid_over : {A : Type 0} → Format A → List ℕ → Reading A → List ℕ

@@ -17,22 +17,10 @@ pub const RESOURCE_BYTES: usize = 1 + RESOURCE_PAIRS;
 // ---- the answers
 
 // The position after what was read, or a refusal.
-#[derive(Clone, Copy)]
-pub enum Step {
-    At(usize),
-    Refused(Refusal),
-}
+pub type Step = Result<usize, Refusal>;
 
 // A number and the position after it, or a refusal.
-#[derive(Clone, Copy)]
-pub enum Number {
-    Is(u64, usize),
-    Refused(Refusal),
-}
+pub type Number = Result<(u64, usize), Refusal>;
 
 // Opaque bytes, where they begin and how many they are, or a refusal.
-#[derive(Clone, Copy)]
-pub enum Part {
-    Of(usize, usize),
-    Refused(Refusal),
-}
+pub type Part = Result<(usize, usize), Refusal>;

@@ -1,21 +1,21 @@
 -- Laws of what a format finds wherever its part ends: of each kind of field, and of fields put together.
-use Prim.Native.Nat.{ℕ, zero, suc, ◌+◌, ◌-◌, ◌*◌, ◌/◌, ◌%◌, ◌^◌, ◌≤◌, ◌<◌}
-use mathlib.Core.Path.{◌≡◌, refl, sym, ap, ◌∙◌}
+use Prim.Native.Nat.{ℕ, suc, ◌+◌, ◌-◌, ◌*◌, ◌/◌, ◌%◌, ◌^◌, ◌≤◌, ◌<◌}
+use Rattle.std.specs.Prelude.{Ok}
+use mathlib.Core.Path.{◌≡◌, refl, ◌∙◌}
 use mathlib.Core.List.{List}
 use mathlib.Core.Bool.{Bool, true, false, ◌&&◌}
 use native.Mathlib.Omega.{arith}
 use native.Mathlib.Nat.{le_refl, add-zero, mod-eq_of_lt}
 use lib.ListN.{length, get_or, take, drop}
-use lib.Dec.{leb, ltb, eqb}
+use lib.Dec.{leb, eqb}
 use borrow.Author.Tests.{le-leb, lt-ltb, eq-eqb}
 use Rattle.ground_refusal.specs.declared.Refusal.{Refusal}
 use Rattle.ground_refusal.specs.declared.Refusal.TheVariants.{OtherKind, TooLarge}
 use Rattle.ground_numbers.specs.Sizes.{body_most}
-use Rattle.body_formats.specs.Reading.{found, need, Fault, fine, unless}
-use Rattle.body_formats.specs.Format.{Format, only, outside, followed, ◌▷◌, nothing, under, view, exact, number_at, count, number, nibbles_among, nibbles, below, reserved, bytes, every, bytes_among, halves, tail, decimal, digits, rest, Length, length_of, least_of, length12, counted, opaque}
+use Rattle.body_formats.specs.Reading.{need, Fault, fine}
+use Rattle.body_formats.specs.Format.{Format, only, followed, ◌▷◌, nothing, under, view, exact, number_at, count, number, nibbles_among, nibbles, below, reserved, bytes, every, bytes_among, halves, tail, decimal, digits, rest, Length, length_of, least_of, length12, counted, opaque}
 use Rattle.body_formats.specs.Answers.{step_of}
 use Rattle.body_formats.specs.Body.{reading, body_read, opened}
-use Rattle.body_formats.specs.declared.Step.TheVariants.{At}
 use Rattle.body_formats.proofs.Classes.{Bytes}
 use Rattle.body_formats.proofs.Outcomes.{within_there}
 use Rattle.body_formats.proofs.Leaves.{number_below}
@@ -164,13 +164,13 @@ reads_part12 s p m b e h g =
 -- ---- whole bodies
 
 -- what a reader answers, where the body is opened and filled
-pub read_filled : {A : Type 0} {F : Format A} (own kind : ℕ) {s : List ℕ} {q : ℕ} → At q ≡ opened own kind s → (a : A) × Fills F s (length s) 0 a
-    → At (length s) ≡ body_read F own kind s
+pub read_filled : {A : Type 0} {F : Format A} (own kind : ℕ) {s : List ℕ} {q : ℕ} → Ok q ≡ opened own kind s → (a : A) × Fills F s (length s) 0 a
+    → Ok (length s) ≡ body_read F own kind s
 unfolding opened body_read reading nothing
 read_filled {F} own kind {s} {q} o g = go (eqb kind own) (leb (length s) body_most) o
   where
-    go : (a b : Bool) → At q ≡ step_of (need a OtherKind (need b TooLarge (nothing.parse s (length s) 0)))
-        → At (length s) ≡ step_of (need a OtherKind (need b TooLarge (F.parse s (length s) 0)))
+    go : (a b : Bool) → Ok q ≡ step_of (need a OtherKind (need b TooLarge (nothing.parse s (length s) 0)))
+        → Ok (length s) ≡ step_of (need a OtherKind (need b TooLarge (F.parse s (length s) 0)))
     go true true e = rw g.1.whole
     go true false e = absurd (let z : ◌≡◌ {A = ℕ} 0 1 = cc in omega arith)
     go false b e = absurd (let z : ◌≡◌ {A = ℕ} 0 1 = cc in omega arith)

@@ -1,5 +1,8 @@
 -- What the tests of a glance say of digits, identifiers and times: their formats find them.
-use Prim.Native.Nat.{ℕ, suc, ◌+◌, ◌*◌, ◌/◌, ◌%◌, ◌^◌, ◌≤◌, ◌<◌}
+use Prim.Native.Nat.{ℕ, ◌+◌, ◌*◌, ◌/◌, ◌%◌, ◌^◌, ◌≤◌, ◌<◌}
+use Rattle.std.specs.Prelude.{Result, Ok, Err, None}
+use Rattle.ground_refusal.specs.declared.Refusal.{Refusal}
+use Rattle.time_fields.specs.declared.Moment.{Moment}
 use mathlib.Core.Path.{◌≡◌, refl, sym, ap, ◌∙◌}
 use mathlib.Core.List.{List}
 use mathlib.Core.Bool.{Bool, true, false, ◌&&◌, cond, false≢true}
@@ -7,20 +10,17 @@ use native.Mathlib.Omega.{arith}
 use native.Mathlib.Nat.{le_refl, add-zero}
 use native.Mathlib.Numerals.{add-one}
 use lib.ListN.{length, get_or, take, drop}
-use lib.Dec.{leb, ltb, eqb}
-use borrow.Author.Tests.{le-leb, leb-true, lt-ltb, eqb-true}
+use lib.Dec.{leb, eqb}
+use borrow.Author.Tests.{le-leb, leb-true, lt-ltb}
 use Rattle.ground_choices.proofs.Tests.{both, and_of}
 use Rattle.time_days.specs.Calendar.{in_range}
 use Rattle.time_fields.specs.Field.{worth, decimal_pair, day_part, hour_part, minute_part, second_part, is_decimal, possible, moment_of, read_time, as_end, read_end, live_mark}
 use Rattle.time_fields.proofs.Parts.{Parts, parts}
-use Rattle.time_fields.proofs.Reading.{reads_time, end_live, end_timed}
-use Rattle.body_formats.specs.Reading.{found, fine}
-use Rattle.body_formats.specs.Format.{number_at, halves, tail, decimal, digits, only, number}
+use Rattle.time_fields.proofs.Reading.{reads_time, end_live}
+use Rattle.body_formats.specs.Reading.{fine}
+use Rattle.body_formats.specs.Format.{number_at, halves, decimal, digits, only, number}
 use Rattle.body_formats.specs.Time.{time_fault, end_fault, time, end_time}
 use Rattle.body_formats.specs.Identifier.{identifier_pairs, identifier_bytes, has_real_day, unreal_day, identifier}
-use Rattle.time_fields.specs.declared.Timed.{Timed}
-use Rattle.time_fields.specs.declared.Timed.TheVariants.{At, Refused}
-use Rattle.time_fields.specs.declared.EndTimed.TheVariants.{Live}
 use Rattle.body_formats.proofs.Outcomes.{found_inj, and_then_found, judged_found}
 use Rattle.body_formats.proofs.Classes.{Bytes}
 use Rattle.body_formats.proofs.Leaves.{number_below}
@@ -83,7 +83,7 @@ module _ (s : List ℕ) (p : ℕ) (b : Bytes s) where
     pub second_digit : get_or s (p + 4) 0 % 16 ≤ 9
 
   module _ (t : Timely) where
-    timed : read_time (number_at s p 5) p ≡ At (moment_of (number_at s p 5))
+    timed : read_time (number_at s p 5) p ≡ Ok (moment_of (number_at s p 5))
     unfolding is_decimal possible in_range
     timed =
         let f = number_at s p 5 in
@@ -136,11 +136,11 @@ module _ (s : List ℕ) (p : ℕ) (b : Bytes s) where
       let e = (judged_found (time_fault (read_time i.0 p)) _ g.0 (p + 5) i.3).0 in
       (number_at s p 5, reads_only (λ f at. end_fault (read_end f at)) (as_end_lem (number_at s p 5) (rw same.0 e)) (reads_number s p 5 b))
     where
-      by_time : (x : Timed) → time_fault x ≡ fine → end_fault (as_end x) ≡ fine
-      by_time (At m) e = refl
-      by_time (Refused r) e = e
+      by_time : (x : Result Moment Refusal) → time_fault x ≡ fine → end_fault (as_end x) ≡ fine
+      by_time (Ok m) e = refl
+      by_time (Err r) e = e
 
-      by_mark : (f : ℕ) (live : Bool) → time_fault (read_time f p) ≡ fine → end_fault (cond live Live (as_end (read_time f p))) ≡ fine
+      by_mark : (f : ℕ) (live : Bool) → time_fault (read_time f p) ≡ fine → end_fault (cond live (Ok None) (as_end (read_time f p))) ≡ fine
       by_mark f true e = refl
       by_mark f false e = by_time (read_time f p) e
 

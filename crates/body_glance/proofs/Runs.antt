@@ -1,17 +1,17 @@
 -- Laws of things one after the other, as loops pass them: so many, or to the end of their part.
 use Prim.Native.Nat.{ℕ, zero, suc, ◌+◌, ◌-◌, ◌≤◌, ◌<◌}
-use mathlib.Core.Path.{◌≡◌, refl, sym, ap, ◌∙◌}
+use mathlib.Core.Path.{◌≡◌, refl, ◌∙◌}
 use mathlib.Core.List.{List, [], ◌∷◌}
 use mathlib.Core.Bool.{Bool, true, false}
 use native.Mathlib.Omega.{arith}
 use native.Mathlib.Nat.{le_refl}
 use lib.ListN.{length}
 use lib.Dec.{leb}
-use borrow.Author.Tests.{leb-true, le-leb, lt-leb}
+use borrow.Author.Tests.{le-leb, lt-leb}
 use Rattle.std.specs.Prelude.{if◌then◌else◌}
-use Rattle.body_formats.specs.Reading.{Reading, found, refused, and_then}
+use Rattle.body_formats.specs.Reading.{found, and_then}
 use Rattle.body_formats.specs.Format.{Format, repeat, times, list_of, parse_many, many}
-use Rattle.body_formats.proofs.Outcomes.{found_inj, and_then_found, need_found}
+use Rattle.body_formats.proofs.Outcomes.{and_then_found, need_found}
 use Rattle.body_glance.specs.Glance.{Reads, Fills}
 
 -- ---- so many
@@ -37,14 +37,17 @@ reads_list F r g =
 abbrev pub Coming : {A : Type 0} → Format A → List ℕ → ℕ → ℕ → ℕ → ℕ → Type 0
 Coming {A} F s n p left at = (xs : List A) (q : ℕ) → Reads (times left F) s at xs q → (ys : List A) × Reads (times n F) s p ys q
 
-module _ {A : Type 0} (F : Format A) {s : List ℕ} (n : ℕ) {p : ℕ} (left at : ℕ) (c : Coming F s n p left at) where
-  pub coming_turn : {q : ℕ} → 0 < left → (a : A) × Reads F s at a q → Coming F s n p (left - 1) q
-  coming_turn h g xs t r =
-      let e : suc (left - 1) ≡ left = omega arith in
-      c (g.0 ∷ xs) t (rw e at (reads_more (left - 1) g.1 r))
+pub coming_start : {A : Type 0} (F : Format A) (n : ℕ) {s : List ℕ} {p : ℕ} → Coming F s n p (n - 0) p
+coming_start F n xs q r = let z : n - 0 ≡ n = omega arith in (xs, rw z at r)
 
-  pub coming_done : left ≡ 0 → (ys : List A) × Reads (times n F) s p ys at
-  coming_done e = c [] at (rw e (reads_none F s at))
+module _ {A : Type 0} (F : Format A) {s : List ℕ} (n : ℕ) {p : ℕ} (i at : ℕ) (c : Coming F s n p (n - i) at) where
+  pub coming_turn : {q : ℕ} → i < n → (a : A) × Reads F s at a q → Coming F s n p (n - (i + 1)) q
+  coming_turn h g xs t r =
+      let e : suc (n - (i + 1)) ≡ n - i = omega arith in
+      c (g.0 ∷ xs) t (rw e at (reads_more (n - (i + 1)) g.1 r))
+
+  pub coming_done : n ≤ i → (ys : List A) × Reads (times n F) s p ys at
+  coming_done h = let e : n - i ≡ 0 = omega arith in c [] at (rw e (reads_none F s at))
 
 -- ---- to the end of their part
 

@@ -61,13 +61,11 @@ pub fn good_resources(s: &[u8], p: usize, n: usize) -> bool
     ensures { Good (times n resource) s.now p (p + n * 12) result }
 {
     let mut at = p;
-    let mut left = n;
-    while 0 < left {
+    for i in 0..n {
         if !good_resource(s, at) {
             return false;
         }
         at = at + RESOURCE_BYTES;
-        left = left - 1;
     }
     true
 }

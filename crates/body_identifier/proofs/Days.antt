@@ -1,11 +1,12 @@
 -- The laws of an identifier's day by its digits: of decimal digits the bytes are in the order of the numbers that they write.
 use Prim.Native.Nat.{ℕ, zero, suc, ◌+◌, ◌*◌, ◌/◌, ◌%◌, ◌≤◌, ◌<◌}
+use Rattle.std.specs.Prelude.{Ok}
 use mathlib.Core.Path.{◌≡◌, refl, sym, ◌∙◌}
 use mathlib.Core.List.{List, [], ◌∷◌}
-use mathlib.Core.Bool.{Bool, true, false, ◌&&◌}
+use mathlib.Core.Bool.{Bool, true, ◌&&◌}
 use native.Mathlib.Decide.{dec_le}
 use native.Mathlib.Omega.{arith}
-use lib.ListN.{length, get_or, take, drop}
+use lib.ListN.{length, get_or}
 use lib.Dec.{leb, ltb, lit≤}
 use borrow.Author.Tests.{ltb-true, leb-true}
 use Rattle.ground_choices.proofs.Tests.{both}
@@ -13,10 +14,9 @@ use Rattle.ground_refusal.specs.declared.Refusal.TheVariants.{DigitAboveNine}
 use Rattle.time_dates.proofs.Dates.{usual_date}
 use Rattle.time_fields.specs.Field.{worth}
 use Rattle.body_formats.specs.Reading.{found}
-use Rattle.body_formats.specs.Format.{halves, tail, decimal, digits}
+use Rattle.body_formats.specs.Format.{decimal, digits}
 use Rattle.body_formats.specs.Identifier.{identifier_pairs, identifier_bytes, has_real_day}
 use Rattle.body_formats.specs.Answers.{field_part}
-use Rattle.body_formats.specs.declared.Part.TheVariants.{Of}
 use Rattle.body_formats.proofs.Outcomes.{found_inj, need_found, within_found}
 use Rattle.body_formats.proofs.Leaves.{reserved_found}
 use Rattle.body_formats.proofs.Readers.{field_found}
@@ -34,7 +34,7 @@ digits_read s l p ds q e =
     let d = need_found (decimal (digits_in s p identifier_bytes)) (DigitAboveNine p) _ ds q f.2 in
     ((found_inj d.1).0, d.0)
 
-pub part_decimal : (s : List ℕ) (l p a n : ℕ) → Of a n ≡ field_part p ((digits identifier_pairs).parse s l p) → decimal (digits_in s a identifier_bytes) ≡ true
+pub part_decimal : (s : List ℕ) (l p a n : ℕ) → Ok (a, n) ≡ field_part p ((digits identifier_pairs).parse s l p) → decimal (digits_in s a identifier_bytes) ≡ true
 part_decimal s l p a n e =
     let f = field_found p ((digits identifier_pairs).parse s l p) a n e in
     rw f.3 (digits_read s l p f.0 f.1 f.2).1

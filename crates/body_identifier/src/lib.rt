@@ -69,23 +69,17 @@ pub fn has_decimal_day(s: &[u8], p: usize) -> bool
 pub fn read_identifier(s: &[u8], l: usize, p: usize) -> Part
     ensures { result ≡ field_part p (identifier.parse s.now l p) }
 {
-    match body_digits::read_digits(s, l, p, IDENTIFIER_PAIRS) {
-        Part::Refused(r) => Part::Refused(r),
-        Part::Of(a, n) => {
-            if has_decimal_day(s, a) {
-                return Part::Of(a, n);
-            }
-            Part::Refused(Refusal::ImpossibleDay(a))
-        }
+    let (a, n) = body_digits::read_digits(s, l, p, IDENTIFIER_PAIRS)?;
+    if has_decimal_day(s, a) {
+        return Ok((a, n));
     }
+    Err(Refusal::ImpossibleDay(a))
 }
 
 // The i-th digit of the identifier at p, and the position of the byte that it stands in; 19 where there is none.
 pub fn identifier_digit_at(s: &[u8], l: usize, p: usize, i: u64) -> Number
     ensures { result ≡ digit_read identifier i s.now l p }
 {
-    match read_identifier(s, l, p) {
-        Part::Refused(r) => Number::Refused(r),
-        Part::Of(a, n) => body_digits::digit_of(s, a, n, i),
-    }
+    let (a, n) = read_identifier(s, l, p)?;
+    body_digits::digit_of(s, a, n, i)
 }

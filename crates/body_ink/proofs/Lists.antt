@@ -1,5 +1,5 @@
 -- Laws of a list inked: its things one after the other, after a count or with none in the body.
-use Prim.Native.Nat.{ℕ, suc, ◌+◌, ◌-◌, ◌<◌}
+use Prim.Native.Nat.{ℕ, suc, ◌+◌, ◌-◌, ◌≤◌, ◌<◌}
 use mathlib.Core.Path.{◌≡◌, refl, sym, subst, ap, ◌∙◌}
 use mathlib.Core.List.{List, ◌++◌}
 use native.Mathlib.Omega.{arith}
@@ -38,37 +38,45 @@ module _ {A : Type 0} (F : Format A) (pool tape : List ℕ) where
             rw (← z.0) (sym (add-zero at), z.1, sym (placed_none out at));
       }
 
--- ---- things under way: those that are left are ready, and whatever inks them, from here on, inks them all
+-- ---- things under way: those after the first i are ready, and whatever inks them, from here on, inks them all
 
-pub record Underway {A : Type 0} (F : Format A) (pool tape : List ℕ) (n at₀ k₀ : ℕ) (out₀ : List ℕ) (left at k : ℕ) (out : List ℕ) : Type 0 where
-  pub ready : Ready (times left F) pool tape at k (length out)
-  pub whole : (at' k' : ℕ) (out' : List ℕ) → Inked (times left F) pool tape at k out at' k' out' → Inked (times n F) pool tape at₀ k₀ out₀ at' k' out'
+pub record Underway {A : Type 0} (F : Format A) (pool tape : List ℕ) (n at₀ k₀ : ℕ) (out₀ : List ℕ) (i at k : ℕ) (out : List ℕ) : Type 0 where
+  pub ready : Ready (times (n - i) F) pool tape at k (length out)
+  pub whole : (at' k' : ℕ) (out' : List ℕ) → Inked (times (n - i) F) pool tape at k out at' k' out' → Inked (times n F) pool tape at₀ k₀ out₀ at' k' out'
 
 pub times_start : {A : Type 0} {F : Format A} {pool tape : List ℕ} {n at k : ℕ} {out : List ℕ} → Ready (times n F) pool tape at k (length out)
-    → Underway F pool tape n at k out n at k out
-times_start g = record { ready = g; whole = λ at' k' out' i. i }
+    → Underway F pool tape n at k out 0 at k out
+times_start {A} {F} {pool} {tape} {n} {at} {k} {out} g =
+    let z : n - 0 ≡ n = omega arith in
+    record {
+      ready = subst (λ m. Ready (times m F) pool tape at k (length out)) (sym z) g;
+      whole = λ at' k' out' i. subst (λ m. Inked (times m F) pool tape at k out at' k' out') z i;
+    }
 
-module _ {A : Type 0} {F : Format A} {pool tape : List ℕ} {n at₀ k₀ : ℕ} {out₀ : List ℕ} {left at k : ℕ} {out : List ℕ}
-    (u : Underway F pool tape n at₀ k₀ out₀ left at k out) where
-  pub times_done : left ≡ 0 → Inked (times n F) pool tape at₀ k₀ out₀ at k out
-  times_done z = u.whole at k out (subst (λ m. Inked (times m F) pool tape at k out at k out) (sym z) (none_inked F pool tape at k out))
+module _ {A : Type 0} {F : Format A} {pool tape : List ℕ} {n at₀ k₀ : ℕ} {out₀ : List ℕ} {i at k : ℕ} {out : List ℕ}
+    (u : Underway F pool tape n at₀ k₀ out₀ i at k out) where
+  pub times_done : n ≤ i → Inked (times n F) pool tape at₀ k₀ out₀ at k out
+  times_done h =
+      let z : n - i ≡ 0 = omega arith in
+      u.whole at k out (subst (λ m. Inked (times m F) pool tape at k out at k out) (sym z) (none_inked F pool tape at k out))
 
-  module _ (h : 0 < left) where
-    one_more : Ready (F ▷ times (left - 1) F) pool tape at k (length out)
-    one_more =
-        like_ready (more_like F pool tape (left - 1))
-        (subst (λ m. Ready (times m F) pool tape at k (length out)) (let z : left ≡ suc (left - 1) = omega arith in z) u.ready)
+  module _ (h : i < n) where
+    one_less : suc (n - (i + 1)) ≡ n - i
+    one_less = omega arith
+
+    one_more : Ready (F ▷ times (n - (i + 1)) F) pool tape at k (length out)
+    one_more = like_ready (more_like F pool tape (n - (i + 1))) (subst (λ m. Ready (times m F) pool tape at k (length out)) (sym one_less) u.ready)
 
     pub times_next : Ready F pool tape at k (length out)
-    times_next = first F (λ a. times (left - 1) F) one_more
+    times_next = first F (λ a. times (n - (i + 1)) F) one_more
 
-    pub times_turn : {at' k' : ℕ} {mid : List ℕ} → Inked F pool tape at k out at' k' mid → Underway F pool tape n at₀ k₀ out₀ (left - 1) at' k' mid
-    times_turn {at'} {k'} {mid} i =
+    pub times_turn : {at' k' : ℕ} {mid : List ℕ} → Inked F pool tape at k out at' k' mid → Underway F pool tape n at₀ k₀ out₀ (i + 1) at' k' mid
+    times_turn {at'} {k'} {mid} t =
         record {
-          ready = second i one_more;
-          whole = λ a b o t.
-              u.whole a b o (subst (λ m. Inked (times m F) pool tape at k out a b o) (let z : suc (left - 1) ≡ left = omega arith in z)
-              (like_inked (more_like F pool tape (left - 1)) (pair_inked i t)));
+          ready = second t one_more;
+          whole = λ a b o r.
+              u.whole a b o (subst (λ m. Inked (times m F) pool tape at k out a b o) one_less
+              (like_inked (more_like F pool tape (n - (i + 1))) (pair_inked t r)));
         }
 
 -- ---- after a count, and with none in the body

@@ -21,10 +21,8 @@ pub fn number(out: &mut [u8], at: usize, w: usize, x: u64)
     requires { at + w ≤ length out.old }
     ensures { out.new ≡ placed out.old at (bytes_of w x) }
 {
-    let mut k = w;
     let mut v = x;
-    while 0 < k {
-        k = k - 1;
+    for k in (0..w).rev() {
         out[at + k] = (v % 256) as u8;
         v = v / 256;
     }
@@ -67,14 +65,16 @@ pub fn resources(pool: &[u8], tape: &[u64], k: usize, out: &mut [u8], at: usize)
 {
     let n = tape[k];
     number(out, at, 1, n);
-    let mut past = at + 1;
-    let mut entry = k + 1;
-    let mut left = n;
-    while 0 < left {
-        digits(pool, tape, entry, RESOURCE_PAIRS, out, past);
-        past = past + (RESOURCE_PAIRS + 1);
-        entry = entry + 2;
-        left = left - 1;
+    let mut past = Mark {
+        at: at + 1,
+        entry: k + 1,
+    };
+    for _ in 0..n {
+        digits(pool, tape, past.entry, RESOURCE_PAIRS, out, past.at);
+        past = Mark {
+            at: past.at + (RESOURCE_PAIRS + 1),
+            entry: past.entry + 2,
+        };
     }
-    Mark { at: past, entry }
+    past
 }

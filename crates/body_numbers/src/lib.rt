@@ -5,12 +5,11 @@
 ghost use Rattle.std.specs.Prelude.{◌≡◌, ◌+◌, ◌^◌, ◌≤◌, ◌<◌, length};
 ghost use Rattle.body_formats.specs.Format.{number_at, reserved};
 ghost use Rattle.body_formats.specs.Time.{time, end_time};
-ghost use Rattle.body_formats.specs.Answers.{number_of, number_read, number_among};
+ghost use Rattle.body_formats.specs.Answers.{reached, number_of, number_read, number_among};
 
-use body_formats::Number;
-use ground_numbers::wide;
+use body_formats::{Number, Step};
+use ground_numbers::{wide, within};
 use ground_refusal::Refusal;
-use time_fields::{EndTimed, Timed};
 
 // The number in w bytes at p, the high one first, a byte a turn.
 fn long_number_at(s: &[u8], p: usize, w: usize) -> u64
@@ -18,11 +17,8 @@ fn long_number_at(s: &[u8], p: usize, w: usize) -> u64
     ensures { result ≡ number_at s.now p w }
 {
     let mut v: u64 = 0;
-    let mut k: usize = 0;
-    while k < w {
-        let b = wide(s[p + k]);
-        v = v * 256 + b;
-        k = k + 1;
+    for b in &s[p..p + w] {
+        v = v * 256 + wide(*b);
     }
     v
 }
@@ -61,21 +57,26 @@ fn number_at(s: &[u8], p: usize, w: usize) -> u64
     long_number_at(s, p, w)
 }
 
+// Where n bytes at p end, of a field that begins at `at`.
+pub fn field_end(s: &[u8], l: usize, at: usize, p: usize, n: usize) -> Step
+    ensures { result ≡ reached s.now l at (p + n) }
+{
+    if s.len() < n || s.len() - n < p {
+        return Err(Refusal::PastBody(at));
+    }
+    if l < p + n {
+        return Err(Refusal::PastPart(at));
+    }
+    Ok(p + n)
+}
+
 // A number of w bytes.
 pub fn read_number(s: &[u8], l: usize, p: usize, w: usize) -> Number
     requires { w ≤ 7 }
     ensures { result ≡ number_read w s.now l p }
 {
-    if s.len() < w {
-        return Number::Refused(Refusal::PastBody(p));
-    }
-    if s.len() - w < p {
-        return Number::Refused(Refusal::PastBody(p));
-    }
-    if l < p + w {
-        return Number::Refused(Refusal::PastPart(p));
-    }
-    Number::Is(number_at(s, p, w), p + w)
+    let q = field_end(s, l, p, p, w)?;
+    Ok((number_at(s, p, w), q))
 }
 
 // 2 to the power of n.
@@ -91,62 +92,41 @@ pub fn read_reserved(s: &[u8], l: usize, p: usize, k: usize, w: usize) -> Number
     requires { (k ≤ 8) × (w ≤ 6) }
     ensures { result ≡ number_of ((reserved k w).parse s.now l p) }
 {
-    match read_number(s, l, p, 1) {
-        Number::Refused(r) => Number::Refused(r),
-        Number::Is(first, q) => {
-            let bits = 8 - k;
-            if first >> bits != power(k) - 1 {
-                return Number::Refused(Refusal::ReservedBitZero(p));
-            }
-            match read_number(s, l, p, w + 1) {
-                Number::Refused(r) => Number::Refused(r),
-                Number::Is(v, end) => Number::Is(v % power(8 * w + bits), end),
-            }
-        }
+    let (first, q) = read_number(s, l, p, 1)?;
+    let bits = 8 - k;
+    if first >> bits != power(k) - 1 {
+        return Err(Refusal::ReservedBitZero(p));
     }
+    let (v, end) = read_number(s, l, p, w + 1)?;
+    Ok((v % power(8 * w + bits), end))
 }
 
 // The number x, which stands at p, where it is one from lo to hi.
+#[tactic(auto, unfolding(body_formats::specs::Answers::number_among))]
 pub fn among(x: Number, p: usize, lo: u64, hi: u64) -> Number
     ensures { result ≡ number_among lo hi p x }
 {
-    match x {
-        Number::Refused(r) => Number::Refused(r),
-        Number::Is(v, q) => {
-            if v < lo {
-                return Number::Refused(Refusal::OutsideSet(p));
-            }
-            if hi < v {
-                return Number::Refused(Refusal::OutsideSet(p));
-            }
-            Number::Is(v, q)
-        }
+    let (v, q) = x?;
+    if within(lo, v, hi) {
+        return Ok((v, q));
     }
+    Err(Refusal::OutsideSet(p))
 }
 
 // A time field, as the number that it is.
 pub fn read_time(s: &[u8], l: usize, p: usize) -> Number
     ensures { result ≡ number_of (time.parse s.now l p) }
 {
-    match read_number(s, l, p, 5) {
-        Number::Refused(r) => Number::Refused(r),
-        Number::Is(x, q) => match time_fields::read_time(x, p) {
-            Timed::Refused(r) => Number::Refused(r),
-            Timed::At(m) => Number::Is(x, q),
-        },
-    }
+    let (x, q) = read_number(s, l, p, 5)?;
+    time_fields::read_time(x, p)?;
+    Ok((x, q))
 }
 
-// An end field, as the number that it is.
+// An end field, as the number that it is. What judges it alone differs from read_time: a closure for that, with its law, is longer than the two lines.
 pub fn read_end(s: &[u8], l: usize, p: usize) -> Number
     ensures { result ≡ number_of (end_time.parse s.now l p) }
 {
-    match read_number(s, l, p, 5) {
-        Number::Refused(r) => Number::Refused(r),
-        Number::Is(x, q) => match time_fields::read_end(x, p) {
-            EndTimed::Refused(r) => Number::Refused(r),
-            EndTimed::Live => Number::Is(x, q),
-            EndTimed::At(m) => Number::Is(x, q),
-        },
-    }
+    let (x, q) = read_number(s, l, p, 5)?;
+    time_fields::read_end(x, p)?;
+    Ok((x, q))
 }

@@ -8,7 +8,7 @@ ghost use Rattle.body_formats.specs.Reading.{unless, judged, within};
 ghost use Rattle.body_formats.specs.Body.{opened};
 ghost use Rattle.body_formats.specs.Answers.{part_of, ended, ended_all, part_read, part_after, part_listed};
 
-use body_formats::{Number, Part, Step};
+use body_formats::{Part, Step};
 use body_numbers::{read_number, read_reserved};
 use ground_numbers::BODY_MOST;
 use ground_refusal::Refusal;
@@ -18,12 +18,12 @@ pub fn open_body(own: u32, kind: u32, s: &[u8]) -> Step
     ensures { result ≡ opened own kind s.now }
 {
     if kind != own {
-        return Step::Refused(Refusal::OtherKind);
+        return Err(Refusal::OtherKind);
     }
     if BODY_MOST < s.len() {
-        return Step::Refused(Refusal::TooLarge);
+        return Err(Refusal::TooLarge);
     }
-    Step::At(0)
+    Ok(0)
 }
 
 // The m bytes from q on, which the length at p counts. Where they lie inside, fault still refuses them, unless holds is true.
@@ -32,16 +32,16 @@ fn part_from(s: &[u8], l: usize, p: usize, q: usize, m: u64, holds: bool, fault:
     ensures { result ≡ part_of (within s.now l p (q + m) (judged (unless holds fault) (rest.parse s.now (q + m) q))) }
 {
     if ((s.len() - q) as u64) < m {
-        return Part::Refused(Refusal::PastBody(p));
+        return Err(Refusal::PastBody(p));
     }
     let n = m as usize;
     if l < q + n {
-        return Part::Refused(Refusal::PastPart(p));
+        return Err(Refusal::PastPart(p));
     }
     if holds {
-        return Part::Of(q, n);
+        return Ok((q, n));
     }
-    Part::Refused(fault)
+    Err(fault)
 }
 
 // Opaque bytes after a length of w bytes, at least so many.
@@ -49,10 +49,8 @@ pub fn read_part_least(s: &[u8], l: usize, p: usize, w: usize, least: u64) -> Pa
     requires { w ≤ 7 }
     ensures { result ≡ part_of ((counted (least_of w least) rest).parse s.now l p) }
 {
-    match read_number(s, l, p, w) {
-        Number::Refused(r) => Part::Refused(r),
-        Number::Is(n, q) => part_from(s, l, p, q, n, least <= n, Refusal::PastPart(p)),
-    }
+    let (n, q) = read_number(s, l, p, w)?;
+    part_from(s, l, p, q, n, least <= n, Refusal::PastPart(p))
 }
 
 // Opaque bytes after a length of w bytes.
@@ -69,19 +67,11 @@ fn skip_parts(s: &[u8], l: usize, p: usize, w: usize, n: u64) -> Step
     ensures { result ≡ ended_all (opaque w) n s.now l p }
 {
     let mut at = p;
-    let mut left = n;
-    while 0 < left {
-        match read_part(s, l, at, w) {
-            Part::Refused(r) => {
-                return Step::Refused(r);
-            }
-            Part::Of(a, m) => {
-                at = a + m;
-            }
-        }
-        left = left - 1;
+    for _ in 0..n {
+        let (a, m) = read_part(s, l, at, w)?;
+        at = a + m;
     }
-    Step::At(at)
+    Ok(at)
 }
 
 // Past a list of parts after its count, a number of c bytes.
@@ -89,10 +79,8 @@ pub fn skip_list(s: &[u8], l: usize, p: usize, c: usize, w: usize) -> Step
     requires { (c ≤ 7) × (w ≤ 7) }
     ensures { result ≡ ended (list_of (count c) (opaque w)) s.now l p }
 {
-    match read_number(s, l, p, c) {
-        Number::Refused(r) => Step::Refused(r),
-        Number::Is(n, q) => skip_parts(s, l, q, w, n),
-    }
+    let (n, q) = read_number(s, l, p, c)?;
+    skip_parts(s, l, q, w, n)
 }
 
 // The part after i others.
@@ -100,20 +88,8 @@ fn part_after(s: &[u8], l: usize, p: usize, w: usize, i: u64) -> Part
     requires { w ≤ 7 }
     ensures { result ≡ part_after w i s.now l p }
 {
-    let mut at = p;
-    let mut left = i;
-    while 0 < left {
-        match read_part(s, l, at, w) {
-            Part::Refused(r) => {
-                return Part::Refused(r);
-            }
-            Part::Of(a, m) => {
-                at = a + m;
-            }
-        }
-        left = left - 1;
-    }
-    read_part(s, l, at, w)
+    let q = skip_parts(s, l, p, w, i)?;
+    read_part(s, l, q, w)
 }
 
 // The i-th part of a list after its count; 19 where the list has none.
@@ -121,23 +97,17 @@ pub fn listed_part(s: &[u8], l: usize, p: usize, c: usize, w: usize, i: u64) -> 
     requires { (c ≤ 7) × (w ≤ 7) }
     ensures { result ≡ part_listed c w i s.now l p }
 {
-    match read_number(s, l, p, c) {
-        Number::Refused(r) => Part::Refused(r),
-        Number::Is(n, q) => {
-            if i < n {
-                return part_after(s, l, q, w, i);
-            }
-            Part::Refused(Refusal::OutsideSet(0))
-        }
+    let (n, q) = read_number(s, l, p, c)?;
+    if i < n {
+        return part_after(s, l, q, w, i);
     }
+    Err(Refusal::OutsideSet(0))
 }
 
 // Opaque bytes after four reserved bits and a 12-bit length, which counts by its low ten bits.
 pub fn read_part12(s: &[u8], l: usize, p: usize) -> Part
     ensures { result ≡ part_of ((counted length12 rest).parse s.now l p) }
 {
-    match read_reserved(s, l, p, 4, 1) {
-        Number::Refused(r) => Part::Refused(r),
-        Number::Is(n, q) => part_from(s, l, p, q, n % 1024, n < 1024, Refusal::ReservedBitZero(p)),
-    }
+    let (n, q) = read_reserved(s, l, p, 4, 1)?;
+    part_from(s, l, p, q, n % 1024, n < 1024, Refusal::ReservedBitZero(p))
 }

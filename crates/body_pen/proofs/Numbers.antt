@@ -1,6 +1,7 @@
 -- Laws of a pen through a number: a count, one beside reserved bits, one of a stated set, and two in one byte.
 use Prim.Native.Nat.{ℕ, zero, suc, ◌+◌, ◌-◌, ◌*◌, ◌^◌, ◌≤◌, ◌<◌}
-use mathlib.Core.Path.{◌≡◌, refl, sym, ap, ◌∙◌}
+use Rattle.std.specs.Prelude.{Result, Ok, Err}
+use mathlib.Core.Path.{◌≡◌, refl, sym, ap, ap₂, ◌∙◌}
 use mathlib.Core.List.{List}
 use mathlib.Core.Bool.{Bool, true, false, not, ◌&&◌}
 use native.Mathlib.Omega.{arith}
@@ -11,20 +12,15 @@ use lib.Dec.{leb, ltb}
 use borrow.Author.Tests.{ltb-true, ltb-false, le-leb, lt-leb, lt-ltb}
 use Rattle.ground_refusal.specs.declared.Refusal.{Refusal}
 use Rattle.ground_refusal.specs.declared.Refusal.TheVariants.{OutsideSet}
-use Rattle.body_formats.specs.Reading.{Reading, found, refused, and_then, need, Fault, fine, unless, judged, value_of}
+use Rattle.body_formats.specs.Reading.{Reading, found, refused, and_then, need, Fault, fine, unless, judged}
 use Rattle.body_formats.specs.Format.{Format, tape_entry, bytes_of, count, only, among, number, nibbles, nibbles_among, below, reserved}
 use Rattle.body_formats.specs.Answers.{number_of}
-use Rattle.body_formats.specs.declared.Number.TheVariants.{Is, Refused as NoNumber}
 use Rattle.body_formats.proofs.Outcomes.{found_inj, and_then_found, need_found, judged_found}
 use Rattle.body_formats.proofs.Leaves.{length_bytes_lem}
 use Rattle.body_formats.proofs.Readers.{number_found, number_refused}
 use Rattle.body_formats.proofs.Bits.{bytes_power, below_power}
-use Rattle.body_pen.specs.Penned.{more, penned, value_penned, Counted}
-use Rattle.body_pen.specs.declared.Pen.{Pen}
-use Rattle.body_pen.specs.declared.Pen.TheVariants.{At, Refused}
-use Rattle.body_pen.specs.declared.Count.{Count}
+use Rattle.body_pen.specs.Penned.{more, penned, count_onward, counted}
 use Rattle.body_pen.proofs.Leaves.{refused_here, passed, count_refused, count_passed, kept, kept_below}
-use Rattle.body_pen.proofs.Pairs.{as_found, same_pen}
 
 -- ---- a count
 
@@ -39,13 +35,13 @@ count_over w v p e = go (ltb v (256 ^ w)) refl
     go true f = sym (lt-leb p v (omega (arith, bytes_power w, ltb-true v (256 ^ w) f)))
     go false f = sym (le-leb p v (omega (arith, bytes_power w, ltb-false v (256 ^ w) f)))
 
-module _ (w : ℕ) (pool tape : List ℕ) (x : Pen) (size k : ℕ) (e : x ≡ At size k) where
-  pub count_no : (r : Refusal) → NoNumber r ≡ number_of (tape_entry tape k) → Counted (count w) pool tape x (record { pen = Refused r; n = 0 })
+module _ (w : ℕ) (pool tape : List ℕ) (x : Result (ℕ × ℕ) Refusal) (size k : ℕ) (e : x ≡ Ok (size, k)) where
+  pub count_no : (r : Refusal) → Err r ≡ number_of (tape_entry tape k) → Err r ≡ counted (count w) pool tape x
   unfolding count
   count_no r f = count_refused (count w) pool tape x size k e r (number_refused (tape_entry tape k) r f)
 
-  pub count_is : (v j : ℕ) → Is v j ≡ number_of (tape_entry tape k) → (p : ℕ) → p ≡ 2 ^ (8 * w) → (z : ℕ) → z ≡ more size w (leb p v)
-      → Counted (count w) pool tape x (record { pen = At z j; n = v })
+  pub count_is : (v j : ℕ) → Ok (v, j) ≡ number_of (tape_entry tape k) → (p : ℕ) → p ≡ 2 ^ (8 * w) → (z : ℕ) → z ≡ more size w (leb p v)
+      → Ok ((z, j), v) ≡ counted (count w) pool tape x
   unfolding count
   count_is v j f p ep z ez =
       count_passed (count w) pool tape x size k e v j (number_found (tape_entry tape k) v j f) (leb p v) (count_over w v p ep) w (length_bytes_lem w v) z ez
@@ -56,17 +52,16 @@ pub record Alike {A : Type 0} (F G : Format A) (pool tape : List ℕ) : Type 0 w
   pub forms : (k : ℕ) → F.form pool tape k ≡ G.form pool tape k
   pub prints : (k : ℕ) (a : A) (j : ℕ) → F.form pool tape k ≡ found a j → (F.print a ≡ G.print a) × (F.too_large a ≡ G.too_large a)
 
-pub alike_counted : {F G : Format ℕ} {pool tape : List ℕ} → Alike F G pool tape → {x : Pen} {r : Count} → Counted F pool tape x r → Counted G pool tape x r
-unfolding value_penned
-alike_counted {F} {G} {pool} {tape} s {x} c =
-    record {
-      past = c.past ∙ same_pen G F (λ a. a) pool tape (λ k. s.forms k ∙ as_found (G.form pool tape k)) (λ k a j e. s.prints k a j (s.forms k ∙ e)) x;
-      value = c.value ∙ values x;
-    }
+pub alike_counted : {F G : Format ℕ} {pool tape : List ℕ} → Alike F G pool tape → (x : Result (ℕ × ℕ) Refusal) → counted F pool tape x ≡ counted G pool tape x
+unfolding counted
+alike_counted {F} {G} {pool} {tape} s (Err r) = refl
+alike_counted {F} {G} {pool} {tape} s (Ok (size, k)) = go (F.form pool tape k) refl
   where
-    values : (y : Pen) → value_penned F pool tape y ≡ value_penned G pool tape y
-    values (At size k) = ap value_of (s.forms k)
-    values (Refused t) = refl
+    go : (y : Reading ℕ) → F.form pool tape k ≡ y → count_onward F size y ≡ count_onward G size (G.form pool tape k)
+    go (found a j) e =
+        let p = s.prints k a j e in
+        ap₂ (λ (l : List ℕ) (o : Bool). Ok ((more size (length l) o, j), a)) p.0 p.1 ∙ ap (count_onward G size) (sym e ∙ s.forms k)
+    go (refused r) e = ap (count_onward G size) (sym e ∙ s.forms k)
 
 -- ---- a number of a stated set, beside reserved bits or none
 
@@ -99,13 +94,13 @@ module _ (k w lo hi : ℕ) (pool tape : List ℕ) (i b : ℕ) (eb : b ≡ below 
   unfolding only reserved
   reserved_form = rw eb (limited (λ v. ltb v (below k w)) (λ v. leb lo v && leb v hi) i (tape_entry tape i))
 
-  module _ (x : Pen) (size : ℕ) (e : x ≡ At size i) where
-    pub reserved_refused : (r : Refusal) → NoNumber r ≡ number_of (kept tape i b lo hi)
-        → Counted (among lo hi (reserved k w)) pool tape x (record { pen = Refused r; n = 0 })
+  module _ (x : Result (ℕ × ℕ) Refusal) (size : ℕ) (e : x ≡ Ok (size, i)) where
+    pub reserved_refused : (r : Refusal) → Err r ≡ number_of (kept tape i b lo hi)
+        → Err r ≡ counted (among lo hi (reserved k w)) pool tape x
     reserved_refused r f = count_refused (among lo hi (reserved k w)) pool tape x size i e r (reserved_form ∙ number_refused (kept tape i b lo hi) r f)
 
-    pub reserved_passed : (v j : ℕ) → Is v j ≡ number_of (kept tape i b lo hi) → (z : ℕ) → z ≡ more size (w + 1) false
-        → Counted (among lo hi (reserved k w)) pool tape x (record { pen = At z j; n = v })
+    pub reserved_passed : (v j : ℕ) → Ok (v, j) ≡ number_of (kept tape i b lo hi) → (z : ℕ) → z ≡ more size (w + 1) false
+        → Ok ((z, j), v) ≡ counted (among lo hi (reserved k w)) pool tape x
     unfolding only reserved
     reserved_passed v j f z ez =
         count_passed (among lo hi (reserved k w)) pool tape x size i e v j (reserved_form ∙ number_found (kept tape i b lo hi) v j f) false refl (w + 1)
@@ -181,23 +176,23 @@ module _ (lo hi : ℕ) (pool tape : List ℕ) (k : ℕ) where
   nibbles_form : (nibbles_among lo hi).form pool tape k ≡ pair_of (kept tape k 16 lo hi) (λ j. kept tape j 16 lo hi)
   nibbles_form = refl
 
-  module _ (x : Pen) (size : ℕ) (e : x ≡ At size k) where
-    pub high_refused : (r : Refusal) → NoNumber r ≡ number_of (kept tape k 16 lo hi) → Refused r ≡ penned (nibbles_among lo hi) pool tape x
+  module _ (x : Result (ℕ × ℕ) Refusal) (size : ℕ) (e : x ≡ Ok (size, k)) where
+    pub high_refused : (r : Refusal) → Err r ≡ number_of (kept tape k 16 lo hi) → Err r ≡ penned (nibbles_among lo hi) pool tape x
     high_refused r f =
         refused_here (nibbles_among lo hi) pool tape x size k e r
         (nibbles_form ∙ ap (λ (y : Reading ℕ). pair_of y (λ j. kept tape j 16 lo hi)) (number_refused (kept tape k 16 lo hi) r f))
 
-    module _ (high j : ℕ) (f : Is high j ≡ number_of (kept tape k 16 lo hi)) where
+    module _ (high j : ℕ) (f : Ok (high, j) ≡ number_of (kept tape k 16 lo hi)) where
       low_form : (nibbles_among lo hi).form pool tape k ≡ and_then (kept tape j 16 lo hi) (λ low i. let z : ℕ × ℕ = (high, low) in found z i)
       low_form = nibbles_form ∙ ap (λ (y : Reading ℕ). pair_of y (λ j. kept tape j 16 lo hi)) (number_found (kept tape k 16 lo hi) high j f)
 
-      pub low_refused : (r : Refusal) → NoNumber r ≡ number_of (kept tape j 16 lo hi) → Refused r ≡ penned (nibbles_among lo hi) pool tape x
+      pub low_refused : (r : Refusal) → Err r ≡ number_of (kept tape j 16 lo hi) → Err r ≡ penned (nibbles_among lo hi) pool tape x
       low_refused r g =
           refused_here (nibbles_among lo hi) pool tape x size k e r
           (low_form ∙ ap (λ (y : Reading ℕ). and_then y (λ low i. let z : ℕ × ℕ = (high, low) in found z i)) (number_refused (kept tape j 16 lo hi) r g))
 
-      pub nibbles_passed : (low i : ℕ) → Is low i ≡ number_of (kept tape j 16 lo hi) → (z : ℕ) → z ≡ more size 1 false
-          → At z i ≡ penned (nibbles_among lo hi) pool tape x
+      pub nibbles_passed : (low i : ℕ) → Ok (low, i) ≡ number_of (kept tape j 16 lo hi) → (z : ℕ) → z ≡ more size 1 false
+          → Ok (z, i) ≡ penned (nibbles_among lo hi) pool tape x
       unfolding only nibbles
       nibbles_passed low i g z ez =
           passed (nibbles_among lo hi) pool tape x size k e (high, low) i

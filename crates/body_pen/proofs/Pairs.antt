@@ -1,18 +1,17 @@
 -- Laws of a pen through fields one after the other, and through the same fields under other names.
 use Prim.Native.Nat.{ℕ, zero, suc, ◌<◌}
+use Rattle.std.specs.Prelude.{Result, Ok, Err}
 use mathlib.Core.Path.{◌≡◌, refl, sym, subst, ap, ap₂, ◌∙◌}
 use mathlib.Core.List.{List}
 use mathlib.Core.Bool.{Bool, true, false, ◌||◌}
 use native.Mathlib.Omega.{arith}
 use lib.ListN.{length, length-append}
 use Rattle.ground_refusal.specs.declared.Refusal.{Refusal}
-use Rattle.body_formats.specs.Reading.{Reading, found, refused, and_then, value_of, Fault, fine, faulty, judged}
+use Rattle.ground_refusal.proofs.Exits.{ok_pair_inj}
+use Rattle.body_formats.specs.Reading.{Reading, found, refused, and_then, Fault, fine, faulty, judged}
 use Rattle.body_formats.specs.Format.{Format, followed, ◌▷◌, nothing, under, view, exact, only}
 use Rattle.body_formats.proofs.Outcomes.{found_inj, and_then_found}
-use Rattle.body_pen.specs.Penned.{more, pen_onward, penned, value_penned, Counted, entry_of, refusing, gapped}
-use Rattle.body_pen.specs.declared.Pen.{Pen}
-use Rattle.body_pen.specs.declared.Pen.TheVariants.{At, Refused}
-use Rattle.body_pen.specs.declared.Count.{Count}
+use Rattle.body_pen.specs.Penned.{more, pen_onward, penned, count_onward, counted, gapped}
 use Rattle.body_pen.proofs.Leaves.{more_twice}
 
 -- ---- where a pen comes to, by where it starts and what the form lays out
@@ -22,8 +21,8 @@ unfolding more
 more_none size n true = omega arith
 more_none size n false = omega arith
 
-module _ {A : Type 0} (F : Format A) (pool tape : List ℕ) (x : Pen) where
-  pub pen_onward_lem : (size k : ℕ) → x ≡ At size k → (y : Reading A) → F.form pool tape k ≡ y → penned F pool tape x ≡ pen_onward F size y
+module _ {A : Type 0} (F : Format A) (pool tape : List ℕ) (x : Result (ℕ × ℕ) Refusal) where
+  pub pen_onward_lem : (size k : ℕ) → x ≡ Ok (size, k) → (y : Reading A) → F.form pool tape k ≡ y → penned F pool tape x ≡ pen_onward F size y
   unfolding penned
   pen_onward_lem size k e y f = rw (e, f)
 
@@ -33,12 +32,12 @@ module _ {A : Type 0} (F : Format A) (pool tape : List ℕ) (x : Pen) where
   pen_small = go x
     where
       at : (size : ℕ) (y : Reading A) → gapped 0 (pen_onward F size y) ≡ pen_onward F size y
-      at size (found a j) = ap (λ n. At n j) (more_none size (length (F.print a)) (F.too_large a))
+      at size (found a j) = ap (λ n. Ok (n, j)) (more_none size (length (F.print a)) (F.too_large a))
       at size (refused r) = refl
 
-      go : (y : Pen) → gapped 0 (penned F pool tape y) ≡ penned F pool tape y
-      go (At size k) = at size (F.form pool tape k)
-      go (Refused r) = refl
+      go : (y : Result (ℕ × ℕ) Refusal) → gapped 0 (penned F pool tape y) ≡ penned F pool tape y
+      go (Ok (size, k)) = at size (F.form pool tape k)
+      go (Err r) = refl
 
 -- ---- one after the other, where the second may depend on what the first found
 
@@ -58,16 +57,16 @@ module _ {A : Type 0} {B : A → Type 0} (F : Format A) (G : (a : A) → Format 
       ≡ pen_onward (G a) (more size (length (F.print a)) (F.too_large a)) y
   unfolding followed
   onward_both size a (found b i) =
-      ap (λ n. At n i)
+      ap (λ n. Ok (n, i))
       (ap (λ n. more size n (F.too_large a || (G a).too_large b)) (length-append (F.print a) ((G a).print b))
       ∙ sym (more_twice size (length (F.print a)) (length ((G a).print b)) (F.too_large a) ((G a).too_large b)))
   onward_both size a (refused e) = refl
 
 module _ {A B : Type 0} (F : Format A) (G : Format B) (pool tape : List ℕ) where
-  pub pair_pen : (x : Pen) → penned (F ▷ G) pool tape x ≡ penned G pool tape (penned F pool tape x)
+  pub pair_pen : (x : Result (ℕ × ℕ) Refusal) → penned (F ▷ G) pool tape x ≡ penned G pool tape (penned F pool tape x)
   unfolding penned followed
-  pair_pen (Refused r) = refl
-  pair_pen (At size k) = go (F.form pool tape k)
+  pair_pen (Err r) = refl
+  pair_pen (Ok (size, k)) = go (F.form pool tape k)
     where
       go : (y : Reading A) → pen_onward (F ▷ G) size (and_then y (λ a j. and_then (G.form pool tape j) (λ b i. let z : A × B = (a, b) in found z i)))
           ≡ penned G pool tape (pen_onward F size y)
@@ -76,50 +75,78 @@ module _ {A B : Type 0} (F : Format A) (G : Format B) (pool tape : List ℕ) whe
 
 -- ---- after a number that is told: a count, a flag, or a tag
 
-pub told : (C : Format ℕ) (pool tape : List ℕ) (x : Pen) (size k : ℕ) → x ≡ At size k → (n j : ℕ) → C.form pool tape k ≡ found n j
-    → value_penned C pool tape x ≡ n
-unfolding value_penned
-told C pool tape x size k e n j f = rw (e, f)
+module _ (C : Format ℕ) (pool tape : List ℕ) where
+  -- the pen past it, as one past a number that is not told
+  pub told_pen : (x : Result (ℕ × ℕ) Refusal) (p : ℕ × ℕ) (n : ℕ) → Ok (p, n) ≡ counted C pool tape x → Ok p ≡ penned C pool tape x
+  unfolding penned counted
+  told_pen (Err r) p n e = absurd (let z : ◌≡◌ {A = ℕ} 0 1 = cc in omega arith)
+  told_pen (Ok (size, k)) p n e = go (C.form pool tape k) e
+    where
+      go : (y : Reading ℕ) → Ok (p, n) ≡ count_onward C size y → Ok p ≡ pen_onward C size y
+      go (found m j) f = ap Ok (ok_pair_inj f).0
+      go (refused r) f = absurd (let z : ◌≡◌ {A = ℕ} 0 1 = cc in omega arith)
+
+  -- the number is the one that the form lays out, and the pen stands after it
+  pub told : (x : Result (ℕ × ℕ) Refusal) (size k : ℕ) → x ≡ Ok (size, k) → (m j : ℕ) → C.form pool tape k ≡ found m j → (p : ℕ × ℕ) (n : ℕ)
+      → Ok (p, n) ≡ counted C pool tape x → (p ≡ (more size (length (C.print m)) (C.too_large m), j)) × (m ≡ n)
+  unfolding counted
+  told x size k e m j f p n q = let z = ok_pair_inj (q ∙ rw (e, f)) in (z.0, sym z.1)
+
+  pub untold_pen : (x : Result (ℕ × ℕ) Refusal) (r : Refusal) → Err r ≡ counted C pool tape x → Err r ≡ penned C pool tape x
+  unfolding penned counted
+  untold_pen (Err u) r e = ap Err (let z : r ≡ u = cc in z)
+  untold_pen (Ok (size, k)) r e = go (C.form pool tape k) e
+    where
+      go : (y : Reading ℕ) → Err r ≡ count_onward C size y → Err r ≡ pen_onward C size y
+      go (found m j) f = absurd (let z : ◌≡◌ {A = ℕ} 0 1 = cc in omega arith)
+      go (refused u) f = ap Err (let z : r ≡ u = cc in z)
 
 module _ {B : ℕ → Type 0} (C : Format ℕ) (G : (n : ℕ) → Format (B n)) (pool tape : List ℕ) where
-  valued : (x : Pen) → penned (followed C G) pool tape x ≡ penned (G (value_penned C pool tape x)) pool tape (penned C pool tape x)
-  unfolding penned followed value_penned
-  valued (Refused r) = refl
-  valued (At size k) = go (C.form pool tape k)
+  pub after_number : (x : Result (ℕ × ℕ) Refusal) (p : ℕ × ℕ) (n : ℕ) → Ok (p, n) ≡ counted C pool tape x
+      → penned (followed C G) pool tape x ≡ penned (G n) pool tape (Ok p)
+  unfolding penned followed counted
+  after_number (Err r) p n e = absurd (let z : ◌≡◌ {A = ℕ} 0 1 = cc in omega arith)
+  after_number (Ok (size, k)) p n e = go (C.form pool tape k) e
     where
-      go : (y : Reading ℕ)
+      go : (y : Reading ℕ) → Ok (p, n) ≡ count_onward C size y
           → pen_onward (followed C G) size (and_then y (λ n j. and_then ((G n).form pool tape j) (λ b i. let z : (n : ℕ) × B n = (n, b) in found z i)))
-          ≡ penned (G (value_of y)) pool tape (pen_onward C size y)
-      go (found n j) = onward_both C G pool tape size n ((G n).form pool tape j)
-      go (refused r) = refl
+          ≡ penned (G n) pool tape (Ok p)
+      go (found m j) f = let q = ok_pair_inj f in rw (q.0, q.1) (onward_both C G pool tape size m ((G m).form pool tape j))
+      go (refused r) f = absurd (let z : ◌≡◌ {A = ℕ} 0 1 = cc in omega arith)
 
-pub after_number : {B : ℕ → Type 0} (G : (n : ℕ) → Format (B n)) {C : Format ℕ} {pool tape : List ℕ} {x : Pen} {c : Count} → Counted C pool tape x c
-    → penned (followed C G) pool tape x ≡ penned (G c.n) pool tape c.pen
-after_number G {C} {pool} {tape} {x} p = rw (p.value, p.past) (valued C G pool tape x)
+  pub number_stopped : (x : Result (ℕ × ℕ) Refusal) (r : Refusal) → Err r ≡ counted C pool tape x → Err r ≡ penned (followed C G) pool tape x
+  unfolding penned followed counted
+  number_stopped (Err u) r e = ap Err (let z : r ≡ u = cc in z)
+  number_stopped (Ok (size, k)) r e = go (C.form pool tape k) e
+    where
+      go : (y : Reading ℕ) → Err r ≡ count_onward C size y
+          → Err r ≡ pen_onward (followed C G) size (and_then y (λ n j. and_then ((G n).form pool tape j) (λ b i. let z : (n : ℕ) × B n = (n, b) in found z i)))
+      go (found m j) f = absurd (let z : ◌≡◌ {A = ℕ} 0 1 = cc in omega arith)
+      go (refused u) f = ap Err (let z : r ≡ u = cc in z)
 
 -- ---- nothing, and a part under its flag
 
-pub nothing_pen : (pool tape : List ℕ) (x : Pen) → penned nothing pool tape x ≡ gapped 0 x
+pub nothing_pen : (pool tape : List ℕ) (x : Result (ℕ × ℕ) Refusal) → penned nothing pool tape x ≡ gapped 0 x
 unfolding penned gapped nothing
-nothing_pen pool tape (At size k) = refl
-nothing_pen pool tape (Refused r) = refl
+nothing_pen pool tape (Ok (size, k)) = refl
+nothing_pen pool tape (Err r) = refl
 
-module _ {A : Type 0} (G : Format A) {C : Format ℕ} {pool tape : List ℕ} {x : Pen} {c : Count} (p : Counted C pool tape x c) where
-  under_none : (n : ℕ) → n ≡ 0 → penned (under G n) pool tape c.pen ≡ c.pen
+module _ {A : Type 0} (G : Format A) (C : Format ℕ) (pool tape : List ℕ) (x : Result (ℕ × ℕ) Refusal) (p : ℕ × ℕ) (n : ℕ) (e : Ok (p, n) ≡ counted C pool tape x) where
+  under_none : (m : ℕ) → m ≡ 0 → penned (under G m) pool tape (Ok p) ≡ Ok p
   unfolding under
-  under_none zero z = nothing_pen pool tape c.pen ∙ rw p.past (pen_small C pool tape x)
-  under_none (suc n) z = absurd (omega arith)
+  under_none zero z = nothing_pen pool tape (Ok p) ∙ rw (told_pen C pool tape x p n e) (pen_small C pool tape x)
+  under_none (suc m) z = absurd (omega arith)
 
-  under_some : (n : ℕ) → 0 < n → penned (under G n) pool tape c.pen ≡ penned G pool tape c.pen
+  under_some : (m : ℕ) → 0 < m → penned (under G m) pool tape (Ok p) ≡ penned G pool tape (Ok p)
   unfolding under
   under_some zero h = absurd (omega arith)
-  under_some (suc n) h = refl
+  under_some (suc m) h = refl
 
-  pub flag_none : c.n ≡ 0 → penned (followed C (λ flag. under G flag)) pool tape x ≡ c.pen
-  flag_none z = after_number (λ flag. under G flag) p ∙ under_none c.n z
+  pub flag_none : n ≡ 0 → penned (followed C (λ flag. under G flag)) pool tape x ≡ Ok p
+  flag_none z = after_number C (λ flag. under G flag) pool tape x p n e ∙ under_none n z
 
-  pub flag_some : 0 < c.n → penned (followed C (λ flag. under G flag)) pool tape x ≡ penned G pool tape c.pen
-  flag_some h = after_number (λ flag. under G flag) p ∙ under_some c.n h
+  pub flag_some : 0 < n → penned (followed C (λ flag. under G flag)) pool tape x ≡ penned G pool tape (Ok p)
+  flag_some h = after_number C (λ flag. under G flag) pool tape x p n e ∙ under_some n h
 
 -- ---- the same fields as a value of another kind
 
@@ -130,73 +157,69 @@ as_found (refused e) = refl
 module _ {A B : Type 0} (F : Format A) (G : Format B) (f : A → B) (pool tape : List ℕ)
     (forms : (k : ℕ) → G.form pool tape k ≡ and_then (F.form pool tape k) (λ a j. found (f a) j))
     (prints : (k : ℕ) (a : A) (j : ℕ) → F.form pool tape k ≡ found a j → (G.print (f a) ≡ F.print a) × (G.too_large (f a) ≡ F.too_large a)) where
-  pub same_pen : (x : Pen) → penned G pool tape x ≡ penned F pool tape x
+  pub same_pen : (x : Result (ℕ × ℕ) Refusal) → penned G pool tape x ≡ penned F pool tape x
   unfolding penned
-  same_pen (Refused r) = refl
-  same_pen (At size k) = ap (pen_onward G size) (forms k) ∙ go (F.form pool tape k) refl
+  same_pen (Err r) = refl
+  same_pen (Ok (size, k)) = ap (pen_onward G size) (forms k) ∙ go (F.form pool tape k) refl
     where
       go : (y : Reading A) → F.form pool tape k ≡ y → pen_onward G size (and_then y (λ a j. found (f a) j)) ≡ pen_onward F size y
-      go (found a j) h = let s = prints k a j h in ap₂ (λ (l : List ℕ) (o : Bool). At (more size (length l) o) j) s.0 s.1
+      go (found a j) h = let s = prints k a j h in ap₂ (λ (l : List ℕ) (o : Bool). Ok (more size (length l) o, j)) s.0 s.1
       go (refused u) h = refl
 
 -- that no field is lost is said of functions, so that `simp` sees it by computing them
-pub view_pen : {A B : Type 0} (f : A → B) (g : B → A) (F : Format A) (pool tape : List ℕ) (x : Pen) → ◌≡◌ {A = A → A} (λ a. g (f a)) (λ a. a)
+pub view_pen : {A B : Type 0} (f : A → B) (g : B → A) (F : Format A) (pool tape : List ℕ) (x : Result (ℕ × ℕ) Refusal) → ◌≡◌ {A = A → A} (λ a. g (f a)) (λ a. a)
     → penned (view f g F) pool tape x ≡ penned F pool tape x
 unfolding view
 view_pen {A} f g F pool tape x back =
     same_pen F (view f g F) f pool tape (λ k. refl) (λ k a j h. (ap (λ (i : A → A). F.print (i a)) back, ap (λ (i : A → A). F.too_large (i a)) back)) x
 
-pub exact_pen : {A : Type 0} (left_over : ℕ → Refusal) (F : Format A) (pool tape : List ℕ) (x : Pen)
+pub exact_pen : {A : Type 0} (left_over : ℕ → Refusal) (F : Format A) (pool tape : List ℕ) (x : Result (ℕ × ℕ) Refusal)
     → penned (exact left_over F) pool tape x ≡ penned F pool tape x
 unfolding exact
 exact_pen left_over F pool tape = same_pen F (exact left_over F) (λ a. a) pool tape (λ k. as_found (F.form pool tape k)) (λ k a j h. (refl, refl))
 
 -- ---- values of a stated set: the pen through F, and what is said of the value that it went through
 
-pub entry_is : (x : Pen) (size k : ℕ) → x ≡ At size k → entry_of x ≡ k
-unfolding entry_of
-entry_is x size k e = rw e
-
-pub entry_none : (x : Pen) (r : Refusal) → x ≡ Refused r → entry_of x ≡ 0
-unfolding entry_of
-entry_none x r e = rw e
-
-module _ (x : Pen) (u : Refusal) where
-  pub refusing_at : (size k : ℕ) → x ≡ At size k → refusing x u ≡ Refused u
-  unfolding refusing
-  refusing_at size k e = rw e
-
-  pub refusing_refused : (r : Refusal) → x ≡ Refused r → refusing x u ≡ Refused r
-  unfolding refusing
-  refusing_refused r e = rw e
-
-module _ {A : Type 0} (fault : A → ℕ → Fault) (F : Format A) (pool tape : List ℕ) (x : Pen) where
+module _ {A : Type 0} (fault : A → ℕ → Fault) (F : Format A) (pool tape : List ℕ) (x : Result (ℕ × ℕ) Refusal) where
   -- it is in the set
-  pub only_fine : ((size k : ℕ) → x ≡ At size k → (a : A) (j : ℕ) → F.form pool tape k ≡ found a j → fault a k ≡ fine)
+  pub only_fine : ((size k : ℕ) → x ≡ Ok (size, k) → (a : A) (j : ℕ) → F.form pool tape k ≡ found a j → fault a k ≡ fine)
       → penned (only fault F) pool tape x ≡ penned F pool tape x
   unfolding penned only
   only_fine h = go x refl
     where
-      at : (size k : ℕ) → x ≡ At size k → (y : Reading A) → F.form pool tape k ≡ y
+      at : (size k : ℕ) → x ≡ Ok (size, k) → (y : Reading A) → F.form pool tape k ≡ y
           → pen_onward (only fault F) size (and_then y (λ a j. judged (fault a k) (found a j))) ≡ pen_onward F size y
       at size k e (found a j) f = rw (h size k e a j f)
       at size k e (refused r) f = refl
 
-      go : (y : Pen) → x ≡ y → penned (only fault F) pool tape y ≡ penned F pool tape y
-      go (At size k) e = at size k e (F.form pool tape k) refl
-      go (Refused r) e = refl
+      go : (y : Result (ℕ × ℕ) Refusal) → x ≡ y → penned (only fault F) pool tape y ≡ penned F pool tape y
+      go (Ok (size, k)) e = at size k e (F.form pool tape k) refl
+      go (Err r) e = refl
 
-  -- it is not; a refusal before it stands
-  pub only_faulty : (u : Refusal) → ((size k : ℕ) → x ≡ At size k → (a : A) (j : ℕ) → F.form pool tape k ≡ found a j → fault a k ≡ faulty u)
-      → penned (only fault F) pool tape x ≡ refusing (penned F pool tape x) u
-  unfolding penned only refusing
-  only_faulty u h = go x refl
+  -- it is not
+  pub only_faulty : (u : Refusal) → ((size k : ℕ) → x ≡ Ok (size, k) → (a : A) (j : ℕ) → F.form pool tape k ≡ found a j → fault a k ≡ faulty u)
+      → (p : ℕ × ℕ) → Ok p ≡ penned F pool tape x → Err u ≡ penned (only fault F) pool tape x
+  unfolding penned only
+  only_faulty u h p = go x refl
     where
-      at : (size k : ℕ) → x ≡ At size k → (y : Reading A) → F.form pool tape k ≡ y
-          → pen_onward (only fault F) size (and_then y (λ a j. judged (fault a k) (found a j))) ≡ refusing (pen_onward F size y) u
-      at size k e (found a j) f = rw (h size k e a j f)
-      at size k e (refused r) f = refl
+      at : (size k : ℕ) → x ≡ Ok (size, k) → (y : Reading A) → F.form pool tape k ≡ y → Ok p ≡ pen_onward F size y
+          → Err u ≡ pen_onward (only fault F) size (and_then y (λ a j. judged (fault a k) (found a j)))
+      at size k e (found a j) f q = rw (h size k e a j f)
+      at size k e (refused r) f q = absurd (let z : ◌≡◌ {A = ℕ} 0 1 = cc in omega arith)
 
-      go : (y : Pen) → x ≡ y → penned (only fault F) pool tape y ≡ refusing (penned F pool tape y) u
-      go (At size k) e = at size k e (F.form pool tape k) refl
-      go (Refused r) e = refl
+      go : (y : Result (ℕ × ℕ) Refusal) → x ≡ y → Ok p ≡ penned F pool tape y → Err u ≡ penned (only fault F) pool tape y
+      go (Ok (size, k)) e q = at size k e (F.form pool tape k) refl q
+      go (Err r) e q = absurd (let z : ◌≡◌ {A = ℕ} 0 1 = cc in omega arith)
+
+  -- a refusal before it stands
+  pub only_stopped : (u : Refusal) → Err u ≡ penned F pool tape x → Err u ≡ penned (only fault F) pool tape x
+  unfolding penned only
+  only_stopped u = go x
+    where
+      at : (size k : ℕ) (y : Reading A) → Err u ≡ pen_onward F size y → Err u ≡ pen_onward (only fault F) size (and_then y (λ a j. judged (fault a k) (found a j)))
+      at size k (found a j) q = absurd (let z : ◌≡◌ {A = ℕ} 0 1 = cc in omega arith)
+      at size k (refused r) q = q
+
+      go : (y : Result (ℕ × ℕ) Refusal) → Err u ≡ penned F pool tape y → Err u ≡ penned (only fault F) pool tape y
+      go (Ok (size, k)) q = at size k (F.form pool tape k) q
+      go (Err r) q = q

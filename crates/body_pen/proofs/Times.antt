@@ -1,5 +1,6 @@
 -- Laws of a pen through a time: a number of 40 bits that its judge finds right.
 use Prim.Native.Nat.{ℕ, ◌^◌, ◌≤◌}
+use Rattle.std.specs.Prelude.{Result, Ok, Err, Option, Some, None}
 use mathlib.Core.Path.{◌≡◌, refl, sym, ap, ◌∙◌}
 use mathlib.Core.List.{List, []}
 use mathlib.Core.Bool.{Bool, true, false}
@@ -8,18 +9,15 @@ use lib.Dec.{ltb}
 use borrow.Author.Tests.{ltb-false, le-leb, lt-ltb, ne_eqb}
 use Rattle.ground_refusal.specs.declared.Refusal.{Refusal}
 use Rattle.ground_refusal.specs.declared.Refusal.TheVariants.{OutsideSet}
+use Rattle.time_fields.specs.declared.Moment.{Moment}
 use Rattle.time_fields.specs.Field.{read_time, read_end, live_mark}
-use Rattle.time_fields.specs.declared.Timed.TheVariants.{Refused as NoTime}
 use Rattle.body_formats.specs.Reading.{Reading, found, refused, and_then, Fault, fine, faulty, unless, judged}
 use Rattle.body_formats.specs.Format.{tape_entry, count, only, number}
 use Rattle.body_formats.specs.Time.{time_fault, end_fault}
 use Rattle.body_formats.specs.Answers.{number_of}
-use Rattle.body_formats.specs.declared.Number.TheVariants.{Is, Refused as NoNumber}
 use Rattle.body_formats.proofs.Leaves.{length_bytes_lem}
 use Rattle.body_formats.proofs.Readers.{number_found, number_refused}
 use Rattle.body_pen.specs.Penned.{more, penned}
-use Rattle.body_pen.specs.declared.Pen.{Pen}
-use Rattle.body_pen.specs.declared.Pen.TheVariants.{At, Refused}
 use Rattle.body_pen.proofs.Leaves.{refused_here, passed}
 use Rattle.body_pen.proofs.Numbers.{only_below}
 
@@ -42,7 +40,12 @@ start_fault v at = time_fault (read_time v at)
 abbrev pub stop_fault : ℕ → ℕ → Fault
 stop_fault v at = end_fault (read_end v at)
 
-time_large : (v at : ℕ) → 256 ^ 5 ≤ v → read_time v at ≡ NoTime (OutsideSet at)
+-- a time and the live mark are both right
+pub end_known : (m : Option Moment) → end_fault (Ok m) ≡ fine
+end_known (Some m) = refl
+end_known None = refl
+
+time_large : (v at : ℕ) → 256 ^ 5 ≤ v → read_time v at ≡ Err (OutsideSet at)
 unfolding read_time
 time_large v at h = rw (le-leb (2 ^ 40) v h)
 
@@ -59,26 +62,26 @@ module _ (fault : ℕ → ℕ → Fault) (large : (v at : ℕ) → 256 ^ 5 ≤ v
   unfolding number only count
   timed_form pool = judged_alone (λ v. fault v k) k (λ v h. large v k h) (tape_entry tape k)
 
-  pub timed_none : (r : Refusal) → NoNumber r ≡ number_of (tape_entry tape k) → NoNumber r ≡ number_of ((only fault (number 5)).form [] tape k)
+  pub timed_none : (r : Refusal) → Err r ≡ number_of (tape_entry tape k) → Err r ≡ number_of ((only fault (number 5)).form [] tape k)
   timed_none r e = rw (timed_form [], number_refused (tape_entry tape k) r e)
 
-  module _ (v j : ℕ) (e : Is v j ≡ number_of (tape_entry tape k)) where
-    pub timed_no : (r : Refusal) → fault v k ≡ faulty r → NoNumber r ≡ number_of ((only fault (number 5)).form [] tape k)
+  module _ (v j : ℕ) (e : Ok (v, j) ≡ number_of (tape_entry tape k)) where
+    pub timed_no : (r : Refusal) → fault v k ≡ faulty r → Err r ≡ number_of ((only fault (number 5)).form [] tape k)
     timed_no r f = rw (timed_form [], number_found (tape_entry tape k) v j e, f)
 
-    pub timed_is : fault v k ≡ fine → Is v j ≡ number_of ((only fault (number 5)).form [] tape k)
+    pub timed_is : fault v k ≡ fine → Ok (v, j) ≡ number_of ((only fault (number 5)).form [] tape k)
     timed_is f = rw (timed_form [], number_found (tape_entry tape k) v j e, f)
 
-  module _ (pool : List ℕ) (x : Pen) (size : ℕ) (e : x ≡ At size k) where
+  module _ (pool : List ℕ) (x : Result (ℕ × ℕ) Refusal) (size : ℕ) (e : x ≡ Ok (size, k)) where
     any_pool : (only fault (number 5)).form pool tape k ≡ (only fault (number 5)).form [] tape k
     any_pool = timed_form pool ∙ sym (timed_form [])
 
-    pub timed_refused : (r : Refusal) → NoNumber r ≡ number_of ((only fault (number 5)).form [] tape k) → Refused r ≡ penned (only fault (number 5)) pool tape x
+    pub timed_refused : (r : Refusal) → Err r ≡ number_of ((only fault (number 5)).form [] tape k) → Err r ≡ penned (only fault (number 5)) pool tape x
     timed_refused r f =
         refused_here (only fault (number 5)) pool tape x size k e r (any_pool ∙ number_refused ((only fault (number 5)).form [] tape k) r f)
 
-    pub timed_passed : (v j : ℕ) → Is v j ≡ number_of ((only fault (number 5)).form [] tape k) → (z : ℕ) → z ≡ more size 5 false
-        → At z j ≡ penned (only fault (number 5)) pool tape x
+    pub timed_passed : (v j : ℕ) → Ok (v, j) ≡ number_of ((only fault (number 5)).form [] tape k) → (z : ℕ) → z ≡ more size 5 false
+        → Ok (z, j) ≡ penned (only fault (number 5)) pool tape x
     unfolding number only count
     timed_passed v j f z ez =
         let g = any_pool ∙ number_found ((only fault (number 5)).form [] tape k) v j f in

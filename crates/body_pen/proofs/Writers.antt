@@ -7,9 +7,8 @@ use native.Mathlib.Omega.{arith}
 use native.Mathlib.Nat.{zero-add}
 use lib.ListN.{length}
 use lib.Dec.{leb, ltb}
-use borrow.Author.Tests.{leb-true, leb-false, le-leb, lt-leb, lt-ltb, le-ltb}
-use Rattle.std.specs.Prelude.{if◌then◌else◌}
-use Rattle.ground_refusal.specs.Numbers.{placeless}
+use borrow.Author.Tests.{leb-true, leb-false, lt-ltb, le-ltb}
+use Rattle.std.specs.Prelude.{if◌then◌else◌, Result, Ok, Err}
 use Rattle.ground_refusal.specs.declared.Refusal.{Refusal}
 use Rattle.ground_refusal.specs.declared.Refusal.TheVariants.{OutsideSet, OutputTooSmall, TooLarge}
 use Rattle.body_formats.specs.Reading.{Reading, found, refused, and_then, need}
@@ -17,11 +16,7 @@ use Rattle.body_formats.specs.Format.{Format}
 use Rattle.body_formats.specs.Answers.{step_of}
 use Rattle.ground_numbers.specs.Sizes.{body_most}
 use Rattle.body_formats.specs.Body.{measuring, measured, fitting, writing, body_written, output_written}
-use Rattle.body_formats.specs.declared.Step.{Step}
-use Rattle.body_formats.specs.declared.Step.TheVariants.{At as StepAt, Refused as NoStep}
 use Rattle.body_pen.specs.Penned.{above_body, more, pen_onward, penned, form_measured, step_fitting}
-use Rattle.body_pen.specs.declared.Pen.{Pen}
-use Rattle.body_pen.specs.declared.Pen.TheVariants.{At, Refused}
 use Rattle.body_pen.proofs.Leaves.{more_exact}
 
 -- ---- a form measured
@@ -36,36 +31,17 @@ more_over n = refl
 
 -- the bytes counted, up to one more than a body may have, tell whether they are too many
 sized : {A : Type 0} (a : A) (n : ℕ) (over : Bool)
-    → (if ltb body_most (more 0 n over) then NoStep TooLarge else StepAt (more 0 n over))
+    → (if ltb body_most (more 0 n over) then Err TooLarge else Ok (more 0 n over))
     ≡ step_of (need (not over) TooLarge (need (leb n body_most) TooLarge (found a n)))
 sized a n true = rw (more_over n)
 sized a n false = go (leb n body_most) refl
   where
     go : (b : Bool) → leb n body_most ≡ b
-        → (if ltb body_most (more 0 n false) then NoStep TooLarge else StepAt (more 0 n false)) ≡ step_of (need b TooLarge (found a n))
+        → (if ltb body_most (more 0 n false) then Err TooLarge else Ok (more 0 n false)) ≡ step_of (need b TooLarge (found a n))
     go true e =
         let h = leb-true n body_most e in
         rw (more_exact 0 n (omega arith) ∙ zero-add n, le-ltb body_most n h)
     go false e = rw (more_past n (leb-false n body_most e))
-
--- what the code's tests make of a pen past the form
-module _ (entries : ℕ) (x : Pen) where
-  pub form_stopped : (r : Refusal) → x ≡ Refused r → NoStep r ≡ form_measured entries x
-  unfolding form_measured
-  form_stopped r e = rw e
-
-  module _ (size k : ℕ) (e : x ≡ At size k) where
-    pub form_left : k < entries → NoStep (OutsideSet k) ≡ form_measured entries x
-    unfolding form_measured
-    form_left h = rw (e, lt-ltb k entries h)
-
-    pub form_long : entries ≤ k → body_most < size → NoStep TooLarge ≡ form_measured entries x
-    unfolding form_measured
-    form_long h l = rw (e, le-ltb k entries h, lt-ltb body_most size l)
-
-    pub form_whole : entries ≤ k → size ≤ body_most → StepAt size ≡ form_measured entries x
-    unfolding form_measured
-    form_whole h l = rw (e, le-ltb k entries h, le-ltb body_most size l)
 
 module _ {A : Type 0} (F : Format A) (tape : List ℕ) where
   form_found : (a : A) (k : ℕ) → form_measured (length tape) (pen_onward F 0 (found a k))
@@ -75,19 +51,19 @@ module _ {A : Type 0} (F : Format A) (tape : List ℕ) where
   form_found a k = go (leb (length tape) k) refl
     where
       go : (b : Bool) → leb (length tape) k ≡ b
-          → (if ltb k (length tape) then NoStep (OutsideSet k) else
-          if ltb body_most (more 0 (length (F.print a)) (F.too_large a)) then NoStep TooLarge else StepAt (more 0 (length (F.print a)) (F.too_large a)))
+          → (if ltb k (length tape) then Err (OutsideSet k) else
+          if ltb body_most (more 0 (length (F.print a)) (F.too_large a)) then Err TooLarge else Ok (more 0 (length (F.print a)) (F.too_large a)))
           ≡ step_of (need b (OutsideSet k)
           (need (not (F.too_large a)) TooLarge (need (leb (length (F.print a)) body_most) TooLarge (found a (length (F.print a))))))
       go true e = rw (le-ltb k (length tape) (leb-true (length tape) k e)) (sized a (length (F.print a)) (F.too_large a))
       go false e = rw (lt-ltb k (length tape) (leb-false (length tape) k e))
 
-  form_refused : (r : Refusal) → form_measured (length tape) (Refused r) ≡ NoStep r
+  form_refused : (r : Refusal) → form_measured (length tape) (Err r) ≡ Err r
   unfolding form_measured
   form_refused r = refl
 
   -- a pen past the whole form tells what is measured
-  pub measured_is : (pool : List ℕ) → form_measured (length tape) (penned F pool tape (At 0 0)) ≡ measured F pool tape
+  pub measured_is : (pool : List ℕ) → form_measured (length tape) (penned F pool tape (Ok (0, 0))) ≡ measured F pool tape
   unfolding penned measured measuring
   measured_is pool = go (F.form pool tape 0)
     where
@@ -100,29 +76,14 @@ module _ {A : Type 0} (F : Format A) (tape : List ℕ) where
 -- ---- a form written
 
 -- what a writer answers and leaves
-abbrev pub Wrote : {A : Type 0} → Format A → List ℕ → List ℕ → List ℕ → List ℕ → Step → Type 0
+abbrev pub Wrote : {A : Type 0} → Format A → List ℕ → List ℕ → List ℕ → List ℕ → Result ℕ Refusal → Type 0
 Wrote F pool tape out out' r = (r ≡ body_written F pool tape (length out)) × (out' ≡ output_written F pool tape out)
-
--- what the code's test makes of a form that was measured
-module _ (room : ℕ) (x : Step) where
-  pub fit_refused : (r u : Refusal) → x ≡ NoStep r → u ≡ placeless r → NoStep u ≡ step_fitting room x
-  unfolding step_fitting
-  fit_refused r u e f = rw (e, f)
-
-  module _ (n : ℕ) (e : x ≡ StepAt n) where
-    pub fit_small : room < n → NoStep OutputTooSmall ≡ step_fitting room x
-    unfolding step_fitting
-    fit_small h = rw (e, lt-leb n room h)
-
-    pub fit_room : n ≤ room → StepAt n ≡ step_fitting room x
-    unfolding step_fitting
-    fit_room h = rw (e, le-leb n room h)
 
 fitting_step : {A : Type 0} (room : ℕ) (x : Reading A) → step_fitting room (step_of x) ≡ step_of (fitting room x)
 unfolding step_fitting
 fitting_step room (found a n) = go (leb n room)
   where
-    go : (b : Bool) → (if b then StepAt n else NoStep OutputTooSmall) ≡ step_of (need b OutputTooSmall (found a n))
+    go : (b : Bool) → (if b then Ok n else Err OutputTooSmall) ≡ step_of (need b OutputTooSmall (found a n))
     go true = refl
     go false = refl
 fitting_step room (refused r) = refl
@@ -132,10 +93,10 @@ module _ {A : Type 0} (F : Format A) (pool tape out : List ℕ) where
   unfolding measured writing
   fitted_is = fitting_step (length out) (measuring F pool tape)
 
-  pub write_refused : (e : Refusal) → step_fitting (length out) (measured F pool tape) ≡ NoStep e → Wrote F pool tape out out (NoStep e)
+  pub write_refused : (e : Refusal) → step_fitting (length out) (measured F pool tape) ≡ Err e → Wrote F pool tape out out (Err e)
   unfolding body_written output_written
   write_refused e f = let w = go (writing F pool tape (length out)) (sym fitted_is ∙ f) in (rw w, rw w)
     where
-      go : (y : Reading A) → step_of y ≡ NoStep e → y ≡ refused e
+      go : (y : Reading A) → step_of y ≡ Err e → y ≡ refused e
       go (found a n) g = absurd (let z : ◌≡◌ {A = ℕ} 0 1 = cc in omega arith)
       go (refused u) g = ap refused (let z : u ≡ e = cc in z)

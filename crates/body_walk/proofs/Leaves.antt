@@ -1,5 +1,6 @@
 -- The laws of leaves: entries laid one after the other, and a walk past one field, whatever format it has.
 use Prim.Native.Nat.{ℕ, ◌+◌, ◌-◌, ◌/◌, ◌%◌, ◌≤◌, ◌<◌}
+use Rattle.std.specs.Prelude.{Result, Ok, Err, IsErr, IsErrAnd}
 use mathlib.Core.Path.{◌≡◌, refl, sym, ap, ◌∙◌}
 use mathlib.Core.List.{List, [], ◌∷◌, ◌++◌}
 use mathlib.Core.Bool.{Bool, true, false, ◌&&◌}
@@ -12,26 +13,19 @@ use borrow.Author.Tests.{eq-eqb, ne_eqb, le-leb, lt-leb}
 use Rattle.ground_placing.specs.Placed.{placed}
 use Rattle.ground_placing.proofs.Placing.{stored, placed_none, placed_next}
 use Rattle.ground_refusal.specs.declared.Refusal.{Refusal}
+use Rattle.ground_refusal.proofs.Exits.{passed_on, ok_pair_inj}
 use Rattle.ground_refusal.specs.declared.Refusal.TheVariants.{PastBody, PastPart, OutsideSet, OutputTooSmall}
 use Rattle.body_formats.specs.Reading.{Reading, found, refused, and_then, need, Fault, unless, judged, value_of}
 use Rattle.body_formats.specs.Format.{Format, number_at, count, only, outside, number, nibbles, nibbles_among, reserved, bytes, bytes_among, every, rest, Length, length_of, counted, opaque}
 use Rattle.body_formats.specs.Time.{time, end_time}
 use Rattle.body_formats.specs.Answers.{number_of, part_of, field_part, number_read, part_read}
-use Rattle.body_formats.specs.declared.Number.{Number}
-use Rattle.body_formats.specs.declared.Number.TheVariants.{Is, Refused as NoNumber}
-use Rattle.body_formats.specs.declared.Step.TheVariants.{At as Ends, Refused as NoStep}
-use Rattle.body_formats.specs.declared.Part.{Part}
-use Rattle.body_formats.specs.declared.Part.TheVariants.{Of, Refused as NoPart}
 use Rattle.body_formats.proofs.Outcomes.{found_inj, and_then_found, judged_found, within_found}
 use Rattle.body_formats.proofs.Classes.{Bytes}
 use Rattle.body_formats.proofs.Leaves.{length_bytes_lem}
 use Rattle.body_formats.proofs.Bits.{number_parses}
 use Rattle.body_formats.proofs.Parts.{opaque_next}
 use Rattle.body_formats.proofs.Readers.{number_found, number_refused, part_found, part_refused}
-use Rattle.body_walk.specs.declared.Walk.{Walk}
-use Rattle.body_walk.specs.declared.Walk.TheVariants.{At, Refused}
-use Rattle.body_walk.specs.declared.Count.{Count}
-use Rattle.body_walk.specs.Walked.{walk_onward, walked, leaving, entries_needed, Inside, Walked, value_walked, Counted, opened_by, entered}
+use Rattle.body_walk.specs.Walked.{walk_onward, walked, leaving, entries_needed, Inside, Walked, value_walked, walk_of, beside, Counted, opened_by, entered}
 use Rattle.body_walk.specs.Entries.{Laid, Stepped, entry_of, past_number, number_worth, Told, span_of, past_part, end_of}
 use Rattle.body_walk.proofs.Pairs.{stays}
 use Rattle.body_walk.proofs.Counts.{entered_inside}
@@ -70,14 +64,23 @@ module _ (tape : List ℕ) (room : ℕ) (wet : Bool) where
       }
 
 -- what a step leaves, by what its answer is
-pub stepped : {B : Type 0} (to : B → Walk) (xs : B → List ℕ) (x y : B) → x ≡ y → (tape : List ℕ) (room : ℕ) (wet : Bool) (r : Walk) (tape' : List ℕ) → r ≡ to y
+pub stepped : {B : Type 0} (to : B → Result (ℕ × ℕ) Refusal) (xs : B → List ℕ) (x y : B) → x ≡ y → (tape : List ℕ) (room : ℕ) (wet : Bool) (r : Result (ℕ × ℕ) Refusal) (tape' : List ℕ) → r ≡ to y
     → Laid tape room wet (xs y) tape' → Stepped (to x) (xs x) tape room wet r tape'
 stepped to xs x y e tape room wet r tape' f t = rw e record { said = f; laid = t }
 
+-- a number told, or its refusal
+module _ {x : Result (ℕ × ℕ) Refusal} {tape : List ℕ} {room : ℕ} {wet : Bool} where
+  pub told_none : {e : Refusal} → x ≡ Err e → {r : Result ((ℕ × ℕ) × ℕ) Refusal} → IsErr r × IsErrAnd r (λ y. y ≡ e) → Told x tape room wet r tape
+  told_none h p = rw (h, passed_on p) (record { past = record { said = refl; laid = laid_none tape room wet }; value = refl })
+
+  pub told_one : {v q : ℕ} → x ≡ Ok (v, q) → {left : ℕ} {tape' : List ℕ} → left ≡ room - 1 → Laid tape room wet (v ∷ []) tape'
+      → Told x tape room wet (Ok ((q, left), v)) tape'
+  told_one {q = q} h f t = rw h (record { past = record { said = ap (λ n. Ok (q, n)) f; laid = t }; value = refl })
+
 -- ---- a walk past one field
 
-module _ {A : Type 0} (F : Format A) (s : List ℕ) (l : ℕ) (x : Walk) (wet : Bool) (tape : List ℕ) where
-  pub leaf : (p room : ℕ) → x ≡ At p room → (to : Walk) (xs : List ℕ) (r : Walk) (tape' : List ℕ) → Stepped to xs tape room wet r tape'
+module _ {A : Type 0} (F : Format A) (s : List ℕ) (l : ℕ) (x : Result (ℕ × ℕ) Refusal) (wet : Bool) (tape : List ℕ) where
+  pub leaf : (p room : ℕ) → x ≡ Ok (p, room) → (to : Result (ℕ × ℕ) Refusal) (xs : List ℕ) (r : Result (ℕ × ℕ) Refusal) (tape' : List ℕ) → Stepped to xs tape room wet r tape'
       → to ≡ walk_onward F room (F.parse s l p) → (Inside s l p → (a : A) (q : ℕ) → F.parse s l p ≡ found a q → F.tape a p ≡ xs)
       → Walked F s l x wet tape r tape'
   unfolding walked
@@ -86,52 +89,53 @@ module _ {A : Type 0} (F : Format A) (s : List ℕ) (l : ℕ) (x : Walk) (wet : 
         said = t.said ∙ o ∙ rw e;
         dry = t.laid.dry;
         laid = λ w p' room' f i a q g h k.
-            let m : p' ≡ p = cc in
-            let n : room' ≡ room = cc in
+            let z = ok_pair_inj (sym f ∙ e) in
+            let m = z.0 in
+            let n = z.1 in
             let j = u (rw m at i) a q (rw m at g) in
             rw (m, n, j) (t.laid.there w (rw (m, n, j) at h) (rw n at k));
       }
 
-  module _ (p room : ℕ) (e : x ≡ At p room) where
-    pub leaf_refused : (r : Refusal) → F.parse s l p ≡ refused r → Walked F s l x wet tape (Refused r) tape
+  module _ (p room : ℕ) (e : x ≡ Ok (p, room)) where
+    pub leaf_refused : (r : Refusal) → F.parse s l p ≡ refused r → Walked F s l x wet tape (Err r) tape
     leaf_refused r f =
-        leaf p room e (Refused r) [] (Refused r) tape record { said = refl; laid = laid_none tape room wet } (rw f)
+        leaf p room e (Err r) [] (Err r) tape record { said = refl; laid = laid_none tape room wet } (rw f)
         (λ i a q g. absurd (let z : ◌≡◌ {A = ℕ} 0 1 = cc in omega arith))
 
     pub leaf_found : (a : A) (q left : ℕ) (tape' : List ℕ) → F.parse s l p ≡ found a q → left ≡ room - length (F.tape a 0)
         → Laid tape room wet (F.tape a p) tape'
-        → Walked F s l x wet tape (At q left) tape'
+        → Walked F s l x wet tape (Ok (q, left)) tape'
     leaf_found a q left tape' f g t =
-        leaf p room e (At q left) (F.tape a p) (At q left) tape' record { said = refl; laid = t } (rw (f, g))
+        leaf p room e (Ok (q, left)) (F.tape a p) (Ok (q, left)) tape' record { said = refl; laid = t } (rw (f, g))
         (λ i b k h. ap (λ c. F.tape c p) (found_inj (sym h ∙ f)).0)
 
-pub count_refused : (C : Format ℕ) (s : List ℕ) (l : ℕ) (x : Walk) (wet : Bool) (tape : List ℕ) (r : Refusal) → x ≡ Refused r
-    → Counted C s l x wet tape record { walk = Refused r; n = 0 } tape
+pub count_refused : (C : Format ℕ) (s : List ℕ) (l : ℕ) (x : Result (ℕ × ℕ) Refusal) (wet : Bool) (tape : List ℕ) (e : Refusal) → x ≡ Err e → {r : Result ((ℕ × ℕ) × ℕ) Refusal}
+    → IsErr r × IsErrAnd r (λ y. y ≡ e) → Counted C s l x wet tape r tape
 unfolding value_walked
-count_refused C s l x wet tape r e = record { past = stays e; value = rw e }
+count_refused C s l x wet tape e h p = rw (passed_on p) (record { past = stays h; value = rw h })
 
 -- a number, and its one entry
-module _ (F : Format ℕ) (one : (v p : ℕ) → F.tape v p ≡ v ∷ []) (s : List ℕ) (l : ℕ) (x : Walk) (wet : Bool) (tape : List ℕ) (p room : ℕ) (e : x ≡ At p room)
-    (n : Number) (f : n ≡ number_of (F.parse s l p)) where
-  pub number_leaf : (r : Walk) (tape' : List ℕ) → Stepped (past_number room n) (entry_of n) tape room wet r tape' → Walked F s l x wet tape r tape'
+module _ (F : Format ℕ) (one : (v p : ℕ) → F.tape v p ≡ v ∷ []) (s : List ℕ) (l : ℕ) (x : Result (ℕ × ℕ) Refusal) (wet : Bool) (tape : List ℕ) (p room : ℕ) (e : x ≡ Ok (p, room))
+    (n : Result (ℕ × ℕ) Refusal) (f : n ≡ number_of (F.parse s l p)) where
+  pub number_leaf : (r : Result (ℕ × ℕ) Refusal) (tape' : List ℕ) → Stepped (past_number room n) (entry_of n) tape room wet r tape' → Walked F s l x wet tape r tape'
   number_leaf r tape' t =
       leaf F s l x wet tape p room e (past_number room n) (entry_of n) r tape' t (ap (past_number room) f ∙ go (F.parse s l p))
       (λ i a q g. one a p ∙ sym (ap entry_of (f ∙ ap number_of g)))
     where
       go : (y : Reading ℕ) → past_number room (number_of y) ≡ walk_onward F room y
-      go (found v q) = ap (λ k. At q (room - k)) (sym (ap length (one v 0)))
+      go (found v q) = ap (λ k. Ok (q, room - k)) (sym (ap length (one v 0)))
       go (refused r) = refl
 
-  pub number_counted : (r : Count) (tape' : List ℕ) → Told n tape room wet r tape' → Counted F s l x wet tape r tape'
+  pub number_counted : (r : Result ((ℕ × ℕ) × ℕ) Refusal) (tape' : List ℕ) → Told n tape room wet r tape' → Counted F s l x wet tape r tape'
   unfolding value_walked
-  number_counted r tape' t = record { past = number_leaf r.walk tape' t.past; value = t.value ∙ ap number_worth f ∙ go (F.parse s l p) ∙ rw e }
+  number_counted r tape' t = record { past = number_leaf (walk_of r) tape' t.past; value = t.value ∙ ap number_worth f ∙ go (F.parse s l p) ∙ rw e }
     where
       go : (y : Reading ℕ) → number_worth (number_of y) ≡ value_of y
       go (found v q) = refl
       go (refused r) = refl
 
 -- a count that was told is any number of its bytes
-pub number_told : (w : ℕ) {s : List ℕ} {l : ℕ} {x : Walk} {wet : Bool} {tape : List ℕ} {r : Count} {tape' : List ℕ} → Bytes s
+pub number_told : (w : ℕ) {s : List ℕ} {l : ℕ} {x : Result (ℕ × ℕ) Refusal} {wet : Bool} {tape : List ℕ} {r : Result ((ℕ × ℕ) × ℕ) Refusal} {tape' : List ℕ} → Bytes s
     → Counted (count w) s l x wet tape r tape' → Counted (number w) s l x wet tape r tape'
 unfolding walked value_walked number only
 number_told w {s} {l} {x} b c =
@@ -148,13 +152,13 @@ number_told w {s} {l} {x} b c =
     onward room (found v q) = refl
     onward room (refused r) = refl
 
-    same : (x : Walk) → walked (count w) s l x ≡ walked (number w) s l x
-    same (At p room) = ap (walk_onward (count w) room) (number_parses w s l p b) ∙ onward room ((number w).parse s l p)
-    same (Refused r) = refl
+    same : (x : Result (ℕ × ℕ) Refusal) → walked (count w) s l x ≡ walked (number w) s l x
+    same (Ok (p, room)) = ap (walk_onward (count w) room) (number_parses w s l p b) ∙ onward room ((number w).parse s l p)
+    same (Err r) = refl
 
-    worth : (x : Walk) → value_walked (count w) s l x ≡ value_walked (number w) s l x
-    worth (At p room) = ap value_of (number_parses w s l p b)
-    worth (Refused r) = refl
+    worth : (x : Result (ℕ × ℕ) Refusal) → value_walked (count w) s l x ≡ value_walked (number w) s l x
+    worth (Ok (p, room)) = ap value_of (number_parses w s l p b)
+    worth (Err r) = refl
 
 -- ---- which formats have one entry
 
@@ -184,15 +188,15 @@ end_one = only_one _ (number 5) (number_one 5)
 
 -- ---- a part that was read ends in the body
 
-pub counted_end : (L : Length) (s : List ℕ) (l p : ℕ) (y : Part) → y ≡ part_of ((counted L rest).parse s l p) → end_of y ≤ length s
+pub counted_end : (L : Length) (s : List ℕ) (l p : ℕ) (y : Result (ℕ × ℕ) Refusal) → y ≡ part_of ((counted L rest).parse s l p) → end_of y ≤ length s
 unfolding entered
-counted_end L s l p y e = rw e (go (part_of ((counted L rest).parse s l p)) (entered_inside L s l (At p 0) refl))
+counted_end L s l p y e = rw e (go (part_of ((counted L rest).parse s l p)) (entered_inside L s l (Ok (p, 0)) refl))
   where
-    go : (y : Part) → (opened_by 0 y).end ≤ length s → end_of y ≤ length s
-    go (Of a n) h = h
-    go (NoPart r) h = h
+    go : (y : Result (ℕ × ℕ) Refusal) → beside (opened_by 0 y) ≤ length s → end_of y ≤ length s
+    go (Ok (a, n)) h = h
+    go (Err r) h = h
 
-pub part_end : (s : List ℕ) (l p w : ℕ) (y : Part) → y ≡ part_read w s l p → end_of y ≤ length s
+pub part_end : (s : List ℕ) (l p w : ℕ) (y : Result (ℕ × ℕ) Refusal) → y ≡ part_read w s l p → end_of y ≤ length s
 unfolding part_read
 part_end s l p w y e = counted_end (length_of w) s l p y e
 
@@ -202,9 +206,9 @@ opaque_two : (w : ℕ) (xs : List ℕ) (p : ℕ) → (opaque w).tape xs p ≡ (p
 unfolding counted rest length_of count
 opaque_two w xs p = rw length_bytes_lem
 
-pub part_leaf : (s : List ℕ) (l : ℕ) (x : Walk) (wet : Bool) (tape : List ℕ) (p room : ℕ) → x ≡ At p room → (w : ℕ) (y : Part) → y ≡ part_read w s l p
-    → (r : Walk) (tape' : List ℕ) → Stepped (past_part room y) (span_of y) tape room wet r tape' → Walked (opaque w) s l x wet tape r tape'
-part_leaf s l x wet tape p room e w (Of a n) f r tape' t =
+pub part_leaf : (s : List ℕ) (l : ℕ) (x : Result (ℕ × ℕ) Refusal) (wet : Bool) (tape : List ℕ) (p room : ℕ) → x ≡ Ok (p, room) → (w : ℕ) (y : Result (ℕ × ℕ) Refusal) → y ≡ part_read w s l p
+    → (r : Result (ℕ × ℕ) Refusal) (tape' : List ℕ) → Stepped (past_part room y) (span_of y) tape room wet r tape' → Walked (opaque w) s l x wet tape r tape'
+part_leaf s l x wet tape p room e w (Ok (a, n)) f r tape' t =
     let g = part_found s l p w a n f in
     leaf (opaque w) s l x wet tape p room e _ _ r tape' t
     (rw (g.1, opaque_two))
@@ -214,18 +218,18 @@ part_leaf s l x wet tape p room e w (Of a n) f r tape' t =
     let start : p + w ≡ a = omega (arith, ap length u.0, u.1, g.2) in
     let size : length xs ≡ n = omega (arith, ap length u.0, g.2) in
     opaque_two w xs p ∙ rw (start, size))
-part_leaf s l x wet tape p room e w (NoPart r) f r' tape' t =
+part_leaf s l x wet tape p room e w (Err r) f r' tape' t =
     let g = part_refused s l p w r f in
     leaf (opaque w) s l x wet tape p room e _ _ r' tape' t (rw g) (λ i xs q h. absurd (let z : ◌≡◌ {A = ℕ} 0 1 = cc in omega arith))
 
 -- ---- all bytes that are left in a part, and their two entries
 
-pub rest_leaf : (s : List ℕ) (l : ℕ) (x : Walk) (wet : Bool) (tape : List ℕ) (p room : ℕ) → x ≡ At p room → (n left : ℕ) (tape' : List ℕ) → n ≡ l - p
+pub rest_leaf : (s : List ℕ) (l : ℕ) (x : Result (ℕ × ℕ) Refusal) (wet : Bool) (tape : List ℕ) (p room : ℕ) → x ≡ Ok (p, room) → (n left : ℕ) (tape' : List ℕ) → n ≡ l - p
     → left ≡ room - 2
-    → Laid tape room wet (p ∷ n ∷ []) tape' → Walked rest s l x wet tape (At l left) tape'
+    → Laid tape room wet (p ∷ n ∷ []) tape' → Walked rest s l x wet tape (Ok (l, left)) tape'
 unfolding rest
 rest_leaf s l x wet tape p room e n left tape' f g t =
-    leaf rest s l x wet tape p room e (At l left) (p ∷ n ∷ []) (At l left) tape' record { said = refl; laid = t } (ap (At l) g)
+    leaf rest s l x wet tape p room e (Ok (l, left)) (p ∷ n ∷ []) (Ok (l, left)) tape' record { said = refl; laid = t } (ap (λ b. Ok (l, b)) g)
     (λ i xs q h.
     let long : length xs ≡ n = sym (ap length (found_inj h).0) ∙ length-take-le (l - p) (drop p s) (simp length-drop (omega (arith, i.part))) ∙ sym f in
     rw long)
@@ -233,7 +237,7 @@ rest_leaf s l x wet tape p room e n left tape' f g t =
 -- ---- a field of n bytes, and where it stands
 
 module _ {A : Type 0} (F : Format A) (n : ℕ) (two : (a : A) (i : ℕ) → F.tape a i ≡ i ∷ n ∷ []) (s : List ℕ) (l p : ℕ)
-    (fits : (a : A) (q : ℕ) → F.parse s l p ≡ found a q → (q ≡ p + n) × (q ≤ length s)) (y : Part) (f : y ≡ field_part p (F.parse s l p)) where
+    (fits : (a : A) (q : ℕ) → F.parse s l p ≡ found a q → (q ≡ p + n) × (q ≤ length s)) (y : Result (ℕ × ℕ) Refusal) (f : y ≡ field_part p (F.parse s l p)) where
   pub field_end : end_of y ≤ length s
   field_end = rw f (go (F.parse s l p) fits)
     where
@@ -241,7 +245,7 @@ module _ {A : Type 0} (F : Format A) (n : ℕ) (two : (a : A) (i : ℕ) → F.ta
       go (found a q) h = let g = h a q refl in omega (arith, g.0, g.1)
       go (refused r) h = omega arith
 
-  pub field_leaf : (x : Walk) (wet : Bool) (tape : List ℕ) (room : ℕ) → x ≡ At p room → (r : Walk) (tape' : List ℕ)
+  pub field_leaf : (x : Result (ℕ × ℕ) Refusal) (wet : Bool) (tape : List ℕ) (room : ℕ) → x ≡ Ok (p, room) → (r : Result (ℕ × ℕ) Refusal) (tape' : List ℕ)
       → Stepped (past_part room y) (span_of y) tape room wet r tape' → Walked F s l x wet tape r tape'
   field_leaf x wet tape room e r tape' t =
       leaf F s l x wet tape p room e (past_part room y) (span_of y) r tape' t (ap (past_part room) f ∙ go (F.parse s l p) fits)
@@ -290,65 +294,61 @@ nibbles_of s l p = rw byte_at (go (leb (p + 1) (length s)) (leb (p + 1) l) (get_
     go true false v = refl
     go false b v = refl
 
-module _ (lo hi : ℕ) (s : List ℕ) (l p : ℕ) (x : Walk) (wet : Bool) (tape : List ℕ) (room : ℕ) (e : x ≡ At p room) where
-  pub nibbles_no : (r : Refusal) → NoNumber r ≡ number_read 1 s l p → Walked (nibbles_among lo hi) s l x wet tape (Refused r) tape
+module _ (lo hi : ℕ) (s : List ℕ) (l p : ℕ) (x : Result (ℕ × ℕ) Refusal) (wet : Bool) (tape : List ℕ) (room : ℕ) (e : x ≡ Ok (p, room)) where
+  pub nibbles_no : (r : Refusal) → Err r ≡ number_read 1 s l p → Walked (nibbles_among lo hi) s l x wet tape (Err r) tape
   unfolding only number_read
   nibbles_no r f = leaf_refused (nibbles_among lo hi) s l x wet tape p room e r (rw (nibbles_of, number_refused ((count 1).parse s l p) r f))
 
-  module _ (v q : ℕ) (f : Is v q ≡ number_read 1 s l p) where
+  module _ (v q : ℕ) (f : Ok (v, q) ≡ number_read 1 s l p) where
     nibbles_judged : (nibbles_among lo hi).parse s l p
         ≡ judged (unless ((leb lo (v / 16) && leb (v / 16) hi) && (leb lo (v % 16) && leb (v % 16) hi)) (OutsideSet p)) (found (high_low v) q)
     unfolding only number_read
     nibbles_judged = rw (nibbles_of, number_found ((count 1).parse s l p) v q f)
 
-    pub high_out : (leb lo (v / 16) && leb (v / 16) hi) ≡ false → Walked (nibbles_among lo hi) s l x wet tape (Refused (OutsideSet p)) tape
-    high_out g = leaf_refused (nibbles_among lo hi) s l x wet tape p room e (OutsideSet p) (nibbles_judged ∙ rw g)
+    pub either_out : ((leb lo (v / 16) && leb (v / 16) hi) && (leb lo (v % 16) && leb (v % 16) hi)) ≡ false → Walked (nibbles_among lo hi) s l x wet tape (Err (OutsideSet p)) tape
+    either_out g = leaf_refused (nibbles_among lo hi) s l x wet tape p room e (OutsideSet p) (nibbles_judged ∙ rw g)
 
-    module _ (g : (leb lo (v / 16) && leb (v / 16) hi) ≡ true) where
-      pub low_out : (leb lo (v % 16) && leb (v % 16) hi) ≡ false → Walked (nibbles_among lo hi) s l x wet tape (Refused (OutsideSet p)) tape
-      low_out h = leaf_refused (nibbles_among lo hi) s l x wet tape p room e (OutsideSet p) (nibbles_judged ∙ rw (g, h))
-
-      pub both_in : (leb lo (v % 16) && leb (v % 16) hi) ≡ true → (left : ℕ) (tape' : List ℕ) → left ≡ room - 2
-          → Laid tape room wet ((v / 16) ∷ (v % 16) ∷ []) tape'
-          → Walked (nibbles_among lo hi) s l x wet tape (At q left) tape'
-      unfolding only nibbles
-      both_in h left tape' k t = leaf_found (nibbles_among lo hi) s l x wet tape p room e (high_low v) q left tape' (nibbles_judged ∙ rw (g, h)) k t
+    pub both_in : ((leb lo (v / 16) && leb (v / 16) hi) && (leb lo (v % 16) && leb (v % 16) hi)) ≡ true → (left : ℕ) (tape' : List ℕ) → left ≡ room - 2
+        → Laid tape room wet ((v / 16) ∷ (v % 16) ∷ []) tape'
+        → Walked (nibbles_among lo hi) s l x wet tape (Ok (q, left)) tape'
+    unfolding only nibbles
+    both_in g left tape' k t = leaf_found (nibbles_among lo hi) s l x wet tape p room e (high_low v) q left tape' (nibbles_judged ∙ rw g) k t
 
 -- ---- into a part, and out of it with no byte left
 
-pub enter_refused : (L : Length) (s : List ℕ) (l : ℕ) (x : Walk) (r : Refusal) → x ≡ Refused r → record { walk = Refused r; end = 0 } ≡ entered L s l x
+pub enter_refused : (L : Length) (s : List ℕ) (l : ℕ) (x : Result (ℕ × ℕ) Refusal) (r : Refusal) → x ≡ Err r → Err r ≡ entered L s l x
 unfolding entered
 enter_refused L s l x r e = rw e
 
-pub enter_at : (L : Length) (s : List ℕ) (l : ℕ) (x : Walk) (p room : ℕ) → x ≡ At p room → (y : Part) → y ≡ part_of ((counted L rest).parse s l p)
+pub enter_at : (L : Length) (s : List ℕ) (l : ℕ) (x : Result (ℕ × ℕ) Refusal) (p room : ℕ) → x ≡ Ok (p, room) → (y : Result (ℕ × ℕ) Refusal) → y ≡ part_of ((counted L rest).parse s l p)
     → opened_by room y ≡ entered L s l x
 unfolding entered
 enter_at L s l x p room e y f = rw (e, f)
 
-pub enter_part : (w : ℕ) (s : List ℕ) (l : ℕ) (x : Walk) (p room : ℕ) → x ≡ At p room → (y : Part) → y ≡ part_read w s l p
+pub enter_part : (w : ℕ) (s : List ℕ) (l : ℕ) (x : Result (ℕ × ℕ) Refusal) (p room : ℕ) → x ≡ Ok (p, room) → (y : Result (ℕ × ℕ) Refusal) → y ≡ part_read w s l p
     → opened_by room y ≡ entered (length_of w) s l x
 unfolding part_read
 enter_part w s l x p room e y f = enter_at (length_of w) s l x p room e y f
 
-module _ (left_over : ℕ → Refusal) (l : ℕ) (x : Walk) where
-  pub leave_refused : (r : Refusal) → x ≡ Refused r → Refused r ≡ leaving left_over l x
+module _ (left_over : ℕ → Refusal) (l : ℕ) (x : Result (ℕ × ℕ) Refusal) where
+  pub leave_refused : (r : Refusal) → x ≡ Err r → Err r ≡ leaving left_over l x
   unfolding leaving
   leave_refused r e = rw e
 
-  module _ (q room : ℕ) (e : x ≡ At q room) where
-    pub leave_over : q < l → Refused (left_over q) ≡ leaving left_over l x
+  module _ (q room : ℕ) (e : x ≡ Ok (q, room)) where
+    pub leave_over : q < l → Err (left_over q) ≡ leaving left_over l x
     unfolding leaving
     leave_over h = rw (e, lt-leb l q h)
 
-    pub leave_at : l ≤ q → At q room ≡ leaving left_over l x
+    pub leave_at : l ≤ q → Ok (q, room) ≡ leaving left_over l x
     unfolding leaving
     leave_at h = rw (e, le-leb l q h)
 
 -- ---- out of a whole body
 
-module _ (room : ℕ) (x : Walk) (q left : ℕ) (e : x ≡ At q left) where
-  pub entries_small : left ≡ 0 → NoStep OutputTooSmall ≡ entries_needed room x
+module _ (room : ℕ) (x : Result (ℕ × ℕ) Refusal) (q left : ℕ) (e : x ≡ Ok (q, left)) where
+  pub entries_small : left ≡ 0 → Err OutputTooSmall ≡ entries_needed room x
   entries_small z = rw (e, eq-eqb left 0 z)
 
-  pub entries_fit : (left ≡ 0 → ⊥) → (n : ℕ) → n ≡ room - left → Ends n ≡ entries_needed room x
+  pub entries_fit : (left ≡ 0 → ⊥) → (n : ℕ) → n ≡ room - left → Ok n ≡ entries_needed room x
   entries_fit z n f = rw (e, ne_eqb left 0 z, f)

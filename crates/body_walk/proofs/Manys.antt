@@ -1,5 +1,6 @@
 -- Walks through things that repeat to the end of their part: their entries go after a gap of one, and at the end their count into the gap.
 use Prim.Native.Nat.{ℕ, zero, suc, ◌+◌, ◌-◌, ◌≤◌, ◌<◌}
+use Rattle.std.specs.Prelude.{Result, Ok, Err}
 use mathlib.Core.Path.{◌≡◌, refl, sym, ap, ap₂, ◌∙◌, subst, subst₂}
 use mathlib.Core.List.{List, [], ◌∷◌}
 use mathlib.Core.Bool.{Bool, true, false}
@@ -10,6 +11,7 @@ use Rattle.ground_choices.proofs.Tests.{and_of}
 use Rattle.ground_placing.specs.Placed.{placed}
 use Rattle.ground_placing.proofs.Placing.{placed_before}
 use Rattle.ground_refusal.specs.declared.Refusal.{Refusal}
+use Rattle.ground_refusal.proofs.Exits.{ok_pair_inj}
 use Rattle.body_formats.specs.Reading.{Reading, found, refused, and_then}
 use Rattle.body_formats.specs.Format.{Format, followed, ◌▷◌, print_all, every, some, tape_all, parse_many, many}
 use Rattle.body_formats.specs.Answers.{step_of, ended}
@@ -20,8 +22,6 @@ use Rattle.body_formats.proofs.Lists.{all_steady, many_filling}
 use Rattle.body_formats.proofs.Readers.{step_refused}
 use Rattle.body_formats.proofs.Inner.{forward, many_stop as stops_at, many_go}
 use Rattle.body_walk.specs.Walked.{walk_onward, Inside, Walked}
-use Rattle.body_walk.specs.declared.Walk.{Walk}
-use Rattle.body_walk.specs.declared.Walk.TheVariants.{At, Refused}
 use Rattle.body_walk.proofs.Pairs.{walked_at, from, stays, empty, passed, went_on, stopped, dependent, renamed, regroup}
 use Rattle.body_walk.proofs.Counts.{Ahead, ahead_start}
 
@@ -39,7 +39,7 @@ things F =
 
 -- A walk under way: n things lie behind, from p with this room up to `at` with the room `left`, and one entry before theirs is free.
 pub record Along {A : Type 0} (F : Format A) (s : List ℕ) (l p room : ℕ) (wet : Bool) (t : List ℕ) (n at left : ℕ) (t' : List ℕ) : Type 0 where
-  pub ahead : Ahead (things F) s l (At p (room - 1)) wet t (things F) (At at left) t'
+  pub ahead : Ahead (things F) s l (Ok (p, room - 1)) wet t (things F) (Ok (at, left)) t'
   pub behind : (xs : List A) (q : ℕ) → (many F).parse s l p ≡ found xs q → (ys : List A) × ((many F).parse s l at ≡ found ys q) × (length xs ≡ n + length ys)
   pub small : n ≤ at
 
@@ -47,7 +47,7 @@ pub many_start : {A : Type 0} {F : Format A} {s : List ℕ} {l p room : ℕ} {we
     → Along F s l p room wet t 0 p left t
 many_start {F} {s} {l} {p} {room} {wet} {t} e =
     record {
-      ahead = subst (λ m. Ahead (things F) s l (At p (room - 1)) wet t (things F) (At p m) t) (sym e) ahead_start;
+      ahead = subst (λ m. Ahead (things F) s l (Ok (p, room - 1)) wet t (things F) (Ok (p, m)) t) (sym e) ahead_start;
       behind = λ xs q h. (xs, h, omega arith);
       small = omega arith;
     }
@@ -89,13 +89,13 @@ module _ {A : Type 0} (F : Format A) (f : Lawful F) (takes : (a : A) → 0 < len
       first (found a q) e = second a q e ((many F).parse s l q) refl
 
 -- a fact of a position and a room holds of those that a walk stands at
-at_this : (P : ℕ → ℕ → Type 0) {p room p' room' : ℕ} → At p room ≡ At p' room' → P p room → P p' room'
-at_this P {p} {room} {p'} {room'} e h = subst₂ P (let z : p ≡ p' = cc in z) (let z : room ≡ room' = cc in z) h
+at_this : (P : ℕ → ℕ → Type 0) {p room p' room' : ℕ} → ◌≡◌ {A = Result (ℕ × ℕ) Refusal} (Ok (p, room)) (Ok (p', room')) → P p room → P p' room'
+at_this P e h = let z = ok_pair_inj e in subst₂ P z.0 z.1 h
 
 module _ {A : Type 0} {F : Format A} (f : Lawful F) (takes : (a : A) → 0 < length (F.print a)) {s : List ℕ} (b : Bytes s) {l : ℕ} (inb : l ≤ length s)
     {wet : Bool} where
-  things_more : {at left : ℕ} {t : List ℕ} {y : Walk} {t₁ : List ℕ} {r : Walk} {t₂ : List ℕ} → at < l → Walked F s l (At at left) wet t y t₁
-      → Walked (things F) s l y wet t₁ r t₂ → Walked (things F) s l (At at left) wet t r t₂
+  things_more : {at left : ℕ} {t : List ℕ} {y : Result (ℕ × ℕ) Refusal} {t₁ : List ℕ} {r : Result (ℕ × ℕ) Refusal} {t₂ : List ℕ} → at < l → Walked F s l (Ok (at, left)) wet t y t₁
+      → Walked (things F) s l y wet t₁ r t₂ → Walked (things F) s l (Ok (at, left)) wet t r t₂
   unfolding things followed tape_all
   things_more {at} {left} h w v =
       renamed {F = F ▷ things F} (λ z. z.0 ∷ z.1)
@@ -104,13 +104,13 @@ module _ {A : Type 0} {F : Format A} (f : Lawful F) (takes : (a : A) → 0 < len
       (λ z p q k e. refl)
       (dependent f (λ a xs p. all_steady F f xs p 0) w (λ a p q room e i. v) (passed v) v.dry)
 
-  module _ {at left : ℕ} {t' : List ℕ} {y : Walk} {t'' : List ℕ} (h : at < l) (w : Walked F s l (At at left) wet t' y t'') where
+  module _ {at left : ℕ} {t' : List ℕ} {y : Result (ℕ × ℕ) Refusal} {t'' : List ℕ} (h : at < l) (w : Walked F s l (Ok (at, left)) wet t' y t'') where
     -- a thing takes a byte at least
-    pub many_nearer : {q m : ℕ} → y ≡ At q m → (at < q) × (q ≤ l)
+    pub many_nearer : {q m : ℕ} → y ≡ Ok (q, m) → (at < q) × (q ≤ l)
     many_nearer {q} e = forward F f takes s b l inb at (went_on w e).0 q (omega arith) (went_on w e).1
 
     module _ {p room : ℕ} {t : List ℕ} {n : ℕ} (a : Along F s l p room wet t n at left t') where
-      pub many_turn : {q m : ℕ} → y ≡ At q m → length t'' ≡ length t' → Along F s l p room wet t (n + 1) q m t''
+      pub many_turn : {q m : ℕ} → y ≡ Ok (q, m) → length t'' ≡ length t' → Along F s l p room wet t (n + 1) q m t''
       many_turn {q} {m} e same =
           record {
             ahead = record {
@@ -127,10 +127,10 @@ module _ {A : Type 0} {F : Format A} (f : Lawful F) (takes : (a : A) → 0 < len
             small = omega (arith, a.small, (many_nearer e).0);
           }
 
-      pub many_stop : {e : Refusal} → y ≡ Refused e → Walked (many F) s l (At p room) wet t (Refused e) t''
+      pub many_stop : {e : Refusal} → y ≡ Err e → Walked (many F) s l (Ok (p, room)) wet t (Err e) t''
       unfolding things
       many_stop {e} i =
-          let v = a.ahead.whole (Refused e) t'' (things_more h w (stays i)) in
+          let v = a.ahead.whole (Err e) t'' (things_more h w (stays i)) in
           let no : (many F).parse s l p ≡ refused e = stopped v refl in
           record {
             said = sym (walked_at (many F) s l p room ∙ ap (walk_onward (many F) room) no);
@@ -141,9 +141,9 @@ module _ {A : Type 0} {F : Format A} (f : Lawful F) (takes : (a : A) → 0 < len
 module _ {A : Type 0} {F : Format A} {s : List ℕ} {l p room : ℕ} {wet : Bool} {t : List ℕ} {n at left : ℕ} {t' : List ℕ} (h : l ≤ at)
     (a : Along F s l p room wet t n at left t') where
   -- no byte is left: what lies behind is all
-  all_behind : Walked (things F) s l (At p (room - 1)) wet t (At at left) t'
+  all_behind : Walked (things F) s l (Ok (p, room - 1)) wet t (Ok (at, left)) t'
   unfolding things tape_all
-  all_behind = a.ahead.whole (At at left) t' (empty [] (λ p room e. at_this (λ p room. (many F).parse s l p ≡ found [] p) e (many_none F s l at h)) (λ k. refl))
+  all_behind = a.ahead.whole (Ok (at, left)) t' (empty [] (λ p room e. at_this (λ p room. (many F).parse s l p ≡ found [] p) e (many_none F s l at h)) (λ k. refl))
 
   all_counted : (xs : List A) (q : ℕ) → (many F).parse s l p ≡ found xs q → n ≡ length xs
   all_counted xs q e =
@@ -152,13 +152,13 @@ module _ {A : Type 0} {F : Format A} {s : List ℕ} {l p room : ℕ} {wet : Bool
 
   -- the count goes into its gap, before the entries of the things
   pub many_done : {t'' : List ℕ} → (wet ≡ false → t'' ≡ t') → (wet ≡ true → 1 < room → room ≤ length t' + 1 → t'' ≡ placed t' (length t' + 1 - room) (n ∷ []))
-      → Walked (many F) s l (At p room) wet t (At at left) t''
+      → Walked (many F) s l (Ok (p, room)) wet t (Ok (at, left)) t''
   unfolding things many
   many_done {t''} dry put =
       let d = went_on all_behind refl in
       let less : left ≡ room - suc (length (tape_all F d.0 0)) = omega (arith, d.2) in
       record {
-        said = ap (At at) less ∙ sym (walked_at (many F) s l p room ∙ ap (walk_onward (many F) room) d.1);
+        said = ap (λ b. Ok (at, b)) less ∙ sym (walked_at (many F) s l p room ∙ ap (walk_onward (many F) room) d.1);
         dry = λ e. dry e ∙ all_behind.dry e;
         laid = λ v p' room' e.
             at_this (λ p room. Inside s l p → (xs : List A) (q : ℕ) → (many F).parse s l p ≡ found xs q → length ((many F).tape xs p) < room → room ≤ length t + 1

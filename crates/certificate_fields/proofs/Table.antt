@@ -1,5 +1,7 @@
 -- The fields asked for of an accepted body are its table's: what the definitions read one by one, the table's reader read in the same places.
 use Prim.Native.Nat.{ℕ, zero, suc, ◌+◌, ◌-◌, ◌≤◌, ◌<◌}
+use Rattle.std.specs.Prelude.{Result, Ok, Err}
+use Rattle.ground_refusal.specs.declared.Refusal.{Refusal}
 use mathlib.Core.Path.{◌≡◌, sym, ap, ap₂, ◌∙◌}
 use mathlib.Core.List.{List, [], ◌∷◌, ◌++◌}
 use native.Mathlib.Omega.{arith}
@@ -11,9 +13,6 @@ use Rattle.body_formats.specs.Reading.{found, and_then}
 use Rattle.body_formats.specs.Format.{count, print_all, repeat, list_of, rest, length_of, counted, opaque}
 use Rattle.body_formats.specs.Body.{reading}
 use Rattle.body_formats.specs.Answers.{part_of, number_read, after, thing_listed, part_listed}
-use Rattle.body_formats.specs.declared.Number.TheVariants.{Is}
-use Rattle.body_formats.specs.declared.Part.{Part}
-use Rattle.body_formats.specs.declared.Part.TheVariants.{Of, Refused as NoPart}
 use Rattle.body_formats.proofs.Classes.{Bytes}
 use Rattle.body_formats.specs.Held.{Fills}
 use Rattle.body_formats.proofs.Outcomes.{found_inj, and_then_found, within_found}
@@ -82,7 +81,7 @@ module _ (s : List ℕ) (b : Bytes s) (w : ℕ) where
         let f = (parts_lawful w).forth s l p xss q b (le_refl l) (omega arith) e in
         (sym f.next, f.inside)
 
-    part_is : (i : ℕ) → i < length xss → part_of (thing_listed (count 1) (opaque w) i s l p) ≡ Of (p + taking w (take i xss) + w) (length (get_or xss i []))
+    part_is : (i : ℕ) → i < length xss → part_of (thing_listed (count 1) (opaque w) i s l p) ≡ Ok (p + taking w (take i xss) + w, length (get_or xss i []))
     unfolding thing_listed
     part_is i h =
         let f = list_found (count 1) (opaque w) s l p xss q e in
@@ -90,7 +89,7 @@ module _ (s : List ℕ) (b : Bytes s) (w : ℕ) where
         let each = ap (repeat ((opaque w).parse s l) (length xss)) (sym z) ∙ f.2 in
         let n = length (get_or xss i []) in
         let begins : p + 1 + printed (take i xss) + w + n - n ≡ p + taking w (take i xss) + w = omega (arith, taking_is w (take i xss)) in
-        rw (counted_at, lt-ltb i (length xss) h, after_ends i (p + 1) xss q each h) (ap (λ (at : ℕ). Of at n) begins)
+        rw (counted_at, lt-ltb i (length xss) h, after_ends i (p + 1) xss q each h) (ap (λ (at : ℕ). Ok (at, n)) begins)
 
 -- ---- the table
 
@@ -120,21 +119,21 @@ module _ (kind : ℕ) (s : List ℕ) (b : Bytes s) (c : Certificates) (q : ℕ) 
       (omega arith, omega arith)
 
   -- a part found as bytes of the body fills them
-  fills : (w t r : ℕ) (xs : List ℕ) (part : Part) → (opaque w).parse s (length s) t ≡ found xs r → part ≡ part_of (found xs r) → Fills s part xs
+  fills : (w t r : ℕ) (xs : List ℕ) (part : Result (ℕ × ℕ) Refusal) → (opaque w).parse s (length s) t ≡ found xs r → part ≡ part_of (found xs r) → Fills s part xs
   fills w t r xs part f z =
       let g = opaque_fills s (length s) t w xs r f in
       (g.0, g.1, z ∙ g.2, g.3, g.4)
 
-  authorizations_counted : authorization_count s ≡ Is (length c.authorizations) 1
+  authorizations_counted : authorization_count s ≡ Ok (length c.authorizations, 1)
   unfolding authorization_count number_read
   authorizations_counted = rw (counted_at s b 2 0 c.authorizations three.0 three.2)
 
   authorization_is : (i : ℕ) → i < length c.authorizations
-      → authorization_part s i ≡ Of (taking 2 (take i c.authorizations) + 2) (length (get_or c.authorizations i []))
+      → authorization_part s i ≡ Ok (taking 2 (take i c.authorizations) + 2, length (get_or c.authorizations i []))
   unfolding authorization_part part_listed
   authorization_is i h =
       let z : 0 + taking 2 (take i c.authorizations) + 2 ≡ taking 2 (take i c.authorizations) + 2 = omega arith in
-      part_is s b 2 0 c.authorizations three.0 three.2 i h ∙ ap (λ (at : ℕ). Of at (length (get_or c.authorizations i []))) z
+      part_is s b 2 0 c.authorizations three.0 three.2 i h ∙ ap (λ (at : ℕ). Ok (at, length (get_or c.authorizations i []))) z
 
   authorization_fills : (i : ℕ) → i < length c.authorizations → Fills s (authorization_part s i) (get_or c.authorizations i [])
   unfolding authorization_part part_listed
@@ -142,23 +141,23 @@ module _ (kind : ℕ) (s : List ℕ) (b : Bytes s) (c : Certificates) (q : ℕ) 
       let f = listed_is (count 1) (opaque 2) s (length s) 0 c.authorizations three.0 three.2 [] i h in
       fills 2 f.0 f.1 _ _ f.3 (ap part_of f.2)
 
-  authorization_past : (i : ℕ) → length c.authorizations ≤ i → authorization_part s i ≡ NoPart (OutsideSet 0)
+  authorization_past : (i : ℕ) → length c.authorizations ≤ i → authorization_part s i ≡ Err (OutsideSet 0)
   unfolding authorization_part part_listed
   authorization_past i h = rw (listed_past (count 1) (opaque 2) s (length s) 0 c.authorizations three.0 three.2 i h)
 
-  certificates_counted : certificate_count s ≡ Is (length c.certificates) (taking 2 c.authorizations + 1)
+  certificates_counted : certificate_count s ≡ Ok (length c.certificates, taking 2 c.authorizations + 1)
   unfolding certificate_count
   certificates_counted =
       let z : three.0 + 1 ≡ taking 2 c.authorizations + 1 = omega (arith, ends.0) in
-      rw (three.2, counted_at s b 1 three.0 c.certificates three.1 three.3) (ap (Is (length c.certificates)) z)
+      rw (three.2, counted_at s b 1 three.0 c.certificates three.1 three.3) (ap (λ b. Ok (length c.certificates, b)) z)
 
   certificate_is : (i : ℕ) → i < length c.certificates
-      → certificate_part s i ≡ Of (taking 2 c.authorizations + taking 1 (take i c.certificates) + 1) (length (get_or c.certificates i []))
+      → certificate_part s i ≡ Ok (taking 2 c.authorizations + taking 1 (take i c.certificates) + 1, length (get_or c.certificates i []))
   unfolding certificate_part
   certificate_is i h =
       rw three.2
       (part_is s b 1 three.0 c.certificates three.1 three.3 i h
-      ∙ ap (λ (at : ℕ). Of (at + taking 1 (take i c.certificates) + 1) (length (get_or c.certificates i []))) ends.0)
+      ∙ ap (λ (at : ℕ). Ok (at + taking 1 (take i c.certificates) + 1, length (get_or c.certificates i []))) ends.0)
 
   certificate_fills : (i : ℕ) → i < length c.certificates → Fills s (certificate_part s i) (get_or c.certificates i [])
   unfolding certificate_part
@@ -166,16 +165,16 @@ module _ (kind : ℕ) (s : List ℕ) (b : Bytes s) (c : Certificates) (q : ℕ) 
       let f = listed_is (count 1) (opaque 1) s (length s) three.0 c.certificates three.1 three.3 [] i h in
       fills 1 f.0 f.1 _ _ f.3 (rw (three.2, f.2))
 
-  certificate_past : (i : ℕ) → length c.certificates ≤ i → certificate_part s i ≡ NoPart (OutsideSet 0)
+  certificate_past : (i : ℕ) → length c.certificates ≤ i → certificate_part s i ≡ Err (OutsideSet 0)
   unfolding certificate_part
   certificate_past i h = rw (three.2, listed_past (count 1) (opaque 1) s (length s) three.0 c.certificates three.1 three.3 i h)
 
-  signature_is : signature_part s ≡ Of (taking 2 c.authorizations + taking 1 c.certificates + 2) (length c.signature)
+  signature_is : signature_part s ≡ Ok (taking 2 c.authorizations + taking 1 c.certificates + 2, length c.signature)
   unfolding signature_part
   signature_is =
       let n = opaque_next s (length s) b (le_refl (length s)) 2 three.1 c.signature q three.4 in
       let z : q - length c.signature ≡ taking 2 c.authorizations + taking 1 c.certificates + 2 = omega (arith, n, ends.1) in
-      rw (three.2, three.3, three.4) (ap (λ (at : ℕ). Of at (length c.signature)) z)
+      rw (three.2, three.3, three.4) (ap (λ (at : ℕ). Ok (at, length c.signature)) z)
 
   signature_fills : Fills s (signature_part s) c.signature
   unfolding signature_part

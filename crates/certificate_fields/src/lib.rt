@@ -4,7 +4,7 @@
 ghost use Rattle.std.specs.Prelude.{◌≡◌};
 ghost use Rattle.certificate_fields.specs.Asked.{authorization_count, authorization_part, certificate_count, certificate_part, signature_part};
 
-use body_formats::{Number, Part, Step};
+use body_formats::{Number, Part};
 
 // How many certificate authorization lists there are.
 pub fn authorization_count(s: &[u8]) -> Number
@@ -24,20 +24,16 @@ pub fn authorization(s: &[u8], i: u64) -> Part
 pub fn certificate_count(s: &[u8]) -> Number
     ensures { result ≡ certificate_count s.now }
 {
-    match body_parts::skip_list(s, s.len(), 0, 1, 2) {
-        Step::Refused(r) => Number::Refused(r),
-        Step::At(a) => body_numbers::read_number(s, s.len(), a, 1),
-    }
+    let a = body_parts::skip_list(s, s.len(), 0, 1, 2)?;
+    body_numbers::read_number(s, s.len(), a, 1)
 }
 
 // The part of the body that the i-th certificate fills.
 pub fn certificate(s: &[u8], i: u64) -> Part
     ensures { result ≡ certificate_part s.now i }
 {
-    match body_parts::skip_list(s, s.len(), 0, 1, 2) {
-        Step::Refused(r) => Part::Refused(r),
-        Step::At(a) => body_parts::listed_part(s, s.len(), a, 1, 1, i),
-    }
+    let a = body_parts::skip_list(s, s.len(), 0, 1, 2)?;
+    body_parts::listed_part(s, s.len(), a, 1, 1, i)
 }
 
 // The part of the body that the signature fills.
@@ -45,11 +41,7 @@ pub fn signature(s: &[u8]) -> Part
     ensures { result ≡ signature_part s.now }
 {
     let l = s.len();
-    match body_parts::skip_list(s, l, 0, 1, 2) {
-        Step::Refused(r) => Part::Refused(r),
-        Step::At(a) => match body_parts::skip_list(s, l, a, 1, 1) {
-            Step::Refused(r) => Part::Refused(r),
-            Step::At(b) => body_parts::read_part(s, l, b, 2),
-        },
-    }
+    let a = body_parts::skip_list(s, l, 0, 1, 2)?;
+    let b = body_parts::skip_list(s, l, a, 1, 1)?;
+    body_parts::read_part(s, l, b, 2)
 }

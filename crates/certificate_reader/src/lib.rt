@@ -4,7 +4,6 @@
 mod glancing;
 
 ghost use Rattle.std.specs.Prelude.{◌≡◌, ◌≤◌, length};
-ghost use Rattle.body_formats.specs.Format.{times, opaque};
 ghost use Rattle.body_formats.specs.Body.{body_read, body_laid, laid_tape};
 ghost use Rattle.body_walk.specs.Walked.{Walked};
 ghost use Rattle.certificate.specs.Certificate.{certificate_kind, certificate, parts};
@@ -13,28 +12,17 @@ use body_formats::Step;
 use body_walk::Walk;
 use ground_numbers::CERTIFICATE_KIND;
 
-// Past n parts, each after a length of w bytes.
-fn walk_parts(s: &[u8], l: usize, x: Walk, w: usize, n: u64, tape: &mut [u64], wet: bool) -> Walk
-    requires { w ≤ 7 }
-    ensures { Walked (times n (opaque w)) s.now l x wet tape.old result tape.new }
-{
-    let mut at = x;
-    let mut left = n;
-    while 0 < left {
-        at = body_walk::walk_part(s, l, at, w, tape, wet);
-        left = left - 1;
-    }
-    at
-}
-
-// Past a list of parts after its count.
+// Past a list of parts after its count, each after a length of w bytes.
 fn walk_list(s: &[u8], l: usize, x: Walk, w: usize, tape: &mut [u64], wet: bool) -> Walk
     requires { w ≤ 7 }
     ensures { Walked (parts w) s.now l x wet tape.old result tape.new }
 {
-    let c = body_walk::walk_count(s, l, x, 1, tape, wet);
-    let at = c.walk;
-    walk_parts(s, l, at, w, c.n, tape, wet)
+    let (first, n) = body_walk::walk_count(s, l, x, 1, tape, wet)?;
+    let mut at: Walk = Ok(first);
+    for i in 0..n {
+        at = body_walk::walk_part(s, l, at, w, tape, wet);
+    }
+    at
 }
 
 // Past the three fields, one after the other, and no byte left.
@@ -51,16 +39,12 @@ fn walk_certificate(s: &[u8], l: usize, x: Walk, tape: &mut [u64], wet: bool) ->
 pub fn read(kind: u32, s: &[u8]) -> Step
     ensures { result ≡ body_read certificate certificate_kind kind s.now }
 {
-    match body_parts::open_body(CERTIFICATE_KIND, kind, s) {
-        Step::Refused(r) => Step::Refused(r),
-        Step::At(start) => {
-            if glancing::good_certificate(s) {
-                return Step::At(s.len());
-            }
-            let mut none: [u64; 1] = [0; 1];
-            body_walk::body_end(walk_certificate(s, s.len(), Walk::At(0, 0), &mut none, false))
-        }
+    body_parts::open_body(CERTIFICATE_KIND, kind, s)?;
+    if glancing::good_certificate(s) {
+        return Ok(s.len());
     }
+    let mut none: [u64; 1] = [0; 1];
+    body_walk::body_end(walk_certificate(s, s.len(), Ok((0, 0)), &mut none, false))
 }
 
 // Lays an accepted body onto a tape, with the body itself as the pool: the form from which it is written again.
@@ -68,18 +52,10 @@ pub fn lay(kind: u32, s: &[u8], tape: &mut [u64]) -> Step
     ensures said { result ≡ body_laid certificate certificate_kind kind s.now (length tape.old) }
     ensures left { tape.new ≡ laid_tape certificate certificate_kind kind s.now tape.old }
 {
-    match body_parts::open_body(CERTIFICATE_KIND, kind, s) {
-        Step::Refused(r) => Step::Refused(r),
-        Step::At(start) => {
-            let room = tape.len() + 1;
-            let dry = walk_certificate(s, s.len(), Walk::At(0, room), tape, false);
-            match body_walk::entries_needed(dry, room) {
-                Step::Refused(r) => Step::Refused(r),
-                Step::At(n) => {
-                    walk_certificate(s, s.len(), Walk::At(0, room), tape, true);
-                    Step::At(n)
-                }
-            }
-        }
-    }
+    body_parts::open_body(CERTIFICATE_KIND, kind, s)?;
+    let room = tape.len() + 1;
+    let dry = walk_certificate(s, s.len(), Ok((0, room)), tape, false);
+    let n = body_walk::entries_needed(dry, room)?;
+    let _ = walk_certificate(s, s.len(), Ok((0, room)), tape, true);
+    Ok(n)
 }

@@ -13,10 +13,9 @@ fn parts_bytes(pool: &[u8], tape: &[u64], k: usize, n: usize, w: usize, limit: u
     requires { (k + n * 2 ≤ length tape.now) × (n ≤ 255) × (w ≤ 2) × (limit ≡ 256 ^ w) }
     ensures { (result ≤ 1 + n * 65537) × ((m : ℕ) → result ≡ suc m → (xs : List (List ℕ)) × Lays (times n (opaque w)) pool.now tape.now k xs (k + n * 2) m) }
 {
-    let mut at = k;
     let mut bytes: usize = 1;
-    let mut left = n;
-    while 0 < left {
+    for i in 0..n {
+        let at = k + i * 2;
         if limit <= tape[at + 1] {
             return 0;
         }
@@ -24,8 +23,6 @@ fn parts_bytes(pool: &[u8], tape: &[u64], k: usize, n: usize, w: usize, limit: u
             return 0;
         }
         bytes = bytes + w + (tape[at + 1] as usize);
-        at = at + 2;
-        left = left - 1;
     }
     bytes
 }

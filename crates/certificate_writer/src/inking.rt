@@ -12,15 +12,17 @@ fn ink_list(pool: &[u8], tape: &[u64], k: usize, w: usize, out: &mut [u8], at: u
 {
     let n = tape[k];
     body_ink::number(out, at, 1, n);
-    let mut past = at + 1;
-    let mut entry = k + 1;
-    let mut left = n;
-    while 0 < left {
-        past = body_ink::part(pool, tape, entry, w, out, past);
-        entry = entry + 2;
-        left = left - 1;
+    let mut past = Mark {
+        at: at + 1,
+        entry: k + 1,
+    };
+    for _ in 0..n {
+        past = Mark {
+            at: body_ink::part(pool, tape, past.entry, w, out, past.at),
+            entry: past.entry + 2,
+        };
     }
-    Mark { at: past, entry }
+    past
 }
 
 // The three fields.

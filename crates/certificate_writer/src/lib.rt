@@ -17,21 +17,11 @@ fn pen_list(pool: &[u8], tape: &[u64], x: Pen, w: usize) -> Pen
     requires { w ≤ 7 }
     ensures { result ≡ penned (parts w) pool.now tape.now x }
 {
-    let c = body_pen::pen_count(tape, x, 1);
-    let mut pen = c.pen;
-    let mut left = c.n;
-    while 0 < left {
-        match body_pen::pen_part(pool, tape, pen, w) {
-            Pen::Refused(r) => {
-                return Pen::Refused(r);
-            }
-            Pen::At(size, k) => {
-                pen = Pen::At(size, k);
-            }
-        }
-        left = left - 1;
+    let (mut past, n) = body_pen::pen_count(tape, x, 1)?;
+    for _ in 0..n {
+        past = body_pen::pen_part(pool, tape, Ok(past), w)?;
     }
-    pen
+    Ok(past)
 }
 
 // The three fields.
@@ -50,9 +40,9 @@ pub fn measure(pool: &[u8], tape: &[u64]) -> Step
 {
     let seen = glancing::certificate_bytes(pool, tape);
     if 0 < seen {
-        return Step::At(seen);
+        return Ok(seen);
     }
-    let past = pen_certificate(pool, tape, Pen::At(0, 0));
+    let past = pen_certificate(pool, tape, Ok((0, 0)));
     body_pen::measured(past, tape.len())
 }
 
@@ -62,11 +52,7 @@ pub fn write(pool: &[u8], tape: &[u64], out: &mut [u8]) -> Step
     ensures said { result ≡ body_written certificate pool.now tape.now (length out.old) }
     ensures left { out.new ≡ output_written certificate pool.now tape.now out.old }
 {
-    match body_pen::fitted(measure(pool, tape), out.len()) {
-        Step::Refused(r) => Step::Refused(r),
-        Step::At(size) => {
-            inking::ink_certificate(pool, tape, out);
-            Step::At(size)
-        }
-    }
+    let size = body_pen::fitted(measure(pool, tape), out.len())?;
+    inking::ink_certificate(pool, tape, out);
+    Ok(size)
 }

@@ -1,5 +1,6 @@
 -- Laws of the clock: a date is at fault exactly where it has no day, and the numbers of a day or a time that is possible fit their fields.
 use Prim.Native.Nat.{ℕ, ◌<◌}
+use Rattle.std.specs.Prelude.{Ok, Err}
 use mathlib.Core.Path.{◌≡◌, refl, sym, ap, ◌∙◌}
 use mathlib.Core.Bool.{Bool, true, false, cond, ◌&&◌}
 use native.Mathlib.Omega.{arith}
@@ -9,7 +10,6 @@ use Rattle.ground_choices.proofs.Tests.{both}
 use Rattle.ground_refusal.specs.declared.Refusal.{Refusal}
 use Rattle.ground_refusal.specs.declared.Refusal.TheVariants.{ImpossibleDay}
 use Rattle.time_days.specs.Calendar.{day_number, has_day, day_of}
-use Rattle.time_days.specs.declared.DayAnswer.TheVariants.{Day, Refused as NoDay}
 use Rattle.time_days.proofs.Months.{length_within}
 use Rattle.time_days.proofs.Answers.{day_accepted, day_month_until}
 use Rattle.body_formats.specs.Reading.{unless, is_fine}
@@ -21,7 +21,7 @@ module _ (y m d : ℕ) where
   unfolding day_of
   day_fault_lem at = go (has_day y m d)
     where
-      go : (t : Bool) → day_fault (cond t (Day (day_number y m d)) (NoDay (ImpossibleDay 0))) at ≡ unless t (ImpossibleDay at)
+      go : (t : Bool) → day_fault (cond t (Ok (day_number y m d)) (Err (ImpossibleDay 0))) at ≡ unless t (ImpossibleDay at)
       go true = refl
       go false = refl
 

@@ -5,12 +5,10 @@ use mathlib.Core.List.{List}
 use mathlib.Core.Bool.{Bool, true, false, ◌&&◌, false≢true}
 use lib.ListN.{length}
 use lib.Dec.{leb}
-use Rattle.std.specs.Prelude.{if◌then◌else◌}
+use Rattle.std.specs.Prelude.{if◌then◌else◌, Result, Ok, Err}
 use Rattle.ground_refusal.specs.declared.Refusal.{Refusal}
 use Rattle.ground_refusal.specs.declared.Refusal.TheVariants.{LeftOver, PastPart, ImpossibleDay}
 use Rattle.time_days.specs.Calendar.{day_of}
-use Rattle.time_days.specs.declared.DayAnswer.{DayAnswer}
-use Rattle.time_days.specs.declared.DayAnswer.TheVariants.{Day, Refused}
 use Rattle.body_formats.specs.Reading.{Fault, fine, faulty, is_fine}
 use Rattle.body_formats.specs.Format.{only, outside, count, number, rest, least_of, counted}
 use Rattle.body_formats.specs.Resource.{resource_pairs}
@@ -33,9 +31,9 @@ terminals_lawful = resources_lawful
 pub plain_lawful : (w : ℕ) → Lawful (plain w)
 plain_lawful w = followed_lawful _ _ (count_lawful w) (λ a. followed_lawful _ _ (count_lawful 1) (λ b. count_lawful 1))
 
-day_even : (d : DayAnswer) (p : ℕ) → is_fine (day_fault d p) ≡ is_fine (day_fault d 0)
-day_even (Day n) p = refl
-day_even (Refused r) p = refl
+day_even : (d : Result ℕ Refusal) (p : ℕ) → is_fine (day_fault d p) ≡ is_fine (day_fault d 0)
+day_even (Ok n) p = refl
+day_even (Err r) p = refl
 
 pub date_lawful : Lawful date
 unfolding date

@@ -7,7 +7,7 @@ use native.Mathlib.Omega.{arith}
 use lib.ListN.{length, length-append}
 use Rattle.ground_choices.proofs.Tests.{both}
 use Rattle.body_formats.specs.Format.{Format, Length, ◌▷◌, followed, only, count, number, digits, list_of, opaque, length_of, rest, exact, counted}
-use Rattle.body_formats.proofs.Classes.{Ok}
+use Rattle.body_formats.proofs.Classes.{Proper}
 use Rattle.body_formats.proofs.Leaves.{length_bytes_lem}
 use Rattle.body_formats.proofs.Strings.{digits_take}
 use Rattle.body_formats.specs.Resource.{resource_pairs, resource}
@@ -55,11 +55,11 @@ address_takes kind = counted_takes 1 (address_length kind) _ (count_takes 1)
 code_takes : (x : List ℕ × List ℕ) → (opaque 1 ▷ resource).writable x ≡ true → 13 ≤ length ((opaque 1 ▷ resource).print x)
 unfolding followed digits
 code_takes x r =
-    let o : Ok resource x.1 = record { writable = (both ((opaque 1).writable x.0) (resource.writable x.1) r).1; small = refl } in
+    let o : Proper resource x.1 = record { writable = (both ((opaque 1).writable x.0) (resource.writable x.1) r).1; small = refl } in
     simp length-append (omega (arith, opaque_takes 1 x.0, digits_take resource_pairs x.1 o))
 
 -- tag by tag: 0, the standard's 1 to 7 in order, and all others
-pub enough : (tag : ℕ) (x : Said (order_of tag)) → Ok (said (order_of tag)) x → least tag ≤ length ((said (order_of tag)).print x)
+pub enough : (tag : ℕ) (x : Said (order_of tag)) → Proper (said (order_of tag)) x → least tag ≤ length ((said (order_of tag)).print x)
 unfolding least order_of said exact date clock only
 enough zero x o = zero-le
 enough (suc zero) x o = followed_takes 4 3 date (λ a. clock) (plain_takes 2) (λ a. plain_takes 1) x

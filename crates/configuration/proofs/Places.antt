@@ -1,15 +1,14 @@
 -- Where the configuration table's refusals stand: the laws of formats, from the faults of days and addresses up to the table.
 use Prim.Native.Nat.{ℕ}
+use Rattle.ground_refusal.specs.declared.Refusal.{Refusal}
 use mathlib.Core.List.{List}
 use mathlib.Core.Bool.{Bool, true, false, ◌&&◌}
 use native.Mathlib.Nat.{le_refl}
 use lib.ListN.{length}
 use lib.Dec.{leb}
-use Rattle.std.specs.Prelude.{if◌then◌else◌}
+use Rattle.std.specs.Prelude.{if◌then◌else◌, Result, Ok, Err}
 use Rattle.ground_refusal.specs.declared.Refusal.TheVariants.{LeftOver, PastPart, ImpossibleDay}
 use Rattle.time_days.specs.Calendar.{day_of}
-use Rattle.time_days.specs.declared.DayAnswer.{DayAnswer}
-use Rattle.time_days.specs.declared.DayAnswer.TheVariants.{Day, Refused}
 use Rattle.body_formats.specs.Reading.{faulty}
 use Rattle.body_formats.specs.Format.{outside, count, number, rest}
 use Rattle.body_formats.specs.Resource.{resource_pairs}
@@ -26,9 +25,9 @@ terminals_placed = resources_placed
 plain_placed : (w : ℕ) → Placed (plain w)
 plain_placed w = followed_placed _ _ (count_placed w) (λ a. followed_placed _ _ (count_placed 1) (λ b. count_placed 1))
 
-day_until : (d : DayAnswer) (at : ℕ) → FaultUntil at (day_fault d at)
-day_until (Day n) at = none
-day_until (Refused r) at = stands (le_refl at)
+day_until : (d : Result ℕ Refusal) (at : ℕ) → FaultUntil at (day_fault d at)
+day_until (Ok n) at = none
+day_until (Err r) at = stands (le_refl at)
 
 date_placed : Placed date
 unfolding date

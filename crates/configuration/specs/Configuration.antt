@@ -1,9 +1,8 @@
 -- What a reader has to believe of the configuration table: its commands' fields in wire order.
-use Rattle.std.specs.Prelude.{ℕ, List, [], ◌∷◌, ◌&&◌, length, get_or, leb, eqb, if◌then◌else◌}
+use Rattle.std.specs.Prelude.{ℕ, List, [], ◌∷◌, ◌&&◌, length, get_or, leb, eqb, if◌then◌else◌, Result, Ok, Err}
+use Rattle.ground_refusal.specs.declared.Refusal.{Refusal}
 use Rattle.ground_refusal.specs.declared.Refusal.TheVariants.{LeftOver, PastPart, ImpossibleDay}
 use Rattle.time_days.specs.Calendar.{day_of}
-use Rattle.time_days.specs.declared.DayAnswer.{DayAnswer}
-use Rattle.time_days.specs.declared.DayAnswer.TheVariants.{Day, Refused}
 use Rattle.body_formats.specs.Reading.{Fault, fine, faulty, unless}
 use Rattle.body_formats.specs.Format.{Format, Length, ◌▷◌, followed, only, outside, count, number, among, list_of, opaque, rest, exact, view, counted, least_of}
 use Rattle.body_formats.specs.Resource.{resource, resources}
@@ -22,9 +21,9 @@ terminals = resources
 abbrev pub plain : ℕ → Format (ℕ × (ℕ × ℕ))
 plain w = count w ▷ (count 1 ▷ count 1)
 
-abbrev pub day_fault : DayAnswer → ℕ → Fault
-day_fault (Day n) at = fine
-day_fault (Refused r) at = faulty (ImpossibleDay at)
+abbrev pub day_fault : Result ℕ Refusal → ℕ → Fault
+day_fault (Ok n) at = fine
+day_fault (Err r) at = faulty (ImpossibleDay at)
 
 -- "year 16, month, day": "an impossible or out-of-range day is 20 at the year"
 unfoldable pub date : Format (ℕ × (ℕ × ℕ))

@@ -15,10 +15,8 @@ fn is_port(s: &[u8], p: usize, n: usize) -> bool
     if 5 < n {
         return false;
     }
-    let end = p + n;
-    let mut k = p;
     let mut worth: u32 = 0;
-    while k < end {
+    for k in p..p + n {
         let c = s[k];
         if c < b'0' {
             return false;
@@ -30,7 +28,6 @@ fn is_port(s: &[u8], p: usize, n: usize) -> bool
         if 65535 < worth {
             return false;
         }
-        k = k + 1;
     }
     true
 }
@@ -54,12 +51,10 @@ fn is_named(s: &[u8], p: usize, n: usize) -> bool
     ensures { result ≡ name_goes_on (take n (drop p s.now)) }
 {
     let end = p + n;
-    let mut k = p;
-    while k < end {
+    for k in p..end {
         let c = s[k];
-        k = k + 1;
         if c == b':' {
-            return is_port(s, k, end - k);
+            return is_port(s, k + 1, end - (k + 1));
         }
         if !in_name(c) {
             return false;

@@ -1,5 +1,7 @@
 -- The fields asked for of an accepted body are its table's: of the body, and of each of its commands.
 use Prim.Native.Nat.{ℕ, zero, suc, ◌+◌, ◌-◌, ◌*◌, ◌%◌, ◌^◌, ◌≤◌, ◌<◌}
+use Rattle.std.specs.Prelude.{Result, Ok}
+use Rattle.ground_refusal.specs.declared.Refusal.{Refusal}
 use mathlib.Core.Path.{◌≡◌, refl, sym, ap, ap₂, subst, ◌∙◌}
 use mathlib.Core.List.{List, [], ◌∷◌}
 use mathlib.Core.Bool.{Bool, true, false, ◌&&◌}
@@ -14,10 +16,6 @@ use Rattle.body_formats.specs.Reading.{Reading, found, refused, and_then, Fault,
 use Rattle.body_formats.specs.Format.{Format, count, only, number, among, bytes, followed, ◌▷◌, list_of, opaque, rest, Length, length_of, least_of, counted, repeat}
 use Rattle.body_formats.specs.Body.{reading}
 use Rattle.body_formats.specs.Answers.{part_of, field_part, number_read, digit_read}
-use Rattle.body_formats.specs.declared.Number.{Number}
-use Rattle.body_formats.specs.declared.Number.TheVariants.{Is}
-use Rattle.body_formats.specs.declared.Part.{Part}
-use Rattle.body_formats.specs.declared.Part.TheVariants.{Of}
 use Rattle.body_formats.specs.Held.{PartHolds}
 use Rattle.body_formats.proofs.Outcomes.{found_inj, and_then_found, within_found, judged_found}
 use Rattle.body_formats.proofs.Classes.{Bytes}
@@ -60,14 +58,14 @@ asked : {A : Type 0} (F : Format A) (tag k : ℕ) (s : List ℕ) (p l t : ℕ) (
 asked F tag k s p l t a r c z e = rw c (ap (F.parse s l) z ∙ e)
 
 -- another name of the same part
-same_part : {A : Type 0} (F : Format A) (s : List ℕ) (part also : Part) (x : A) (q : ℕ) → also ≡ part → PartHolds F s part x q → PartHolds F s also x q
+same_part : {A : Type 0} (F : Format A) (s : List ℕ) (part also : Result (ℕ × ℕ) Refusal) (x : A) (q : ℕ) → also ≡ part → PartHolds F s part x q → PartHolds F s also x q
 same_part F s part also x q e h = record { at = h.at; size = h.size; is = e ∙ h.is; ends = h.ends; in_body_lem = h.in_body_lem; inner = h.inner }
 
 -- ---- opaque bytes
 
 -- those after a length of w bytes begin where it ends, and what follows them where they end
 module _ (L : Length) (w : ℕ) (sized : Sized L.field w) (s : List ℕ) (l p : ℕ) (xs : List ℕ) (q : ℕ) (e : (counted L rest).parse s l p ≡ found xs q) where
-  stand : (part : Part) → part ≡ part_of (found xs q) → (at : ℕ) → p + w ≡ at → FillsAt s at part xs × (q ≡ at + length xs)
+  stand : (part : Result (ℕ × ℕ) Refusal) → part ≡ part_of (found xs q) → (at : ℕ) → p + w ≡ at → FillsAt s at part xs × (q ≡ at + length xs)
   unfolding rest
   stand part same at z =
       let h = counted_holds L rest s l p xs q e in
@@ -79,7 +77,7 @@ module _ (L : Length) (w : ℕ) (sized : Sized L.field w) (s : List ℕ) (l p : 
       let n : h.size ≡ length xs = sym long ∙ ap length bytes in
       let there : h.at ≡ at = begins ∙ z in (
         record {
-          is = same ∙ ap part_of (sym e) ∙ h.part ∙ ap₂ Of there n;
+          is = same ∙ ap part_of (sym e) ∙ h.part ∙ ap₂ (λ (x y : ℕ). Ok (x, y)) there n;
           in_body_lem = omega (arith, h.in_body_lem, n, there);
           bytes = ap₂ (λ (m u : ℕ). take m (drop u s)) (sym n) (sym there) ∙ bytes;
         },
@@ -98,24 +96,24 @@ counted_only L fault F s l p x q e =
     rw (i.2, le-leb (i.1 + m) (length s) g.0, le-leb (i.1 + m) l g.1, j.0) (only_found fault F s (i.1 + m) i.1 x q j.1)
 
 address_stands : (kind : ℕ) (s : List ℕ) (l p : ℕ) (xs : List ℕ) (q : ℕ) → (address kind).parse s l p ≡ found xs q
-    → (part : Part) → part ≡ part_of (found xs q) → (at : ℕ) → p + 1 ≡ at → FillsAt s at part xs × (q ≡ at + length xs)
+    → (part : Result (ℕ × ℕ) Refusal) → part ≡ part_of (found xs q) → (at : ℕ) → p + 1 ≡ at → FillsAt s at part xs × (q ≡ at + length xs)
 unfolding address address_length
 address_stands kind s l p xs q e =
     stand (address_length kind) 1 (count_sized 1) s l p xs q (counted_only (address_length kind) (address_fault kind) rest s l p xs q e)
 
 opaque_stands : (w : ℕ) (s : List ℕ) (l p : ℕ) (xs : List ℕ) (q : ℕ) → (opaque w).parse s l p ≡ found xs q
-    → (part : Part) → part ≡ part_of (found xs q) → (at : ℕ) → p + w ≡ at → FillsAt s at part xs × (q ≡ at + length xs)
+    → (part : Result (ℕ × ℕ) Refusal) → part ≡ part_of (found xs q) → (at : ℕ) → p + w ≡ at → FillsAt s at part xs × (q ≡ at + length xs)
 unfolding length_of
 opaque_stands w s l p xs q e = stand (length_of w) w (count_sized w) s l p xs q e
 
 -- ---- a resource
 
 resource_asked : (s : List ℕ) → Bytes s → (l at : ℕ) (ds : List ℕ) (q : ℕ) → resource.parse s l at ≡ found ds q
-    → (part : Part) → part ≡ field_part at (found ds q) → (digit : ℕ → Number) → ((j : ℕ) → digit j ≡ digit_read resource j s l at) → ResourceAsked s part digit at ds
+    → (part : Result (ℕ × ℕ) Refusal) → part ≡ field_part at (found ds q) → (digit : ℕ → Result (ℕ × ℕ) Refusal) → ((j : ℕ) → digit j ≡ digit_read resource j s l at) → ResourceAsked s part digit at ds
 resource_asked s b l at ds q e part same digit each =
     let z : q - at ≡ resource_bytes = omega (arith, digits_sized resource_pairs s l at ds q e) in
     record {
-      part_is = same ∙ ap (Of at) z;
+      part_is = same ∙ ap (λ b. Ok (at, b)) z;
       bytes_are = digits_bytes s l at resource_pairs ds q e b;
       digit_is = λ j h. each j ∙ digit_there resource s l at ds q e j h;
       digit_past = λ j h. each j ∙ digit_past resource s l at ds q e j h;
@@ -163,7 +161,7 @@ other_order tag h =
     rw (less 1 (omega arith), less 2 (omega arith), less 3 (omega arith), less 4 (omega arith), less 5 (omega arith), less 6 (omega arith), less 7 (omega arith))
 
 -- opaque bytes fill a content of any other tag
-module _ (s : List ℕ) (p q size : ℕ) (is : command_content s p ≡ Of (p + 3) size) (ends : p + 3 + size ≡ q) (inside : q ≤ length s) where
+module _ (s : List ℕ) (p q size : ℕ) (is : command_content s p ≡ Ok (p + 3, size)) (ends : p + 3 + size ≡ q) (inside : q ≤ length s) where
   content_stands : (x : List ℕ) → (said other).parse s q (p + 3) ≡ found x q → FillsAt s (p + 3) (command_content s p) x
   unfolding said rest
   content_stands x e =
@@ -171,7 +169,7 @@ module _ (s : List ℕ) (p q size : ℕ) (is : command_content s p ≡ Of (p + 3
       let bytes = ap (λ (m : ℕ). take m (drop (p + 3) s)) z ∙ (found_inj e).0 in
       let long = length-take-le size (drop (p + 3) s) (simp length-drop (omega arith)) in
       let n : size ≡ length x = sym long ∙ ap length bytes in
-      record { is = is ∙ ap (Of (p + 3)) n; in_body_lem = omega (arith, n); bytes = ap (λ (m : ℕ). take m (drop (p + 3) s)) (sym n) ∙ bytes }
+      record { is = is ∙ ap (λ b. Ok (p + 3, b)) n; in_body_lem = omega (arith, n); bytes = ap (λ (m : ℕ). take m (drop (p + 3) s)) (sym n) ∙ bytes }
 
   other_asked : (order : Order) → order ≡ other → (x : Said order) → (said order).parse s q (p + 3) ≡ found x q → OrderAsked order s p x
   other_asked order e = subst (λ (o : Order). (x : Said o) → (said o).parse s q (p + 3) ≡ found x q → OrderAsked o s p x) (sym e) content_stands
@@ -261,7 +259,7 @@ module _ (s : List ℕ) (b : Bytes s) (p q : ℕ) where
         parameters_counted = rw (asked (count 1) 7 0 s p q (p + 3) (length ps) (p + 4) c (omega arith) n);
         parameter_is = λ i h.
             rw (c, n, lt-ltb i (length ps) h, nth_sized (number 1) 1 (number_sized 1) s q 0 (length ps) i (p + 4) ps f.0 each h)
-            (let y : p + 4 + 1 * i + 1 ≡ p + 5 + i = omega arith in ap (Is (get_or ps i 0)) y);
+            (let y : p + 4 + 1 * i + 1 ≡ p + 5 + i = omega arith in ap (λ b. Ok (get_or ps i 0, b)) y);
         parameter_past = λ i h. rw (c, n, le-ltb i (length ps) h);
         terminals_are = terminals_asked s b p q (p + 4 + length ps) (rw (t, c, n)) x.1 q (ap (terminals.parse s q) (sym m) ∙ f.2)
             (p + 5 + length ps) (omega arith);
@@ -354,7 +352,7 @@ module _ (s : List ℕ) (b : Bytes s) (p : ℕ) (c : Command) (q : ℕ) (e : com
   command_asked : CommandAsked s p c q
   unfolding command_tag
   command_asked =
-      let is = holds.is ∙ ap (λ (a : ℕ). Of a holds.size) begins in
+      let is = holds.is ∙ ap (λ (a : ℕ). Ok (a, holds.size)) begins in
       let o = other_asked s p q holds.size is (omega (arith, holds.ends, begins)) holds.in_body_lem in
       record {
         tag_is = rw parts.0;
@@ -404,7 +402,7 @@ module _ (s : List ℕ) (b : Bytes s) (cs : List Command) (end : ℕ) (counted_t
     pub ends : ℕ
     pub reads : command.parse s (length s) (place_of i) ≡ found (get_or cs i d) ends
     pub next_begins : place_of (suc i) ≡ ends
-    pub part_is : command_part s i ≡ Of (place_of i) (ends - place_of i)
+    pub part_is : command_part s i ≡ Ok (place_of i, ends - place_of i)
 
   nth_command : (d : Command) (i : ℕ) → i < length cs → Nth d i
   unfolding command_part nth_of repeat

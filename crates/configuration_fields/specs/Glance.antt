@@ -1,8 +1,7 @@
 -- What a glance at a command says of its terminals: where it finds their list, the list begins there; where it does not, it says nothing.
-use Rattle.std.specs.Prelude.{ℕ, ◌+◌, ◌≤◌, ◌≡◌, List, length}
+use Rattle.std.specs.Prelude.{ℕ, ◌+◌, ◌≤◌, ◌≡◌, List, length, Ok}
 use Rattle.body_formats.specs.Format.{number_at}
 use Rattle.configuration.specs.Configuration.{least}
-use Rattle.configuration_fields.specs.declared.Place.TheVariants.{In}
 use Rattle.configuration_fields.specs.Asked.{place_read, terminals_in, terminals_at}
 
 -- "tag 8, length 16, content": where the content of the command at p ends
@@ -14,9 +13,9 @@ pub record ListIn (tag : ℕ) (s : List ℕ) (l q r : ℕ) : Type 0 where
   pub lowest : 3 ≤ tag
   pub highest : tag ≤ 7
   pub enough : q + least tag ≤ l
-  pub begins : In r l ≡ place_read (terminals_in tag s l q)
+  pub begins : Ok (r, l) ≡ place_read (terminals_in tag s l q)
 
 -- the list of the command at p begins at r
 pub record ListAt (s : List ℕ) (p r : ℕ) : Type 0 where
   pub inside : p + 3 ≤ length s
-  pub begins : In r (content_end s p) ≡ place_read (terminals_at s p)
+  pub begins : Ok (r, content_end s p) ≡ place_read (terminals_at s p)

@@ -1,7 +1,7 @@
 // The fields of a configuration table, asked for one by one: of the body, and of a command told by p, where its tag stands.
 #![tactic(auto)]
 
-ghost use Rattle.std.specs.Prelude.{◌≡◌, ◌+◌, ◌≤◌, ◌<◌, length};
+ghost use Rattle.std.specs.Prelude.{◌≡◌, ◌+◌, ◌≤◌, length, IfSome};
 ghost use Rattle.body_formats.specs.Format.{count, number, among};
 ghost use Rattle.body_formats.specs.Resource.{resource_bytes};
 ghost use Rattle.body_formats.specs.Answers.{number_of, part_of, field_part};
@@ -10,25 +10,17 @@ ghost use Rattle.body_asking.specs.Asking.{headed_part};
 ghost use Rattle.configuration_fields.specs.Asked.{command_count, command_part, signature_part, command_tag, command_content, content_at, in_command, place_read, three_of, first_of, middle_of, last_of, clock_date, clock_time, clock_year, clock_month, clock_day, clock_hour, clock_minute, clock_second, resource_of, digit_at, code_address, code_at, code_resource, code_digit, frequency, symbol_rate, mapping, return_kind, address_in, return_address, period, volume, parameter_count, list_at, parameter_at, parameter, terminals_in, terminals_at, terminal_count, terminal_at, terminal, terminal_digit};
 ghost use Rattle.configuration_fields.specs.Glance.{content_end, ListIn, ListAt};
 
-use body_formats::{Number, Part, RESOURCE_BYTES, RESOURCE_PAIRS, Step};
+use body_formats::{Number, Part, RESOURCE_BYTES, RESOURCE_PAIRS};
 use configuration_addresses::{is_address, length_fits};
 use configuration_rules::{clocks, least_content};
 use ground_numbers::wide;
 use ground_refusal::Refusal;
 
 // A place in a command's content, and where the content ends; or a refusal.
-#[derive(Clone, Copy)]
-enum Place {
-    In(usize, usize),
-    Refused(Refusal),
-}
+type Place = Result<(usize, usize), Refusal>;
 
 // Three numbers and the position after them, or a refusal.
-#[derive(Clone, Copy)]
-enum Three {
-    Are(u64, u64, u64, usize),
-    Refused(Refusal),
-}
+type Three = Result<(u64, u64, u64, usize), Refusal>;
 
 // How many commands there are.
 pub fn command_count(s: &[u8]) -> Number
@@ -41,23 +33,17 @@ pub fn command_count(s: &[u8]) -> Number
 fn whole(s: &[u8], p: usize) -> Part
     ensures { result ≡ field_part p ((headed_part 1 2).parse s.now (length s.now) p) }
 {
-    match body_asking::skip_entries(s, s.len(), p, 1, 2, 1) {
-        Step::Refused(r) => Part::Refused(r),
-        Step::At(end) => Part::Of(p, end - p),
-    }
+    let end = body_asking::skip_entries(s, s.len(), p, 1, 2, 1)?;
+    Ok((p, end - p))
 }
 
 // The part of the body that the i-th command fills, from its tag to the end of its content; 19 where there is none.
 pub fn command(s: &[u8], i: u64) -> Part
     ensures { result ≡ command_part s.now i }
 {
-    match command_count(s) {
-        Number::Refused(r) => Part::Refused(r),
-        Number::Is(n, q) => match body_asking::nth_entry(s, s.len(), q, 1, 2, n, i) {
-            Step::Refused(r) => Part::Refused(r),
-            Step::At(p) => whole(s, p),
-        },
-    }
+    let (n, q) = command_count(s)?;
+    let p = body_asking::nth_entry(s, s.len(), q, 1, 2, n, i)?;
+    whole(s, p)
 }
 
 // The part of the body that the signature fills: it follows the commands.
@@ -65,13 +51,9 @@ pub fn signature(s: &[u8]) -> Part
     ensures { result ≡ signature_part s.now }
 {
     let l = s.len();
-    match command_count(s) {
-        Number::Refused(r) => Part::Refused(r),
-        Number::Is(n, q) => match body_asking::skip_entries(s, l, q, 1, 2, n) {
-            Step::Refused(r) => Part::Refused(r),
-            Step::At(end) => body_parts::read_part(s, l, end, 2),
-        },
-    }
+    let (n, q) = command_count(s)?;
+    let end = body_asking::skip_entries(s, l, q, 1, 2, n)?;
+    body_parts::read_part(s, l, end, 2)
 }
 
 // The tag of the command; 19 where the body has no byte for it.
@@ -82,35 +64,27 @@ pub fn command_tag(s: &[u8], p: usize) -> Number
     if p < l {
         return body_numbers::read_number(s, l, p, 1);
     }
-    Number::Refused(Refusal::OutsideSet(0))
+    Err(Refusal::OutsideSet(0))
 }
 
 // The part of the body that the command's content fills: the next command begins where it ends.
 pub fn command_content(s: &[u8], p: usize) -> Part
     ensures { result ≡ command_content s.now p }
 {
-    match command_tag(s, p) {
-        Number::Refused(r) => Part::Refused(r),
-        Number::Is(tag, q) => body_parts::read_part_least(s, s.len(), q, 2, least_content(tag)),
-    }
+    let (tag, q) = command_tag(s, p)?;
+    body_parts::read_part_least(s, s.len(), q, 2, least_content(tag))
 }
 
 // Where the content of a command with this tag lies; 19 for a command with another.
 fn content(s: &[u8], p: usize, tag: u64) -> Place
     ensures { result ≡ place_read (content_at tag s.now p) }
 {
-    match command_tag(s, p) {
-        Number::Refused(r) => Place::Refused(r),
-        Number::Is(t, q) => {
-            if t != tag {
-                return Place::Refused(Refusal::OutsideSet(0));
-            }
-            match command_content(s, p) {
-                Part::Refused(r) => Place::Refused(r),
-                Part::Of(a, n) => Place::In(a, a + n),
-            }
-        }
+    let (t, q) = command_tag(s, p)?;
+    if t != tag {
+        return Err(Refusal::OutsideSet(0));
     }
+    let (a, n) = command_content(s, p)?;
+    Ok((a, a + n))
 }
 
 // The number of w bytes that stands k bytes into the content.
@@ -118,10 +92,8 @@ fn number_in(s: &[u8], p: usize, tag: u64, k: usize, w: usize) -> Number
     requires { (k ≤ 8) × (w ≤ 7) }
     ensures { result ≡ number_of (in_command (count w) tag k s.now p) }
 {
-    match content(s, p, tag) {
-        Place::Refused(r) => Number::Refused(r),
-        Place::In(q, l) => body_numbers::read_number(s, l, q + k, w),
-    }
+    let (q, l) = content(s, p, tag)?;
+    body_numbers::read_number(s, l, q + k, w)
 }
 
 // The byte that stands k bytes into the content, from lo to hi.
@@ -129,15 +101,8 @@ fn among_in(s: &[u8], p: usize, tag: u64, k: usize, lo: u64, hi: u64) -> Number
     requires { k ≤ 8 }
     ensures { result ≡ number_of (in_command (among lo hi (number 1)) tag k s.now p) }
 {
-    match content(s, p, tag) {
-        Place::Refused(r) => Number::Refused(r),
-        Place::In(q, l) => body_numbers::among(
-            body_numbers::read_number(s, l, q + k, 1),
-            q + k,
-            lo,
-            hi,
-        ),
-    }
+    let (q, l) = content(s, p, tag)?;
+    body_numbers::among(body_numbers::read_number(s, l, q + k, 1), q + k, lo, hi)
 }
 
 // ---- 1: the clock
@@ -147,115 +112,77 @@ fn read_three(s: &[u8], l: usize, p: usize, w: usize) -> Three
     requires { w ≤ 7 }
     ensures { result ≡ three_of ((plain w).parse s.now l p) }
 {
-    match body_numbers::read_number(s, l, p, w) {
-        Number::Refused(r) => Three::Refused(r),
-        Number::Is(a, q) => match body_numbers::read_number(s, l, q, 1) {
-            Number::Refused(r) => Three::Refused(r),
-            Number::Is(b, t) => match body_numbers::read_number(s, l, t, 1) {
-                Number::Refused(r) => Three::Refused(r),
-                Number::Is(c, end) => Three::Are(a, b, c, end),
-            },
-        },
-    }
+    let (a, q) = body_numbers::read_number(s, l, p, w)?;
+    let (b, t) = body_numbers::read_number(s, l, q, 1)?;
+    let (c, end) = body_numbers::read_number(s, l, t, 1)?;
+    Ok((a, b, c, end))
 }
 
 // The year, month and day, which are one day, or none is answered.
 fn clock_date(s: &[u8], p: usize) -> Three
     ensures { result ≡ clock_date s.now p }
 {
-    match content(s, p, 1) {
-        Place::Refused(r) => Three::Refused(r),
-        Place::In(q, l) => match read_three(s, l, q, 2) {
-            Three::Refused(r) => Three::Refused(r),
-            Three::Are(year, month, day, end) => {
-                if clocks::is_day(year, month, day) {
-                    return Three::Are(year, month, day, end);
-                }
-                Three::Refused(Refusal::ImpossibleDay(q))
-            }
-        },
+    let (q, l) = content(s, p, 1)?;
+    let (year, month, day, end) = read_three(s, l, q, 2)?;
+    if clocks::is_day(year, month, day) {
+        return Ok((year, month, day, end));
     }
+    Err(Refusal::ImpossibleDay(q))
 }
 
-// The hour, minute and second, which are one time, or none is answered.
+// The hour, minute and second, which are one time, or none is answered. Place, width and test differ from clock_date: shared, they would be three
+// parameters, one of them a closure, for four lines.
 fn clock_time(s: &[u8], p: usize) -> Three
     ensures { result ≡ clock_time s.now p }
 {
-    match content(s, p, 1) {
-        Place::Refused(r) => Three::Refused(r),
-        Place::In(q, l) => match read_three(s, l, q + 4, 1) {
-            Three::Refused(r) => Three::Refused(r),
-            Three::Are(hour, minute, second, end) => {
-                if clocks::is_time(hour, minute, second) {
-                    return Three::Are(hour, minute, second, end);
-                }
-                Three::Refused(Refusal::ImpossibleDay(q + 4))
-            }
-        },
+    let (q, l) = content(s, p, 1)?;
+    let (hour, minute, second, end) = read_three(s, l, q + 4, 1)?;
+    if clocks::is_time(hour, minute, second) {
+        return Ok((hour, minute, second, end));
     }
-}
-
-fn first(x: Three) -> Number
-    ensures { result ≡ first_of x }
-{
-    match x {
-        Three::Refused(r) => Number::Refused(r),
-        Three::Are(a, b, c, q) => Number::Is(a, q),
-    }
-}
-
-fn second(x: Three) -> Number
-    ensures { result ≡ middle_of x }
-{
-    match x {
-        Three::Refused(r) => Number::Refused(r),
-        Three::Are(a, b, c, q) => Number::Is(b, q),
-    }
-}
-
-fn third(x: Three) -> Number
-    ensures { result ≡ last_of x }
-{
-    match x {
-        Three::Refused(r) => Number::Refused(r),
-        Three::Are(a, b, c, q) => Number::Is(c, q),
-    }
+    Err(Refusal::ImpossibleDay(q + 4))
 }
 
 pub fn clock_year(s: &[u8], p: usize) -> Number
     ensures { result ≡ clock_year s.now p }
 {
-    first(clock_date(s, p))
+    let (year, _month, _day, end) = clock_date(s, p)?;
+    Ok((year, end))
 }
 
 pub fn clock_month(s: &[u8], p: usize) -> Number
     ensures { result ≡ clock_month s.now p }
 {
-    second(clock_date(s, p))
+    let (_year, month, _day, end) = clock_date(s, p)?;
+    Ok((month, end))
 }
 
 pub fn clock_day(s: &[u8], p: usize) -> Number
     ensures { result ≡ clock_day s.now p }
 {
-    third(clock_date(s, p))
+    let (_year, _month, day, end) = clock_date(s, p)?;
+    Ok((day, end))
 }
 
 pub fn clock_hour(s: &[u8], p: usize) -> Number
     ensures { result ≡ clock_hour s.now p }
 {
-    first(clock_time(s, p))
+    let (hour, _minute, _second, end) = clock_time(s, p)?;
+    Ok((hour, end))
 }
 
 pub fn clock_minute(s: &[u8], p: usize) -> Number
     ensures { result ≡ clock_minute s.now p }
 {
-    second(clock_time(s, p))
+    let (_hour, minute, _second, end) = clock_time(s, p)?;
+    Ok((minute, end))
 }
 
 pub fn clock_second(s: &[u8], p: usize) -> Number
     ensures { result ≡ clock_second s.now p }
 {
-    third(clock_time(s, p))
+    let (_hour, _minute, second, end) = clock_time(s, p)?;
+    Ok((second, end))
 }
 
 // ---- resources
@@ -264,20 +191,16 @@ pub fn clock_second(s: &[u8], p: usize) -> Number
 fn resource(s: &[u8], at: Place) -> Part
     ensures { result ≡ resource_of s.now at }
 {
-    match at {
-        Place::Refused(r) => Part::Refused(r),
-        Place::In(q, l) => body_digits::read_digits(s, l, q, RESOURCE_PAIRS),
-    }
+    let (q, l) = at?;
+    body_digits::read_digits(s, l, q, RESOURCE_PAIRS)
 }
 
 // Its j-th digit.
 fn resource_digit(s: &[u8], at: Place, j: u64) -> Number
     ensures { result ≡ digit_at j s.now at }
 {
-    match at {
-        Place::Refused(r) => Number::Refused(r),
-        Place::In(q, l) => body_digits::digit_at(s, l, q, RESOURCE_PAIRS, j),
-    }
+    let (q, l) = at?;
+    body_digits::digit_at(s, l, q, RESOURCE_PAIRS, j)
 }
 
 // ---- 2: the code
@@ -286,23 +209,17 @@ fn resource_digit(s: &[u8], at: Place, j: u64) -> Number
 pub fn code_address(s: &[u8], p: usize) -> Part
     ensures { result ≡ code_address s.now p }
 {
-    match content(s, p, 2) {
-        Place::Refused(r) => Part::Refused(r),
-        Place::In(q, l) => body_parts::read_part(s, l, q, 1),
-    }
+    let (q, l) = content(s, p, 2)?;
+    body_parts::read_part(s, l, q, 1)
 }
 
 // Where the resource begins, after the address.
 fn code_at(s: &[u8], p: usize) -> Place
     ensures { result ≡ place_read (code_at s.now p) }
 {
-    match content(s, p, 2) {
-        Place::Refused(r) => Place::Refused(r),
-        Place::In(q, l) => match body_parts::read_part(s, l, q, 1) {
-            Part::Refused(r) => Place::Refused(r),
-            Part::Of(a, n) => Place::In(a + n, l),
-        },
-    }
+    let (q, l) = content(s, p, 2)?;
+    let (a, n) = body_parts::read_part(s, l, q, 1)?;
+    Ok((a + n, l))
 }
 
 // The part of the body that the resource fills.
@@ -351,38 +268,30 @@ pub fn return_kind(s: &[u8], p: usize) -> Number
 fn judged_address(s: &[u8], l: usize, p: usize, kind: u64) -> Part
     ensures { result ≡ part_of ((address kind).parse s.now l p) }
 {
-    match body_parts::read_part(s, l, p, 1) {
-        Part::Refused(r) => Part::Refused(r),
-        Part::Of(a, n) => {
-            if !length_fits(kind, n as u64) {
-                return Part::Refused(Refusal::PastPart(p));
-            }
-            if is_address(s, a, n, kind) {
-                return Part::Of(a, n);
-            }
-            Part::Refused(Refusal::OutsideSet(a))
-        }
+    let (a, n) = body_parts::read_part(s, l, p, 1)?;
+    if !length_fits(kind, n as u64) {
+        return Err(Refusal::PastPart(p));
     }
+    if is_address(s, a, n, kind) {
+        return Ok((a, n));
+    }
+    Err(Refusal::OutsideSet(a))
 }
 
 // The part that the address fills in a content from q to l.
 fn address_in(s: &[u8], l: usize, q: usize) -> Part
     ensures { result ≡ part_of (address_in s.now l q) }
 {
-    match body_numbers::among(body_numbers::read_number(s, l, q, 1), q, 1, 3) {
-        Number::Refused(r) => Part::Refused(r),
-        Number::Is(kind, p) => judged_address(s, l, p, kind),
-    }
+    let (kind, p) = body_numbers::among(body_numbers::read_number(s, l, q, 1), q, 1, 3)?;
+    judged_address(s, l, p, kind)
 }
 
 // The part of the body that the address fills.
 pub fn return_address(s: &[u8], p: usize) -> Part
     ensures { result ≡ return_address s.now p }
 {
-    match content(s, p, 4) {
-        Place::Refused(r) => Part::Refused(r),
-        Place::In(q, l) => address_in(s, l, q),
-    }
+    let (q, l) = content(s, p, 4)?;
+    address_in(s, l, q)
 }
 
 // ---- 5, 6: the period, the volume
@@ -413,34 +322,26 @@ fn list_at(s: &[u8], l: usize, q: usize, w: usize, i: u64) -> Place
     requires { w ≤ resource_bytes }
     ensures { result ≡ place_read (list_at w i s.now l q) }
 {
-    match body_numbers::read_number(s, l, q, 1) {
-        Number::Refused(r) => Place::Refused(r),
-        Number::Is(n, at) => {
-            if i < n {
-                return Place::In(at + w * (i as usize), l);
-            }
-            Place::Refused(Refusal::OutsideSet(0))
-        }
+    let (n, at) = body_numbers::read_number(s, l, q, 1)?;
+    if i < n {
+        return Ok((at + w * (i as usize), l));
     }
+    Err(Refusal::OutsideSet(0))
 }
 
 fn parameter_at(s: &[u8], p: usize, i: u64) -> Place
     ensures { result ≡ place_read (parameter_at s.now p i) }
 {
-    match content(s, p, 7) {
-        Place::Refused(r) => Place::Refused(r),
-        Place::In(q, l) => list_at(s, l, q, 1, i),
-    }
+    let (q, l) = content(s, p, 7)?;
+    list_at(s, l, q, 1, i)
 }
 
 // The i-th parameter.
 pub fn parameter(s: &[u8], p: usize, i: u64) -> Number
     ensures { result ≡ parameter s.now p i }
 {
-    match parameter_at(s, p, i) {
-        Place::Refused(r) => Number::Refused(r),
-        Place::In(q, l) => body_numbers::read_number(s, l, q, 1),
-    }
+    let (q, l) = parameter_at(s, p, i)?;
+    body_numbers::read_number(s, l, q, 1)
 }
 
 // ---- terminals, of commands 3 to 7
@@ -449,20 +350,16 @@ pub fn parameter(s: &[u8], p: usize, i: u64) -> Number
 fn after_address(s: &[u8], l: usize, q: usize) -> Place
     ensures { result ≡ place_read (terminals_in 4 s.now l q) }
 {
-    match address_in(s, l, q) {
-        Part::Refused(r) => Place::Refused(r),
-        Part::Of(a, n) => Place::In(a + n, l),
-    }
+    let (a, n) = address_in(s, l, q)?;
+    Ok((a + n, l))
 }
 
 // Where their list begins after the parameters, in a content from q to l.
 fn after_parameters(s: &[u8], l: usize, q: usize) -> Place
     ensures { result ≡ place_read (terminals_in 7 s.now l q) }
 {
-    match body_numbers::read_number(s, l, q, 1) {
-        Number::Refused(r) => Place::Refused(r),
-        Number::Is(n, at) => Place::In(at + (n as usize), l),
-    }
+    let (n, at) = body_numbers::read_number(s, l, q, 1)?;
+    Ok((at + (n as usize), l))
 }
 
 // Where their list begins in a content from q to l, by the command's tag.
@@ -471,16 +368,16 @@ fn terminals_in(s: &[u8], l: usize, q: usize, tag: u64) -> Place
     ensures { result ≡ place_read (terminals_in tag s.now l q) }
 {
     if tag == 3 {
-        return Place::In(q + 9, l);
+        return Ok((q + 9, l));
     }
     if tag == 4 {
         return after_address(s, l, q);
     }
     if tag == 5 {
-        return Place::In(q + 4, l);
+        return Ok((q + 4, l));
     }
     if tag == 6 {
-        return Place::In(q + 1, l);
+        return Ok((q + 1, l));
     }
     after_parameters(s, l, q)
 }
@@ -489,53 +386,47 @@ fn terminals_in(s: &[u8], l: usize, q: usize, tag: u64) -> Place
 fn terminals_at(s: &[u8], p: usize) -> Place
     ensures { result ≡ place_read (terminals_at s.now p) }
 {
-    match command_tag(s, p) {
-        Number::Refused(r) => Place::Refused(r),
-        Number::Is(tag, t) => {
-            if tag < 3 {
-                return Place::Refused(Refusal::OutsideSet(0));
-            }
-            if 7 < tag {
-                return Place::Refused(Refusal::OutsideSet(0));
-            }
-            match content(s, p, tag) {
-                Place::Refused(r) => Place::Refused(r),
-                Place::In(q, l) => terminals_in(s, l, q, tag),
-            }
-        }
+    let (tag, t) = command_tag(s, p)?;
+    if tag < 3 {
+        return Err(Refusal::OutsideSet(0));
     }
+    if 7 < tag {
+        return Err(Refusal::OutsideSet(0));
+    }
+    let (q, l) = content(s, p, tag)?;
+    terminals_in(s, l, q, tag)
 }
 
-// ---- where their list begins, at a glance: 0 where it is to be looked for field by field, which tells what is wrong
+// ---- where their list begins, at a glance: nothing where it is to be looked for field by field, which tells what is wrong
 
 // `at`, where a content of n bytes has the least that its command asks for.
-fn if_enough(n: usize, least: usize, at: usize) -> usize
-    ensures { 0 < result → (result ≡ at) × (least ≤ n) }
+fn if_enough(n: usize, least: usize, at: usize) -> Option<usize>
+    ensures { IfSome result (λ x. (x ≡ at) × (least ≤ n)) }
 {
     if n < least {
-        return 0;
+        return None;
     }
-    at
+    Some(at)
 }
 
 // After the address, in a content from q to l.
-fn list_after_address(s: &[u8], l: usize, q: usize) -> usize
+fn list_after_address(s: &[u8], l: usize, q: usize) -> Option<usize>
     requires { q ≤ l }
-    ensures { 0 < result → ListIn 4 s.now l q result }
+    ensures { IfSome result (ListIn 4 s.now l q) }
 {
     if l - q < 3 {
-        return 0;
+        return None;
     }
     match address_in(s, l, q) {
-        Part::Refused(r) => 0,
-        Part::Of(a, n) => a + n,
+        Err(_r) => None,
+        Ok((a, n)) => Some(a + n),
     }
 }
 
 // In a content from q to l, by the command's tag.
-fn list_in(s: &[u8], l: usize, q: usize, tag: u64) -> usize
+fn list_in(s: &[u8], l: usize, q: usize, tag: u64) -> Option<usize>
     requires { (q ≤ l) × (l ≤ length s.now) }
-    ensures { 0 < result → ListIn tag s.now l q result }
+    ensures { IfSome result (ListIn tag s.now l q) }
 {
     if tag == 3 {
         return if_enough(l - q, 10, q + 9);
@@ -547,15 +438,15 @@ fn list_in(s: &[u8], l: usize, q: usize, tag: u64) -> usize
         return if_enough(l - q, 5, q + 4);
     }
     if l - q < 2 {
-        return 0;
+        return None;
     }
     if tag == 6 {
-        return q + 1;
+        return Some(q + 1);
     }
     if tag == 7 {
-        return q + 1 + (wide(s[q]) as usize);
+        return Some(q + 1 + (wide(s[q]) as usize));
     }
-    0
+    None
 }
 
 // Where the content of the command at p ends, by its length.
@@ -567,19 +458,19 @@ fn content_end(s: &[u8], p: usize) -> usize
 }
 
 // In the command at p.
-fn list_place(s: &[u8], p: usize) -> usize
-    ensures { 0 < result → ListAt s.now p result }
+fn list_place(s: &[u8], p: usize) -> Option<usize>
+    ensures { IfSome result (ListAt s.now p) }
 {
     let n = s.len();
     if n < 3 {
-        return 0;
+        return None;
     }
     if n - 3 < p {
-        return 0;
+        return None;
     }
     let l = content_end(s, p);
     if n < l {
-        return 0;
+        return None;
     }
     list_in(s, l, p + 3, wide(s[p]))
 }
@@ -588,30 +479,25 @@ fn list_place(s: &[u8], p: usize) -> usize
 fn list_begin(s: &[u8], p: usize) -> Place
     ensures { result ≡ place_read (terminals_at s.now p) }
 {
-    let q = list_place(s, p);
-    if 0 < q {
-        return Place::In(q, content_end(s, p));
+    match list_place(s, p) {
+        Some(q) => Ok((q, content_end(s, p))),
+        None => terminals_at(s, p),
     }
-    terminals_at(s, p)
 }
 
 // How many terminals there are.
 pub fn terminal_count(s: &[u8], p: usize) -> Number
     ensures { result ≡ terminal_count s.now p }
 {
-    match list_begin(s, p) {
-        Place::Refused(r) => Number::Refused(r),
-        Place::In(q, l) => body_numbers::read_number(s, l, q, 1),
-    }
+    let (q, l) = list_begin(s, p)?;
+    body_numbers::read_number(s, l, q, 1)
 }
 
 fn terminal_at(s: &[u8], p: usize, i: u64) -> Place
     ensures { result ≡ place_read (terminal_at s.now p i) }
 {
-    match list_begin(s, p) {
-        Place::Refused(r) => Place::Refused(r),
-        Place::In(q, l) => list_at(s, l, q, RESOURCE_BYTES, i),
-    }
+    let (q, l) = list_begin(s, p)?;
+    list_at(s, l, q, RESOURCE_BYTES, i)
 }
 
 // The part of the body that the i-th terminal's resource fills.

@@ -1,5 +1,6 @@
 -- Laws of return addresses: what the bytes after a length are as an address of a kind.
 use Prim.Native.Nat.{ℕ, ◌+◌, ◌-◌, ◌%◌, ◌≤◌}
+use Rattle.std.specs.Prelude.{Result, Ok, Err}
 use mathlib.Core.Path.{◌≡◌, refl, sym, ap, ap₂, ◌∙◌, subst}
 use mathlib.Core.List.{List}
 use mathlib.Core.Bool.{Bool, true, false}
@@ -9,24 +10,22 @@ use lib.ListN.{length, take, drop, length-drop}
 use lib.Seq.{length-take-le}
 use borrow.Author.Tests.{le-leb}
 use Rattle.ground_refusal.specs.declared.Refusal.{Refusal}
+use Rattle.ground_refusal.proofs.Exits.{ok_pair_inj}
 use Rattle.ground_refusal.specs.declared.Refusal.TheVariants.{PastPart, OutsideSet}
 use Rattle.body_formats.specs.Reading.{Reading, found, refused, and_then, unless, judged, within}
 use Rattle.body_formats.specs.Format.{count, only, rest, length_of, counted, opaque}
 use Rattle.body_formats.specs.Answers.{number_of, number_read, part_read}
-use Rattle.body_formats.specs.declared.Part.TheVariants.{Of, Refused as NoPart}
 use Rattle.body_formats.proofs.Outcomes.{found_inj, and_then_found, within_found}
 use Rattle.body_formats.proofs.Classes.{Bytes}
 use Rattle.body_formats.proofs.Bits.{within_refused}
 use Rattle.body_formats.proofs.Readers.{number_facts, opaque_found, part_found, part_refused}
 use Rattle.body_walk.specs.Walked.{Walked}
-use Rattle.body_walk.specs.declared.Walk.{Walk}
-use Rattle.body_walk.specs.declared.Walk.TheVariants.{At}
 use Rattle.body_walk.proofs.Pairs.{renamed}
 use Rattle.configuration_addresses.specs.Address.{length_fits, is_address}
 use Rattle.configuration.specs.Configuration.{address_fault, address_length, address}
 
 -- a part of n bytes at a stands after the number n
-part_at : (s : List ℕ) (l p a n : ℕ) → Bytes s → Of a n ≡ part_read 1 s l p
+part_at : (s : List ℕ) (l p a n : ℕ) → Bytes s → Ok (a, n) ≡ part_read 1 s l p
     → ((count 1).parse s l p ≡ found n a) × (n % 256 ≡ n) × (a + n ≤ length s) × (a + n ≤ l)
 unfolding counted length_of rest number_read
 part_at s l p a n b e =
@@ -43,7 +42,7 @@ part_at s l p a n b e =
     (i.2 ∙ ap (λ k. found k q) many ∙ ap (found n) start, omega (arith, low), omega (arith, low, g.0), omega (arith, low, g.1))
 
 module _ (kind : ℕ) (s : List ℕ) (l p : ℕ) where
-  pub address_no : (r : Refusal) → NoPart r ≡ part_read 1 s l p → (address kind).parse s l p ≡ refused r
+  pub address_no : (r : Refusal) → Err r ≡ part_read 1 s l p → (address kind).parse s l p ≡ refused r
   unfolding address counted address_length length_of rest
   address_no r e = go ((count 1).parse s l p) (part_refused s l p 1 r e)
     where
@@ -52,7 +51,7 @@ module _ (kind : ℕ) (s : List ℕ) (l p : ℕ) where
       go (refused t) f = f
       go (found n q) f = within_refused s l p (q + n % 256) _ _ r _ f
 
-  module _ (b : Bytes s) (a n : ℕ) (e : Of a n ≡ part_read 1 s l p) where
+  module _ (b : Bytes s) (a n : ℕ) (e : Ok (a, n) ≡ part_read 1 s l p) where
     address_judged : (address kind).parse s l p
         ≡ judged (unless (length_fits kind n) (PastPart p)) (judged (address_fault kind (take n (drop a s)) a) (found (take n (drop a s)) (a + n)))
     unfolding address counted address_length only rest
@@ -82,10 +81,10 @@ module _ (kind : ℕ) (s : List ℕ) (l p : ℕ) where
           address_found h ∙ ap (λ cs. found cs (a + n)) bytes ∙ sym (ap (λ y. and_then y (λ cs q. found cs q)) f.1)
 
       -- an address is walked as the opaque bytes that it is
-      pub address_walk : is_address kind (take n (drop a s)) ≡ true → {room : ℕ} {wet : Bool} {t : List ℕ} {r : Walk} {t' : List ℕ}
-          → Walked (opaque 1) s l (At p room) wet t r t' → Walked (address kind) s l (At p room) wet t r t'
+      pub address_walk : is_address kind (take n (drop a s)) ≡ true → {room : ℕ} {wet : Bool} {t : List ℕ} {r : Result (ℕ × ℕ) Refusal} {t' : List ℕ}
+          → Walked (opaque 1) s l (Ok (p, room)) wet t r t' → Walked (address kind) s l (Ok (p, room)) wet t r t'
       unfolding address counted address_length only length_of
       address_walk h w =
           renamed {F = opaque 1} (λ cs. cs)
-          (λ p' room' e'. subst (λ k. (address kind).parse s l k ≡ and_then ((opaque 1).parse s l k) (λ cs q. found cs q)) (let z : p ≡ p' = cc in z) (address_same h))
+          (λ p' room' e'. subst (λ k. (address kind).parse s l k ≡ and_then ((opaque 1).parse s l k) (λ cs q. found cs q)) (ok_pair_inj e').0 (address_same h))
           (λ cs p q k f. refl) w

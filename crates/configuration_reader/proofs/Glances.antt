@@ -18,7 +18,7 @@ use Rattle.body_glance.specs.Glance.{Reads, Fills}
 use Rattle.body_glance.proofs.Finds.{reads_only, reads_followed, reads_pair, reads_view, fills_exact, reads_to, one_byte, reads_count, reads_number, reads_counted, reads_opaque, reads_least}
 use Rattle.body_glance.proofs.Runs.{reads_none, reads_more, reads_list}
 use Rattle.configuration_addresses.specs.Address.{length_fits, is_address}
-use Rattle.configuration.specs.Configuration.{terminals, date, clock, address_fault, address_length, address, Said, set_clock, set_code, tune, set_return, set_period, set_volume, query, other, order_of, said, least, command, fields, configuration}
+use Rattle.configuration.specs.Configuration.{terminals, date, clock, address_fault, address_length, address, set_clock, set_code, tune, set_return, set_period, set_volume, query, other, order_of, said, least, command, fields, configuration}
 use Rattle.configuration.proofs.Clocks.{day_fault_lem}
 use Rattle.configuration.proofs.Least.{enough}
 use Rattle.configuration.proofs.Lawful.{said_filling}

@@ -175,8 +175,7 @@ pub fn good_configuration(s: &[u8]) -> bool
         return false;
     }
     let mut at = 1;
-    let mut left = s[0];
-    while 0 < left {
+    for i in 0..s[0] {
         if l - at < 3 {
             return false;
         }
@@ -189,7 +188,6 @@ pub fn good_configuration(s: &[u8]) -> bool
             return false;
         }
         at = end;
-        left = left - 1;
     }
     if l - at < 2 {
         return false;

@@ -9,23 +9,18 @@ ghost use Rattle.body_formats.specs.Body.{body_read, body_laid, laid_tape};
 ghost use Rattle.configuration.specs.Configuration.{configuration_kind, configuration};
 
 use body_formats::Step;
-use body_walk::Walk;
 use ground_numbers::CONFIGURATION_KIND;
 
 // Where the table ends, or why it is refused: a glance takes the usual body, and any other is walked through.
 pub fn read(kind: u32, s: &[u8]) -> Step
     ensures { result ≡ body_read configuration configuration_kind kind s.now }
 {
-    match body_parts::open_body(CONFIGURATION_KIND, kind, s) {
-        Step::Refused(r) => Step::Refused(r),
-        Step::At(start) => {
-            if glancing::good_configuration(s) {
-                return Step::At(s.len());
-            }
-            let mut none: [u64; 1] = [0; 1];
-            body_walk::body_end(walking::walk_configuration(s, Walk::At(0, 0), &mut none, false))
-        }
+    body_parts::open_body(CONFIGURATION_KIND, kind, s)?;
+    if glancing::good_configuration(s) {
+        return Ok(s.len());
     }
+    let mut none: [u64; 1] = [0; 1];
+    body_walk::body_end(walking::walk_configuration(s, Ok((0, 0)), &mut none, false))
 }
 
 // Lays an accepted body onto a tape, with the body itself as the pool: the form from which it is written again.
@@ -33,18 +28,10 @@ pub fn lay(kind: u32, s: &[u8], tape: &mut [u64]) -> Step
     ensures said { result ≡ body_laid configuration configuration_kind kind s.now (length tape.old) }
     ensures left { tape.new ≡ laid_tape configuration configuration_kind kind s.now tape.old }
 {
-    match body_parts::open_body(CONFIGURATION_KIND, kind, s) {
-        Step::Refused(r) => Step::Refused(r),
-        Step::At(start) => {
-            let room = tape.len() + 1;
-            let dry = walking::walk_configuration(s, Walk::At(0, room), tape, false);
-            match body_walk::entries_needed(dry, room) {
-                Step::Refused(r) => Step::Refused(r),
-                Step::At(n) => {
-                    walking::walk_configuration(s, Walk::At(0, room), tape, true);
-                    Step::At(n)
-                }
-            }
-        }
-    }
+    body_parts::open_body(CONFIGURATION_KIND, kind, s)?;
+    let room = tape.len() + 1;
+    let dry = walking::walk_configuration(s, Ok((0, room)), tape, false);
+    let n = body_walk::entries_needed(dry, room)?;
+    let _ = walking::walk_configuration(s, Ok((0, room)), tape, true);
+    Ok(n)
 }

@@ -1,11 +1,11 @@
 // Walks through the body of a configuration table, from its terminals up to the whole: each is one field of the format of its name.
 ghost use Rattle.std.specs.Prelude.{length};
 ghost use Rattle.ground_refusal.specs.declared.Refusal.TheVariants.{PastPart};
-ghost use Rattle.body_formats.specs.Format.{number, times, exact};
+ghost use Rattle.body_formats.specs.Format.{count, number, list_of, exact};
 ghost use Rattle.body_walk.specs.Walked.{Walked};
 ghost use Rattle.configuration.specs.Configuration.{terminals, date, clock, address, set_clock, set_code, tune, set_return, set_period, set_volume, query, order_of, said, command, configuration};
 
-use body_formats::{Part, RESOURCE_PAIRS};
+use body_formats::RESOURCE_PAIRS;
 use body_walk::Walk;
 use configuration_rules::clocks;
 use ground_refusal::Refusal;
@@ -22,26 +22,20 @@ fn walk_terminals(s: &[u8], l: usize, x: Walk, tape: &mut [u64], wet: bool) -> W
 fn walk_date(s: &[u8], l: usize, x: Walk, tape: &mut [u64], wet: bool) -> Walk
     ensures { Walked date s.now l x wet tape.old result tape.new }
 {
-    let year = body_walk::walk_count(s, l, x, 2, tape, wet);
-    let a = year.walk;
-    let month = body_walk::walk_count(s, l, a, 1, tape, wet);
-    let b = month.walk;
-    let day = body_walk::walk_count(s, l, b, 1, tape, wet);
-    let c = day.walk;
-    body_walk::possible(x, c, clocks::is_day(year.n, month.n, day.n))
+    let (a, year) = body_walk::walk_count(s, l, x, 2, tape, wet)?;
+    let (b, month) = body_walk::walk_count(s, l, Ok(a), 1, tape, wet)?;
+    let (c, day) = body_walk::walk_count(s, l, Ok(b), 1, tape, wet)?;
+    body_walk::possible(x, Ok(c), clocks::is_day(year, month, day))
 }
 
 // "hour, minute, second", judged together at the hour.
 fn walk_clock(s: &[u8], l: usize, x: Walk, tape: &mut [u64], wet: bool) -> Walk
     ensures { Walked clock s.now l x wet tape.old result tape.new }
 {
-    let hour = body_walk::walk_count(s, l, x, 1, tape, wet);
-    let a = hour.walk;
-    let minute = body_walk::walk_count(s, l, a, 1, tape, wet);
-    let b = minute.walk;
-    let second = body_walk::walk_count(s, l, b, 1, tape, wet);
-    let c = second.walk;
-    body_walk::possible(x, c, clocks::is_time(hour.n, minute.n, second.n))
+    let (a, hour) = body_walk::walk_count(s, l, x, 1, tape, wet)?;
+    let (b, minute) = body_walk::walk_count(s, l, Ok(a), 1, tape, wet)?;
+    let (c, second) = body_walk::walk_count(s, l, Ok(b), 1, tape, wet)?;
+    body_walk::possible(x, Ok(c), clocks::is_time(hour, minute, second))
 }
 
 // "1: year 16, month, day, hour, minute, second".
@@ -76,30 +70,23 @@ fn walk_tune(s: &[u8], l: usize, x: Walk, tape: &mut [u64], wet: bool) -> Walk
 fn walk_address(s: &[u8], l: usize, x: Walk, kind: u64, tape: &mut [u64], wet: bool) -> Walk
     ensures { Walked (address kind) s.now l x wet tape.old result tape.new }
 {
-    match x {
-        Walk::Refused(r) => Walk::Refused(r),
-        Walk::At(p, room) => match body_parts::read_part(s, l, p, 1) {
-            Part::Refused(r) => Walk::Refused(r),
-            Part::Of(a, n) => {
-                if !configuration_addresses::length_fits(kind, n as u64) {
-                    return Walk::Refused(Refusal::PastPart(p));
-                }
-                if !configuration_addresses::is_address(s, a, n, kind) {
-                    return Walk::Refused(Refusal::OutsideSet(a));
-                }
-                body_walk::walk_part(s, l, Walk::At(p, room), 1, tape, wet)
-            }
-        },
+    let (p, room) = x?;
+    let (a, n) = body_parts::read_part(s, l, p, 1)?;
+    if !configuration_addresses::length_fits(kind, n as u64) {
+        return Err(Refusal::PastPart(p));
     }
+    if !configuration_addresses::is_address(s, a, n, kind) {
+        return Err(Refusal::OutsideSet(a));
+    }
+    body_walk::walk_part(s, l, x, 1, tape, wet)
 }
 
 // "4: kind 1 to 3, address length, address, terminals".
 fn walk_set_return(s: &[u8], l: usize, x: Walk, tape: &mut [u64], wet: bool) -> Walk
     ensures { Walked (said set_return) s.now l x wet tape.old result tape.new }
 {
-    let kind = body_walk::walk_told_among(s, l, x, 1, 1, 3, tape, wet);
-    let at = kind.walk;
-    let a = walk_address(s, l, at, kind.n, tape, wet);
+    let (at, kind) = body_walk::walk_told_among(s, l, x, 1, 1, 3, tape, wet)?;
+    let a = walk_address(s, l, Ok(at), kind, tape, wet);
     walk_terminals(s, l, a, tape, wet)
 }
 
@@ -119,15 +106,14 @@ fn walk_set_volume(s: &[u8], l: usize, x: Walk, tape: &mut [u64], wet: bool) -> 
     walk_terminals(s, l, a, tape, wet)
 }
 
-// n parameters.
-fn walk_all_parameters(s: &[u8], l: usize, x: Walk, n: u64, tape: &mut [u64], wet: bool) -> Walk
-    ensures { Walked (times n (number 1)) s.now l x wet tape.old result tape.new }
+// "parameter count, parameters".
+fn walk_parameters(s: &[u8], l: usize, x: Walk, tape: &mut [u64], wet: bool) -> Walk
+    ensures { Walked (list_of (count 1) (number 1)) s.now l x wet tape.old result tape.new }
 {
-    let mut at = x;
-    let mut left = n;
-    while 0 < left {
+    let (first, n) = body_walk::walk_count(s, l, x, 1, tape, wet)?;
+    let mut at: Walk = Ok(first);
+    for i in 0..n {
         at = body_walk::walk_number(s, l, at, 1, tape, wet);
-        left = left - 1;
     }
     at
 }
@@ -136,9 +122,7 @@ fn walk_all_parameters(s: &[u8], l: usize, x: Walk, n: u64, tape: &mut [u64], we
 fn walk_query(s: &[u8], l: usize, x: Walk, tape: &mut [u64], wet: bool) -> Walk
     ensures { Walked (said query) s.now l x wet tape.old result tape.new }
 {
-    let parameters = body_walk::walk_count(s, l, x, 1, tape, wet);
-    let at = parameters.walk;
-    let a = walk_all_parameters(s, l, at, parameters.n, tape, wet);
+    let a = walk_parameters(s, l, x, tape, wet);
     walk_terminals(s, l, a, tape, wet)
 }
 
@@ -146,62 +130,46 @@ fn walk_query(s: &[u8], l: usize, x: Walk, tape: &mut [u64], wet: bool) -> Walk
 fn walk_said(s: &[u8], l: usize, x: Walk, tag: u64, tape: &mut [u64], wet: bool) -> Walk
     ensures { Walked (said (order_of tag)) s.now l x wet tape.old result tape.new }
 {
-    if tag == 1 {
-        return walk_set_clock(s, l, x, tape, wet);
+    match tag {
+        1 => walk_set_clock(s, l, x, tape, wet),
+        2 => walk_set_code(s, l, x, tape, wet),
+        3 => walk_tune(s, l, x, tape, wet),
+        4 => walk_set_return(s, l, x, tape, wet),
+        5 => walk_set_period(s, l, x, tape, wet),
+        6 => walk_set_volume(s, l, x, tape, wet),
+        7 => walk_query(s, l, x, tape, wet),
+        _ => body_walk::walk_rest(s, l, x, tape, wet),
     }
-    if tag == 2 {
-        return walk_set_code(s, l, x, tape, wet);
-    }
-    if tag == 3 {
-        return walk_tune(s, l, x, tape, wet);
-    }
-    if tag == 4 {
-        return walk_set_return(s, l, x, tape, wet);
-    }
-    if tag == 5 {
-        return walk_set_period(s, l, x, tape, wet);
-    }
-    if tag == 6 {
-        return walk_set_volume(s, l, x, tape, wet);
-    }
-    if tag == 7 {
-        return walk_query(s, l, x, tape, wet);
-    }
-    body_walk::walk_rest(s, l, x, tape, wet)
 }
 
 // "tag 8, length 16, content": the content is not shorter than the least of its tag.
 fn walk_command(s: &[u8], l: usize, x: Walk, tape: &mut [u64], wet: bool) -> Walk
     ensures { Walked command s.now l x wet tape.old result tape.new }
 {
-    let tag = body_walk::walk_count(s, l, x, 1, tape, wet);
-    let at = tag.walk;
-    let part = body_walk::enter_least(s, l, at, 2, configuration_rules::least_content(tag.n));
-    let inside = part.walk;
-    walk_said(s, part.end, inside, tag.n, tape, wet)
+    let (at, tag) = body_walk::walk_count(s, l, x, 1, tape, wet)?;
+    let least = configuration_rules::least_content(tag);
+    let (inside, end) = body_walk::enter_least(s, l, Ok(at), 2, least)?;
+    walk_said(s, end, Ok(inside), tag, tape, wet)
 }
 
-// n commands.
-fn walk_all_commands(s: &[u8], l: usize, x: Walk, n: u64, tape: &mut [u64], wet: bool) -> Walk
-    ensures { Walked (times n command) s.now l x wet tape.old result tape.new }
+// "8-bit count; commands".
+fn walk_commands(s: &[u8], l: usize, x: Walk, tape: &mut [u64], wet: bool) -> Walk
+    ensures { Walked (list_of (count 1) command) s.now l x wet tape.old result tape.new }
 {
-    let mut at = x;
-    let mut left = n;
-    while 0 < left {
+    let (first, n) = body_walk::walk_count(s, l, x, 1, tape, wet)?;
+    let mut at: Walk = Ok(first);
+    for i in 0..n {
         at = walk_command(s, l, at, tape, wet);
-        left = left - 1;
     }
     at
 }
 
-// The whole table: "8-bit count; commands", the signature, and no byte left.
+// The whole table: the commands, the signature, and no byte left.
 pub fn walk_configuration(s: &[u8], x: Walk, tape: &mut [u64], wet: bool) -> Walk
     ensures { Walked configuration s.now (length s.now) x wet tape.old result tape.new }
 {
     let l = s.len();
-    let commands = body_walk::walk_count(s, l, x, 1, tape, wet);
-    let at = commands.walk;
-    let a = walk_all_commands(s, l, at, commands.n, tape, wet);
+    let a = walk_commands(s, l, x, tape, wet);
     let b = body_walk::walk_part(s, l, a, 2, tape, wet);
     body_walk::finish(b, l)
 }

@@ -1,6 +1,6 @@
 -- What a glance's tests say of each part of a configuration table's form: its format lays it out, in so many bytes.
 use Prim.Native.Nat.{ℕ, zero, suc, ◌+◌, ◌*◌, ◌^◌, ◌≤◌, ◌<◌}
-use mathlib.Core.Path.{◌≡◌, refl, sym, ap, ◌∙◌}
+use mathlib.Core.Path.{◌≡◌, refl, sym, ◌∙◌}
 use mathlib.Core.List.{List}
 use mathlib.Core.Bool.{true, ◌&&◌}
 use native.Mathlib.Omega.{arith}
@@ -8,7 +8,7 @@ use lib.ListN.{length, get_or, take, drop}
 use lib.Dec.{leb}
 use Rattle.ground_refusal.specs.declared.Refusal.TheVariants.{LeftOver, PastPart}
 use Rattle.time_days.specs.Calendar.{has_day}
-use Rattle.body_formats.specs.Format.{Format, ◌▷◌, only, count, number, among, times, list_of, rest, opaque, length_of, least_of, counted}
+use Rattle.body_formats.specs.Format.{Format, ◌▷◌, count, number, among, times, opaque, least_of, counted}
 use Rattle.body_formats.specs.Resource.{resource}
 use Rattle.body_formats.proofs.Leaves.{length_bytes_lem}
 use Rattle.body_form_glance.specs.Lays.{Lays, Seen, Listed}
@@ -16,7 +16,7 @@ use Rattle.body_form_glance.specs.declared.Sight.{Sight}
 use Rattle.body_form_glance.proofs.Forms.{none_seen, lays_only, lays_followed, lays_pair, lays_view, lays_exact, lays_counted, lays_to, lays_count, lays_number, lays_among, span_length, lays_rest, lays_opaque}
 use Rattle.body_form_glance.proofs.Rows.{lays_list}
 use Rattle.configuration_addresses.specs.Address.{length_fits, is_address}
-use Rattle.configuration.specs.Configuration.{terminals, plain, date, clock, address_fault, address_length, address, Said, set_clock, set_code, tune, set_return, set_period, set_volume, query, other, order_of, said, least, command, fields, configuration}
+use Rattle.configuration.specs.Configuration.{terminals, plain, date, clock, address_fault, address_length, address, set_clock, set_code, tune, set_return, set_period, set_volume, query, order_of, said, least, command, fields, configuration}
 use Rattle.configuration.proofs.Clocks.{day_fault_lem, day_fits, time_fits}
 
 -- F lays out something from k to j, in n bytes

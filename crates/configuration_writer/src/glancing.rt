@@ -160,14 +160,10 @@ fn good_parameters(pool: &[u8], tape: &[u64], k: usize, n: usize) -> bool
     requires { k + n ≤ length tape.now }
     ensures { Good (times n (number 1)) pool.now tape.now k (k + n) n result }
 {
-    let mut at = k;
-    let mut left = n;
-    while 0 < left {
-        if 255 < tape[at] {
+    for i in 0..n {
+        if 255 < tape[k + i] {
             return false;
         }
-        at = at + 1;
-        left = left - 1;
     }
     true
 }
@@ -244,8 +240,7 @@ pub fn configuration_bytes(pool: &[u8], tape: &[u64]) -> usize
     }
     let mut at: usize = 1;
     let mut bytes: usize = 1;
-    let mut left = tape[0];
-    while 0 < left {
+    for _ in 0..tape[0] {
         if tape.len() <= at {
             return 0;
         }
@@ -259,7 +254,6 @@ pub fn configuration_bytes(pool: &[u8], tape: &[u64]) -> usize
         }
         at = content.entry;
         bytes = bytes + 3 + content.bytes;
-        left = left - 1;
     }
     let signature = body_form_glance::last_part(pool, tape, at);
     if signature == 0 {

@@ -84,16 +84,18 @@ fn ink_parameters(pool: &[u8], tape: &[u64], k: usize, out: &mut [u8], at: usize
 {
     let n = tape[k];
     body_ink::number(out, at, 1, n);
-    let mut past = at + 1;
-    let mut entry = k + 1;
-    let mut left = n;
-    while 0 < left {
-        body_ink::number(out, past, 1, tape[entry]);
-        past = past + 1;
-        entry = entry + 1;
-        left = left - 1;
+    let mut past = Mark {
+        at: at + 1,
+        entry: k + 1,
+    };
+    for _ in 0..n {
+        body_ink::number(out, past.at, 1, tape[past.entry]);
+        past = Mark {
+            at: past.at + 1,
+            entry: past.entry + 1,
+        };
     }
-    Mark { at: past, entry }
+    past
 }
 
 // "7: parameter count, parameters, terminals".
@@ -154,16 +156,11 @@ fn ink_commands(pool: &[u8], tape: &[u64], out: &mut [u8]) -> Mark
 {
     let n = tape[0];
     body_ink::number(out, 0, 1, n);
-    let mut past: usize = 1;
-    let mut entry: usize = 1;
-    let mut left = n;
-    while 0 < left {
-        let next = ink_command(pool, tape, entry, out, past);
-        past = next.at;
-        entry = next.entry;
-        left = left - 1;
+    let mut past = Mark { at: 1, entry: 1 };
+    for _ in 0..n {
+        past = ink_command(pool, tape, past.entry, out, past.at);
     }
-    Mark { at: past, entry }
+    past
 }
 
 // The whole table: its commands and the signature.

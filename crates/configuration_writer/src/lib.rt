@@ -10,7 +10,6 @@ ghost use Rattle.body_formats.specs.Body.{measured, body_written, output_written
 ghost use Rattle.configuration.specs.Configuration.{configuration};
 
 use body_formats::Step;
-use body_pen::Pen;
 
 // Judges and measures the body of a form: how long it is, or the first field that is refused and the entry where it begins. A form that is good at a glance
 // has no field that the pen would refuse.
@@ -19,9 +18,9 @@ pub fn measure(pool: &[u8], tape: &[u64]) -> Step
 {
     let seen = glancing::configuration_bytes(pool, tape);
     if 0 < seen {
-        return Step::At(seen);
+        return Ok(seen);
     }
-    let past = measuring::pen_configuration(pool, tape, Pen::At(0, 0));
+    let past = measuring::pen_configuration(pool, tape, Ok((0, 0)));
     body_pen::measured(past, tape.len())
 }
 
@@ -31,11 +30,7 @@ pub fn write(pool: &[u8], tape: &[u64], out: &mut [u8]) -> Step
     ensures said { result ≡ body_written configuration pool.now tape.now (length out.old) }
     ensures left { out.new ≡ output_written configuration pool.now tape.now out.old }
 {
-    match body_pen::fitted(measure(pool, tape), out.len()) {
-        Step::Refused(r) => Step::Refused(r),
-        Step::At(size) => {
-            inking::ink_configuration(pool, tape, out);
-            Step::At(size)
-        }
-    }
+    let size = body_pen::fitted(measure(pool, tape), out.len())?;
+    inking::ink_configuration(pool, tape, out);
+    Ok(size)
 }

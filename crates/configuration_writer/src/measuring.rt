@@ -5,7 +5,7 @@ ghost use Rattle.body_formats.specs.Format.{only, count, number, list_of, rest};
 ghost use Rattle.body_pen.specs.Penned.{penned};
 ghost use Rattle.configuration.specs.Configuration.{terminals, date, clock, address_fault, address, set_clock, set_code, tune, set_return, set_period, set_volume, query, order_of, said, command, configuration};
 
-use body_formats::{Part, RESOURCE_PAIRS};
+use body_formats::RESOURCE_PAIRS;
 use body_pen::Pen;
 use configuration_rules::clocks;
 use ground_refusal::Refusal;
@@ -23,32 +23,28 @@ fn pen_terminals(pool: &[u8], tape: &[u64], x: Pen) -> Pen
 fn pen_date(tape: &[u64], x: Pen) -> Pen
     ensures { (pool : List ℕ) → result ≡ penned date pool tape.now x }
 {
-    let year = body_pen::pen_count(tape, x, 2);
-    let a = year.pen;
-    let month = body_pen::pen_count(tape, a, 1);
-    let b = month.pen;
-    let day = body_pen::pen_count(tape, b, 1);
-    let c = day.pen;
-    if clocks::is_day(year.n, month.n, day.n) {
-        return c;
+    let (size, k) = x?;
+    let (a, year) = body_pen::pen_count(tape, x, 2)?;
+    let (b, month) = body_pen::pen_count(tape, Ok(a), 1)?;
+    let (c, day) = body_pen::pen_count(tape, Ok(b), 1)?;
+    if clocks::is_day(year, month, day) {
+        return Ok(c);
     }
-    body_pen::refuse(c, Refusal::ImpossibleDay(body_pen::entry(x)))
+    Err(Refusal::ImpossibleDay(k))
 }
 
 // "hour, minute, second": an impossible time is 20.
 fn pen_clock(tape: &[u64], x: Pen) -> Pen
     ensures { (pool : List ℕ) → result ≡ penned clock pool tape.now x }
 {
-    let hour = body_pen::pen_count(tape, x, 1);
-    let a = hour.pen;
-    let minute = body_pen::pen_count(tape, a, 1);
-    let b = minute.pen;
-    let second = body_pen::pen_count(tape, b, 1);
-    let c = second.pen;
-    if clocks::is_time(hour.n, minute.n, second.n) {
-        return c;
+    let (size, k) = x?;
+    let (a, hour) = body_pen::pen_count(tape, x, 1)?;
+    let (b, minute) = body_pen::pen_count(tape, Ok(a), 1)?;
+    let (c, second) = body_pen::pen_count(tape, Ok(b), 1)?;
+    if clocks::is_time(hour, minute, second) {
+        return Ok(c);
     }
-    body_pen::refuse(c, Refusal::ImpossibleDay(body_pen::entry(x)))
+    Err(Refusal::ImpossibleDay(k))
 }
 
 // "1: year 16, month, day, hour, minute, second".
@@ -85,21 +81,15 @@ fn pen_tune(pool: &[u8], tape: &[u64], x: Pen) -> Pen
 fn pen_address_bytes(pool: &[u8], tape: &[u64], x: Pen, kind: u64) -> Pen
     ensures { result ≡ penned (only (address_fault kind) rest) pool.now tape.now x }
 {
-    match x {
-        Pen::Refused(r) => Pen::Refused(r),
-        Pen::At(size, k) => match body_pen::span_at(pool, tape, k) {
-            Part::Refused(r) => Pen::Refused(r),
-            Part::Of(a, n) => {
-                if !configuration_addresses::length_fits(kind, n as u64) {
-                    return Pen::Refused(Refusal::PastPart(k));
-                }
-                if !configuration_addresses::is_address(pool, a, n, kind) {
-                    return Pen::Refused(Refusal::OutsideSet(k));
-                }
-                body_pen::pen_rest(pool, tape, Pen::At(size, k))
-            }
-        },
+    let (size, k) = x?;
+    let (a, n) = body_pen::span_at(pool, tape, k)?;
+    if !configuration_addresses::length_fits(kind, n as u64) {
+        return Err(Refusal::PastPart(k));
     }
+    if !configuration_addresses::is_address(pool, a, n, kind) {
+        return Err(Refusal::OutsideSet(k));
+    }
+    body_pen::pen_rest(pool, tape, x)
 }
 
 // "address length, address".
@@ -115,9 +105,8 @@ fn pen_address(pool: &[u8], tape: &[u64], x: Pen, kind: u64) -> Pen
 fn pen_set_return(pool: &[u8], tape: &[u64], x: Pen) -> Pen
     ensures { result ≡ penned (said set_return) pool.now tape.now x }
 {
-    let kind = body_pen::pen_told_among(tape, x, 1, 1, 3);
-    let a = kind.pen;
-    let b = pen_address(pool, tape, a, kind.n);
+    let (a, kind) = body_pen::pen_told_among(tape, x, 1, 1, 3)?;
+    let b = pen_address(pool, tape, Ok(a), kind);
     pen_terminals(pool, tape, b)
 }
 
@@ -143,21 +132,11 @@ fn pen_set_volume(pool: &[u8], tape: &[u64], x: Pen) -> Pen
 fn pen_parameters(tape: &[u64], x: Pen) -> Pen
     ensures { (pool : List ℕ) → result ≡ penned (list_of (count 1) (number 1)) pool tape.now x }
 {
-    let things = body_pen::pen_count(tape, x, 1);
-    let mut pen = things.pen;
-    let mut left = things.n;
-    while 0 < left {
-        match body_pen::pen_number(tape, pen, 1) {
-            Pen::Refused(r) => {
-                return Pen::Refused(r);
-            }
-            Pen::At(size, k) => {
-                pen = Pen::At(size, k);
-            }
-        }
-        left = left - 1;
+    let (mut past, n) = body_pen::pen_count(tape, x, 1)?;
+    for _ in 0..n {
+        past = body_pen::pen_number(tape, Ok(past), 1)?;
     }
-    pen
+    Ok(past)
 }
 
 // "7: parameter count, parameters, terminals".
@@ -190,32 +169,21 @@ fn pen_said(pool: &[u8], tape: &[u64], x: Pen, tag: u64) -> Pen
 fn pen_command(pool: &[u8], tape: &[u64], x: Pen) -> Pen
     ensures { result ≡ penned command pool.now tape.now x }
 {
-    let tag = body_pen::pen_told(tape, x, 1);
-    let a = tag.pen;
-    let b = body_pen::gap(a, 2);
-    let c = pen_said(pool, tape, b, tag.n);
-    body_pen::close(a, c, 2, 65536)
+    let (a, tag) = body_pen::pen_told(tape, x, 1)?;
+    let b = body_pen::gap(Ok(a), 2);
+    let c = pen_said(pool, tape, b, tag);
+    body_pen::close(Ok(a), c, 2, 65536)
 }
 
 // "8-bit count; commands".
 fn pen_commands(pool: &[u8], tape: &[u64], x: Pen) -> Pen
     ensures { result ≡ penned (list_of (count 1) command) pool.now tape.now x }
 {
-    let things = body_pen::pen_count(tape, x, 1);
-    let mut pen = things.pen;
-    let mut left = things.n;
-    while 0 < left {
-        match pen_command(pool, tape, pen) {
-            Pen::Refused(r) => {
-                return Pen::Refused(r);
-            }
-            Pen::At(size, k) => {
-                pen = Pen::At(size, k);
-            }
-        }
-        left = left - 1;
+    let (mut past, n) = body_pen::pen_count(tape, x, 1)?;
+    for _ in 0..n {
+        past = pen_command(pool, tape, Ok(past))?;
     }
-    pen
+    Ok(past)
 }
 
 // The whole table: its commands and the signature.

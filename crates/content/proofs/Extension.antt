@@ -1,5 +1,6 @@
 -- The extension: the first 18 bytes of an accepted or a written body are its identifier, whose 140 bits' CRC-16 the extension has to be.
 use Prim.Native.Nat.{ℕ, ◌≤◌, zero-le}
+use Rattle.std.specs.Prelude.{Ok, Err}
 use mathlib.Core.Path.{◌≡◌, sym, ap, ◌∙◌}
 use mathlib.Core.Bool.{true}
 use mathlib.Core.List.{List}
@@ -19,9 +20,8 @@ use Rattle.body_formats.specs.Identifier.{identifier}
 use Rattle.body_formats.specs.Answers.{step_of}
 use Rattle.ground_numbers.specs.Sizes.{body_most}
 use Rattle.body_formats.specs.Body.{reading, body_read}
-use Rattle.body_formats.specs.declared.Step.TheVariants.{At, Refused as NoStep}
 use Rattle.body_formats.proofs.Outcomes.{need_found}
-use Rattle.body_formats.proofs.Classes.{Bytes, Ok}
+use Rattle.body_formats.proofs.Classes.{Bytes, Proper}
 use Rattle.body_formats.proofs.Elements.{exact_found, view_found, followed_found}
 use Rattle.body_formats.proofs.Laying.{table}
 use Rattle.body_formats.proofs.Identifiers.{identifier_lawful, identifier_takes, identifier_fits, identifier_bytes_lem}
@@ -46,7 +46,7 @@ module _ (w : ℕ) (s : List ℕ) (b : Bytes s) where
       )
 
 -- and so does a printed one
-module _ (w : ℕ) (c : Content) (o : Ok (content w) c) where
+module _ (w : ℕ) (c : Content) (o : Proper (content w) c) where
   writable : identifier.writable c.identifier ≡ true
   unfolding content fields exact view followed
   writable = (both (identifier.writable c.identifier) _ o.writable).0
@@ -68,16 +68,16 @@ module _ (w : ℕ) (c : Content) (o : Ok (content w) c) where
 
 module _ (w kind : ℕ) (s : List ℕ) where
   -- what else is wrong with a body comes before its extension
-  pub refused_before : (extension : ℕ) (r : Refusal) → NoStep r ≡ body_read (content w) content_kind kind s → NoStep r ≡ content_read w kind extension s
+  pub refused_before : (extension : ℕ) (r : Refusal) → Err r ≡ body_read (content w) content_kind kind s → Err r ≡ content_read w kind extension s
   unfolding body_read content_read reading_of
   refused_before extension r e = go (reading (content w) content_kind kind s) e
     where
-      go : (x : Reading Content) → NoStep r ≡ step_of x
-          → NoStep r ≡ step_of (and_then x (λ c q. need (eqb extension (extension_of c.identifier)) OtherChecksum (found c q)))
+      go : (x : Reading Content) → Err r ≡ step_of x
+          → Err r ≡ step_of (and_then x (λ c q. need (eqb extension (extension_of c.identifier)) OtherChecksum (found c q)))
       go (refused t) f = f
       go (found c q) f = absurd (let z : ◌≡◌ {A = ℕ} 0 1 = cc in omega arith)
 
-  module _ (b : Bytes s) (q : ℕ) (e : At q ≡ body_read (content w) content_kind kind s) where
+  module _ (b : Bytes s) (q : ℕ) (e : Ok q ≡ body_read (content w) content_kind kind s) where
     accepted : (c : Content) × (reading (content w) content_kind kind s ≡ found c q)
     accepted = table (content w) content_kind kind s q e
 
@@ -96,10 +96,10 @@ module _ (w kind : ℕ) (s : List ℕ) where
       worked_out : n ≡ extension_of accepted.0.identifier
       worked_out = h ∙ identified.1
 
-      pub other_extension : (n ≡ extension → ⊥) → NoStep OtherChecksum ≡ content_read w kind extension s
+      pub other_extension : (n ≡ extension → ⊥) → Err OtherChecksum ≡ content_read w kind extension s
       unfolding content_read reading_of
       other_extension k = rw (accepted.1, ne_eqb extension (extension_of accepted.0.identifier) (λ z. k (worked_out ∙ sym z)))
 
-      pub same_extension : n ≡ extension → At q ≡ content_read w kind extension s
+      pub same_extension : n ≡ extension → Ok q ≡ content_read w kind extension s
       unfolding content_read reading_of
       same_extension k = rw (accepted.1, eq-eqb extension (extension_of accepted.0.identifier) (sym k ∙ worked_out))

@@ -1,5 +1,6 @@
 -- Where the content table's refusals stand: the laws of formats, whatever the width of an auxiliary file's length, and 23's place is 0.
 use Prim.Native.Nat.{ℕ, ◌≤◌, zero-le}
+use Rattle.std.specs.Prelude.{Err}
 use mathlib.Core.Path.{◌≡◌}
 use mathlib.Core.List.{List}
 use native.Mathlib.Nat.{le_refl}
@@ -10,7 +11,6 @@ use Rattle.ground_refusal.specs.declared.Refusal.{Refusal}
 use Rattle.ground_refusal.specs.declared.Refusal.TheVariants.{LeftOver, PastPart}
 use Rattle.body_formats.specs.Format.{reserved}
 use Rattle.body_formats.specs.Body.{reading}
-use Rattle.body_formats.specs.declared.Step.TheVariants.{Refused as NoStep}
 use Rattle.body_formats.proofs.Places.{ends, then_until, need_until, Placed, number_placed, reserved_placed, among_placed, bytes_among_placed, followed_placed, view_placed, list_placed, exact_placed, length_placed, opaque_placed, step_place, reading_until}
 use Rattle.body_formats.proofs.Identifiers.{identifier_placed}
 use Rattle.body_extension.specs.Extension.{extension_of}
@@ -37,7 +37,7 @@ module _ (w : ℕ) where
       (followed_placed _ _ identifier_placed (λ a.
       followed_placed _ _ (list_placed (language w) language_placed _ (among_placed 1 5 (reserved 4 0) (reserved_placed 4 0))) (λ b. opaque_placed 2))))
 
-  pub extended_place : (kind extension : ℕ) (s : List ℕ) (r : Refusal) → content_read w kind extension s ≡ NoStep r → refusal_place r ≤ length s
+  pub extended_place : (kind extension : ℕ) (s : List ℕ) (r : Refusal) → content_read w kind extension s ≡ Err r → refusal_place r ≤ length s
   unfolding content_read reading_of
   extended_place kind extension s =
       step_place (reading_of w kind extension s)

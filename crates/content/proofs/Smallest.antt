@@ -1,5 +1,6 @@
 -- "The smallest body is 33 bytes": each field that is there takes its bytes, a language is there, and a body of 33 bytes is accepted.
 use Prim.Native.Nat.{ℕ, ◌≤◌}
+use Rattle.std.specs.Prelude.{Ok}
 use mathlib.Core.Path.{◌≡◌, refl}
 use mathlib.Core.List.{List, [], ◌∷◌}
 use mathlib.Core.Bool.{Bool, true, false, ◌&&◌}
@@ -15,7 +16,6 @@ use Rattle.body_formats.specs.Reading.{is_fine, unless}
 use Rattle.body_formats.specs.Format.{number_at, count, only, among, reserved, bytes, halves, decimal, digits, followed, view, repeat, print_all, every, list_of, rest, exact, length_of, counted}
 use Rattle.body_formats.specs.Identifier.{identifier_year, identifier_month, identifier_day, has_real_day, identifier}
 use Rattle.body_formats.specs.Body.{reading, body_read}
-use Rattle.body_formats.specs.declared.Step.TheVariants.{At}
 use Rattle.body_formats.proofs.Leaves.{length_bytes_lem}
 use Rattle.body_formats.proofs.Identifiers.{identifier_takes}
 use Rattle.content.specs.Content.{content_kind, Language, language_fields, language, auxiliaries, Content, fields, content}
@@ -56,6 +56,6 @@ smallest_body =
     0xF0 ∷ 0 ∷ 0 ∷ 0 ∷ 0 ∷ 0 ∷ 0 ∷ 0 ∷ 0 ∷ 0 ∷ 0 ∷ 0 ∷ 0x19 ∷ 0x00 ∷ 0x03 ∷ 0x01 ∷ 0 ∷ 0 ∷ 0xF1
     ∷ 0 ∷ 0 ∷ 0 ∷ 8 ∷ 0x61 ∷ 0x61 ∷ 0x61 ∷ 0xF8 ∷ 0 ∷ 0 ∷ 0 ∷ 0xF0 ∷ 0 ∷ 0 ∷ []
 
-pub smallest_accepted : (w : ℕ) → body_read (content w) content_kind content_kind smallest_body ≡ At 33
+pub smallest_accepted : (w : ℕ) → body_read (content w) content_kind content_kind smallest_body ≡ Ok 33
 unfolding smallest_body body_read reading content fields language language_fields auxiliaries counted length_of exact view followed list_of repeat only every bytes reserved count number_at rest identifier digits halves decimal has_real_day identifier_year identifier_month identifier_day has_day is_date month_length leap day_number months_from year_of month_of days_of month_start in_range
 smallest_accepted w = refl

@@ -1,13 +1,12 @@
 -- What a reader has to believe of the content table: its fields in wire order, its extension, and its two variants.
-use Rattle.std.specs.Prelude.{ℕ, List, length, eqb}
+use Rattle.std.specs.Prelude.{ℕ, List, length, eqb, Result, Err}
+use Rattle.ground_refusal.specs.declared.Refusal.{Refusal}
 use Rattle.ground_refusal.specs.declared.Refusal.TheVariants.{LeftOver, PastPart, OtherChecksum}
 use Rattle.body_formats.specs.Reading.{Reading, found, and_then, need}
 use Rattle.body_formats.specs.Format.{Format, ◌▷◌, number, among, bytes_among, reserved, list_of, opaque, exact, view, length_of, counted}
 use Rattle.body_formats.specs.Identifier.{identifier}
 use Rattle.body_formats.specs.Answers.{step_of}
 use Rattle.body_formats.specs.Body.{reading, body_laid, laid_tape}
-use Rattle.body_formats.specs.declared.Step.{Step}
-use Rattle.body_formats.specs.declared.Step.TheVariants.{Refused as NoStep}
 use Rattle.body_extension.specs.Extension.{extension_of}
 use Rattle.content_variant.specs.Variant.{by_width, opened}
 -- "FE content"
@@ -80,18 +79,18 @@ reading_of w kind extension s =
     need (eqb extension (extension_of c.identifier)) OtherChecksum (found c q))
 
 -- where the table ends, or why it is refused
-unfoldable pub content_read : ℕ → ℕ → ℕ → List ℕ → Step
+unfoldable pub content_read : ℕ → ℕ → ℕ → List ℕ → Result ℕ Refusal
 content_read w kind extension s = step_of (reading_of w kind extension s)
 
 -- ---- the variant, 24 or 32: "The reader and writer take a named variant"
 
 -- what is said above, with the width of the variant v
-unfoldable pub variant_read : ℕ → ℕ → ℕ → List ℕ → Step
-variant_read kind v extension s = by_width (opened kind v (length s)) (λ w. content_read w kind extension s) NoStep
+unfoldable pub variant_read : ℕ → ℕ → ℕ → List ℕ → Result ℕ Refusal
+variant_read kind v extension s = by_width (opened kind v (length s)) (λ w. content_read w kind extension s) Err
 
 -- a body laid out for a writer, in a lent tape: its extension, which is no part of it, is not looked at
-unfoldable pub variant_laid : ℕ → ℕ → List ℕ → ℕ → Step
-variant_laid kind v s room = by_width (opened kind v (length s)) (λ w. body_laid (content w) content_kind kind s room) NoStep
+unfoldable pub variant_laid : ℕ → ℕ → List ℕ → ℕ → Result ℕ Refusal
+variant_laid kind v s room = by_width (opened kind v (length s)) (λ w. body_laid (content w) content_kind kind s room) Err
 
 unfoldable pub variant_tape : ℕ → ℕ → List ℕ → List ℕ → List ℕ
 variant_tape kind v s tape = by_width (opened kind v (length s)) (λ w. laid_tape (content w) content_kind kind s tape) (λ r. tape)

@@ -1,5 +1,6 @@
 -- What the fields asked for answer, a law for each way through.
 use Prim.Native.Nat.{ℕ, ◌+◌, ◌≤◌}
+use Rattle.std.specs.Prelude.{Ok, Err}
 use mathlib.Core.Path.{◌≡◌, ◌∙◌}
 use mathlib.Core.List.{List}
 use lib.ListN.{length}
@@ -7,9 +8,6 @@ use Rattle.ground_refusal.specs.declared.Refusal.{Refusal}
 use Rattle.body_formats.specs.Reading.{found}
 use Rattle.body_formats.specs.Format.{among, reserved, repeat, list_of, opaque}
 use Rattle.body_formats.specs.Answers.{step_of, number_of, ended_all, number_read, part_read}
-use Rattle.body_formats.specs.declared.Step.TheVariants.{At, Refused as NoStep}
-use Rattle.body_formats.specs.declared.Number.TheVariants.{Is, Refused as NoNumber}
-use Rattle.body_formats.specs.declared.Part.TheVariants.{Of, Refused as NoPart}
 use Rattle.body_formats.proofs.Outcomes.{and_then_found}
 use Rattle.body_formats.proofs.Classes as classes
 use Rattle.body_formats.proofs.Readers.{number_found, number_refused, opaque_found}
@@ -17,39 +15,38 @@ use Rattle.body_asking.specs.Asking.{headed_part, nth_of}
 use Rattle.body_asking.proofs.Answers.{count_number, found_in, part_refused, part_found, step_refused, step_found}
 use Rattle.body_asking.proofs.Entries.{all_headless, nth_headless}
 use Rattle.content_variant.specs.Variant.{width_of}
-use Rattle.content_variant.specs.declared.Width.TheVariants.{Bytes, Refused as NoWidth}
 use Rattle.content_fields.specs.Asked.{languages_counted, language_count, language_part, signature_part, text_in, agency_in, auxiliaries_in, text_part, agency_part, auxiliary_count, type_in, auxiliary_type, auxiliary_part, variant_type, variant_part}
 
 -- ---- the languages and the signature
 
 module _ (s : List ℕ) where
-  module _ (r : Refusal) (e : NoNumber r ≡ language_count s) where
-    pub language_no : (i : ℕ) → NoPart r ≡ language_part s i
+  module _ (r : Refusal) (e : Err r ≡ language_count s) where
+    pub language_no : (i : ℕ) → Err r ≡ language_part s i
     unfolding language_count language_part
     language_no i = rw (number_refused (languages_counted.parse s (length s) 18) r e)
 
-    pub signature_no : NoPart r ≡ signature_part s
+    pub signature_no : Err r ≡ signature_part s
     unfolding language_count signature_part list_of
     signature_no = rw (number_refused (languages_counted.parse s (length s) 18) r e)
 
-  module _ (n q : ℕ) (e : Is n q ≡ language_count s) where
+  module _ (n q : ℕ) (e : Ok (n, q) ≡ language_count s) where
     counted_there : languages_counted.parse s (length s) 18 ≡ found n q
     unfolding language_count
     counted_there = number_found (languages_counted.parse s (length s) 18) n q e
 
-    pub language_none : (i : ℕ) (r : Refusal) → NoStep r ≡ step_of (nth_of (headed_part 0 4) n i s (length s) q) → NoPart r ≡ language_part s i
+    pub language_none : (i : ℕ) (r : Refusal) → Err r ≡ step_of (nth_of (headed_part 0 4) n i s (length s) q) → Err r ≡ language_part s i
     unfolding language_part
     language_none i r f = rw (counted_there, step_refused (nth_of (opaque 4) n i s (length s) q) r (f ∙ nth_headless 4 s n i q))
 
-    pub language_is : (i p : ℕ) → At p ≡ step_of (nth_of (headed_part 0 4) n i s (length s) q) → part_read 4 s (length s) p ≡ language_part s i
+    pub language_is : (i p : ℕ) → Ok p ≡ step_of (nth_of (headed_part 0 4) n i s (length s) q) → part_read 4 s (length s) p ≡ language_part s i
     unfolding language_part part_read
     language_is i p f = rw (counted_there, (step_found (nth_of (opaque 4) n i s (length s) q) p (f ∙ nth_headless 4 s n i q)).1)
 
-    pub signature_none : (r : Refusal) → NoStep r ≡ ended_all (headed_part 0 4) n s (length s) q → NoPart r ≡ signature_part s
+    pub signature_none : (r : Refusal) → Err r ≡ ended_all (headed_part 0 4) n s (length s) q → Err r ≡ signature_part s
     unfolding signature_part list_of ended_all
     signature_none r f = rw (counted_there, step_refused (repeat ((opaque 4).parse s (length s)) n q) r (f ∙ all_headless 4 s n q))
 
-    pub signature_is : (p : ℕ) → At p ≡ ended_all (headed_part 0 4) n s (length s) q → part_read 2 s (length s) p ≡ signature_part s
+    pub signature_is : (p : ℕ) → Ok p ≡ ended_all (headed_part 0 4) n s (length s) q → part_read 2 s (length s) p ≡ signature_part s
     unfolding signature_part list_of ended_all part_read
     signature_is p f = rw (counted_there, (step_found (repeat ((opaque 4).parse s (length s)) n q) p (f ∙ all_headless 4 s n q)).1)
 
@@ -78,11 +75,11 @@ module _ (s : List ℕ) (at n : ℕ) where
 
   -- ---- the agency, after the text
 
-  pub agency_no : (r : Refusal) → NoPart r ≡ text_part s at n → NoPart r ≡ agency_part s at n
+  pub agency_no : (r : Refusal) → Err r ≡ text_part s at n → Err r ≡ agency_part s at n
   unfolding text_part agency_part agency_in
   agency_no r e = rw (part_refused (text_in s at n) r e)
 
-  module _ (a m : ℕ) (e : Of a m ≡ text_part s at n) where
+  module _ (a m : ℕ) (e : Ok (a, m) ≡ text_part s at n) where
     text_there : (xs : List ℕ) × (text_in s at n ≡ found xs (a + m))
     unfolding text_part
     text_there = part_found (text_in s at n) a m e (λ xs q f. (text_in_lem xs q f).1)
@@ -98,11 +95,11 @@ module _ (s : List ℕ) (at n : ℕ) where
 
   -- ---- the auxiliary count, after the agency
 
-  pub count_no : (r : Refusal) → NoPart r ≡ agency_part s at n → NoNumber r ≡ auxiliary_count s at n
+  pub count_no : (r : Refusal) → Err r ≡ agency_part s at n → Err r ≡ auxiliary_count s at n
   unfolding agency_part auxiliary_count auxiliaries_in
   count_no r e = rw (part_refused (agency_in s at n) r e)
 
-  module _ (a m : ℕ) (e : Of a m ≡ agency_part s at n) where
+  module _ (a m : ℕ) (e : Ok (a, m) ≡ agency_part s at n) where
     agency_there : (xs : List ℕ) × (agency_in s at n ≡ found xs (a + m))
     unfolding agency_part
     agency_there = part_found (agency_in s at n) a m e (λ xs q f. (agency_in_lem xs q f).1)
@@ -118,11 +115,11 @@ module _ (s : List ℕ) (at n : ℕ) where
 
   -- ---- an auxiliary file, after those before it
 
-  pub type_no : (w i : ℕ) (r : Refusal) → NoNumber r ≡ auxiliary_count s at n → NoNumber r ≡ auxiliary_type w s at n i
+  pub type_no : (w i : ℕ) (r : Refusal) → Err r ≡ auxiliary_count s at n → Err r ≡ auxiliary_type w s at n i
   unfolding auxiliary_count auxiliary_type type_in
   type_no w i r e = rw (number_refused (auxiliaries_in s at n) r e)
 
-  module _ (m q : ℕ) (e : Is m q ≡ auxiliary_count s at n) where
+  module _ (m q : ℕ) (e : Ok (m, q) ≡ auxiliary_count s at n) where
     files_there : auxiliaries_in s at n ≡ found m q
     unfolding auxiliary_count
     files_there = number_found (auxiliaries_in s at n) m q e
@@ -130,22 +127,22 @@ module _ (s : List ℕ) (at n : ℕ) where
     pub after_count : at + n ≤ length s
     after_count = count_in_lem m q files_there
 
-    pub type_none : (w i : ℕ) (r : Refusal) → NoStep r ≡ step_of (nth_of (headed_part 1 w) m i s (at + n) q) → NoNumber r ≡ auxiliary_type w s at n i
+    pub type_none : (w i : ℕ) (r : Refusal) → Err r ≡ step_of (nth_of (headed_part 1 w) m i s (at + n) q) → Err r ≡ auxiliary_type w s at n i
     unfolding auxiliary_type type_in
     type_none w i r f = rw (files_there, step_refused (nth_of (headed_part 1 w) m i s (at + n) q) r f)
 
-    pub type_is : (w i p : ℕ) → classes.Bytes s → At p ≡ step_of (nth_of (headed_part 1 w) m i s (at + n) q) → number_read 1 s (at + n) p ≡ auxiliary_type w s at n i
+    pub type_is : (w i p : ℕ) → classes.Bytes s → Ok p ≡ step_of (nth_of (headed_part 1 w) m i s (at + n) q) → number_read 1 s (at + n) p ≡ auxiliary_type w s at n i
     unfolding auxiliary_type type_in number_read
     type_is w i p b f = rw (files_there, (step_found (nth_of (headed_part 1 w) m i s (at + n) q) p f).1) (count_number 1 s (at + n) p b)
 
   -- its data, after its type
 
   module _ (w i : ℕ) where
-    pub file_no : (r : Refusal) → NoNumber r ≡ auxiliary_type w s at n i → NoPart r ≡ auxiliary_part w s at n i
+    pub file_no : (r : Refusal) → Err r ≡ auxiliary_type w s at n i → Err r ≡ auxiliary_part w s at n i
     unfolding auxiliary_type auxiliary_part
     file_no r e = rw (number_refused (type_in w s at n i) r e)
 
-    module _ (t q : ℕ) (e : Is t q ≡ auxiliary_type w s at n i) where
+    module _ (t q : ℕ) (e : Ok (t, q) ≡ auxiliary_type w s at n i) where
       type_there : type_in w s at n i ≡ found t q
       unfolding auxiliary_type
       type_there = number_found (type_in w s at n i) t q e
@@ -163,7 +160,7 @@ module _ (s : List ℕ) (at n : ℕ) where
 -- ---- an auxiliary file in a table of a variant
 
 module _ (v : ℕ) where
-  module _ (w : ℕ) (e : Bytes w ≡ width_of v) (s : List ℕ) (at n i : ℕ) where
+  module _ (w : ℕ) (e : Ok w ≡ width_of v) (s : List ℕ) (at n i : ℕ) where
     pub variant_type_is : auxiliary_type w s at n i ≡ variant_type v s at n i
     unfolding variant_type
     variant_type_is = rw (← e)
@@ -172,11 +169,11 @@ module _ (v : ℕ) where
     unfolding variant_part
     variant_part_is = rw (← e)
 
-  module _ (r : Refusal) (e : NoWidth r ≡ width_of v) (s : List ℕ) (at n i : ℕ) where
-    pub variant_type_no : NoNumber r ≡ variant_type v s at n i
+  module _ (r : Refusal) (e : Err r ≡ width_of v) (s : List ℕ) (at n i : ℕ) where
+    pub variant_type_no : Err r ≡ variant_type v s at n i
     unfolding variant_type
     variant_type_no = rw (← e)
 
-    pub variant_part_no : NoPart r ≡ variant_part v s at n i
+    pub variant_part_no : Err r ≡ variant_part v s at n i
     unfolding variant_part
     variant_part_no = rw (← e)

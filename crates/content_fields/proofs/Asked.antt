@@ -1,5 +1,6 @@
 -- The fields asked for of an accepted body are its table's: of the body, of its languages, and of their auxiliary files.
 use Prim.Native.Nat.{ℕ, ◌+◌, ◌/◌, ◌≤◌, ◌<◌}
+use Rattle.std.specs.Prelude.{Ok}
 use mathlib.Core.Path.{◌≡◌, refl, sym, ap, subst, ◌∙◌}
 use mathlib.Core.List.{List}
 use native.Mathlib.Omega.{arith}
@@ -12,7 +13,6 @@ use Rattle.body_formats.specs.Format.{number, among, bytes_among, reserved, ◌�
 use Rattle.body_formats.specs.Identifier.{identifier}
 use Rattle.body_formats.specs.Body.{reading}
 use Rattle.body_formats.specs.Answers.{part_of}
-use Rattle.body_formats.specs.declared.Number.TheVariants.{Is}
 use Rattle.body_formats.proofs.Classes.{Bytes, Filling}
 use Rattle.body_formats.proofs.Parts.{view_lawful, exact_filling}
 use Rattle.body_formats.proofs.Elements.{exact_found, view_found, followed_found, list_found}
@@ -194,7 +194,7 @@ module _ (w : ℕ) (s : List ℕ) (b : Bytes s) where
           identifier_is = rw three.0;
           identifier_bytes_lem = identifier_bytes_lem s l 0 x.0 18 three.0 b;
           identifier_digits = λ i h.
-              digit_there identifier s l 0 x.0 18 three.0 i (omega (arith, thirty_five)) ∙ ap (Is (get_or x.0 i 0)) (zero-add ((i + 1) / 2));
+              digit_there identifier s l 0 x.0 18 three.0 i (omega (arith, thirty_five)) ∙ ap (λ b. Ok (get_or x.0 i 0, b)) (zero-add ((i + 1) / 2));
           identifier_past = λ i h. digit_past identifier s l 0 x.0 18 three.0 i (omega (arith, thirty_five));
           extension_is = rw three.0;
           languages_counted_lem = rw three.1;

@@ -1,7 +1,5 @@
 -- What a reader has to believe of the fields asked for of an accepted content table: each is the table's own, and what isn't there is refused.
-use Rattle.std.specs.Prelude.{ℕ, ◌+◌, ◌/◌, ◌≤◌, ◌<◌, ◌≡◌, List, length, get_or, take, drop}
-use Rattle.body_formats.specs.declared.Number.TheVariants.{Is}
-use Rattle.body_formats.specs.declared.Part.TheVariants.{Of}
+use Rattle.std.specs.Prelude.{ℕ, ◌+◌, ◌/◌, ◌≤◌, ◌<◌, ◌≡◌, List, length, get_or, take, drop, Ok}
 use Rattle.body_asking.specs.Agreement.{NoNumberThere, NoPartThere, FillsAt, FollowsLength, InTurn}
 use Rattle.body_formats.specs.Identifier.{identifier}
 use Rattle.body_extension.specs.Extension.{extension_of}
@@ -16,19 +14,19 @@ use Rattle.content_fields.specs.Asked.{identifier_part, identifier_digit, extens
 
 -- auxiliary file number i stands from p to q: "type 8 (free), length 24, data"
 pub record AuxiliaryAsked (w : ℕ) (s : List ℕ) (at n i : ℕ) (a : Auxiliary) (p q : ℕ) : Type 0 where
-  pub type_is : auxiliary_type w s at n i ≡ Is a.type (p + 1)
+  pub type_is : auxiliary_type w s at n i ≡ Ok (a.type, p + 1)
   pub bytes_fill : FillsAt s (p + 1 + w) (auxiliary_part w s at n i) a.bytes
   pub ends : p + 1 + w + length a.bytes ≡ q
 
 pub record FieldsAsked (w : ℕ) (s : List ℕ) (at n : ℕ) (v : Language) : Type 0 where
-  pub letters_are : letters_part s at n ≡ Of at 3
+  pub letters_are : letters_part s at n ≡ Ok (at, 3)
   pub letters_bytes : take 3 (drop at s) ≡ v.letters
-  pub character_set_is : character_set s at n ≡ Is v.character_set (at + 4)
+  pub character_set_is : character_set s at n ≡ Ok (v.character_set, at + 4)
   -- the text follows its length of two bytes, the agency its length of one
   pub text_fills : FillsAt s (at + 6) (text_part s at n) v.text
   pub agency_fills : FillsAt s (at + 7 + length v.text) (agency_part s at n) v.agency
   -- the auxiliary files stand one after the other, from their count to the end of the language
-  pub auxiliaries_counted : auxiliary_count s at n ≡ Is (length v.auxiliaries) (at + 8 + length v.text + length v.agency)
+  pub auxiliaries_counted : auxiliary_count s at n ≡ Ok (length v.auxiliaries, at + 8 + length v.text + length v.agency)
   pub auxiliaries_asked : InTurn (AuxiliaryAsked w s at n) 0 v.auxiliaries (at + 8 + length v.text + length v.agency) (at + n)
   pub type_past : (i : ℕ) → length v.auxiliaries ≤ i → NoNumberThere (auxiliary_type w s at n i)
   pub auxiliary_past : (i : ℕ) → length v.auxiliaries ≤ i → NoPartThere (auxiliary_part w s at n i)
@@ -51,12 +49,12 @@ pub record LanguageAsked (w : ℕ) (s : List ℕ) (i : ℕ) (v : Language) (p q 
 -- ---- the table c of the body s
 
 pub record ContentAsked (w : ℕ) (s : List ℕ) (c : Content) : Type 0 where
-  pub identifier_is : identifier_part s ≡ Of 0 18
+  pub identifier_is : identifier_part s ≡ Ok (0, 18)
   pub identifier_bytes_lem : take 18 s ≡ identifier.print c.identifier
-  pub identifier_digits : (i : ℕ) → i < 35 → identifier_digit s i ≡ Is (get_or c.identifier i 0) ((i + 1) / 2)
+  pub identifier_digits : (i : ℕ) → i < 35 → identifier_digit s i ≡ Ok (get_or c.identifier i 0, (i + 1) / 2)
   pub identifier_past : (i : ℕ) → 35 ≤ i → NoNumberThere (identifier_digit s i)
-  pub extension_is : extension s ≡ Is (extension_of c.identifier) 18
-  pub languages_counted_lem : language_count s ≡ Is (length c.languages) 19
+  pub extension_is : extension s ≡ Ok (extension_of c.identifier, 18)
+  pub languages_counted_lem : language_count s ≡ Ok (length c.languages, 19)
   -- the languages stand one after the other from byte 19 on, and where the last one ends stands the length of the signature
   pub languages_end : ℕ
   pub languages_asked : InTurn (LanguageAsked w s) 0 c.languages 19 languages_end

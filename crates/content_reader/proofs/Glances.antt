@@ -8,7 +8,7 @@ use native.Mathlib.Nat.{one-mul}
 use lib.ListN.{length, get_or, take, drop}
 use lib.Dec.{leb, eqb}
 use borrow.Author.Tests.{le-leb}
-use Rattle.std.specs.Prelude.{if◌then◌else◌}
+use Rattle.std.specs.Prelude.{if◌then◌else◌, Ok, Err}
 use Rattle.ground_refusal.specs.declared.Refusal.TheVariants.{PastPart, OutsideSet}
 use Rattle.body_formats.specs.Format.{number_at, among, below, reserved, every}
 use Rattle.body_formats.proofs.Classes.{Bytes}
@@ -16,7 +16,6 @@ use Rattle.body_glance.specs.Glance.{Reads}
 use Rattle.body_glance.proofs.Finds.{reads_only, reads_pair, reads_view, fills_exact, reads_to}
 use Rattle.body_glance.proofs.Finds.{one_byte, reads_number, reads_reserved, reads_among, reads_part, reads_opaque}
 use Rattle.content_variant.specs.Variant.{width_of, opened}
-use Rattle.content_variant.specs.declared.Width.TheVariants.{Bytes as Wide, Refused as NoWidth}
 use Rattle.content_variant.proofs.Variant.{was_asked}
 use Rattle.content.specs.Content.{Auxiliary, auxiliary, auxiliaries, Language, LanguageFields, language_fields, language}
 
@@ -63,11 +62,11 @@ module _ (s : List ℕ) (p w : ℕ) (b : Bytes s) where
       (_, reads_to (sym there) (reads_part s p 4 b (fills_exact PastPart (omega arith) (reads_view _ _ (reads_to there g.1)))))
 
 -- an auxiliary file's length has three bytes at least
-pub opened_least : (kind v n w : ℕ) → Wide w ≡ opened kind v n → 3 ≤ w
+pub opened_least : (kind v n w : ℕ) → Ok w ≡ opened kind v n → 3 ≤ w
 unfolding width_of
 opened_least kind v n w e = go (eqb v 24) (eqb v 32) (was_asked kind v n w e).1
   where
-    go : (a b : Bool) → Wide w ≡ (if a then Wide 3 else if b then Wide 4 else NoWidth (OutsideSet 0)) → 3 ≤ w
+    go : (a b : Bool) → Ok w ≡ (if a then Ok 3 else if b then Ok 4 else Err (OutsideSet 0)) → 3 ≤ w
     go true b f = let z : w ≡ 3 = cc in omega arith
     go false true f = let z : w ≡ 4 = cc in omega arith
     go false false f = absurd (let z : ◌≡◌ {A = ℕ} 0 1 = cc in omega arith)

@@ -21,8 +21,7 @@ fn good_auxiliaries(s: &[u8], p: usize, l: usize, w: usize) -> bool
         return false;
     }
     let mut at = p + 1;
-    let mut left = count - 0xF0;
-    while 0 < left {
+    for i in 0..count - 0xF0 {
         if l - at <= w {
             return false;
         }
@@ -32,7 +31,6 @@ fn good_auxiliaries(s: &[u8], p: usize, l: usize, w: usize) -> bool
             return false;
         }
         at = data + n;
-        left = left - 1;
     }
     at == l
 }
@@ -82,8 +80,7 @@ fn good_languages(s: &[u8], p: usize, w: usize) -> bool
         return false;
     }
     let mut at = p + 1;
-    let mut left = count - 0xF0;
-    while 0 < left {
+    for i in 0..count - 0xF0 {
         if l - at < 4 {
             return false;
         }
@@ -96,7 +93,6 @@ fn good_languages(s: &[u8], p: usize, w: usize) -> bool
         if !good_language(s, fields, at, w) {
             return false;
         }
-        left = left - 1;
     }
     if l - at < 2 {
         return false;

@@ -1,6 +1,6 @@
 // Walks through the body of a content table, from its auxiliary files up to the whole: each is one field of the format of its name, w the width of an auxiliary file's length.
 ghost use Rattle.std.specs.Prelude.{◌≤◌, length};
-ghost use Rattle.body_formats.specs.Format.{times};
+ghost use Rattle.body_formats.specs.Format.{among, reserved, list_of};
 ghost use Rattle.body_walk.specs.Walked.{Walked};
 ghost use Rattle.content.specs.Content.{auxiliary, auxiliaries, language_fields, language, content};
 
@@ -15,36 +15,17 @@ fn walk_auxiliary(s: &[u8], l: usize, x: Walk, w: usize, tape: &mut [u64], wet: 
     body_walk::walk_part(s, l, a, w, tape, wet)
 }
 
-// n auxiliary files.
-fn walk_all_auxiliaries(
-    s: &[u8],
-    l: usize,
-    x: Walk,
-    w: usize,
-    n: u64,
-    tape: &mut [u64],
-    wet: bool,
-) -> Walk
-    requires { w ≤ 7 }
-    ensures { Walked (times n (auxiliary w)) s.now l x wet tape.old result tape.new }
-{
-    let mut at = x;
-    let mut left = n;
-    while 0 < left {
-        at = walk_auxiliary(s, l, at, w, tape, wet);
-        left = left - 1;
-    }
-    at
-}
-
 // "4 reserved, auxiliary count 4 bits (0 to 2)", and so many auxiliary files.
 fn walk_auxiliaries(s: &[u8], l: usize, x: Walk, w: usize, tape: &mut [u64], wet: bool) -> Walk
     requires { w ≤ 7 }
     ensures { Walked (auxiliaries w) s.now l x wet tape.old result tape.new }
 {
-    let files = body_walk::walk_reserved_among(s, l, x, 4, 0, 0, 2, tape, wet);
-    let at = files.walk;
-    walk_all_auxiliaries(s, l, at, w, files.n, tape, wet)
+    let (first, n) = body_walk::walk_reserved_among(s, l, x, 4, 0, 0, 2, tape, wet)?;
+    let mut at: Walk = Ok(first);
+    for i in 0..n {
+        at = walk_auxiliary(s, l, at, w, tape, wet);
+    }
+    at
 }
 
 // From the letters of a language to its auxiliary files.
@@ -53,8 +34,7 @@ fn walk_language_fields(s: &[u8], l: usize, x: Walk, w: usize, tape: &mut [u64],
     ensures { Walked (language_fields w) s.now l x wet tape.old result tape.new }
 {
     let a = body_walk::walk_bytes(s, l, x, 3, 0x61, 0x7A, tape, wet);
-    let set = body_walk::walk_reserved_among(s, l, a, 5, 0, 0, 4, tape, wet);
-    let b = set.walk;
+    let b = body_walk::onward(body_walk::walk_reserved_among(s, l, a, 5, 0, 0, 4, tape, wet));
     let c = body_walk::walk_part(s, l, b, 2, tape, wet);
     let d = body_walk::walk_part(s, l, c, 1, tape, wet);
     walk_auxiliaries(s, l, d, w, tape, wet)
@@ -65,44 +45,32 @@ fn walk_language(s: &[u8], l: usize, x: Walk, w: usize, tape: &mut [u64], wet: b
     requires { w ≤ 7 }
     ensures { Walked (language w) s.now l x wet tape.old result tape.new }
 {
-    let part = body_walk::enter(s, l, x, 4);
-    let at = part.walk;
-    let a = walk_language_fields(s, part.end, at, w, tape, wet);
-    body_walk::leave(a, part.end)
+    let (at, end) = body_walk::enter(s, l, x, 4)?;
+    let a = walk_language_fields(s, end, Ok(at), w, tape, wet);
+    body_walk::leave(a, end)
 }
 
-// n languages.
-fn walk_all_languages(
-    s: &[u8],
-    l: usize,
-    x: Walk,
-    w: usize,
-    n: u64,
-    tape: &mut [u64],
-    wet: bool,
-) -> Walk
+// "4 reserved, language count 4 bits (1 to 5); each language".
+fn walk_languages(s: &[u8], l: usize, x: Walk, w: usize, tape: &mut [u64], wet: bool) -> Walk
     requires { w ≤ 7 }
-    ensures { Walked (times n (language w)) s.now l x wet tape.old result tape.new }
+    ensures { Walked (list_of (among 1 5 (reserved 4 0)) (language w)) s.now l x wet tape.old result tape.new }
 {
-    let mut at = x;
-    let mut left = n;
-    while 0 < left {
+    let (first, n) = body_walk::walk_reserved_among(s, l, x, 4, 0, 1, 5, tape, wet)?;
+    let mut at: Walk = Ok(first);
+    for i in 0..n {
         at = walk_language(s, l, at, w, tape, wet);
-        left = left - 1;
     }
     at
 }
 
-// The whole table: "4 reserved, 35 digits, 4 reserved, language count 4 bits (1 to 5); each language", the signature, and no byte left.
+// The whole table: "4 reserved, 35 digits", the languages, the signature, and no byte left.
 pub fn walk_content(s: &[u8], x: Walk, w: usize, tape: &mut [u64], wet: bool) -> Walk
     requires { w ≤ 7 }
     ensures { Walked (content w) s.now (length s.now) x wet tape.old result tape.new }
 {
     let l = s.len();
     let a = body_walk::walk_identifier(s, l, x, tape, wet);
-    let languages = body_walk::walk_reserved_among(s, l, a, 4, 0, 1, 5, tape, wet);
-    let at = languages.walk;
-    let b = walk_all_languages(s, l, at, w, languages.n, tape, wet);
+    let b = walk_languages(s, l, a, w, tape, wet);
     let c = body_walk::walk_part(s, l, b, 2, tape, wet);
     body_walk::finish(c, l)
 }

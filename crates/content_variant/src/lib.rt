@@ -7,39 +7,30 @@ ghost use Rattle.content_variant.specs.Variant.{width_of, opened};
 use ground_numbers::{BODY_MOST, CONTENT_KIND};
 use ground_refusal::Refusal;
 
-// How many bytes an auxiliary file's length has, or a refusal.
-#[derive(Clone, Copy)]
-pub enum Width {
-    Bytes(usize),
-    Refused(Refusal),
-}
-
 // "a named variant, 24 or 32 bits", "19 for any other variant".
 #[tactic(auto, unfolding(crate::specs::Variant::width_of))]
-pub fn width_of(variant: u32) -> Width
+pub fn width_of(variant: u32) -> Result<usize, Refusal>
     ensures { result ≡ width_of variant }
 {
     if variant == 24 {
-        return Width::Bytes(3);
+        return Ok(3);
     }
     if variant == 32 {
-        return Width::Bytes(4);
+        return Ok(4);
     }
-    Width::Refused(Refusal::OutsideSet(0))
+    Err(Refusal::OutsideSet(0))
 }
 
 // The kind, the variant and the size, in this order: asked of a body before its fields.
-pub fn open(kind: u32, variant: u32, s: &[u8]) -> Width
+pub fn open(kind: u32, variant: u32, s: &[u8]) -> Result<usize, Refusal>
     ensures { result ≡ opened kind variant (length s.now) }
 {
     if kind != CONTENT_KIND {
-        return Width::Refused(Refusal::OtherKind);
+        return Err(Refusal::OtherKind);
     }
-    if s.len() <= BODY_MOST {
-        return width_of(variant);
+    let w = width_of(variant)?;
+    if BODY_MOST < s.len() {
+        return Err(Refusal::TooLarge);
     }
-    match width_of(variant) {
-        Width::Refused(r) => Width::Refused(r),
-        Width::Bytes(w) => Width::Refused(Refusal::TooLarge),
-    }
+    Ok(w)
 }

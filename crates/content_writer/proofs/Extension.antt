@@ -1,5 +1,6 @@
 -- The written body's extension: it is worked out of the first 18 bytes of the output, which are its identifier.
 use Prim.Native.Nat.{ℕ, ◌≤◌}
+use Rattle.std.specs.Prelude.{Ok, Err}
 use mathlib.Core.Path.{◌≡◌, sym, ap, ◌∙◌}
 use mathlib.Core.List.{List, ◌++◌}
 use native.Mathlib.Omega.{arith}
@@ -11,7 +12,6 @@ use Rattle.crc.specs.Crc.{crc16_after_four}
 use Rattle.body_formats.specs.Reading.{Reading, found, refused}
 use Rattle.body_formats.specs.Answers.{step_of}
 use Rattle.body_formats.specs.Body.{measured, writing, body_written, output_written}
-use Rattle.body_formats.specs.declared.Step.TheVariants.{At, Refused as NoStep}
 use Rattle.body_pen.specs.Penned.{step_fitting}
 use Rattle.body_pen.proofs.Writers.{write_refused}
 use Rattle.body_extension.specs.Extension.{extension_of}
@@ -19,28 +19,27 @@ use Rattle.content.specs.Content.{Content, content}
 use Rattle.content.proofs.RoundTrips.{content_trips}
 use Rattle.content.proofs.Extension.{printed_identifier}
 use Rattle.content_writer.specs.Written.{written_of, content_written}
-use Rattle.content_writer.specs.declared.Written.TheVariants.{Of, Refused}
 
 -- one law over the width of an auxiliary file's length
 module _ (w : ℕ) where
   -- a refusal is the same whether or not an extension is told, and writes no byte
-  pub refused_kept : (pool tape out : List ℕ) (e : Refusal) → step_fitting (length out) (measured (content w) pool tape) ≡ NoStep e
-      → (Refused e ≡ content_written w pool tape (length out)) × (out ≡ output_written (content w) pool tape out)
+  pub refused_kept : (pool tape out : List ℕ) (e : Refusal) → step_fitting (length out) (measured (content w) pool tape) ≡ Err e
+      → (Err e ≡ content_written w pool tape (length out)) × (out ≡ output_written (content w) pool tape out)
   unfolding body_written content_written
   refused_kept pool tape out e f =
       let z = write_refused (content w) pool tape out e f in
       (go (writing (content w) pool tape (length out)) z.0, z.1)
     where
-      go : (y : Reading Content) → NoStep e ≡ step_of y → Refused e ≡ written_of y
+      go : (y : Reading Content) → Err e ≡ step_of y → Err e ≡ written_of y
       go (found c n) g = absurd (let z : ◌≡◌ {A = ℕ} 0 1 = cc in omega arith)
-      go (refused u) g = ap Refused (let z : e ≡ u = cc in z)
+      go (refused u) g = ap Err (let z : e ≡ u = cc in z)
 
-  module _ (pool tape out : List ℕ) (size : ℕ) (said : At size ≡ body_written (content w) pool tape (length out)) where
+  module _ (pool tape out : List ℕ) (size : ℕ) (said : Ok size ≡ body_written (content w) pool tape (length out)) where
     value : (c : Content) × (writing (content w) pool tape (length out) ≡ found c size)
     unfolding body_written
     value = go (writing (content w) pool tape (length out)) said
       where
-        go : (y : Reading Content) → At size ≡ step_of y → (c : Content) × (y ≡ found c size)
+        go : (y : Reading Content) → Ok size ≡ step_of y → (c : Content) × (y ≡ found c size)
         go (found c n) g = (c, ap (found c) (let z : n ≡ size = cc in z))
         go (refused u) g = absurd (let z : ◌≡◌ {A = ℕ} 0 1 = cc in omega arith)
 
@@ -64,6 +63,6 @@ module _ (w : ℕ) where
       first_there k h = sym (length-take-le k now (omega (arith, identifier_fits)))
 
       -- n is what the code works out of the first 18 bytes
-      pub with_extension : (n : ℕ) → n ≡ crc16_after_four (take 18 now) → Of size n ≡ content_written w pool tape (length out)
+      pub with_extension : (n : ℕ) → n ≡ crc16_after_four (take 18 now) → Ok (size, n) ≡ content_written w pool tape (length out)
       unfolding content_written
-      with_extension n h = rw value.1 (ap (Of size) (h ∙ ap crc16_after_four first ∙ identified.1))
+      with_extension n h = rw value.1 (ap (λ b. Ok (size, b)) (h ∙ ap crc16_after_four first ∙ identified.1))

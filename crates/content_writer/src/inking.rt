@@ -24,15 +24,17 @@ fn ink_auxiliaries(pool: &[u8], tape: &[u64], k: usize, w: usize, out: &mut [u8]
 {
     let n = tape[k];
     body_ink::number(out, at, 1, 0xF0 + n);
-    let mut past = at + 1;
-    let mut entry = k + 1;
-    let mut left = n;
-    while 0 < left {
-        past = ink_auxiliary(pool, tape, entry, w, out, past);
-        entry = entry + 3;
-        left = left - 1;
+    let mut past = Mark {
+        at: at + 1,
+        entry: k + 1,
+    };
+    for _ in 0..n {
+        past = Mark {
+            at: ink_auxiliary(pool, tape, past.entry, w, out, past.at),
+            entry: past.entry + 3,
+        };
     }
-    Mark { at: past, entry }
+    past
 }
 
 // "16-bit text length, text, 8-bit agency length, agency", and auxiliary files.
@@ -86,16 +88,14 @@ fn ink_languages(pool: &[u8], tape: &[u64], k: usize, w: usize, out: &mut [u8], 
 {
     let n = tape[k];
     body_ink::number(out, at, 1, 0xF0 + n);
-    let mut past = at + 1;
-    let mut entry = k + 1;
-    let mut left = n;
-    while 0 < left {
-        let next = ink_language(pool, tape, entry, w, out, past);
-        past = next.at;
-        entry = next.entry;
-        left = left - 1;
+    let mut past = Mark {
+        at: at + 1,
+        entry: k + 1,
+    };
+    for _ in 0..n {
+        past = ink_language(pool, tape, past.entry, w, out, past.at);
     }
-    Mark { at: past, entry }
+    past
 }
 
 // The whole table: its identifier, its languages and the signature.

@@ -10,39 +10,26 @@ ghost use Rattle.content.specs.Content.{content};
 ghost use Rattle.content_writer.specs.Written.{content_written, variant_measured, variant_written, variant_output};
 
 use body_formats::Step;
-use body_pen::Pen;
-use content_variant::Width;
 use ground_refusal::Refusal;
-
-// The length of a written body and its extension, or a refusal.
-#[derive(Clone, Copy)]
-pub enum Written {
-    Of(usize, u32),
-    Refused(Refusal),
-}
 
 // The body of a form measured, w the width in bytes of an auxiliary file's length.
 fn measure_wide(w: usize, pool: &[u8], tape: &[u64]) -> Step
     requires { w ≤ 7 }
     ensures { result ≡ measured (content w) pool.now tape.now }
 {
-    let past = measuring::pen_content(pool, tape, Pen::At(0, 0), w);
+    let past = measuring::pen_content(pool, tape, Ok((0, 0)), w);
     body_pen::measured(past, tape.len())
 }
 
 // And written: all is measured before a byte is written.
-fn write_wide(w: usize, pool: &[u8], tape: &[u64], out: &mut [u8]) -> Written
+fn write_wide(w: usize, pool: &[u8], tape: &[u64], out: &mut [u8]) -> Result<(usize, u32), Refusal>
     requires { w ≤ 7 }
     ensures said { result ≡ content_written w pool.now tape.now (length out.old) }
     ensures left { out.new ≡ output_written (content w) pool.now tape.now out.old }
 {
-    match body_pen::fitted(measure_wide(w, pool, tape), out.len()) {
-        Step::Refused(r) => Written::Refused(r),
-        Step::At(size) => {
-            inking::ink_content(pool, tape, w, out);
-            Written::Of(size, crc::crc16_after_four(&out[..18]) as u32)
-        }
-    }
+    let size = body_pen::fitted(measure_wide(w, pool, tape), out.len())?;
+    inking::ink_content(pool, tape, w, out);
+    Ok((size, crc::crc16_after_four(&out[..18]) as u32))
 }
 
 // Judges the variant and then the body of a form, and measures it: how long it is, or the first field that is refused and the entry where
@@ -50,19 +37,20 @@ fn write_wide(w: usize, pool: &[u8], tape: &[u64], out: &mut [u8]) -> Written
 pub fn measure(variant: u32, pool: &[u8], tape: &[u64]) -> Step
     ensures { result ≡ variant_measured variant pool.now tape.now }
 {
-    match content_variant::width_of(variant) {
-        Width::Refused(r) => Step::Refused(r),
-        Width::Bytes(w) => measure_wide(w, pool, tape),
-    }
+    let w = content_variant::width_of(variant)?;
+    measure_wide(w, pool, tape)
 }
 
 // Writes the table that the form lays out, a tape of numbers and a pool of bytes, at the start of out.
-pub fn write(variant: u32, pool: &[u8], tape: &[u64], out: &mut [u8]) -> Written
+pub fn write(
+    variant: u32,
+    pool: &[u8],
+    tape: &[u64],
+    out: &mut [u8],
+) -> Result<(usize, u32), Refusal>
     ensures said { result ≡ variant_written variant pool.now tape.now (length out.old) }
     ensures left { out.new ≡ variant_output variant pool.now tape.now out.old }
 {
-    match content_variant::width_of(variant) {
-        Width::Refused(r) => Written::Refused(r),
-        Width::Bytes(w) => write_wide(w, pool, tape, out),
-    }
+    let w = content_variant::width_of(variant)?;
+    write_wide(w, pool, tape, out)
 }

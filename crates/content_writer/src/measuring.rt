@@ -21,21 +21,11 @@ fn pen_auxiliaries(pool: &[u8], tape: &[u64], x: Pen, w: usize) -> Pen
     requires { w ≤ 7 }
     ensures { result ≡ penned (auxiliaries w) pool.now tape.now x }
 {
-    let things = body_pen::pen_reserved_among(tape, x, 4, 0, 0, 2);
-    let mut pen = things.pen;
-    let mut left = things.n;
-    while 0 < left {
-        match pen_auxiliary(pool, tape, pen, w) {
-            Pen::Refused(r) => {
-                return Pen::Refused(r);
-            }
-            Pen::At(size, k) => {
-                pen = Pen::At(size, k);
-            }
-        }
-        left = left - 1;
+    let (mut past, n) = body_pen::pen_reserved_among(tape, x, 4, 0, 0, 2)?;
+    for _ in 0..n {
+        past = pen_auxiliary(pool, tape, Ok(past), w)?;
     }
-    pen
+    Ok(past)
 }
 
 // "32-bit length, three letters a to z, 5 reserved, character set 3 bits (0 to 4)", text, agency and auxiliary files, which fill it.
@@ -45,9 +35,8 @@ fn pen_language(pool: &[u8], tape: &[u64], x: Pen, w: usize) -> Pen
 {
     let a = body_pen::gap(x, 4);
     let b = body_pen::pen_bytes(pool, tape, a, 3, 0x61, 0x7A);
-    let set = body_pen::pen_reserved_among(tape, b, 5, 0, 0, 4);
-    let c = set.pen;
-    let d = body_pen::pen_part(pool, tape, c, 2);
+    let (c, set) = body_pen::pen_reserved_among(tape, b, 5, 0, 0, 4)?;
+    let d = body_pen::pen_part(pool, tape, Ok(c), 2);
     let e = body_pen::pen_part(pool, tape, d, 1);
     let f = pen_auxiliaries(pool, tape, e, w);
     body_pen::close(x, f, 4, 4294967296)
@@ -58,21 +47,11 @@ fn pen_languages(pool: &[u8], tape: &[u64], x: Pen, w: usize) -> Pen
     requires { w ≤ 7 }
     ensures { result ≡ penned (list_of (among 1 5 (reserved 4 0)) (language w)) pool.now tape.now x }
 {
-    let things = body_pen::pen_reserved_among(tape, x, 4, 0, 1, 5);
-    let mut pen = things.pen;
-    let mut left = things.n;
-    while 0 < left {
-        match pen_language(pool, tape, pen, w) {
-            Pen::Refused(r) => {
-                return Pen::Refused(r);
-            }
-            Pen::At(size, k) => {
-                pen = Pen::At(size, k);
-            }
-        }
-        left = left - 1;
+    let (mut past, n) = body_pen::pen_reserved_among(tape, x, 4, 0, 1, 5)?;
+    for _ in 0..n {
+        past = pen_language(pool, tape, Ok(past), w)?;
     }
-    pen
+    Ok(past)
 }
 
 // The whole table: its identifier, its languages and the signature.

@@ -1,5 +1,6 @@
 -- An account tells what each feed answers: a box that stands for an account decides as the account says, whichever way its verdict goes.
 use Prim.Native.Nat.{ℕ}
+use Rattle.std.specs.Prelude.{Result, Ok, Err}
 use mathlib.Core.Path.{◌≡◌, refl, sym, ◌∙◌, ap, ap₂}
 use mathlib.Core.Bool.{Bool, true, false, ◌||◌, or-true}
 use mathlib.Core.List.{List, [], ◌∷◌, Memᴰ as In}
@@ -9,16 +10,15 @@ use Rattle.ground_refusal.specs.declared.Refusal.TheVariants.{NotCurrent, OtherH
 use Rattle.ground_choices.proofs.Tests.{refuted}
 use Rattle.section_reader.specs.Section.{payload_of, read_section}
 use Rattle.section_reader.specs.declared.Heading.{Heading}
-use Rattle.section_reader.specs.declared.Sectioned.TheVariants.{Good, Refused as NotGood}
 use Rattle.gathering_state.specs.State.{fresh_state, possible_of, has_room, held_payload}
 use Rattle.gathering_state.specs.declared.Gathering.{Gathering}
 use Rattle.gathering_tables.specs.Tables.{same_table, is_newer}
 use Rattle.gathering_verdict.specs.Deciding.{agrees, begins, verdict_of}
 use Rattle.gathering_feed.specs.Feeding.{answer_by}
-use Rattle.gathering_feed.specs.declared.Answer.TheVariants.{Taken, HeldAlready, Refused}
+use Rattle.gathering_feed.specs.declared.Answer.TheVariants.{Taken, HeldAlready}
 use Rattle.gathering_feed.specs.declared.Fed.{Fed}
 use Rattle.gathering_verdict.specs.declared.Verdict.{Verdict}
-use Rattle.gathering_verdict.specs.declared.Verdict.TheVariants.{Refuse, Begin}
+use Rattle.gathering_verdict.specs.declared.Verdict.TheVariants.{Begin}
 use Rattle.gathering_verdict.proofs.Verdicts.{verdict_bad, verdict_good, Decided, old, other, short, begun, spoiled, new, again, clash, decided}
 use Rattle.gathering_feed.proofs.Steps.{feeds}
 use Rattle.gathering_account.specs.Account.{heard, Section, Account, idle, table, account_after, account, Agree, Present}
@@ -34,20 +34,20 @@ use Rattle.gathering_account.proofs.Feeds.{feed_stands, fresh_run}
 -- ---- what leads to each answer of the account
 
 module _ (S : List Section) (s : Section) where
-  answer_spoiled : agreeing S ≡ false → answer_of_table S s ≡ Refused Contradiction
+  answer_spoiled : agreeing S ≡ false → answer_of_table S s ≡ Err Contradiction
   unfolding answer_of_table
   answer_spoiled a = simp (a, or-true)
 
-  answer_clash : differs s S ≡ true → answer_of_table S s ≡ Refused Contradiction
+  answer_clash : differs s S ≡ true → answer_of_table S s ≡ Err Contradiction
   unfolding answer_of_table
   answer_clash d = rw d
 
   module _ (d : differs s S ≡ false) (a : agreeing S ≡ true) where
-    answer_again : present s.number S ≡ true → answer_of_table S s ≡ HeldAlready
+    answer_again : present s.number S ≡ true → answer_of_table S s ≡ Ok HeldAlready
     unfolding answer_of_table
     answer_again p = rw (d, a, p)
 
-    answer_new : present s.number S ≡ false → answer_of_table S s ≡ Taken
+    answer_new : present s.number S ≡ false → answer_of_table S s ≡ Ok Taken
     unfolding answer_of_table
     answer_new p = rw (d, a, p)
 
@@ -58,16 +58,16 @@ module _ (room : ℕ → Bool) (h : Heading) (p : List ℕ) where
   answer_begins idle b = refl
   answer_begins (table t S) b = rw b
 
-  answer_short : room h.last ≡ false → answer_of_first room h ≡ Refused StoreTooShort
+  answer_short : room h.last ≡ false → answer_of_first room h ≡ Err StoreTooShort
   unfolding answer_of_first
   answer_short r = rw r
 
-  answer_first : room h.last ≡ true → answer_of_first room h ≡ Taken
+  answer_first : room h.last ≡ true → answer_of_first room h ≡ Ok Taken
   unfolding answer_of_first
   answer_first r = rw r
 
   module _ (t : Heading) (S : List Section) (b : is_newer t h ≡ false) where
-    answer_other : same_table t h ≡ false → answer_of_good room (table t S) h p ≡ Refused OtherHeading
+    answer_other : same_table t h ≡ false → answer_of_good room (table t S) h p ≡ Err OtherHeading
     unfolding answer_of_good
     answer_other e = rw (b, e)
 
@@ -76,12 +76,12 @@ module _ (room : ℕ → Bool) (h : Heading) (p : List ℕ) where
     answer_same e = rw (b, e)
 
 module _ (room : ℕ → Bool) (a : Account) (s : List ℕ) where
-  answer_bad : (r : Refusal) → read_section s ≡ NotGood r → answer_to room a s ≡ Refused r
+  answer_bad : (r : Refusal) → read_section s ≡ Err r → answer_to room a s ≡ Err r
   unfolding answer_to answer_of_read
   answer_bad r e = rw e
 
-  module _ (h : Heading) (n : ℕ) (e : read_section s ≡ Good h n) where
-    answer_old : h.current ≡ false → answer_to room a s ≡ Refused NotCurrent
+  module _ (h : Heading) (n : ℕ) (e : read_section s ≡ Ok (h, n)) where
+    answer_old : h.current ≡ false → answer_to room a s ≡ Err NotCurrent
     unfolding answer_to answer_of_read
     answer_old c = rw (e, c)
 
@@ -95,7 +95,7 @@ module _ {g : Gathering} {store : List ℕ} {S : List Section} (kept : Kept g st
   agreed : agreeing S ≡ true
   agreed = agree_agreeing S (kept_agree kept)
 
-  unheld : get_or g.held s.number 0 ≡ 0 → answer_of_table S s ≡ Taken
+  unheld : get_or g.held s.number 0 ≡ 0 → answer_of_table S s ≡ Ok Taken
   unfolding Present
   unheld z =
       answer_new S s (alike_differs s S (λ t i n. absurd (absent t i (sym n)))) agreed
@@ -105,12 +105,12 @@ module _ {g : Gathering} {store : List ℕ} {S : List Section} (kept : Kept g st
       absent t i n = kept.held t i (ap (λ (k : ℕ). get_or g.held k 0) n ∙ z)
 
   module _ (held : get_or g.held s.number 0 ≡ 0 → ⊥) where
-    held_same : held_payload g store s.number ≡ s.contents → answer_of_table S s ≡ HeldAlready
+    held_same : held_payload g store s.number ≡ s.contents → answer_of_table S s ≡ Ok HeldAlready
     held_same q =
         answer_again S s (alike_differs s S (λ t i n. sym q ∙ ap (held_payload g store) n ∙ kept.stored t i)) agreed
         (is_present s.number S (kept.only s.number held))
 
-    held_differing : (held_payload g store s.number ≡ s.contents → ⊥) → answer_of_table S s ≡ Refused Contradiction
+    held_differing : (held_payload g store s.number ≡ s.contents → ⊥) → answer_of_table S s ≡ Err Contradiction
     unfolding Present
     held_differing q = answer_clash S s (go (differs s S) refl)
       where
@@ -122,11 +122,11 @@ module _ {g : Gathering} {store : List ℕ} {S : List Section} (kept : Kept g st
 
 -- ---- a good section, by the ways that its verdict can go
 
-module _ (bytes : ℕ) (box : Box) (s : List ℕ) (h : Heading) (n : ℕ) (e : read_section s ≡ Good h n) where
-  abbrev Tells : Account → Verdict → Type 0
+module _ (bytes : ℕ) (box : Box) (s : List ℕ) (h : Heading) (n : ℕ) (e : read_section s ≡ Ok (h, n)) where
+  abbrev Tells : Account → Result Verdict Refusal → Type 0
   Tells a v = answer_to (has_room bytes) a s ≡ answer_by v
 
-  abbrev Ways : Verdict → Type 0
+  abbrev Ways : Result Verdict Refusal → Type 0
   Ways = Decided box.state box.store h (payload_of s)
 
   -- it begins its table
@@ -134,11 +134,11 @@ module _ (bytes : ℕ) (box : Box) (s : List ℕ) (h : Heading) (n : ℕ) (e : r
     begins_tells : answer_to (has_room bytes) a s ≡ answer_of_first (has_room bytes) h
     begins_tells = answer_good (has_room bytes) a s h n e c ∙ answer_begins (has_room bytes) h (payload_of s) a b
 
-    short_tells : has_room (length box.store) h.last ≡ false → Tells a (Refuse StoreTooShort)
+    short_tells : has_room (length box.store) h.last ≡ false → Tells a (Err StoreTooShort)
     unfolding answer_by
     short_tells r = begins_tells ∙ answer_short (has_room bytes) h (payload_of s) (rw l at r)
 
-    first_tells : has_room (length box.store) h.last ≡ true → Tells a (Begin h)
+    first_tells : has_room (length box.store) h.last ≡ true → Tells a (Ok (Begin h))
     unfolding answer_by
     first_tells r = begins_tells ∙ answer_first (has_room bytes) h (payload_of s) (rw l at r)
 
@@ -151,7 +151,7 @@ module _ (bytes : ℕ) (box : Box) (s : List ℕ) (h : Heading) (n : ℕ) (e : r
     unfolding begins_after
     idle_begins = refl
 
-    fresh_tells : (v : Verdict) → Ways v → Tells idle v
+    fresh_tells : (v : Result Verdict Refusal) → Ways v → Tells idle v
     unfolding answer_by
     fresh_tells v (old c) = answer_old (has_room bytes) idle s h n e c
     fresh_tells v (other c b a) = never (begins box.state h) first b
@@ -171,11 +171,11 @@ module _ (bytes : ℕ) (box : Box) (s : List ℕ) (h : Heading) (n : ℕ) (e : r
     unfolding begins_after
     newer_begins b = sym (fixed_begins x h) ∙ b
 
-    old_tells : h.current ≡ false → Tells (table t S) (Refuse NotCurrent)
+    old_tells : h.current ≡ false → Tells (table t S) (Err NotCurrent)
     unfolding answer_by
     old_tells = answer_old (has_room bytes) (table t S) s h n e
 
-    other_tells : h.current ≡ true → begins box.state h ≡ false → agrees box.state h ≡ false → Tells (table t S) (Refuse OtherHeading)
+    other_tells : h.current ≡ true → begins box.state h ≡ false → agrees box.state h ≡ false → Tells (table t S) (Err OtherHeading)
     unfolding answer_by
     other_tells c b a =
         answer_good (has_room bytes) (table t S) s h n e c
@@ -183,10 +183,10 @@ module _ (bytes : ℕ) (box : Box) (s : List ℕ) (h : Heading) (n : ℕ) (e : r
 
     -- 10 is of a newer table
     shut_tells : h.current ≡ true → begins box.state h || agrees box.state h ≡ true → has_room (length box.store) h.last ≡ false
-        → Tells (table t S) (Refuse StoreTooShort)
+        → Tells (table t S) (Err StoreTooShort)
     shut_tells c k r = go (begins box.state h) refl k
       where
-        go : (b : Bool) → begins box.state h ≡ b → b || agrees box.state h ≡ true → Tells (table t S) (Refuse StoreTooShort)
+        go : (b : Bool) → begins box.state h ≡ b → b || agrees box.state h ≡ true → Tells (table t S) (Err StoreTooShort)
         go true b k = short_tells (table t S) (newer_begins b) c l r
         go false b k = fixed_not_short x h box.store l k r
 
@@ -196,7 +196,7 @@ module _ (bytes : ℕ) (box : Box) (s : List ℕ) (h : Heading) (n : ℕ) (e : r
         answer_good (has_room bytes) (table t S) s h n e c
         ∙ answer_same (has_room bytes) h (payload_of s) t S (sym (fixed_begins x h) ∙ b) (sym (fixed_agrees x h) ∙ a)
 
-    calm_tells : box.state.spoiled ≡ 0 → Kept box.state box.store S → (v : Verdict) → Ways v → Tells (table t S) v
+    calm_tells : box.state.spoiled ≡ 0 → Kept box.state box.store S → (v : Result Verdict Refusal) → Ways v → Tells (table t S) v
     unfolding answer_by
     calm_tells z k v (old c) = old_tells c
     calm_tells z k v (other c b a) = other_tells c b a
@@ -207,7 +207,7 @@ module _ (bytes : ℕ) (box : Box) (s : List ℕ) (h : Heading) (n : ℕ) (e : r
     calm_tells z k v (again y u q) = same_tells y.current y.further y.agreed ∙ held_same k section u q
     calm_tells z k v (clash y u q) = same_tells y.current y.further y.agreed ∙ held_differing k section u q
 
-    spoiled_tells : (box.state.spoiled ≡ 0 → ⊥) → (Agree S → ⊥) → (v : Verdict) → Ways v → Tells (table t S) v
+    spoiled_tells : (box.state.spoiled ≡ 0 → ⊥) → (Agree S → ⊥) → (v : Result Verdict Refusal) → Ways v → Tells (table t S) v
     unfolding answer_by
     spoiled_tells z k v (old c) = old_tells c
     spoiled_tells z k v (other c b a) = other_tells c b a
@@ -221,11 +221,11 @@ module _ (bytes : ℕ) (box : Box) (s : List ℕ) (h : Heading) (n : ℕ) (e : r
 -- ---- any byte string, and any list of them
 
 module _ (bytes : ℕ) (box : Box) (s : List ℕ) where
-  answer_by_lem : (v : Verdict) → verdict_of box.state box.store s ≡ v → fed_answer box s ≡ answer_by v
+  answer_by_lem : (v : Result Verdict Refusal) → verdict_of box.state box.store s ≡ v → fed_answer box s ≡ answer_by v
   answer_by_lem v e = sym (ap (λ (f : Fed). f.answer) (feeds box.state box.store s v e).0)
 
-  good_tells : {a : Account} → Stands bytes box a → (h : Heading) (n : ℕ) → read_section s ≡ Good h n
-      → (v : Verdict) → Decided box.state box.store h (payload_of s) v → answer_to (has_room bytes) a s ≡ answer_by v
+  good_tells : {a : Account} → Stands bytes box a → (h : Heading) (n : ℕ) → read_section s ≡ Ok (h, n)
+      → (v : Result Verdict Refusal) → Decided box.state box.store h (payload_of s) v → answer_to (has_room bytes) a s ≡ answer_by v
   good_tells (fresh_stands z l) h n e = fresh_tells bytes box s h n e z l
   good_tells (calm_stands {t} {S} x l z k) h n e = calm_tells bytes box s h n e t S x l z k
   good_tells (spoiled_stands {t} {S} x l z k o) h n e = spoiled_tells bytes box s h n e t S x l z k
@@ -238,7 +238,7 @@ module _ (bytes : ℕ) (box : Box) (s : List ℕ) where
       go (as_good h n e) =
           answer_by_lem _ (verdict_good box.state box.store s (stands_possible st) h n e)
           ∙ sym (good_tells st h n e _ (decided box.state box.store h (payload_of s)))
-      go (as_bad r e) = answer_by_lem (Refuse r) (verdict_bad box.state box.store s (stands_possible st) r e) ∙ sym (answer_bad (has_room bytes) a s r e)
+      go (as_bad r e) = answer_by_lem (Err r) (verdict_bad box.state box.store s (stands_possible st) r e) ∙ sym (answer_bad (has_room bytes) a s r e)
 
 all_answer : (bytes : ℕ) (fed : List (List ℕ)) → ByteStrings fed → (box : Box) (a : Account) → Stands bytes box a
     → answers_of box fed ≡ answers_to (has_room bytes) a fed

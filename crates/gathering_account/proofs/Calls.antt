@@ -1,5 +1,6 @@
 -- Demand 3 with both ways of handing out, over any run of calls: each call keeps what a box stands for, and so what the account says of the next one holds.
 use Prim.Native.Nat.{ℕ, zero, suc, ◌+◌, ◌≤◌, ◌<◌}
+use Rattle.std.specs.Prelude.{Ok, Err}
 use mathlib.Core.Path.{◌≡◌, refl, sym, ◌∙◌, ap}
 use mathlib.Core.Bool.{Bool, true, false, false≢true}
 use mathlib.Core.List.Memᴰ
@@ -15,8 +16,6 @@ use Rattle.ground_choices.proofs.Tests.{both, refuted}
 use Rattle.gathering_state.specs.State.{has_room}
 use Rattle.gathering_state.proofs.State.{counts_right}
 use Rattle.gathering_hand_out.specs.Handing.{body_held as joined_body, complete_of}
-use Rattle.gathering_hand_out.specs.declared.Completeness.TheVariants.{Complete as AllThere, Refused as NotAllThere}
-use Rattle.gathering_hand_out.specs.declared.Handed.TheVariants.{Body}
 use Rattle.gathering_pack.specs.declared.Packed.{Packed}
 use Rattle.gathering_pack.proofs.Packing.{packs_refused, packs_complete, packs_counted, packs_long}
 use Rattle.gathering_account.specs.Account.{heard, Section, Account, idle, table, account_after, account, Present, Covered, Complete, body_of}
@@ -68,16 +67,16 @@ is_complete_lem (table h S) c = rw (is_covering (h.last + 1) S (λ k l. c.0 k (o
 -- ---- packing, by what a box finds
 
 module _ (box : Box) where
-  packs_nothing : (r : Refusal) → complete_of box.state (length box.store) ≡ NotAllThere r → PacksNothing box r
+  packs_nothing : (r : Refusal) → complete_of box.state (length box.store) ≡ Err r → PacksNothing box r
   unfolding pack
   packs_nothing r e = let p = packs_refused box.state box.store r e in record { answers = sym (ap (λ (x : Packed). x.answer) p.0); leaves = rw (← p.0, ← p.1) }
 
   module _ (few : length box.state.held ≤ 256) where
-    packs_all : (body : List ℕ) → complete_of box.state (length box.store) ≡ AllThere → joined_body box.state box.store ≡ body → Packs box body
+    packs_all : (body : List ℕ) → complete_of box.state (length box.store) ≡ (Ok tt) → joined_body box.state box.store ≡ body → Packs box body
     unfolding pack fresh_box
     packs_all body e b =
         let p = packs_complete box.state box.store e in
-        let told : packed_answer box ≡ Body (length body) = sym (ap (λ (x : Packed). x.answer) p.0) ∙ ap (λ (l : List ℕ). Body (length l)) b in
+        let told : packed_answer box ≡ Ok (length body) = sym (ap (λ (x : Packed). x.answer) p.0) ∙ ap (λ (l : List ℕ). Ok (length l)) b in
         record { answers = told; leaves = rw (← b, ← p.0, ← p.1); counted = packs_counted box.state box.store few (length body) told }
 
     packs_by : {a : Account} → Finds box.state box.store a → PackAnswers box a
@@ -89,10 +88,10 @@ module _ (box : Box) where
 -- ---- what the answers say of a body
 
 module _ {box : Box} where
-  no_body : {A : Type 0} {r : Refusal} → PacksNothing box r → (n : ℕ) → packed_answer box ≡ Body n → A
+  no_body : {A : Type 0} {r : Refusal} → PacksNothing box r → (n : ℕ) → packed_answer box ≡ Ok n → A
   no_body e n f = let z : ◌≡◌ {A = ℕ} 0 1 = cc in absurd (omega arith)
 
-  only_complete : {a : Account} → PackAnswers box a → (n : ℕ) → packed_answer box ≡ Body n → Complete a
+  only_complete : {a : Account} → PackAnswers box a → (n : ℕ) → packed_answer box ≡ Ok n → Complete a
   only_complete (none_to_pack e) n b = no_body e n b
   only_complete (differing d e) n b = no_body e n b
   only_complete (lacking k a m e) n b = no_body e n b

@@ -1,5 +1,7 @@
 -- The numbers that a state keeps: a possible state stays possible, whatever is fed, so they stay right; only "taken" changes them; and what they say of a body.
 use Prim.Native.Nat.{ℕ, ◌+◌, ◌≤◌}
+use Rattle.std.specs.Prelude.{Result, Ok, Err}
+use Rattle.ground_refusal.specs.declared.Refusal.{Refusal}
 use mathlib.Core.Path.{◌≡◌, refl, sym, ◌∙◌}
 use mathlib.Core.Bool.{true}
 use mathlib.Core.List.Memᴰ
@@ -9,7 +11,6 @@ use lib.ListN.{length, length-take, length-set}
 use Rattle.crc.specs.Crc.{AreBytes}
 use Rattle.section_reader.specs.Section.{payload_of, read_section, WellFormed}
 use Rattle.section_reader.specs.declared.Heading.{Heading}
-use Rattle.section_reader.specs.declared.Sectioned.TheVariants.{Good}
 use Rattle.section_reader.proofs.RoundTrip.{good_printed}
 use Rattle.gathering_state.specs.State.{lengths, possible_of, CountsRight, opened, with_section, spoiled_state}
 use Rattle.gathering_state.specs.declared.Gathering.{Gathering}
@@ -18,11 +19,10 @@ use Rattle.gathering_state.proofs.State.{Begun, possible_begun, begun_possible, 
 use Rattle.gathering_verdict.specs.Deciding.{verdict_of}
 use Rattle.gathering_feed.specs.Feeding.{answer_by, state_by, fed_of}
 use Rattle.gathering_verdict.specs.declared.Verdict.{Verdict}
-use Rattle.gathering_verdict.specs.declared.Verdict.TheVariants.{Refuse, Repeat, Contradict, Begin, Take}
+use Rattle.gathering_verdict.specs.declared.Verdict.TheVariants.{Repeat, Contradict, Begin, Take}
 use Rattle.gathering_feed.specs.declared.Answer.TheVariants.{Taken}
 use Rattle.gathering_verdict.proofs.Verdicts.{Heard, agrees_is, further_begun, verdict_bad, verdict_good, Decided, old, other, short, begun, spoiled, new, again, clash, decided}
 use Rattle.gathering_hand_out.specs.Handing.{body_held, handed_of}
-use Rattle.gathering_hand_out.specs.declared.Handed.TheVariants.{Body}
 use Rattle.gathering_hand_out.proofs.Handing.{in_store_length, whole_in_store, handed_whole}
 use Rattle.gathering_account.specs.Gathers.{Box, ByteStrings, feed, box_after}
 use Rattle.gathering_account.proofs.Hearing.{as_good, as_bad, ReadAs, read_as, feed_by}
@@ -43,7 +43,7 @@ section_sound : (g : Gathering) (k n : ℕ) → Begun (with_section g k n) → l
 unfolding with_section
 section_sound g k n b l = record { possible = begun_possible (with_section g k n) b; long = length-set g.held k (n + 1) ∙ l }
 
-module _ (g : Gathering) (store s : List ℕ) (are_bytes : AreBytes s) (sound : Sound g) (h : Heading) (n : ℕ) (e : read_section s ≡ Good h n) where
+module _ (g : Gathering) (store s : List ℕ) (are_bytes : AreBytes s) (sound : Sound g) (h : Heading) (n : ℕ) (e : read_section s ≡ Ok (h, n)) where
   formed : WellFormed h
   formed = (good_printed s h n are_bytes e).formed
 
@@ -54,7 +54,7 @@ module _ (g : Gathering) (store s : List ℕ) (are_bytes : AreBytes s) (sound : 
   heard_begun d = possible_begun g sound.possible (further_begun g h d.further)
 
   -- by the ways out for a good section
-  good_sound : {v : Verdict} → Decided g store h (payload_of s) v → Sound (state_by g (payload_of s) v)
+  good_sound : {v : Result Verdict Refusal} → Decided g store h (payload_of s) v → Sound (state_by g (payload_of s) v)
   unfolding state_by opened
   good_sound (old c) = sound
   good_sound (other c b a) = sound
@@ -81,7 +81,7 @@ feed_sound box s are_bytes sound = go (read_as s)
     go (as_good h n e) =
         rw (feed_by box s _ (verdict_good box.state box.store s sound.possible h n e))
         (good_sound box.state box.store s are_bytes sound h n e (decided box.state box.store h (payload_of s)))
-    go (as_bad r e) = rw (feed_by box s (Refuse r) (verdict_bad box.state box.store s sound.possible r e)) sound
+    go (as_bad r e) = rw (feed_by box s (Err r) (verdict_bad box.state box.store s sound.possible r e)) sound
 
 run_sound : (box : Box) (fed : List (List ℕ)) → ByteStrings fed → Sound box.state → Sound (box_after box fed).state
 unfolding box_after ByteStrings
@@ -99,22 +99,22 @@ module _ (box : Box) (long : length box.state.held ≡ 256) (p : possible_of box
   counts_stay_right = counts_right (box_after box fed).state stays_possible
 
 -- a repeat, a contradiction and every other refusal leave them
-by_verdict : (g : Gathering) (payload : List ℕ) (v : Verdict) → (answer_by v ≡ Taken → ⊥)
+by_verdict : (g : Gathering) (payload : List ℕ) (v : Result Verdict Refusal) → (answer_by v ≡ (Ok Taken) → ⊥)
     → ((state_by g payload v).missing ≡ g.missing) × ((state_by g payload v).bytes ≡ g.bytes)
 unfolding answer_by state_by spoiled_state
-by_verdict g payload (Refuse r) f = (refl, refl)
-by_verdict g payload Repeat f = (refl, refl)
-by_verdict g payload Contradict f = (refl, refl)
-by_verdict g payload (Begin h) f = absurd (f refl)
-by_verdict g payload (Take h) f = absurd (f refl)
+by_verdict g payload (Err r) f = (refl, refl)
+by_verdict g payload (Ok Repeat) f = (refl, refl)
+by_verdict g payload (Ok Contradict) f = (refl, refl)
+by_verdict g payload (Ok (Begin h)) f = absurd (f refl)
+by_verdict g payload (Ok (Take h)) f = absurd (f refl)
 
-pub untaken_counts : (g : Gathering) (store s : List ℕ) → ((fed_of g store s).answer ≡ Taken → ⊥)
+pub untaken_counts : (g : Gathering) (store s : List ℕ) → ((fed_of g store s).answer ≡ (Ok Taken) → ⊥)
     → ((fed_of g store s).state.missing ≡ g.missing) × ((fed_of g store s).state.bytes ≡ g.bytes)
 unfolding fed_of
 untaken_counts g store s = by_verdict g (payload_of s) (verdict_of g store s)
 
 -- of a table that is handed out no section is missing, and its bytes are the body's
-pub whole_counts : (g : Gathering) (store out : List ℕ) (n : ℕ) → length g.held ≡ 256 → g.last ≤ 255 → handed_of g store out ≡ Body n
+pub whole_counts : (g : Gathering) (store out : List ℕ) (n : ℕ) → length g.held ≡ 256 → g.last ≤ 255 → handed_of g store out ≡ Ok n
     → (g.missing ≡ 0) × (g.bytes ≡ n)
 unfolding body_held lengths
 whole_counts g store out n long low e =

@@ -1,13 +1,13 @@
 -- Demand 3, for any list of byte strings, good and bad, that are fed to a fresh state and any store: "a body is handed out exactly when the good, current
 -- sections of the fixed table cover every number and no two of one number differ, and it is their contents in number order".
 use Prim.Native.Nat.{ℕ, ◌≤◌}
+use Rattle.std.specs.Prelude.{Ok}
 use mathlib.Core.Path.{◌≡◌}
 use mathlib.Core.List.{List}
 use native.Mathlib.Omega.{arith}
 use lib.ListN.{length}
 use Rattle.ground_refusal.specs.declared.Refusal.{Refusal}
 use Rattle.gathering_state.specs.State.{has_room}
-use Rattle.gathering_hand_out.specs.declared.Handed.TheVariants.{Body}
 use Rattle.gathering_account.specs.Account.{Account, idle, account, Covered, Complete, body_of}
 use Rattle.gathering_account.specs.Gathers.{Box, fresh_box, ByteStrings, box_after, handing, HandsOut, Refuses, Fixes, Gathers, Answers, nothing_begun_lem, two_differ, one_missing, too_small, handed_out}
 use Rattle.gathering_account.proofs.Standing.{Stands, fresh_stands, calm_stands, spoiled_stands}
@@ -18,10 +18,10 @@ use Rattle.gathering_account.proofs.Handing.{answers_by}
 -- ---- what the answers say of a body
 
 module _ {box : Box} {out : List ℕ} where
-  no_body : {A : Type 0} {r : Refusal} → Refuses box out r → (n : ℕ) → handing box out ≡ Body n → A
+  no_body : {A : Type 0} {r : Refusal} → Refuses box out r → (n : ℕ) → handing box out ≡ Ok n → A
   no_body e n f = let z : ◌≡◌ {A = ℕ} 0 1 = cc in absurd (omega arith)
 
-  only_complete : {a : Account} → Answers box out a → (n : ℕ) → handing box out ≡ Body n → Complete a
+  only_complete : {a : Account} → Answers box out a → (n : ℕ) → handing box out ≡ Ok n → Complete a
   only_complete (nothing_begun_lem e) n b = no_body e n b
   only_complete (two_differ d e) n b = no_body e n b
   only_complete (one_missing k a m e) n b = no_body e n b
@@ -36,7 +36,7 @@ module _ {box : Box} {out : List ℕ} where
   when_complete (too_small c m e) d l = absurd (omega arith)
   when_complete (handed_out c m e) d l = e
 
-  what_body : {a : Account} → Answers box out a → (n : ℕ) → handing box out ≡ Body n → HandsOut box out (body_of a)
+  what_body : {a : Account} → Answers box out a → (n : ℕ) → handing box out ≡ Ok n → HandsOut box out (body_of a)
   what_body (nothing_begun_lem e) n b = no_body e n b
   what_body (two_differ d e) n b = no_body e n b
   what_body (one_missing k a m e) n b = no_body e n b

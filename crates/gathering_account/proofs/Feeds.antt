@@ -1,5 +1,6 @@
 -- Each feed keeps what a box stands for, by the ways that its verdict can go; and so does a run of feeds.
 use Prim.Native.Nat.{ℕ, ◌+◌, ◌≤◌}
+use Rattle.std.specs.Prelude.{Result, Ok, Err}
 use mathlib.Core.Path.{◌≡◌, refl, sym, ◌∙◌, ap}
 use mathlib.Core.Bool.{Bool, true, false, ◌||◌}
 use mathlib.Core.List.Memᴰ
@@ -11,7 +12,6 @@ use Rattle.ground_choices.proofs.Tests.{refuted}
 use Rattle.ground_refusal.specs.declared.Refusal.{Refusal}
 use Rattle.section_reader.specs.Section.{payload_of, read_section, WellFormed}
 use Rattle.section_reader.specs.declared.Heading.{Heading}
-use Rattle.section_reader.specs.declared.Sectioned.TheVariants.{Good}
 use Rattle.ground_placing.specs.Placed.{placed}
 use Rattle.ground_placing.proofs.Placing.{placed_length}
 use Rattle.section_reader.proofs.RoundTrip.{good_printed}
@@ -21,7 +21,7 @@ use Rattle.gathering_state.proofs.State.{place_within, OfTable, opened_table, se
 use Rattle.gathering_verdict.specs.Deciding.{agrees, begins, verdict_of}
 use Rattle.gathering_feed.specs.Feeding.{state_by, store_by}
 use Rattle.gathering_verdict.specs.declared.Verdict.{Verdict}
-use Rattle.gathering_verdict.specs.declared.Verdict.TheVariants.{Refuse, Repeat, Contradict, Begin, Take}
+use Rattle.gathering_verdict.specs.declared.Verdict.TheVariants.{Repeat, Contradict, Begin, Take}
 use Rattle.gathering_verdict.proofs.Verdicts.{SameHeading, verdict_bad, verdict_good, Decided, old, other, short, begun, spoiled, new, again, clash, decided}
 use Rattle.gathering_account.specs.Account.{heard, Section, Account, idle, table, account_after, account, Agree}
 use Rattle.gathering_account.specs.Latest.{begins_after}
@@ -35,7 +35,7 @@ use Rattle.gathering_account.proofs.Standing.{Fixed, Stands, fresh_stands, calm_
 
 -- ---- a good section
 
-module _ (bytes : ℕ) (box : Box) (s : List ℕ) (are_bytes : AreBytes s) (h : Heading) (n : ℕ) (e : read_section s ≡ Good h n) where
+module _ (bytes : ℕ) (box : Box) (s : List ℕ) (are_bytes : AreBytes s) (h : Heading) (n : ℕ) (e : read_section s ≡ Ok (h, n)) where
   abbrev g : Gathering
   g = box.state
 
@@ -77,22 +77,22 @@ module _ (bytes : ℕ) (box : Box) (s : List ℕ) (are_bytes : AreBytes s) (h : 
       (kept_more b box.store S kept h.number p unheld (omega arith) of_table.short within l))
 
   -- it begins its table, whatever the box holds
-  takes_first : length box.store ≡ bytes → has_room (length box.store) h.last ≡ true → verdict_of g box.store s ≡ Begin h
+  takes_first : length box.store ≡ bytes → has_room (length box.store) h.last ≡ true → verdict_of g box.store s ≡ Ok (Begin h)
       → Stands bytes (feed box s) (table h (section ∷ []))
   unfolding state_by store_by opened
   takes_first l roomy f =
       let w = formed in
       takes (opened h) h [] (opened_table h (formed_kind h w) w.version_high) (opened_long h) (kept_none (opened h) box.store (opened_held h))
-      (opened_calm h) (record { kind = refl; extension = refl; version = refl; last = refl }) refl roomy l (opened_held h h.number) (feed_by box s (Begin h) f)
+      (opened_calm h) (record { kind = refl; extension = refl; version = refl; last = refl }) refl roomy l (opened_held h h.number) (feed_by box s (Ok (Begin h)) f)
 
   starts : (a : Account) → begins_after a h ≡ true → h.current ≡ true → length box.store ≡ bytes → has_room (length box.store) h.last ≡ true
-      → verdict_of g box.store s ≡ Begin h → Stands bytes (feed box s) (account_after (has_room bytes) a (heard s))
+      → verdict_of g box.store s ≡ Ok (Begin h) → Stands bytes (feed box s) (account_after (has_room bytes) a (heard s))
   starts a b c l r f = rw (heard_good s h n e c, counted_first (has_room bytes) h p (rw l at r) a b) (takes_first l r f)
 
   -- the feed changes nothing, nor does what is heard
-  still : (a : Account) → Stands bytes box a → (r : Refusal) → verdict_of g box.store s ≡ Refuse r → (a' : Account) → a' ≡ a → Stands bytes (feed box s) a'
+  still : (a : Account) → Stands bytes box a → (r : Refusal) → verdict_of g box.store s ≡ Err r → (a' : Account) → a' ≡ a → Stands bytes (feed box s) a'
   unfolding state_by store_by
-  still a st r v a' q = let i : feed box s ≡ box = feed_by box s (Refuse r) v in rw (i, q) st
+  still a st r v a' q = let i : feed box s ≡ box = feed_by box s (Err r) v in rw (i, q) st
 
   unheard : (a : Account) → h.current ≡ false → account_after (has_room bytes) a (heard s) ≡ a
   unheard a c = ap (account_after (has_room bytes) a) (heard_old s h n e c) ∙ counted_nothing (has_room bytes) a
@@ -111,7 +111,7 @@ module _ (bytes : ℕ) (box : Box) (s : List ℕ) (are_bytes : AreBytes s) (h : 
     unfolding begins_after
     idle_begins = refl
 
-    good_fresh : (v : Verdict) → verdict_of g box.store s ≡ v → Decided g box.store h p v → Stands bytes (feed box s) (account_after (has_room bytes) idle (heard s))
+    good_fresh : (v : Result Verdict Refusal) → verdict_of g box.store s ≡ v → Decided g box.store h p v → Stands bytes (feed box s) (account_after (has_room bytes) idle (heard s))
     good_fresh v f (old c) = still idle (fresh_stands z l) _ f _ (unheard idle c)
     good_fresh v f (other c b a) = never (begins g h) first b
     good_fresh v f (short c k r) = still idle (fresh_stands z l) _ f _ (unroomed idle idle_begins c l r)
@@ -142,7 +142,7 @@ module _ (bytes : ℕ) (box : Box) (s : List ℕ) (are_bytes : AreBytes s) (h : 
         go true b k = unroomed (table t S) (newer_begins b) c l r
         go false b k = fixed_not_short x h box.store l k r
 
-    good_calm : g.spoiled ≡ 0 → Kept g box.store S → (v : Verdict) → verdict_of g box.store s ≡ v → Decided g box.store h p v
+    good_calm : g.spoiled ≡ 0 → Kept g box.store S → (v : Result Verdict Refusal) → verdict_of g box.store s ≡ v → Decided g box.store h p v
         → Stands bytes (feed box s) (account_after (has_room bytes) (table t S) (heard s))
     unfolding state_by store_by
     good_calm z k v f (old c) = still (table t S) (calm_stands x l z k) _ f _ (unheard (table t S) c)
@@ -153,17 +153,17 @@ module _ (bytes : ℕ) (box : Box) (s : List ℕ) (are_bytes : AreBytes s) (h : 
     good_calm z k v f (new y u) =
         let a = fixed_heading_lem x h y.agreed in
         rw (counts y.current y.agreed)
-        (takes g t S x.begun.of_table x.long k z x.same (sym a.last ∙ x.same.last) y.roomy l u (feed_by box s (Take h) f))
+        (takes g t S x.begun.of_table x.long k z x.same (sym a.last ∙ x.same.last) y.roomy l u (feed_by box s (Ok (Take h)) f))
     good_calm z k v f (again y u q) =
-        rw (counts y.current y.agreed, feed_by box s Repeat f) (calm_stands x l z (kept_again g box.store S k section u q))
+        rw (counts y.current y.agreed, feed_by box s (Ok Repeat) f) (calm_stands x l z (kept_again g box.store S k section u q))
     good_calm z k v f (clash y u q) =
         let no = kept_clash g box.store S k section u q in
         let clashes : agreeing (S ++ section ∷ []) ≡ false = sym (refuted (agreeing (S ++ section ∷ [])) (λ e. no (agreeing_is _ e))) in
         let front = undisputed_clash S section (agree_agreeing S (kept_agree k)) clashes in
-        rw (counts y.current y.agreed, feed_by box s Contradict f)
+        rw (counts y.current y.agreed, feed_by box s (Ok Contradict) f)
         (spoiled_stands (fixed_spoiled g bytes t x) l (spoiled_marked g) no (rw front (kept_spoiled k)))
 
-    good_spoiled : (g.spoiled ≡ 0 → ⊥) → (Agree S → ⊥) → Kept g box.store (undisputed S) → (v : Verdict) → verdict_of g box.store s ≡ v → Decided g box.store h p v
+    good_spoiled : (g.spoiled ≡ 0 → ⊥) → (Agree S → ⊥) → Kept g box.store (undisputed S) → (v : Result Verdict Refusal) → verdict_of g box.store s ≡ v → Decided g box.store h p v
         → Stands bytes (feed box s) (account_after (has_room bytes) (table t S) (heard s))
     good_spoiled z k o v f (old c) = still (table t S) (spoiled_stands x l z k o) _ f _ (unheard (table t S) c)
     good_spoiled z k o v f (other c b a) = still (table t S) (spoiled_stands x l z k o) _ f _ (passes c b a)
@@ -179,8 +179,8 @@ module _ (bytes : ℕ) (box : Box) (s : List ℕ) (are_bytes : AreBytes s) (h : 
 -- ---- any byte string, and any list of them
 
 module _ (bytes : ℕ) (box : Box) (s : List ℕ) (are_bytes : AreBytes s) where
-  feed_good : {a : Account} → Stands bytes box a → (h : Heading) (n : ℕ) → read_section s ≡ Good h n
-      → (v : Verdict) → verdict_of box.state box.store s ≡ v → Decided box.state box.store h (payload_of s) v
+  feed_good : {a : Account} → Stands bytes box a → (h : Heading) (n : ℕ) → read_section s ≡ Ok (h, n)
+      → (v : Result Verdict Refusal) → verdict_of box.state box.store s ≡ v → Decided box.state box.store h (payload_of s) v
       → Stands bytes (feed box s) (account_after (has_room bytes) a (heard s))
   feed_good (fresh_stands z l) h n e = good_fresh bytes box s are_bytes h n e z l
   feed_good (calm_stands {t} {S} x l z k) h n e = good_calm bytes box s are_bytes h n e t S x l z k
@@ -194,7 +194,7 @@ module _ (bytes : ℕ) (box : Box) (s : List ℕ) (are_bytes : AreBytes s) where
       go (as_good h n e) =
           feed_good st h n e _ (verdict_good box.state box.store s (stands_possible st) h n e) (decided box.state box.store h (payload_of s))
       go (as_bad r e) =
-          rw (heard_bad s r e, counted_nothing (has_room bytes) a, feed_by box s (Refuse r) (verdict_bad box.state box.store s (stands_possible st) r e)) st
+          rw (heard_bad s r e, counted_nothing (has_room bytes) a, feed_by box s (Err r) (verdict_bad box.state box.store s (stands_possible st) r e)) st
 
 pub run_stands : (bytes : ℕ) (fed : List (List ℕ)) → ByteStrings fed → (box : Box) (a : Account) → Stands bytes box a
     → Stands bytes (box_after box fed) (account (has_room bytes) a fed)

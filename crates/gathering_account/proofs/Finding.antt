@@ -1,5 +1,6 @@
 -- Whether all of a table is there: what a box finds is told by the account that it stands for, and a whole table's joined payloads are its body.
 use Prim.Native.Nat.{ℕ, zero, suc, ◌+◌, ◌-◌, ◌≤◌, ◌<◌}
+use Rattle.std.specs.Prelude.{Ok, Err}
 use mathlib.Core.Path.{◌≡◌, refl, sym, ◌∙◌, ap}
 use mathlib.Core.Bool.{Bool, true, false}
 use mathlib.Core.List.{List, [], ◌∷◌}
@@ -16,7 +17,6 @@ use Rattle.gathering_state.specs.declared.Gathering.{Gathering}
 use Rattle.gathering_state.proofs.Lists.{missing_before}
 use Rattle.gathering_state.proofs.State.{begun_possible, begun_some, fresh_possible}
 use Rattle.gathering_hand_out.specs.Handing.{body_held as joined_body, complete_of}
-use Rattle.gathering_hand_out.specs.declared.Completeness.TheVariants.{Complete as AllThere, Refused as NotAllThere}
 use Rattle.gathering_hand_out.proofs.Handing.{missing_some, Whole, complete_fresh, complete_spoiled, complete_calm, whole_complete}
 use Rattle.gathering_account.specs.Account.{Section, Account, idle, table, Agree, Present, Covered, Complete, contents_of, in_order, body_of}
 use Rattle.gathering_account.specs.Gathers.{Box, SmallestMissing}
@@ -25,11 +25,11 @@ use Rattle.gathering_account.proofs.Standing.{Fixed, Stands, fresh_stands, calm_
 use Rattle.gathering_account.proofs.Joining.{contents_are, joined_order}
 
 pub data Finds (g : Gathering) (store : List ℕ) : Account → Type 0 where
-  finds_nothing : complete_of g (length store) ≡ NotAllThere (Missing 0) → Finds g store idle
-  finds_differing : {t : Heading} {S : List Section} → (Agree S → ⊥) → complete_of g (length store) ≡ NotAllThere Contradiction → Finds g store (table t S)
+  finds_nothing : complete_of g (length store) ≡ Err (Missing 0) → Finds g store idle
+  finds_differing : {t : Heading} {S : List Section} → (Agree S → ⊥) → complete_of g (length store) ≡ Err Contradiction → Finds g store (table t S)
   finds_missing : {t : Heading} {S : List Section} (k : ℕ) → Agree S → SmallestMissing k t.last S
-      → complete_of g (length store) ≡ NotAllThere (Missing k) → Finds g store (table t S)
-  finds_whole : {t : Heading} {S : List Section} → Complete (table t S) → complete_of g (length store) ≡ AllThere
+      → complete_of g (length store) ≡ Err (Missing k) → Finds g store (table t S)
+  finds_whole : {t : Heading} {S : List Section} → Complete (table t S) → complete_of g (length store) ≡ Ok tt
       → joined_body g store ≡ body_of (table t S) → Finds g store (table t S)
 
 -- the smallest missing number is missing

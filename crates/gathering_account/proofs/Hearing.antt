@@ -1,13 +1,12 @@
 -- What is heard of a byte string by how it is read, how it is counted, and what a feed makes of a box by its verdict.
 use Prim.Native.Nat.{ℕ}
+use Rattle.std.specs.Prelude.{Result, Ok, Err}
 use mathlib.Core.Path.{◌≡◌, refl}
 use mathlib.Core.Bool.{Bool, true, false}
 use mathlib.Core.List.{List, [], ◌∷◌, ◌++◌}
 use Rattle.ground_refusal.specs.declared.Refusal.{Refusal}
 use Rattle.section_reader.specs.Section.{payload_of, read_section}
 use Rattle.section_reader.specs.declared.Heading.{Heading}
-use Rattle.section_reader.specs.declared.Sectioned.{Sectioned}
-use Rattle.section_reader.specs.declared.Sectioned.TheVariants.{Good, Refused}
 use Rattle.gathering_verdict.specs.Deciding.{verdict_of}
 use Rattle.gathering_feed.specs.Feeding.{state_by, store_by}
 use Rattle.gathering_verdict.specs.declared.Verdict.{Verdict}
@@ -22,22 +21,22 @@ use Rattle.gathering_account.specs.Gathers.{Box, feed}
 
 -- how a byte string is read
 pub data ReadAs (s : List ℕ) : Type 0 where
-  as_good : (h : Heading) (n : ℕ) → read_section s ≡ Good h n → ReadAs s
-  as_bad : (r : Refusal) → read_section s ≡ Refused r → ReadAs s
+  as_good : (h : Heading) (n : ℕ) → read_section s ≡ Ok (h, n) → ReadAs s
+  as_bad : (r : Refusal) → read_section s ≡ Err r → ReadAs s
 
 pub read_as : (s : List ℕ) → ReadAs s
 read_as s = go (read_section s) refl
   where
-    go : (r : Sectioned) → read_section s ≡ r → ReadAs s
-    go (Good h n) e = as_good h n e
-    go (Refused r) e = as_bad r e
+    go : (r : Result (Heading × ℕ) Refusal) → read_section s ≡ r → ReadAs s
+    go (Ok (h, n)) e = as_good h n e
+    go (Err r) e = as_bad r e
 
 module _ (s : List ℕ) where
-  pub heard_bad : (r : Refusal) → read_section s ≡ Refused r → heard s ≡ nothing
+  pub heard_bad : (r : Refusal) → read_section s ≡ Err r → heard s ≡ nothing
   unfolding heard heard_as
   heard_bad r e = rw e
 
-  module _ (h : Heading) (n : ℕ) (e : read_section s ≡ Good h n) where
+  module _ (h : Heading) (n : ℕ) (e : read_section s ≡ Ok (h, n)) where
     pub heard_old : h.current ≡ false → heard s ≡ nothing
     unfolding heard heard_as
     heard_old c = rw (e, c)
@@ -88,7 +87,7 @@ module _ (room : ℕ → Bool) where
 
 -- ---- fed
 
-pub feed_by : (box : Box) (s : List ℕ) (v : Verdict) → verdict_of box.state box.store s ≡ v
+pub feed_by : (box : Box) (s : List ℕ) (v : Result Verdict Refusal) → verdict_of box.state box.store s ≡ v
     → feed box s ≡ record { state = state_by box.state (payload_of s) v; store = store_by box.store (payload_of s) v }
 unfolding feed
 feed_by box s v e = let f = feeds box.state box.store s v e in rw (← f.0, ← f.1)

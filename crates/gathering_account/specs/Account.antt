@@ -1,10 +1,9 @@
 -- What a reader has to believe of a run of feeds: what it gathers, told by the byte strings alone, with no state and no store.
-use Rattle.std.specs.Prelude.{ℕ, zero, suc, ◌+◌, ◌≤◌, ◌≡◌, Bool, eqb, if◌then◌else◌}
+use Rattle.std.specs.Prelude.{ℕ, zero, suc, ◌+◌, ◌≤◌, ◌≡◌, Bool, eqb, if◌then◌else◌, Result, Ok, Err}
+use Rattle.ground_refusal.specs.declared.Refusal.{Refusal}
 use mathlib.Core.List.{List, [], ◌∷◌, ◌++◌, Memᴰ as In}
 use Rattle.section_reader.specs.Section.{payload_of, read_section}
 use Rattle.section_reader.specs.declared.Heading.{Heading}
-use Rattle.section_reader.specs.declared.Sectioned.{Sectioned}
-use Rattle.section_reader.specs.declared.Sectioned.TheVariants.{Good, Refused}
 use Rattle.gathering_tables.specs.Tables.{same_table, is_newer}
 
 -- ---- what is heard
@@ -15,9 +14,9 @@ pub data Heard : Type 0 where
   good_current : Heading → List ℕ → Heard
 
 -- "A section is good if none of 1 to 7 applies (feeding takes all four kinds), and current if 8 doesn't"
-unfoldable pub heard_as : List ℕ → Sectioned → Heard
-heard_as s (Refused r) = nothing
-heard_as s (Good h n) = if h.current then good_current h (payload_of s) else nothing
+unfoldable pub heard_as : List ℕ → Result (Heading × ℕ) Refusal → Heard
+heard_as s (Err r) = nothing
+heard_as s (Ok (h, n)) = if h.current then good_current h (payload_of s) else nothing
 
 unfoldable pub heard : List ℕ → Heard
 heard s = heard_as s (read_section s)

@@ -1,5 +1,5 @@
 -- What a reader has to believe of a run of calls, feeds and both ways of handing out in any order: what each does to a box, and what the account makes of it.
-use Rattle.std.specs.Prelude.{ℕ, zero, suc, ◌+◌, ◌≡◌, Bool, true, false, ◌&&◌, ◌↔◌, length, if◌then◌else◌}
+use Rattle.std.specs.Prelude.{ℕ, zero, suc, ◌+◌, ◌≡◌, Bool, true, false, ◌&&◌, ◌↔◌, length, if◌then◌else◌, Result, Ok, Err}
 use mathlib.Core.List.{List, [], ◌∷◌, Memᴰ as In}
 use Rattle.crc.specs.Crc.{AreBytes}
 use Rattle.ground_refusal.specs.declared.Refusal.{Refusal}
@@ -7,8 +7,6 @@ use Rattle.ground_refusal.specs.declared.Refusal.TheVariants.{Contradiction, Mis
 use Rattle.ground_placing.specs.Placed.{placed}
 use Rattle.section_reader.specs.declared.Heading.{Heading}
 use Rattle.gathering_state.specs.State.{possible_of, CountsRight}
-use Rattle.gathering_hand_out.specs.declared.Handed.{Handed}
-use Rattle.gathering_hand_out.specs.declared.Handed.TheVariants.{Body, Refused}
 use Rattle.gathering_pack.specs.Packing.{packing_of, store_packed}
 use Rattle.gathering_account.specs.Account.{heard, Section, Account, idle, table, account_after, Agree, Complete, body_of}
 use Rattle.gathering_account.specs.Answering.{present, agreeing, answer_to}
@@ -16,7 +14,7 @@ use Rattle.gathering_account.specs.Gathers.{Box, fresh_box, feed, fed_answer, Fi
 
 -- ---- packing: the other way of handing out
 
-abbrev pub packed_answer : Box → Handed
+abbrev pub packed_answer : Box → Result ℕ Refusal
 packed_answer box = (packing_of box.state box.store).answer
 
 unfoldable pub pack : Box → Box
@@ -24,7 +22,7 @@ pack box = record { state = (packing_of box.state box.store).state; store = stor
 
 -- this body is packed: "the joined body there, its length, and a fresh state"; "bytes beyond the body keep their values"
 pub record Packs (box : Box) (body : List ℕ) : Type 0 where
-  pub answers : packed_answer box ≡ Body (length body)
+  pub answers : packed_answer box ≡ Ok (length body)
   -- a fresh box over the store as it now stands, so that all that is said of a fresh box holds from here on
   pub leaves : pack box ≡ fresh_box (placed box.store 0 body)
   -- "The total of held bytes before equals the body length after"
@@ -32,7 +30,7 @@ pub record Packs (box : Box) (body : List ℕ) : Type 0 where
 
 -- nothing is packed, and nothing changes
 pub record PacksNothing (box : Box) (r : Refusal) : Type 0 where
-  pub answers : packed_answer box ≡ Refused r
+  pub answers : packed_answer box ≡ Err r
   pub leaves : pack box ≡ box
 
 -- every answer: "12, 13, 10, 11, 13 in handing-out order, with no 21", or the body
@@ -96,4 +94,4 @@ pub record Serves (room : ℕ → Bool) (a : Account) (box : Box) : Type 0 where
   pub hands_out : (out : List ℕ) → Answers box out a
   pub packs : PackAnswers box a
   -- "a body is handed out exactly when" the account is complete, in this way too
-  pub packs_exactly : ((n : ℕ) × (packed_answer box ≡ Body n)) ↔ Complete a
+  pub packs_exactly : ((n : ℕ) × (packed_answer box ≡ Ok n)) ↔ Complete a

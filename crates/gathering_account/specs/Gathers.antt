@@ -1,5 +1,5 @@
 -- What a reader has to believe of demand 3: what a box with a state and a store, and its handing out, have to do with the account of what it was fed.
-use Rattle.std.specs.Prelude.{ℕ, ◌≤◌, ◌<◌, ◌≡◌, length}
+use Rattle.std.specs.Prelude.{ℕ, ◌≤◌, ◌<◌, ◌≡◌, length, Result, Ok, Err}
 use mathlib.Core.List.{List, [], ◌∷◌, Memᴰ as In}
 use Rattle.crc.specs.Crc.{AreBytes}
 use Rattle.ground_refusal.specs.declared.Refusal.{Refusal}
@@ -11,8 +11,6 @@ use Rattle.gathering_state.specs.declared.Gathering.{Gathering}
 use Rattle.gathering_feed.specs.Feeding.{fed_of, store_after}
 use Rattle.gathering_feed.specs.declared.Answer.{Answer}
 use Rattle.gathering_hand_out.specs.Handing.{handed_of, out_after}
-use Rattle.gathering_hand_out.specs.declared.Handed.{Handed}
-use Rattle.gathering_hand_out.specs.declared.Handed.TheVariants.{Body, Refused}
 use Rattle.gathering_account.specs.Account.{Section, Account, idle, table, Agree, Present, Complete, body_of}
 
 -- ---- a run of feeds
@@ -38,16 +36,16 @@ box_after box [] = box
 box_after box (s ∷ fed) = box_after (feed box s) fed
 
 -- what a feed answers, and all the feeds of a run, in its order
-abbrev pub fed_answer : Box → List ℕ → Answer
+abbrev pub fed_answer : Box → List ℕ → Result Answer Refusal
 fed_answer box s = (fed_of box.state box.store s).answer
 
-unfoldable pub answers_of : Box → List (List ℕ) → List Answer
+unfoldable pub answers_of : Box → List (List ℕ) → List (Result Answer Refusal)
 answers_of box [] = []
 answers_of box (s ∷ fed) = fed_answer box s ∷ answers_of (feed box s) fed
 
 -- ---- handing out
 
-abbrev pub handing : Box → List ℕ → Handed
+abbrev pub handing : Box → List ℕ → Result ℕ Refusal
 handing box out = handed_of box.state box.store out
 
 abbrev pub handed_output : Box → List ℕ → List ℕ
@@ -55,12 +53,12 @@ handed_output box out = out_after box.state box.store out
 
 -- this body is handed out, "at the start of the output; bytes after it stay"
 pub record HandsOut (box : Box) (out body : List ℕ) : Type 0 where
-  pub answers : handing box out ≡ Body (length body)
+  pub answers : handing box out ≡ Ok (length body)
   pub writes : handed_output box out ≡ placed out 0 body
 
 -- nothing is handed out; a refusal "writes no byte"
 pub record Refuses (box : Box) (out : List ℕ) (r : Refusal) : Type 0 where
-  pub answers : handing box out ≡ Refused r
+  pub answers : handing box out ≡ Err r
   pub writes : handed_output box out ≡ out
 
 -- ---- handing out, by the account
@@ -74,11 +72,11 @@ Fixes (table h S) g = (g.kind ≡ h.kind) × (g.extension ≡ h.extension) × (g
 pub record Gathers (a : Account) (box : Box) (out : List ℕ) : Type 0 where
   pub fixed : Fixes a box.state
   -- "a body is handed out exactly when" the account is complete: only then,
-  pub only_when : (n : ℕ) → handing box out ≡ Body n → Complete a
+  pub only_when : (n : ℕ) → handing box out ≡ Ok n → Complete a
   -- and then, if the output has room for it;
   pub when : Complete a → length (body_of a) ≤ length out → HandsOut box out (body_of a)
   -- "and it is their contents in number order"
-  pub body_is : (n : ℕ) → handing box out ≡ Body n → HandsOut box out (body_of a)
+  pub body_is : (n : ℕ) → handing box out ≡ Ok n → HandsOut box out (body_of a)
 
 -- "13: a section is missing; the smallest missing number is shown"
 pub record SmallestMissing (k last : ℕ) (S : List Section) : Type 0 where

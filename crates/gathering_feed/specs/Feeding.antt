@@ -1,5 +1,6 @@
 -- What a reader has to believe of feeding: what each verdict makes of answer, state and store.
-use Rattle.std.specs.Prelude.{ℕ, ◌+◌, ◌≤◌, List, length}
+use Rattle.std.specs.Prelude.{ℕ, ◌+◌, ◌≤◌, List, length, Result, Ok, Err}
+use Rattle.ground_refusal.specs.declared.Refusal.{Refusal}
 use Rattle.ground_refusal.specs.declared.Refusal.TheVariants.{Contradiction}
 use Rattle.section_reader.specs.Section.{payload_of}
 use Rattle.ground_placing.specs.Placed.{placed}
@@ -8,34 +9,34 @@ use Rattle.gathering_state.specs.State.{place, opened, with_section, spoiled_sta
 use Rattle.gathering_state.specs.declared.Gathering.{Gathering}
 use Rattle.gathering_verdict.specs.Deciding.{verdict_of}
 use Rattle.gathering_verdict.specs.declared.Verdict.{Verdict}
-use Rattle.gathering_verdict.specs.declared.Verdict.TheVariants.{Refuse, Repeat, Contradict, Begin, Take}
+use Rattle.gathering_verdict.specs.declared.Verdict.TheVariants.{Repeat, Contradict, Begin, Take}
 use Rattle.gathering_feed.specs.declared.Answer.{Answer}
-use Rattle.gathering_feed.specs.declared.Answer.TheVariants.{Taken, HeldAlready, Refused}
+use Rattle.gathering_feed.specs.declared.Answer.TheVariants.{Taken, HeldAlready}
 use Rattle.gathering_feed.specs.declared.Fed.{Fed}
 
-unfoldable pub answer_by : Verdict → Answer
-answer_by (Refuse r) = Refused r
-answer_by Repeat = HeldAlready
-answer_by Contradict = Refused Contradiction
-answer_by (Begin h) = Taken
-answer_by (Take h) = Taken
+unfoldable pub answer_by : Result Verdict Refusal → Result Answer Refusal
+answer_by (Err r) = Err r
+answer_by (Ok Repeat) = Ok HeldAlready
+answer_by (Ok Contradict) = Err Contradiction
+answer_by (Ok (Begin h)) = Ok Taken
+answer_by (Ok (Take h)) = Ok Taken
 
 -- "Only 11 for a contradiction changes state: the gathering is spoiled"; "A repeat [..] changes nothing". What begins does so in a table of its own:
 -- nothing of an older one is held or counted, nor is its spoil kept.
-unfoldable pub state_by : Gathering → List ℕ → Verdict → Gathering
-state_by g payload (Refuse r) = g
-state_by g payload Repeat = g
-state_by g payload Contradict = spoiled_state g
-state_by g payload (Begin h) = with_section (opened h) h.number (length payload)
-state_by g payload (Take h) = with_section g h.number (length payload)
+unfoldable pub state_by : Gathering → List ℕ → Result Verdict Refusal → Gathering
+state_by g payload (Err r) = g
+state_by g payload (Ok Repeat) = g
+state_by g payload (Ok Contradict) = spoiled_state g
+state_by g payload (Ok (Begin h)) = with_section (opened h) h.number (length payload)
+state_by g payload (Ok (Take h)) = with_section g h.number (length payload)
 
 -- "A taken payload of number k goes to byte k × 4,084 of the store; all other store bytes stay"
-unfoldable pub store_by : List ℕ → List ℕ → Verdict → List ℕ
-store_by store payload (Refuse r) = store
-store_by store payload Repeat = store
-store_by store payload Contradict = store
-store_by store payload (Begin h) = placed store (place h.number) payload
-store_by store payload (Take h) = placed store (place h.number) payload
+unfoldable pub store_by : List ℕ → List ℕ → Result Verdict Refusal → List ℕ
+store_by store payload (Err r) = store
+store_by store payload (Ok Repeat) = store
+store_by store payload (Ok Contradict) = store
+store_by store payload (Ok (Begin h)) = placed store (place h.number) payload
+store_by store payload (Ok (Take h)) = placed store (place h.number) payload
 
 -- the answer and the state after the byte string s is fed
 unfoldable pub fed_of : Gathering → List ℕ → List ℕ → Fed

@@ -1,5 +1,6 @@
 -- Laws of handing out: what leads to each answer, and what is known where a table is complete.
 use Prim.Native.Nat.{ℕ, ◌+◌, ◌-◌, ◌*◌, ◌≤◌, ◌<◌}
+use Rattle.std.specs.Prelude.{Result, Ok, Err}
 use mathlib.Core.Path.{◌≡◌, refl, sym, ◌∙◌, ap}
 use mathlib.Core.Bool.{true, false, not}
 use mathlib.Core.List.{List}
@@ -9,37 +10,27 @@ use borrow.Author.Tests.{not-false, eq-eqb, ne_eqb, eqb-true, lt-ltb, le-ltb, lt
 use lib.Dec.{eqb, ltb}
 use lib.ListN.{length, get_or, length-take}
 use Rattle.ground_refusal.specs.declared.Refusal.{Refusal}
-use Rattle.ground_refusal.specs.declared.Refusal.TheVariants.{StoreTooShort, Contradiction, ImpossibleState, Missing, OutputTooSmall}
+use Rattle.ground_refusal.specs.declared.Refusal.TheVariants.{Contradiction, Missing, OutputTooSmall}
 use Rattle.ground_placing.specs.Placed.{placed}
 use Rattle.gathering_state.specs.Lists.{smallest_missing, total}
-use Rattle.gathering_state.specs.State.{numbers_of, state_of, possible_of, nothing_begun, place, has_room, lengths}
+use Rattle.gathering_state.specs.State.{possible_of, nothing_begun, place, has_room, lengths}
 use Rattle.gathering_state.specs.declared.Gathering.{Gathering}
-use Rattle.gathering_state.specs.declared.Numbers.{Numbers}
 use Rattle.gathering_state.proofs.Lists.{greatest_at, greatest_take, total_most}
-use Rattle.gathering_state.proofs.State.{parts_make, place_within, possible_short}
+use Rattle.gathering_state.proofs.State.{place_within, possible_short}
 use Rattle.ground_choices.proofs.Tests.{past}
 use Rattle.gathering_hand_out.specs.Handing.{joined, body_held, missing_of, complete_of, handed_if_room, handed_by, handed_of, out_by, out_after, InStore}
-use Rattle.gathering_hand_out.specs.declared.Completeness.{Completeness}
-use Rattle.gathering_hand_out.specs.declared.Completeness.TheVariants.{Complete, Refused as NotComplete}
-use Rattle.gathering_hand_out.specs.declared.Handed.{Handed}
-use Rattle.gathering_hand_out.specs.declared.Handed.TheVariants.{Body, Refused}
 use Rattle.gathering_hand_out.proofs.Joining.{joined_length, joined_most}
 
 -- ---- is all of a table there?
 
 module _ (ls : List ℕ) (k : ℕ) (e : k ≡ smallest_missing ls) where
-  pub missing_some : k < length ls → NotComplete (Missing k) ≡ missing_of ls
+  pub missing_some : k < length ls → Err (Missing k) ≡ missing_of ls
   unfolding missing_of
   missing_some h = simp (← e, lt-ltb k (length ls) h)
 
-  pub missing_none : length ls ≤ k → Complete ≡ missing_of ls
+  pub missing_none : length ls ≤ k → (Ok tt) ≡ missing_of ls
   unfolding missing_of
   missing_none h = simp (← e, le-ltb k (length ls) h)
-
--- what was found of a state's numbers and held lengths was found of the state
-pub completes : (g : Gathering) (bytes : ℕ) (m : Numbers) → m ≡ numbers_of g → (c : Completeness) → c ≡ complete_of (state_of m g.held) bytes
-    → complete_of g bytes ≡ c
-completes g bytes m e c f = sym (f ∙ ap (λ (t : Gathering). complete_of t bytes) (parts_make g m e))
 
 -- a table that is all there, in a store of `bytes` bytes
 pub record Whole (g : Gathering) (bytes : ℕ) : Type 0 where
@@ -50,22 +41,14 @@ pub record Whole (g : Gathering) (bytes : ℕ) : Type 0 where
   pub full : length (lengths g) ≤ smallest_missing (lengths g)
 
 module _ (g : Gathering) (bytes : ℕ) where
-  pub complete_impossible : possible_of g ≡ false → complete_of g bytes ≡ NotComplete ImpossibleState
-  unfolding complete_of
-  complete_impossible p = simp p
-
   module _ (p : possible_of g ≡ true) where
-    pub complete_fresh : nothing_begun g ≡ true → complete_of g bytes ≡ NotComplete (Missing 0)
+    pub complete_fresh : nothing_begun g ≡ true → complete_of g bytes ≡ Err (Missing 0)
     unfolding complete_of
     complete_fresh b = simp (p, b)
 
     module _ (b : nothing_begun g ≡ false) where
-      pub complete_short : has_room bytes g.last ≡ false → complete_of g bytes ≡ NotComplete StoreTooShort
-      unfolding complete_of
-      complete_short r = simp (p, b, r)
-
       module _ (r : has_room bytes g.last ≡ true) where
-        pub complete_spoiled : (g.spoiled ≡ 0 → ⊥) → complete_of g bytes ≡ NotComplete Contradiction
+        pub complete_spoiled : (g.spoiled ≡ 0 → ⊥) → complete_of g bytes ≡ Err Contradiction
         unfolding complete_of
         complete_spoiled s = simp (p, b, r, ne_eqb _ _ s)
 
@@ -73,13 +56,13 @@ module _ (g : Gathering) (bytes : ℕ) where
         unfolding complete_of
         complete_calm s = simp (p, b, r, eq-eqb _ _ s)
 
-  pub whole_complete : Whole g bytes → complete_of g bytes ≡ Complete
+  pub whole_complete : Whole g bytes → complete_of g bytes ≡ Ok tt
   whole_complete w = complete_calm w.possible w.begun w.roomy w.calm ∙ sym (missing_none (lengths g) _ refl w.full)
 
-  refused_not_complete : (r : Refusal) → NotComplete r ≡ Complete → ⊥
-  refused_not_complete r e = let z : ◌≡◌ {A = ℕ} 0 1 = cc in omega arith
+  refused_not_complete : (r : Refusal) → ◌≡◌ {A = Result Unit Refusal} (Err r) (Ok tt) → ⊥
+  refused_not_complete r e = cc
 
-  pub complete_whole : complete_of g bytes ≡ Complete → Whole g bytes
+  pub complete_whole : complete_of g bytes ≡ (Ok tt) → Whole g bytes
   unfolding complete_of missing_of
   complete_whole e =
       let a = past (not (possible_of g)) _ _ _ (refused_not_complete _) e in
@@ -104,16 +87,20 @@ module _ (held store : List ℕ) (i : InStore held store) where
   pub in_store_length : length (joined place 0 held store) ≡ total held
   in_store_length = joined_length place store 0 held (λ k h. rw (zero-add k) (in_store_at k h))
 
-module _ (g : Gathering) (store : List ℕ) (l : length g.held ≤ 256) (w : Whole g (length store)) where
-  pub whole_in_store : InStore (lengths g) store
+module _ (g : Gathering) (store : List ℕ) where
+  pub few_in_store : length (lengths g) ≤ 256 → Whole g (length store) → InStore (lengths g) store
   unfolding lengths
-  whole_in_store =
+  few_in_store few w =
       let m = length-take (g.last + 1) g.held in
       record {
-        few = omega arith;
+        few = few;
         short = let a = greatest_take (g.last + 1) g.held in let b = possible_short g w.possible in omega arith;
         within = λ k h. place_within (length store) g.last k w.roomy (omega arith);
       }
+
+  pub whole_in_store : length g.held ≤ 256 → Whole g (length store) → InStore (lengths g) store
+  unfolding lengths
+  whole_in_store l w = let m = length-take (g.last + 1) g.held in few_in_store (omega arith) w
 
 -- no possible state joins to more than 256 × 4,084 bytes, whatever the store holds
 pub body_most_lem : (g : Gathering) (store : List ℕ) → length g.held ≤ 256 → possible_of g ≡ true → length (body_held g store) ≤ 256 * 4084
@@ -129,18 +116,18 @@ body_most_lem g store l p =
 -- ---- the answer and the output
 
 module _ (n room : ℕ) where
-  pub fitting_small : room < n → Refused OutputTooSmall ≡ handed_if_room n room
+  pub fitting_small : room < n → Err OutputTooSmall ≡ handed_if_room n room
   unfolding handed_if_room
   fitting_small r = simp (lt-ltb room n r)
 
-  pub fitting_body : n ≤ room → Body n ≡ handed_if_room n room
+  pub fitting_body : n ≤ room → Ok n ≡ handed_if_room n room
   unfolding handed_if_room
   fitting_body r = simp (le-ltb room n r)
 
-  refused_no_body : (r : Refusal) (m : ℕ) → Refused r ≡ Body m → ⊥
+  refused_no_body : (r : Refusal) (m : ℕ) → Err r ≡ Ok m → ⊥
   refused_no_body r m e = let z : ◌≡◌ {A = ℕ} 0 1 = cc in omega arith
 
-  pub fitting_is : (m : ℕ) → handed_if_room n room ≡ Body m → (m ≡ n) × (m ≤ room)
+  pub fitting_is : (m : ℕ) → handed_if_room n room ≡ Ok m → (m ≡ n) × (m ≤ room)
   unfolding handed_if_room
   fitting_is m e =
       let b = past (ltb room n) _ _ _ (refused_no_body _ m) e in
@@ -149,44 +136,44 @@ module _ (n room : ℕ) where
       (c, omega arith)
 
 -- the answers for payloads that lie in the store, n bytes of them
-module _ (held store out : List ℕ) (i : InStore held store) (n : ℕ) (e : n ≡ total held) where
+module _ (at : ℕ → ℕ) (held store out : List ℕ) (lie : (k : ℕ) → k < length held → at k + (get_or held k 0 - 1) ≤ length store) (n : ℕ) (e : n ≡ total held) where
   abbrev body : List ℕ
-  body = joined place 0 held store
+  body = joined at 0 held store
 
   body_long : length body ≡ n
-  body_long = in_store_length held store i ∙ sym e
+  body_long = joined_length at store 0 held (λ k h. rw (zero-add k) (lie k h)) ∙ sym e
 
-  pub held_small : length out < n → (Refused OutputTooSmall ≡ handed_if_room (length body) (length out)) × (out ≡ out_by body out (Refused OutputTooSmall))
+  pub held_small : length out < n → (Err OutputTooSmall ≡ handed_if_room (length body) (length out)) × (out ≡ out_by body out (Err OutputTooSmall))
   unfolding out_by
   held_small r = (rw body_long (fitting_small n (length out) r), refl)
 
   pub held_body : n ≤ length out → (out' : List ℕ) → out' ≡ placed out 0 body
-      → (Body n ≡ handed_if_room (length body) (length out)) × (out' ≡ out_by body out (Body n))
+      → (Ok n ≡ handed_if_room (length body) (length out)) × (out' ≡ out_by body out (Ok n))
   unfolding out_by
   held_body r out' q = (rw body_long (fitting_body n (length out) r), q)
 
 module _ (g : Gathering) (store out : List ℕ) where
-  pub hands_refused : (r : Refusal) → complete_of g (length store) ≡ NotComplete r → (Refused r ≡ handed_of g store out) × (out ≡ out_after g store out)
+  pub hands_refused : (r : Refusal) → complete_of g (length store) ≡ Err r → (Err r ≡ handed_of g store out) × (out ≡ out_after g store out)
   unfolding handed_of handed_by out_after out_by
   hands_refused r e = (rw e, rw e)
 
-  pub hands_complete : complete_of g (length store) ≡ Complete → (r : Handed) → r ≡ handed_if_room (length (body_held g store)) (length out)
+  pub hands_complete : complete_of g (length store) ≡ (Ok tt) → (r : Result ℕ Refusal) → r ≡ handed_if_room (length (body_held g store)) (length out)
       → (out' : List ℕ) → out' ≡ out_by (body_held g store) out r → (r ≡ handed_of g store out) × (out' ≡ out_after g store out)
   unfolding handed_of handed_by out_after
   hands_complete e r f out' q = (rw e f, rw e (q ∙ ap (out_by (body_held g store) out) f))
 
   -- a whole table whose body has room is handed out
   pub whole_handed : Whole g (length store) → length (body_held g store) ≤ length out
-      → (Body (length (body_held g store)) ≡ handed_of g store out) × (placed out 0 (body_held g store) ≡ out_after g store out)
+      → (Ok (length (body_held g store)) ≡ handed_of g store out) × (placed out 0 (body_held g store) ≡ out_after g store out)
   unfolding out_by
   whole_handed w r = hands_complete (whole_complete g (length store) w) _ (fitting_body _ _ r) _ refl
 
   -- whatever is handed out is that
-  pub handed_whole : (n : ℕ) → handed_of g store out ≡ Body n → Whole g (length store) × (n ≡ length (body_held g store)) × (n ≤ length out)
+  pub handed_whole : (n : ℕ) → handed_of g store out ≡ Ok n → Whole g (length store) × (n ≡ length (body_held g store)) × (n ≤ length out)
   unfolding handed_of handed_by
   handed_whole n e = go (complete_of g (length store)) refl e
     where
-      go : (c : Completeness) → complete_of g (length store) ≡ c → handed_by c (length (body_held g store)) (length out) ≡ Body n
+      go : (c : Result Unit Refusal) → complete_of g (length store) ≡ c → handed_by c (length (body_held g store)) (length out) ≡ Ok n
           → Whole g (length store) × (n ≡ length (body_held g store)) × (n ≤ length out)
-      go (NotComplete r) f e = let z : ◌≡◌ {A = ℕ} 0 1 = cc in absurd (omega arith)
-      go Complete f e = let a = fitting_is (length (body_held g store)) (length out) n e in (complete_whole g (length store) f, a.0, a.1)
+      go (Err r) f e = let z : ◌≡◌ {A = ℕ} 0 1 = cc in absurd (omega arith)
+      go (Ok tt) f e = let a = fitting_is (length (body_held g store)) (length out) n e in (complete_whole g (length store) f, a.0, a.1)

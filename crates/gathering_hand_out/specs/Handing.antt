@@ -1,15 +1,12 @@
 -- What a reader has to believe of handing out: the order of its refusals, the joined body, and the output after it.
-use Rattle.std.specs.Prelude.{ℕ, suc, ◌+◌, ◌-◌, ◌≤◌, ◌<◌, not, List, [], ◌∷◌, ◌++◌, eqb, ltb, length, if◌then◌else◌}
+use Rattle.std.specs.Prelude.{ℕ, suc, ◌+◌, ◌-◌, ◌≤◌, ◌<◌, not, List, [], ◌∷◌, ◌++◌, eqb, ltb, length, if◌then◌else◌, Result, Ok, Err}
+use Rattle.ground_refusal.specs.declared.Refusal.{Refusal}
 use Rattle.ground_refusal.specs.declared.Refusal.TheVariants.{StoreTooShort, Contradiction, ImpossibleState, Missing, OutputTooSmall}
 use Rattle.ground_placing.specs.Placed.{placed}
 use Rattle.ground_numbers.specs.Sizes.{payload_most}
 use Rattle.gathering_state.specs.Lists.{greatest, smallest_missing, part}
 use Rattle.gathering_state.specs.State.{possible_of, nothing_begun, place, has_room, lengths}
 use Rattle.gathering_state.specs.declared.Gathering.{Gathering}
-use Rattle.gathering_hand_out.specs.declared.Completeness.{Completeness}
-use Rattle.gathering_hand_out.specs.declared.Completeness.TheVariants.{Complete, Refused as NotComplete}
-use Rattle.gathering_hand_out.specs.declared.Handed.{Handed}
-use Rattle.gathering_hand_out.specs.declared.Handed.TheVariants.{Body, Refused}
 
 -- ---- the joined body
 
@@ -25,36 +22,36 @@ body_held g store = joined place 0 (lengths g) store
 -- ---- the answer
 
 -- "13: a section is missing; the smallest missing number is shown"
-unfoldable pub missing_of : List ℕ → Completeness
-missing_of ls = if ltb (smallest_missing ls) (length ls) then NotComplete (Missing (smallest_missing ls)) else Complete
+unfoldable pub missing_of : List ℕ → Result Unit Refusal
+missing_of ls = if ltb (smallest_missing ls) (length ls) then Err (Missing (smallest_missing ls)) else (Ok tt)
 
 -- "12; 13 if nothing begun; 10; 11; 13": is all of a table there, in a store of `bytes` bytes?
-unfoldable pub complete_of : Gathering → ℕ → Completeness
+unfoldable pub complete_of : Gathering → ℕ → Result Unit Refusal
 complete_of g bytes =
-    if not (possible_of g) then NotComplete ImpossibleState else
-    if nothing_begun g then NotComplete (Missing 0) else
-    if not (has_room bytes g.last) then NotComplete StoreTooShort else
-    if not (eqb g.spoiled 0) then NotComplete Contradiction else
+    if not (possible_of g) then Err ImpossibleState else
+    if nothing_begun g then Err (Missing 0) else
+    if not (has_room bytes g.last) then Err StoreTooShort else
+    if not (eqb g.spoiled 0) then Err Contradiction else
     missing_of (lengths g)
 
 -- 21: a body of n bytes, and an output of `room` bytes
-unfoldable pub handed_if_room : ℕ → ℕ → Handed
-handed_if_room n room = if ltb room n then Refused OutputTooSmall else Body n
+unfoldable pub handed_if_room : ℕ → ℕ → Result ℕ Refusal
+handed_if_room n room = if ltb room n then Err OutputTooSmall else Ok n
 
-unfoldable pub handed_by : Completeness → ℕ → ℕ → Handed
-handed_by (NotComplete r) n room = Refused r
-handed_by Complete n room = handed_if_room n room
+unfoldable pub handed_by : Result Unit Refusal → ℕ → ℕ → Result ℕ Refusal
+handed_by (Err r) n room = Err r
+handed_by (Ok tt) n room = handed_if_room n room
 
 -- "Handing out: 12; 13 if nothing begun; 10; 11; 13; [..] 21"
-unfoldable pub handed_of : Gathering → List ℕ → List ℕ → Handed
+unfoldable pub handed_of : Gathering → List ℕ → List ℕ → Result ℕ Refusal
 handed_of g store out = handed_by (complete_of g (length store)) (length (body_held g store)) (length out)
 
 -- ---- the output
 
 -- "Handing out writes the joined body at the start of the output; bytes after it stay"; a refusal "writes no byte"
-unfoldable pub out_by : List ℕ → List ℕ → Handed → List ℕ
-out_by body out (Refused r) = out
-out_by body out (Body n) = placed out 0 body
+unfoldable pub out_by : List ℕ → List ℕ → Result ℕ Refusal → List ℕ
+out_by body out (Err r) = out
+out_by body out (Ok n) = placed out 0 body
 
 unfoldable pub out_after : Gathering → List ℕ → List ℕ → List ℕ
 out_after g store out = out_by (body_held g store) out (handed_of g store out)

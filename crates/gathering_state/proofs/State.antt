@@ -1,26 +1,19 @@
 -- Laws of a gathering's state: what a possible one is known to be, that it stays possible and its counts right, and how places stand in the store.
 use Prim.Native.Nat.{ℕ, ◌+◌, ◌-◌, ◌*◌, ◌≤◌, ◌<◌, max}
 use mathlib.Core.Path.{◌≡◌, refl, sym, ◌∙◌, ap}
-use mathlib.Core.Bool.{Bool, true, false, ◌||◌, false≢true}
+use mathlib.Core.Bool.{Bool, true, false, not, ◌&&◌, ◌||◌, false≢true}
 use native.Mathlib.Omega.{arith}
-use borrow.Author.Tests.{eq-eqb, ne_eqb, eqb-true, eqb-false, le-leb, leb-true, lt-ltb, ltb-true}
+use borrow.Author.Tests.{not-true, eq-eqb, ne_eqb, eqb-true, eqb-false, le-leb, leb-true, lt-ltb, ltb-true}
 use lib.Dec.{eqb, leb, ltb}
 use lib.ListN.{length, get_or, set, take, drop, replicate, length-take}
 use lib.Seq.{drop-set-lt, take-set-lt, get_or-take, get_or-set_same}
 use Rattle.section_reader.specs.Section.{is_kind}
 use Rattle.section_reader.specs.declared.Heading.{Heading}
 use Rattle.gathering_state.specs.Lists.{greatest, total, held_count, Surveyed}
-use Rattle.gathering_state.specs.State.{numbers_of, state_of, fresh_state, is_fresh, lengths, is_begun, possible_of, nothing_begun, missing_afresh, bytes_afresh, CountsRight, place, has_room, opened, with_section, spoiled_state}
+use Rattle.gathering_state.specs.State.{fresh_state, is_fresh, lengths, is_begun, possible_of, nothing_begun, missing_afresh, bytes_afresh, CountsRight, place, has_room, opened, with_section, spoiled_state}
 use Rattle.gathering_state.specs.declared.Gathering.{Gathering}
-use Rattle.gathering_state.specs.declared.Numbers.{Numbers}
 use Rattle.ground_choices.proofs.Tests.{both, refuted}
 use Rattle.gathering_state.proofs.Lists.{greatest_at, greatest_parts, greatest_take, greatest_set, greatest_zeros, zeros_greatest, total_set, total_none, total_most, held_most, held_set, held_none, held_fewer}
-
--- ---- a state and its parts
-
--- its numbers and its held lengths make the state
-pub parts_make : (g : Gathering) (m : Numbers) → m ≡ numbers_of g → state_of m g.held ≡ g
-parts_make g m e = ap (λ (t : Numbers). state_of t g.held) e
 
 -- ---- places
 
@@ -67,12 +60,6 @@ module _ (g : Gathering) where
         missing = eqb-true _ _ m.1;
         bytes = eqb-true _ _ b.1;
       }
-
-  -- all of it but the bytes, which are tested last
-  pub fresh_but : g.kind ≡ 0 → g.extension ≡ 0 → g.version ≡ 0 → g.last ≡ 0 → g.spoiled ≡ 0 → greatest g.held ≡ 0 → g.missing ≡ 0
-      → eqb g.bytes 0 ≡ is_fresh g
-  unfolding is_fresh
-  fresh_but k x v n s h m = simp (eq-eqb _ _ k, eq-eqb _ _ x, eq-eqb _ _ v, eq-eqb _ _ n, eq-eqb _ _ s, eq-eqb _ _ h, eq-eqb _ _ m)
 
   pub not_fresh : (Fresh g → ⊥) → false ≡ is_fresh g
   not_fresh f = refuted (is_fresh g) (λ e. f (fresh_fields e))
@@ -136,50 +123,86 @@ module _ (g : Gathering) where
         some = ltb-true _ _ b.1;
       }
 
-  -- all of it but the bytes, which are tested last
-  pub begun_but : is_kind g.kind ≡ true → g.version ≤ 31 → g.spoiled ≤ 1 → 0 < greatest g.held → greatest (drop (g.last + 1) g.held) ≡ 0
-      → greatest g.held ≤ 4085 → g.missing ≡ g.last + 1 - held_count (lengths g) → eqb g.bytes (total (lengths g)) ≡ is_begun g
-  unfolding is_begun
-  begun_but k v d b a f m = simp (k, le-leb _ _ v, le-leb _ _ d, lt-ltb _ _ b, eq-eqb _ _ a, le-leb _ _ f, eq-eqb _ _ m)
-
   pub begun_test : Begun g → true ≡ is_begun g
+  unfolding is_begun
   begun_test b =
       let o = b.of_table in
-      sym (eq-eqb _ _ o.bytes) ∙ begun_but o.kind o.version o.spoiled b.some o.above o.short o.missing
+      sym (simp (o.kind, le-leb _ _ o.version, le-leb _ _ o.spoiled, lt-ltb _ _ b.some, eq-eqb _ _ o.above, le-leb _ _ o.short, eq-eqb _ _ o.missing, eq-eqb _ _ o.bytes))
 
   pub not_begun : (Begun g → ⊥) → false ≡ is_begun g
   not_begun f = refuted (is_begun g) (λ e. f (begun_fields e))
 
--- what the pass over the lengths found of a state
-pub record Seen (g : Gathering) (most held bytes above : ℕ) : Type 0 where
-  pub whole : greatest g.held ≡ max most above
-  pub beyond : greatest (drop (g.last + 1) g.held) ≡ above
-  pub count : held_count (lengths g) ≡ held
-  pub few : held ≤ g.last + 1
-  pub sum : total (lengths g) ≡ bytes
+-- the tests of a begun state, by what the pass over its lengths tells
+abbrev pub begun_by : Gathering → ℕ → ℕ → ℕ → ℕ → Bool
+begun_by g most held bytes above =
+    is_kind g.kind && leb g.version 31 && leb g.spoiled 1 && eqb above 0 && not (eqb most 0) && leb most 4085
+    && eqb (g.missing + held) (g.last + 1) && eqb g.bytes bytes
 
-module _ (g : Gathering) {most held bytes above : ℕ} (v : Surveyed g.held (g.last + 1) most held bytes above) where
-  seen : Seen g most held bytes above
-  unfolding lengths
-  seen =
-      let parts = greatest_parts (g.last + 1) g.held in
-      let few = held_most (take (g.last + 1) g.held) in
-      let long = length-take (g.last + 1) g.held in
-      let m = v.most_is in
-      let h = v.held_is in
-      let a = v.above_is in
-      record { whole = omega arith; beyond = sym a; count = sym h; few = omega arith; sum = sym v.bytes_is }
+-- they decide
+pub begun_seen : (g : Gathering) (most held bytes above : ℕ) → Surveyed g.held (g.last + 1) most held bytes above
+    → begun_by g most held bytes above ≡ is_begun g
+unfolding lengths
+begun_seen g most held bytes above v = same _ _ there back
+  where
+    parts : greatest g.held ≡ max most above
+    parts = let p = greatest_parts (g.last + 1) g.held in let m = v.most_is in let a = v.above_is in omega arith
 
-  -- a test that fails is one that a begun state meets
-  pub not_begun_seen : (Seen g most held bytes above → Begun g → ⊥) → false ≡ is_begun g
-  not_begun_seen f = not_begun g (f seen)
+    few : held ≤ g.last + 1
+    few =
+        let f = held_most (take (g.last + 1) g.held) in
+        let l = length-take (g.last + 1) g.held in
+        let h = v.held_is in
+        omega arith
 
-  -- where none fails, the bytes decide
-  pub begun_seen : is_kind g.kind ≡ true → g.version ≤ 31 → g.spoiled ≤ 1 → above ≡ 0 → 0 < most → most ≤ 4085 → g.missing + held ≡ g.last + 1
-      → eqb g.bytes bytes ≡ is_begun g
-  begun_seen k v d a b f m =
-      let s = seen in
-      ap (eqb g.bytes) (sym s.sum) ∙ begun_but g k v d (omega arith) (omega arith) (omega arith) (omega arith)
+    there : begun_by g most held bytes above ≡ true → is_begun g ≡ true
+    there e =
+        let y = both _ (eqb g.bytes bytes) e in
+        let m = both _ (eqb (g.missing + held) (g.last + 1)) y.0 in
+        let f = both _ (leb most 4085) m.0 in
+        let b = both _ (not (eqb most 0)) f.0 in
+        let a = both _ (eqb above 0) b.0 in
+        let d = both _ (leb g.spoiled 1) a.0 in
+        let k = both _ (leb g.version 31) d.0 in
+        let none = eqb-true _ _ a.1 in
+        let some = eqb-false _ _ (not-true _ b.1) in
+        let short = leb-true _ _ f.1 in
+        let counted = eqb-true _ _ m.1 in
+        let whole = parts in
+        let low = few in
+        let h = v.held_is in
+        sym (begun_test g
+        (record {
+          of_table =
+              record {
+                kind = k.0;
+                version = leb-true _ _ k.1;
+                spoiled = leb-true _ _ d.1;
+                above = sym v.above_is ∙ none;
+                short = omega arith;
+                missing = omega arith;
+                bytes = eqb-true _ _ y.1 ∙ v.bytes_is;
+              };
+          some = omega arith;
+        }))
+
+    back : is_begun g ≡ true → begun_by g most held bytes above ≡ true
+    back e =
+        let b = begun_fields g e in
+        let o = b.of_table in
+        let whole = parts in
+        let low = few in
+        let h = v.held_is in
+        let a = v.above_is in
+        let some = b.some in
+        let none = o.above in
+        let short = o.short in
+        let missing = o.missing in
+        simp (o.kind, le-leb _ _ o.version, le-leb _ _ o.spoiled, eq-eqb above 0 (omega arith), ne_eqb most 0 (omega arith), le-leb most 4085 (omega arith), eq-eqb (g.missing + held) (g.last + 1) (omega arith), eq-eqb g.bytes bytes (o.bytes ∙ sym v.bytes_is))
+
+    same : (x y : Bool) → (x ≡ true → y ≡ true) → (y ≡ true → x ≡ true) → x ≡ y
+    same true y f h = sym (f refl)
+    same false true f h = h refl
+    same false false f h = refl
 
 -- ---- possible states
 

@@ -5,36 +5,6 @@ use Rattle.section_reader.specs.Section.{is_kind}
 use Rattle.section_reader.specs.declared.Heading.{Heading}
 use Rattle.gathering_state.specs.Lists.{greatest, total, held_count, part}
 use Rattle.gathering_state.specs.declared.Gathering.{Gathering}
-use Rattle.gathering_state.specs.declared.Numbers.{Numbers}
-
--- ---- a state and its parts
-
--- the numbers of a state
-abbrev pub numbers_of : Gathering → Numbers
-numbers_of g =
-    record {
-      bytes = g.bytes;
-      missing = g.missing;
-      extension = g.extension;
-      kind = g.kind;
-      version = g.version;
-      last = g.last;
-      spoiled = g.spoiled;
-    }
-
--- the state of these numbers and held lengths
-abbrev pub state_of : Numbers → List ℕ → Gathering
-state_of m held =
-    record {
-      bytes = m.bytes;
-      missing = m.missing;
-      extension = m.extension;
-      kind = m.kind;
-      version = m.version;
-      last = m.last;
-      spoiled = m.spoiled;
-      held = held;
-    }
 
 -- ---- possible states
 

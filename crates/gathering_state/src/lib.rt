@@ -1,10 +1,11 @@
 // The state of a gathering, and the small functions on it and on its store that feeding and handing out rest on.
 #![tactic(auto)]
 
-ghost use Rattle.std.specs.Prelude.{◌≡◌, ◌-◌, ◌<◌, ◌≤◌, min, max, length, drop};
-ghost use Rattle.ground_numbers.specs.Sizes.{version_most};
+ghost use Rattle.std.specs.Prelude.{◌≡◌, ◌+◌, ◌-◌, ◌<◌, ◌≤◌, ◌==◌, ◌&&◌, not, nat_le, min, max, length, position};
+ghost use Rattle.ground_numbers.specs.Sizes.{payload_most, version_most, body_most};
+ghost use Rattle.section_reader.specs.Section.{is_kind};
 ghost use Rattle.gathering_state.specs.Lists.{greatest, smallest_missing, total, held_count, Surveyed};
-ghost use Rattle.gathering_state.specs.State.{fresh_state, numbers_of, state_of, is_fresh, is_begun, possible_of, place, has_room, opened};
+ghost use Rattle.gathering_state.specs.State.{fresh_state, lengths, is_fresh, is_begun, possible_of, place, has_room, opened, with_section};
 
 use ground_numbers::{PAYLOAD_MOST, VERSION_MOST};
 use section_reader::Heading;
@@ -54,16 +55,13 @@ fn larger(a: u16, b: u16) -> u16
     if a < b { b } else { a }
 }
 
-// The greatest of the lengths from index `from` on. This loop and the next have no branch, so that they run on many lengths at once.
-fn greatest_from(s: &[u16], from: usize) -> u16
-    requires { from ≤ length s.now }
-    ensures { result ≡ greatest (drop from s.now) }
+// The greatest of some lengths. This loop and the next have no branch, so that they run on many lengths at once.
+fn greatest_of(s: &[u16]) -> u16
+    ensures { result ≡ greatest s.now }
 {
     let mut most: u16 = 0;
-    let mut i = from;
-    while i < s.len() {
-        most = larger(most, s[i]);
-        i += 1;
+    for n in s {
+        most = larger(most, *n);
     }
     most
 }
@@ -82,14 +80,11 @@ fn tally_of(s: &[u16]) -> Tally
     let mut most: u16 = 0;
     let mut held: u16 = 0;
     let mut bytes: u32 = 0;
-    let mut i = 0;
-    while i < s.len() {
-        let n = s[i];
-        let one = one_if_held(n);
-        most = larger(most, n);
+    for n in s {
+        let one = one_if_held(*n);
+        most = larger(most, *n);
         held += one;
-        bytes += (n - one) as u32;
-        i += 1;
+        bytes += (*n - one) as u32;
     }
     Tally { most, held, bytes }
 }
@@ -99,24 +94,23 @@ fn survey_of(s: &[u16], count: usize) -> Survey
     requires { (count ≤ length s.now) × (length s.now ≤ 256) }
     ensures { Surveyed s.now count result.table.most result.table.held result.table.bytes result.above }
 {
-    let table = tally_of(&s[..count]);
-    let above = greatest_from(s, count);
-    Survey { table, above }
+    Survey {
+        table: tally_of(&s[..count]),
+        above: greatest_of(&s[count..]),
+    }
+}
+
+fn first_missing(s: &[u16]) -> Option<usize>
+    ensures { result ≡ position (λ n. n == 0) s.now }
+{
+    s.iter().position(|n| *n == 0)
 }
 
 // The smallest number that is not held: "The search for a missing number stops at the first one found."
-#[tactic(auto, using(crate::proofs::Lists::missing_stop))]
 pub fn smallest_missing(s: &[u16]) -> usize
     ensures { result ≡ smallest_missing s.now }
 {
-    let mut k = 0;
-    while k < s.len() {
-        if s[k] == 0 {
-            break;
-        }
-        k += 1;
-    }
-    k
+    first_missing(s).unwrap_or(s.len())
 }
 
 // The payload's length that a held length stands for.
@@ -132,11 +126,8 @@ pub fn total_of(s: &[u16]) -> usize
     ensures { result ≡ total s.now }
 {
     let mut sum: usize = 0;
-    let mut i = 0;
-    while i < s.len() {
-        let n = less_one(s[i]);
-        sum += n;
-        i += 1;
+    for n in s {
+        sum += less_one(*n);
     }
     sum
 }
@@ -144,6 +135,7 @@ pub fn total_of(s: &[u16]) -> usize
 // ---- possible states
 
 // "A fresh state holds nothing."
+#[tactic(auto, unfolding(crate::specs::State::fresh_state))]
 pub fn fresh() -> Gathering
     ensures { result ≡ fresh_state }
 {
@@ -159,104 +151,66 @@ pub fn fresh() -> Gathering
     }
 }
 
-// The numbers of a state, all but its held lengths. A state that is handed on whole is copied, 524 bytes of stack each time, so that the
-// functions below take its numbers and borrow its lengths.
-#[derive(Clone, Copy)]
-pub struct Numbers {
-    pub bytes: u32,
-    pub missing: u16,
-    pub extension: u16,
-    pub kind: u8,
-    pub version: u8,
-    pub last: u8,
-    pub spoiled: u8,
+// The functions below borrow the state: handed on whole it is copied, 524 bytes of stack each time.
+
+#[tactic(auto, unfolding(crate::specs::State::is_fresh))]
+fn is_fresh(g: &Gathering) -> bool
+    ensures { result ≡ is_fresh g.now }
+{
+    g.kind == 0
+        && g.extension == 0
+        && g.version == 0
+        && g.last == 0
+        && g.spoiled == 0
+        && greatest_of(&g.held) == 0
+        && g.missing == 0
+        && g.bytes == 0
 }
 
-// For feeding, handing out and packing.
-pub fn numbers_of(g: Gathering) -> Numbers
-    ensures { result ≡ numbers_of g }
+// The tests of a begun state, by what the pass over its lengths tells.
+fn is_begun_by(g: &Gathering, seen: Survey) -> bool
+    ensures { result ≡ (is_kind g.now.kind && nat_le g.now.version version_most && nat_le g.now.spoiled 1 && seen.above == 0 && not (seen.table.most == 0) && nat_le seen.table.most (payload_most + 1) && g.now.missing + seen.table.held == g.now.last + 1 && g.now.bytes == seen.table.bytes) }
 {
-    Numbers {
-        bytes: g.bytes,
-        missing: g.missing,
-        extension: g.extension,
-        kind: g.kind,
-        version: g.version,
-        last: g.last,
-        spoiled: g.spoiled,
-    }
+    section_reader::is_kind(g.kind as u32)
+        && g.version as u32 <= VERSION_MOST
+        && g.spoiled <= 1
+        && seen.above == 0
+        && seen.table.most != 0
+        && seen.table.most as usize <= PAYLOAD_MOST + 1
+        && g.missing as usize + seen.table.held as usize == g.last as usize + 1
+        && g.bytes == seen.table.bytes
 }
 
-fn is_fresh(m: Numbers, held: &[u16; 256]) -> bool
-    ensures { result ≡ is_fresh (state_of m held.now) }
+fn is_begun(g: &Gathering) -> bool
+    ensures { result ≡ is_begun g.now }
 {
-    if m.kind != 0 {
-        return false;
-    }
-    if m.extension != 0 {
-        return false;
-    }
-    if m.version != 0 {
-        return false;
-    }
-    if m.last != 0 {
-        return false;
-    }
-    if m.spoiled != 0 {
-        return false;
-    }
-    if greatest_from(held, 0) != 0 {
-        return false;
-    }
-    if m.missing != 0 {
-        return false;
-    }
-    m.bytes == 0
-}
-
-fn is_begun(m: Numbers, held: &[u16; 256]) -> bool
-    ensures { result ≡ is_begun (state_of m held.now) }
-{
-    if !section_reader::is_kind(m.kind as u32) {
-        return false;
-    }
-    if VERSION_MOST < m.version as u32 {
-        return false;
-    }
-    if 1 < m.spoiled {
-        return false;
-    }
-    let count = m.last as usize + 1;
-    let seen = survey_of(held, count);
-    if seen.above != 0 {
-        return false;
-    }
-    if seen.table.most == 0 {
-        return false;
-    }
-    if PAYLOAD_MOST + 1 < seen.table.most as usize {
-        return false;
-    }
-    if m.missing as usize + seen.table.held as usize != count {
-        return false;
-    }
-    m.bytes == seen.table.bytes
+    is_begun_by(g, survey_of(&g.held, g.last as usize + 1))
 }
 
 // Is it a state that a gathering can be in?
-pub fn possible(m: Numbers, held: &[u16; 256]) -> bool
-    ensures { result ≡ possible_of (state_of m held.now) }
+pub fn possible(g: &Gathering) -> bool
+    ensures { result ≡ possible_of g.now }
 {
-    if m.kind == 0 {
-        is_fresh(m, held)
+    if g.kind == 0 {
+        is_fresh(g)
     } else {
-        is_begun(m, held)
+        is_begun(g)
     }
+}
+
+// The held lengths of the numbers that the table has. For handing out and packing.
+#[tactic(auto, unfolding(crate::specs::State::lengths))]
+pub fn lengths(g: &Gathering) -> &[u16]
+    ensures held { result.now ≡ lengths g.now }
+    ensures few { length result.now ≤ 256 }
+{
+    &g.held[..g.last as usize + 1]
 }
 
 // ---- the store: for feeding and handing out
 
 // Where the payload of number k begins in the store.
+#[tactic(auto, unfolding(crate::specs::State::place))]
 pub fn place_of(k: u8) -> usize
     ensures { result ≡ place k }
 {
@@ -264,6 +218,7 @@ pub fn place_of(k: u8) -> usize
 }
 
 // Has a store of so many bytes room for the numbers 0 to last?
+#[tactic(auto, unfolding(crate::specs::State::has_room))]
 pub fn has_room(bytes: usize, last: u8) -> bool
     ensures { result ≡ has_room bytes last }
 {
@@ -273,6 +228,7 @@ pub fn has_room(bytes: usize, last: u8) -> bool
 // ---- for feeding
 
 // The state of the heading's table while nothing of it is held.
+#[tactic(auto, unfolding(crate::specs::State::opened))]
 pub fn open_table(h: Heading) -> Gathering
     requires { h.version ≤ version_most }
     ensures { result ≡ opened h }
@@ -287,4 +243,15 @@ pub fn open_table(h: Heading) -> Gathering
         spoiled: 0,
         held: [0u16; 256],
     }
+}
+
+// Number k of the table, which was not held, is taken with a payload of n bytes.
+#[tactic(auto, unfolding(crate::specs::State::with_section))]
+pub fn take_section(g: &mut Gathering, k: u8, n: usize)
+    requires { (1 ≤ g.old.missing) × (g.old.bytes ≤ body_most) × (n ≤ payload_most) }
+    ensures { g.new ≡ with_section g.old k n }
+{
+    g.bytes += n as u32;
+    g.missing -= 1;
+    g.held[k as usize] = n as u16 + 1;
 }

@@ -7,11 +7,6 @@ use Rattle.gathering_tables.specs.Tables.{steps_ahead, same_table, is_newer, is_
 
 -- ---- the ring of 32 versions
 
--- what a byte's wrapping subtraction leaves, mod 32
-pub steps_wrapped : (held new r : ℕ) → held < 256 → new < 256 → r < 256 → (r + held) % 256 ≡ new → r % 32 ≡ steps_ahead held new
-unfolding steps_ahead
-steps_wrapped held new r h n l e = omega arith
-
 -- no version is ahead of itself
 pub steps_same : (v : ℕ) → steps_ahead v v ≡ 0
 unfolding steps_ahead
@@ -57,9 +52,6 @@ module _ (held new : Heading) where
   unfolding same_table
   same_test s = simp (eq-eqb _ _ s.kind, eq-eqb _ _ s.extension, eq-eqb _ _ s.version, eq-eqb _ _ s.last)
 
-  pub same_not : (SameTable held new → ⊥) → false ≡ same_table held new
-  same_not f = refuted (same_table held new) (λ e. f (same_fields e))
-
 -- ---- a newer table
 
 pub record Newer (held new : Heading) : Type 0 where
@@ -82,11 +74,6 @@ module _ (held new : Heading) where
 
   pub newer_not : (Newer held new → ⊥) → false ≡ is_newer held new
   newer_not f = refuted (is_newer held new) (λ e. f (newer_fields e))
-
-  -- of the same kind and extension, at least one step ahead, it is newer if the steps are few
-  pub newer_few : held.kind ≡ new.kind → held.extension ≡ new.extension → (n : ℕ) → n ≡ steps → 1 ≤ n → leb n 15 ≡ is_newer held new
-  unfolding is_newer
-  newer_few a b n e l = sym (rw (eq-eqb _ _ a, eq-eqb _ _ b, ← e, le-leb 1 n l))
 
   -- a table is not newer than itself
   pub same_not_newer : same_table held new ≡ true → is_newer held new ≡ false

@@ -1,5 +1,6 @@
 -- Laws of the verdict: what leads to each, and what is known where it is given.
-use Prim.Native.Nat.{ℕ, ◌+◌, ◌-◌, ◌*◌, ◌≤◌}
+use Prim.Native.Nat.{ℕ, ◌+◌, ◌-◌, ◌≤◌}
+use Rattle.std.specs.Prelude.{Result, Ok, Err}
 use mathlib.Core.Path.{◌≡◌, refl, sym, ◌∙◌}
 use mathlib.Core.Bool.{Bool, true, false, not, ◌||◌, false≢true}
 use mathlib.Core.List.{List}
@@ -13,18 +14,15 @@ use Rattle.ground_equal.specs.Same.{same_bytes}
 use Rattle.ground_equal.proofs.Same.{same_refl, same_is}
 use Rattle.section_reader.specs.Section.{heading_of, payload_of, read_section}
 use Rattle.section_reader.specs.declared.Heading.{Heading}
-use Rattle.section_reader.specs.declared.Sectioned.{Sectioned}
-use Rattle.section_reader.specs.declared.Sectioned.TheVariants.{Good, Refused as NotGood}
 use Rattle.section_reader.proofs.Accepting.{accepted, accepted_length, accepted_short}
-use Rattle.gathering_state.specs.State.{possible_of, nothing_begun, place, has_room, held_payload}
+use Rattle.gathering_state.specs.State.{possible_of, nothing_begun, has_room, held_payload}
 use Rattle.gathering_state.specs.declared.Gathering.{Gathering}
-use Rattle.gathering_state.proofs.Lists.{part_between}
 use Rattle.gathering_state.proofs.State.{Begun, possible_begun}
 use Rattle.gathering_tables.specs.Tables.{is_newer}
 use Rattle.gathering_tables.proofs.Tables.{SameTable, same_fields}
 use Rattle.gathering_verdict.specs.Deciding.{fixed_heading, agrees, begins, number_verdict, good_verdict, section_verdict, verdict_of}
 use Rattle.gathering_verdict.specs.declared.Verdict.{Verdict}
-use Rattle.gathering_verdict.specs.declared.Verdict.TheVariants.{Refuse, Repeat, Contradict, Begin, Take}
+use Rattle.gathering_verdict.specs.declared.Verdict.TheVariants.{Repeat, Contradict, Begin, Take}
 
 -- ---- the heading
 
@@ -58,12 +56,6 @@ module _ (g : Gathering) (h : Heading) where
 
 -- ---- what leads to each verdict
 
--- the part of the store that was compared is the held payload
-pub compared : (g : Gathering) (store : List ℕ) (k : ℕ) (payload : List ℕ) (at n : ℕ) → at ≡ place k → n ≡ get_or g.held k 0 - 1
-    → (r : Bool) → r ≡ same_bytes (take (at + n - at) (drop at store)) payload → same_bytes (held_payload g store k) payload ≡ r
-unfolding held_payload
-compared g store k payload at n a e r f = rw (← a, ← e, ← part_between store at n) (sym f)
-
 -- a good section of the gathering's table that none of 8 to 11 stops
 pub record Heard (g : Gathering) (store : List ℕ) (h : Heading) : Type 0 where
   pub current : h.current ≡ true
@@ -79,41 +71,41 @@ pub record Past (g : Gathering) (store : List ℕ) (h : Heading) : Type 0 where
   pub roomy : not (has_room (length store) h.last) ≡ false
 
 module _ (g : Gathering) (store : List ℕ) (h : Heading) (payload : List ℕ) where
-  pub number_new : get_or g.held h.number 0 ≡ 0 → number_verdict g store h payload ≡ Take h
+  pub number_new : get_or g.held h.number 0 ≡ 0 → number_verdict g store h payload ≡ Ok (Take h)
   unfolding number_verdict
   number_new e = rw (eq-eqb _ _ e)
 
   module _ (e : get_or g.held h.number 0 ≡ 0 → ⊥) where
-    pub number_same : same_bytes (held_payload g store h.number) payload ≡ true → number_verdict g store h payload ≡ Repeat
+    pub number_same : same_bytes (held_payload g store h.number) payload ≡ true → number_verdict g store h payload ≡ Ok Repeat
     unfolding number_verdict
     number_same t = rw (ne_eqb _ _ e, t)
 
-    pub number_other : same_bytes (held_payload g store h.number) payload ≡ false → number_verdict g store h payload ≡ Contradict
+    pub number_other : same_bytes (held_payload g store h.number) payload ≡ false → number_verdict g store h payload ≡ Ok Contradict
     unfolding number_verdict
     number_other t = rw (ne_eqb _ _ e, t)
 
   -- by the tests, in their order
-  pub good_old : not h.current ≡ true → good_verdict g store h payload ≡ Refuse NotCurrent
+  pub good_old : not h.current ≡ true → good_verdict g store h payload ≡ Err NotCurrent
   unfolding good_verdict
   good_old c = rw c
 
   module _ (c : not h.current ≡ false) where
-    pub good_other : not (begins g h || agrees g h) ≡ true → good_verdict g store h payload ≡ Refuse OtherHeading
+    pub good_other : not (begins g h || agrees g h) ≡ true → good_verdict g store h payload ≡ Err OtherHeading
     unfolding good_verdict
     good_other a = rw (c, a)
 
     pub good_short : not (begins g h || agrees g h) ≡ false → not (has_room (length store) h.last) ≡ true
-        → good_verdict g store h payload ≡ Refuse StoreTooShort
+        → good_verdict g store h payload ≡ Err StoreTooShort
     unfolding good_verdict
     good_short a r = rw (c, a, r)
 
   module _ (p : Past g store h) where
-    pub good_begins : begins g h ≡ true → good_verdict g store h payload ≡ Begin h
+    pub good_begins : begins g h ≡ true → good_verdict g store h payload ≡ Ok (Begin h)
     unfolding good_verdict
     good_begins b = rw (p.current, p.known, p.roomy, b)
 
     module _ (b : begins g h ≡ false) where
-      pub good_spoiled : (g.spoiled ≡ 0 → ⊥) → good_verdict g store h payload ≡ Refuse Contradiction
+      pub good_spoiled : (g.spoiled ≡ 0 → ⊥) → good_verdict g store h payload ≡ Err Contradiction
       unfolding good_verdict
       good_spoiled s = rw (p.current, p.known, p.roomy, b, ne_eqb _ _ s)
 
@@ -122,16 +114,16 @@ module _ (g : Gathering) (store : List ℕ) (h : Heading) (payload : List ℕ) w
       good_further s = rw (p.current, p.known, p.roomy, b, eq-eqb _ _ s)
 
 module _ (g : Gathering) (store s : List ℕ) where
-  pub verdict_impossible : possible_of g ≡ false → verdict_of g store s ≡ Refuse ImpossibleState
+  pub verdict_impossible : possible_of g ≡ false → verdict_of g store s ≡ Err ImpossibleState
   unfolding verdict_of
   verdict_impossible p = rw p
 
   module _ (p : possible_of g ≡ true) where
-    pub verdict_bad : (r : Refusal) → read_section s ≡ NotGood r → verdict_of g store s ≡ Refuse r
+    pub verdict_bad : (r : Refusal) → read_section s ≡ Err r → verdict_of g store s ≡ Err r
     unfolding verdict_of section_verdict
     verdict_bad r e = rw (p, e)
 
-    pub verdict_good : (h : Heading) (n : ℕ) → read_section s ≡ Good h n → verdict_of g store s ≡ good_verdict g store h (payload_of s)
+    pub verdict_good : (h : Heading) (n : ℕ) → read_section s ≡ Ok (h, n) → verdict_of g store s ≡ good_verdict g store h (payload_of s)
     unfolding verdict_of section_verdict
     verdict_good h n e = rw (p, e)
 
@@ -142,7 +134,7 @@ pub record Sized (s : List ℕ) (h : Heading) (n : ℕ) : Type 0 where
   pub numbered : h.number ≤ h.last
   pub versioned : h.version ≤ 31
 
-pub sized : (s : List ℕ) (h : Heading) (n : ℕ) → read_section s ≡ Good h n → Sized s h n
+pub sized : (s : List ℕ) (h : Heading) (n : ℕ) → read_section s ≡ Ok (h, n) → Sized s h n
 unfolding heading_of
 sized s h n e =
     let a = accepted s h n e in
@@ -156,16 +148,16 @@ payload_part s h n q = let l = q.long in let e : 8 + n - 8 ≡ length s - 12 = o
 -- ---- what is known where a verdict is given
 
 -- the ways out for a good section
-pub data Decided (g : Gathering) (store : List ℕ) (h : Heading) (payload : List ℕ) : Verdict → Type 0 where
-  old : h.current ≡ false → Decided g store h payload (Refuse NotCurrent)
-  other : h.current ≡ true → begins g h ≡ false → agrees g h ≡ false → Decided g store h payload (Refuse OtherHeading)
-  short : h.current ≡ true → begins g h || agrees g h ≡ true → has_room (length store) h.last ≡ false → Decided g store h payload (Refuse StoreTooShort)
-  begun : h.current ≡ true → begins g h ≡ true → has_room (length store) h.last ≡ true → Decided g store h payload (Begin h)
+pub data Decided (g : Gathering) (store : List ℕ) (h : Heading) (payload : List ℕ) : Result Verdict Refusal → Type 0 where
+  old : h.current ≡ false → Decided g store h payload (Err NotCurrent)
+  other : h.current ≡ true → begins g h ≡ false → agrees g h ≡ false → Decided g store h payload (Err OtherHeading)
+  short : h.current ≡ true → begins g h || agrees g h ≡ true → has_room (length store) h.last ≡ false → Decided g store h payload (Err StoreTooShort)
+  begun : h.current ≡ true → begins g h ≡ true → has_room (length store) h.last ≡ true → Decided g store h payload (Ok (Begin h))
   spoiled : h.current ≡ true → begins g h ≡ false → agrees g h ≡ true → has_room (length store) h.last ≡ true → (g.spoiled ≡ 0 → ⊥)
-      → Decided g store h payload (Refuse Contradiction)
-  new : Heard g store h → get_or g.held h.number 0 ≡ 0 → Decided g store h payload (Take h)
-  again : Heard g store h → (get_or g.held h.number 0 ≡ 0 → ⊥) → held_payload g store h.number ≡ payload → Decided g store h payload Repeat
-  clash : Heard g store h → (get_or g.held h.number 0 ≡ 0 → ⊥) → (held_payload g store h.number ≡ payload → ⊥) → Decided g store h payload Contradict
+      → Decided g store h payload (Err Contradiction)
+  new : Heard g store h → get_or g.held h.number 0 ≡ 0 → Decided g store h payload (Ok (Take h))
+  again : Heard g store h → (get_or g.held h.number 0 ≡ 0 → ⊥) → held_payload g store h.number ≡ payload → Decided g store h payload (Ok Repeat)
+  clash : Heard g store h → (get_or g.held h.number 0 ≡ 0 → ⊥) → (held_payload g store h.number ≡ payload → ⊥) → Decided g store h payload (Ok Contradict)
 
 module _ (g : Gathering) (store : List ℕ) (h : Heading) (payload : List ℕ) where
   decided_number : Heard g store h → (n : Bool) → eqb (get_or g.held h.number 0) 0 ≡ n → (b : Bool) → same_bytes (held_payload g store h.number) payload ≡ b
@@ -196,9 +188,9 @@ module _ (g : Gathering) (store : List ℕ) (h : Heading) (payload : List ℕ) w
       decided_by h.current refl (begins g h) refl (agrees g h) refl (has_room (length store) h.last) refl (eqb g.spoiled 0) refl
 
 -- a verdict by which a section with the heading h is taken, as the first of its table or as a further one
-pub data TakenBy (h : Heading) (v : Verdict) : Type 0 where
-  as_first : v ≡ Begin h → TakenBy h v
-  as_further : v ≡ Take h → TakenBy h v
+pub data TakenBy (h : Heading) (v : Result Verdict Refusal) : Type 0 where
+  as_first : v ≡ Ok (Begin h) → TakenBy h v
+  as_further : v ≡ Ok (Take h) → TakenBy h v
 
 -- a further section of the gathering's table: its number is one of the table's, and not held
 pub record Further (g : Gathering) (h : Heading) : Type 0 where
@@ -207,26 +199,26 @@ pub record Further (g : Gathering) (h : Heading) : Type 0 where
   pub new : get_or g.held h.number 0 ≡ 0
 
 -- what is known of a section that is taken: the store has room for its table
-pub record TakeIs (g : Gathering) (store s : List ℕ) (h : Heading) (v : Verdict) : Type 0 where
+pub record TakeIs (g : Gathering) (store s : List ℕ) (h : Heading) (v : Result Verdict Refusal) : Type 0 where
   pub length_of : ℕ
-  pub reads : read_section s ≡ Good h length_of
+  pub reads : read_section s ≡ Ok (h, length_of)
   pub roomy : has_room (length store) h.last ≡ true
-  pub further : v ≡ Take h → Further g h
+  pub further : v ≡ Ok (Take h) → Further g h
 
 module _ (g : Gathering) (store s : List ℕ) (h : Heading) where
-  not_refused : {A : Type 0} (r : Refusal) → TakenBy h (Refuse r) → A
+  not_refused : {A : Type 0} (r : Refusal) → TakenBy h (Err r) → A
   not_refused r (as_first e) = let z : ◌≡◌ {A = ℕ} 0 1 = cc in absurd (omega arith)
   not_refused r (as_further e) = let z : ◌≡◌ {A = ℕ} 0 1 = cc in absurd (omega arith)
 
   module _ (p : possible_of g ≡ true) where
-    heard_further : (i : Heading) (n : ℕ) → read_section s ≡ Good i n → Heard g store i → get_or g.held i.number 0 ≡ 0 → Further g i
+    heard_further : (i : Heading) (n : ℕ) → read_section s ≡ Ok (i, n) → Heard g store i → get_or g.held i.number 0 ≡ 0 → Further g i
     heard_further i n r d z =
         let q = sized s i n r in
         let a = agrees_is g i d.agreed in
         let last = a.last in
         record { begun = possible_begun g p (further_begun g i d.further); within = omega arith; new = z }
 
-    take_good : (i : Heading) (n : ℕ) → read_section s ≡ Good i n → {v : Verdict} → Decided g store i (payload_of s) v → TakenBy h v → TakeIs g store s h v
+    take_good : (i : Heading) (n : ℕ) → read_section s ≡ Ok (i, n) → {v : Result Verdict Refusal} → Decided g store i (payload_of s) v → TakenBy h v → TakeIs g store s h v
     take_good i n r (begun c b q) (as_first e) =
         let same : i ≡ h = cc in
         rw (← same) (record { length_of = n; reads = r; roomy = q; further = λ t. let z : ◌≡◌ {A = ℕ} 0 1 = cc in absurd (omega arith) })
@@ -244,9 +236,9 @@ module _ (g : Gathering) (store s : List ℕ) (h : Heading) where
     take_good i n r (clash d z q) (as_first e) = let z : ◌≡◌ {A = ℕ} 0 1 = cc in absurd (omega arith)
     take_good i n r (clash d z q) (as_further e) = let z : ◌≡◌ {A = ℕ} 0 1 = cc in absurd (omega arith)
 
-    take_read : (a : Sectioned) → read_section s ≡ a → TakenBy h (verdict_of g store s) → TakeIs g store s h (verdict_of g store s)
-    take_read (NotGood r) f t = not_refused r (rw (verdict_bad g store s p r f) at t)
-    take_read (Good i n) f t =
+    take_read : (a : Result (Heading × ℕ) Refusal) → read_section s ≡ a → TakenBy h (verdict_of g store s) → TakeIs g store s h (verdict_of g store s)
+    take_read (Err r) f t = not_refused r (rw (verdict_bad g store s p r f) at t)
+    take_read (Ok (i, n)) f t =
         rw (verdict_good g store s p i n f) (take_good i n f (decided g store i (payload_of s)) (rw (verdict_good g store s p i n f) at t))
 
   pub take_is : TakenBy h (verdict_of g store s) → TakeIs g store s h (verdict_of g store s)

@@ -1,21 +1,15 @@
 -- Laws of ranges: a test of both ends, one after the other, and what it says of the number.
 use mathlib.Core.Path.{◌≡◌}
-use mathlib.Core.Bool.{true, false, ◌&&◌}
-use Prim.Native.Nat.{ℕ, ◌≤◌, ◌<◌}
+use mathlib.Core.Bool.{true, ◌&&◌}
+use Prim.Native.Nat.{ℕ, ◌≤◌}
 use lib.Dec.{leb}
-use borrow.Author.Tests.{le-leb, lt-leb, leb-true}
+use borrow.Author.Tests.{le-leb, leb-true}
 use Rattle.ground_choices.proofs.Tests.{both}
 use Rattle.ground_numbers.specs.Characters.{is_digit}
 
 module _ (low n high : ℕ) where
   pub within : low ≤ n → n ≤ high → (leb low n && leb n high) ≡ true
   within h h' = rw (le-leb low n h, le-leb n high h')
-
-  pub not_from : n < low → (leb low n && leb n high) ≡ false
-  not_from h = rw (lt-leb low n h)
-
-  pub from_then : low ≤ n → (leb low n && leb n high) ≡ leb n high
-  from_then h = rw (le-leb low n h)
 
   pub within_known : (leb low n && leb n high) ≡ true → (low ≤ n) × (n ≤ high)
   within_known e = let t = both (leb low n) (leb n high) e in (leb-true low n t.0, leb-true n high t.1)

@@ -38,10 +38,7 @@ pub fn wide(byte: u8) -> u64
 pub fn is_digit(byte: u8) -> bool
     ensures { result ≡ is_digit byte }
 {
-    if byte < b'0' {
-        return false;
-    }
-    byte <= b'9'
+    byte.is_ascii_digit()
 }
 
 // ---- numbers
@@ -50,25 +47,19 @@ pub fn is_digit(byte: u8) -> bool
 pub fn within(low: u64, n: u64, high: u64) -> bool
     ensures { result ≡ (leb low n && leb n high) }
 {
-    if n < low {
-        return false;
-    }
-    n <= high
+    low <= n && n <= high
 }
 
 // What is left of a without b, and 0 where b is more.
 pub fn less(a: usize, b: usize) -> usize
     ensures { result ≡ a - b }
 {
-    if a < b {
-        return 0;
-    }
-    a - b
+    a.saturating_sub(b)
 }
 
 // The smaller of two.
 pub fn least(a: usize, b: usize) -> usize
     ensures { result ≡ min a b }
 {
-    if a < b { a } else { b }
+    a.min(b)
 }

@@ -1,12 +1,11 @@
--- Laws of bytes laid into a list: a run of stores, a copy under way, one part after another, and the last byte first.
+-- Laws of bytes laid into a list: a run of stores, one part after another, and the last byte first.
 use Prim.Native.Nat.{ℕ, suc, ◌+◌, ◌≤◌, ◌<◌}
 use mathlib.Core.List.{List, [], ◌∷◌, ◌++◌, append_assoc, append-nil}
 use mathlib.Core.Path.{◌≡◌, refl, sym, ap, ◌∙◌}
-use native.Mathlib.Nat.{le_antisymm, add-zero, zero-add, add_assoc}
-use native.Mathlib.Numerals.{add-one}
+use native.Mathlib.Nat.{add-zero, zero-add, add_assoc}
 use native.Mathlib.Omega.{arith}
-use lib.ListN.{length, get_or, set, take, drop, length-append, length-drop, take-append-drop}
-use lib.Seq.{sets, sets-eq, paste, paste-zero, paste-suc, length-take-le, take-append-le, drop-append-le, take-take, take_at, drop_at, take-length, drop-drop, drop-cons, take-set-le, drop-set-add}
+use lib.ListN.{length, set, take, drop, length-append, length-drop, take-append-drop}
+use lib.Seq.{sets, sets-eq, length-take-le, take-append-le, drop-append-le, take-take, take_at, drop_at, drop-drop, drop-cons, take-set-le, drop-set-add}
 use Rattle.ground_placing.specs.Placed.{placed}
 
 -- ---- stores one after the other
@@ -14,24 +13,6 @@ use Rattle.ground_placing.specs.Placed.{placed}
 pub stored : (d : List ℕ) (at : ℕ) (s : List ℕ) → at + length s ≤ length d → sets d at s ≡ placed d at s
 unfolding placed
 stored d at s h = sets-eq s d at h
-
--- ---- a copy under way: d with the first i bytes of s from index at on
-
-unfoldable pub copying : List ℕ → ℕ → List ℕ → ℕ → List ℕ
-copying d at s i = paste d at s i
-
-pub copy_start : (d : List ℕ) (at : ℕ) (s : List ℕ) → d ≡ copying d at s 0
-unfolding copying
-copy_start d at s = paste-zero d at s
-
-module _ (d : List ℕ) (at : ℕ) (s : List ℕ) (i : ℕ) (d' : List ℕ) (e : d' ≡ copying d at s i) where
-  pub copy_step : at + length s ≤ length d → i < length s → set d' (at + i) (get_or s i 0) ≡ copying d at s (i + 1)
-  unfolding copying
-  copy_step room h = rw (e, add-one) (paste-suc d at s i 0 (omega arith) h)
-
-  pub copy_end : i ≤ length s → length s ≤ i → d' ≡ placed d at s
-  unfolding copying placed
-  copy_end h h' = rw (e, le_antisymm h h', take-length)
 
 -- ---- one part after another
 

@@ -1,5 +1,7 @@
 -- Values of the index table, computed: the sets of a message's head, and the length of descriptors.
 use Prim.Native.Nat.{ℕ}
+use Rattle.std.specs.Prelude.{Result, Ok, Err}
+use Rattle.ground_refusal.specs.declared.Refusal.{Refusal}
 use mathlib.Core.Path.{◌≡◌, refl}
 use mathlib.Core.List.{List, [], ◌∷◌, ◌++◌}
 use lib.ListN.{length}
@@ -10,8 +12,6 @@ use Rattle.body_formats.specs.Format.{number_at, count, only, number, bytes, eve
 use Rattle.body_formats.specs.Time.{time, end_time}
 use Rattle.body_formats.specs.Identifier.{identifier_year, identifier_month, identifier_day, has_real_day, identifier}
 use Rattle.body_formats.specs.Answers.{step_of}
-use Rattle.body_formats.specs.declared.Step.{Step}
-use Rattle.body_formats.specs.declared.Step.TheVariants.{At, Refused}
 use Rattle.index.specs.Index.{descriptor, descriptors, head}
 
 -- ---- the head of the drill's message, with another start, class or level
@@ -32,30 +32,30 @@ abbrev drill_type : List ℕ
 drill_type = 0x31 ∷ 0x31 ∷ 0x41 ∷ 0x30 ∷ 0x31 ∷ []
 
 -- where the head ends, or why it is refused
-abbrev head_read : List ℕ → ℕ → Step
+abbrev head_read : List ℕ → ℕ → Result ℕ Refusal
 head_read start both = step_of (head.parse (begins ++ start ++ drill_end ++ drill_type ++ (both ∷ [])) 36 0)
 
 pub heads :
     -- "class 4 bits (1 to 4), level 4 bits (1 to 4)"
-    (head_read drill_start 0x34 ≡ At 36)
-    × (head_read drill_start 0x04 ≡ Refused (OutsideSet 35))
-    × (head_read drill_start 0x54 ≡ Refused (OutsideSet 35))
-    × (head_read drill_start 0x30 ≡ Refused (OutsideSet 35))
-    × (head_read drill_start 0x35 ≡ Refused (OutsideSet 35))
+    (head_read drill_start 0x34 ≡ Ok 36)
+    × (head_read drill_start 0x04 ≡ Err (OutsideSet 35))
+    × (head_read drill_start 0x54 ≡ Err (OutsideSet 35))
+    × (head_read drill_start 0x30 ≡ Err (OutsideSet 35))
+    × (head_read drill_start 0x35 ≡ Err (OutsideSet 35))
     -- "The live mark is tried first and only at the end field": at the start it is 18
-    × (head_read (0xFF ∷ 0xFF ∷ 0xFF ∷ 0xFF ∷ 0xFF ∷ []) 0x34 ≡ Refused (DigitAboveNine 20))
+    × (head_read (0xFF ∷ 0xFF ∷ 0xFF ∷ 0xFF ∷ 0xFF ∷ []) 0x34 ≡ Err (DigitAboveNine 20))
 unfolding head followed identifier digits halves decimal has_real_day identifier_year identifier_month identifier_day has_day is_date month_length leap day_number months_from year_of month_of days_of month_start in_range number only count number_at time end_time read_time read_end is_decimal decimal_pair possible worth moment_of bytes every nibbles
 heads = (refl, refl, refl, refl, refl, refl)
 
 -- ---- descriptors
 
-abbrev descriptors_read : List ℕ → Step
+abbrev descriptors_read : List ℕ → Result ℕ Refusal
 descriptors_read s = step_of (descriptors.parse s (length s) 0)
 
 -- "4 reserved, length 12, descriptors": "A 12-bit length counts by its low ten bits", and its two top bits are 00
 pub lengths :
-    (descriptors_read (0xF0 ∷ 0x00 ∷ []) ≡ At 2)
-    × (descriptors_read (0xF0 ∷ 0x02 ∷ 0x5F ∷ 0x00 ∷ []) ≡ At 4)
-    × (descriptors_read (0xF4 ∷ 0x00 ∷ []) ≡ Refused (ReservedBitZero 0))
+    (descriptors_read (0xF0 ∷ 0x00 ∷ []) ≡ Ok 2)
+    × (descriptors_read (0xF0 ∷ 0x02 ∷ 0x5F ∷ 0x00 ∷ []) ≡ Ok 4)
+    × (descriptors_read (0xF4 ∷ 0x00 ∷ []) ≡ Err (ReservedBitZero 0))
 unfolding descriptors descriptor view followed number only count rest counted length12 length_of reserved number_at many parse_many
 lengths = (refl, refl, refl)

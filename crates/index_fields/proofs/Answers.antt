@@ -1,5 +1,6 @@
 -- What the fields asked for answer, a law for each way through.
 use Prim.Native.Nat.{ℕ, ◌+◌, ◌-◌, ◌*◌, ◌/◌, ◌%◌, ◌≤◌, ◌<◌}
+use Rattle.std.specs.Prelude.{Ok, Err}
 use mathlib.Core.Path.{◌≡◌, refl, sym, ap, ap₂, ◌∙◌}
 use mathlib.Core.List.{List}
 use mathlib.Core.Bool.{Bool, true, false, ◌&&◌}
@@ -14,9 +15,6 @@ use Rattle.ground_refusal.specs.declared.Refusal.TheVariants.{OutsideSet, PastBo
 use Rattle.body_formats.specs.Reading.{Reading, found, refused, and_then, need, unless, judged}
 use Rattle.body_formats.specs.Format.{Format, number_at, count, only, nibbles, nibbles_among, reserved, list_of, opaque, rest, length12, counted}
 use Rattle.body_formats.specs.Answers.{number_of, field_part, ended, part_read, digit_read}
-use Rattle.body_formats.specs.declared.Step.TheVariants.{At, Refused as NoStep}
-use Rattle.body_formats.specs.declared.Number.TheVariants.{Is, Refused as NoNumber}
-use Rattle.body_formats.specs.declared.Part.TheVariants.{Of, Refused as NoPart}
 use Rattle.body_formats.proofs.Outcomes.{found_inj, and_then_found, need_found, judged_found, within_found}
 use Rattle.body_formats.proofs.Classes.{Bytes}
 use Rattle.body_formats.proofs.Leaves.{number_below}
@@ -42,11 +40,11 @@ and_none t u e = rw e
 -- ---- the table
 
 module _ (s : List ℕ) where
-  pub signature_no : (r : Refusal) → NoStep r ≡ ended (list_of (count 1) (opaque 2)) s (length s) 0 → NoPart r ≡ signature_part s
+  pub signature_no : (r : Refusal) → Err r ≡ ended (list_of (count 1) (opaque 2)) s (length s) 0 → Err r ≡ signature_part s
   unfolding signature_part
   signature_no r e = rw (step_refused (list_of (count 1) (opaque 2)) s (length s) 0 r e)
 
-  pub signature_is : (q : ℕ) → At q ≡ ended (list_of (count 1) (opaque 2)) s (length s) 0 → part_read 2 s (length s) q ≡ signature_part s
+  pub signature_is : (q : ℕ) → Ok q ≡ ended (list_of (count 1) (opaque 2)) s (length s) 0 → part_read 2 s (length s) q ≡ signature_part s
   unfolding signature_part part_read
   signature_is q e = rw (step_found (list_of (count 1) (opaque 2)) s (length s) 0 q e).1
 
@@ -82,7 +80,7 @@ module _ (s : List ℕ) (at n : ℕ) where
   unfolding network
   network_is b = number_in s at n 2 network_place b
 
-  pub extension_no : leb (at + n) (length s) ≡ false → NoNumber (OutsideSet 0) ≡ extension s at n
+  pub extension_no : leb (at + n) (length s) ≡ false → Err (OutsideSet 0) ≡ extension s at n
   unfolding extension
   extension_no e = rw e
 
@@ -90,7 +88,7 @@ module _ (s : List ℕ) (at n : ℕ) where
   unfolding extension
   extension_is e = rw e
 
-  pub identifier_digit_no : (i : ℕ) → leb (at + n) (length s) ≡ false → NoNumber (OutsideSet 0) ≡ identifier_digit s at n i
+  pub identifier_digit_no : (i : ℕ) → leb (at + n) (length s) ≡ false → Err (OutsideSet 0) ≡ identifier_digit s at n i
   unfolding identifier_digit
   identifier_digit_no i e = rw e
 
@@ -109,37 +107,37 @@ module _ (s : List ℕ) (at n : ℕ) where
   abbrev shared : Reading ℕ
   shared = and_then (field_in (nibbles_among 1 4) class_place s at n) (λ x q. found (x.0 * 16 + x.1) q)
 
-  pub shared_no : (r : Refusal) → NoNumber r ≡ number_of (field_in (count 1) class_place s at n) → NoNumber r ≡ number_of shared
+  pub shared_no : (r : Refusal) → Err r ≡ number_of (field_in (count 1) class_place s at n) → Err r ≡ number_of shared
   shared_no r e = rw (split_in, number_refused (field_in (count 1) class_place s at n) r e)
 
-  module _ (b q : ℕ) (e : Is b q ≡ number_of (field_in (count 1) class_place s at n)) where
+  module _ (b q : ℕ) (e : Ok (b, q) ≡ number_of (field_in (count 1) class_place s at n)) where
     pub shared_in : at + n ≤ length s
     shared_in = (found_in s at n (count 1) class_place b q (number_found (field_in (count 1) class_place s at n) b q e)).0
 
-    pub shared_is : halves_good b ≡ true → Is b q ≡ number_of shared
+    pub shared_is : halves_good b ≡ true → Ok (b, q) ≡ number_of shared
     shared_is h = rw (split_in, number_found (field_in (count 1) class_place s at n) b q e, h, div-add-mod' b 16)
 
-    pub shared_bad : halves_good b ≡ false → NoNumber (OutsideSet (at + class_place)) ≡ number_of shared
+    pub shared_bad : halves_good b ≡ false → Err (OutsideSet (at + class_place)) ≡ number_of shared
     shared_bad h = rw (split_in, number_found (field_in (count 1) class_place s at n) b q e, h)
 
   -- both are answered, from the byte, or neither is
-  module _ (r : Refusal) (e : NoNumber r ≡ number_of shared) where
+  module _ (r : Refusal) (e : Err r ≡ number_of shared) where
     none : field_in (nibbles_among 1 4) class_place s at n ≡ refused r
     none = go (field_in (nibbles_among 1 4) class_place s at n) e
       where
-        go : (y : Reading (ℕ × ℕ)) → NoNumber r ≡ number_of (and_then y (λ x q. found (x.0 * 16 + x.1) q)) → y ≡ refused r
+        go : (y : Reading (ℕ × ℕ)) → Err r ≡ number_of (and_then y (λ x q. found (x.0 * 16 + x.1) q)) → y ≡ refused r
         go (refused t) f = let z : t ≡ r = cc in ap refused z
         go (found x q) f = absurd (let z : ◌≡◌ {A = ℕ} 0 1 = cc in omega arith)
 
-    pub class_no : NoNumber r ≡ class s at n
+    pub class_no : Err r ≡ class s at n
     unfolding class
     class_no = rw none
 
-    pub level_no : NoNumber r ≡ level s at n
+    pub level_no : Err r ≡ level s at n
     unfolding level
     level_no = rw none
 
-  module _ (b q : ℕ) (e : Is b q ≡ number_of shared) where
+  module _ (b q : ℕ) (e : Ok (b, q) ≡ number_of shared) where
     halved : field_in (nibbles_among 1 4) class_place s at n ≡ found (b / 16, b % 16) q
     halved =
         let i = and_then_found (field_in (nibbles_among 1 4) class_place s at n) _ b q (number_found shared b q e) in
@@ -149,26 +147,26 @@ module _ (s : List ℕ) (at n : ℕ) where
         let same : y ≡ b = sym (div-add-mod' y 16) ∙ ap (λ (x : ℕ × ℕ). x.0 * 16 + x.1) k.0 ∙ (found_inj i.3).0 in
         i.2 ∙ ap₂ found (sym k.0 ∙ ap (λ (z : ℕ). (z / 16, z % 16)) same) (found_inj i.3).1
 
-    pub class_is : Is (b / 16) q ≡ class s at n
+    pub class_is : Ok (b / 16, q) ≡ class s at n
     unfolding class
     class_is = rw halved
 
-    pub level_is : Is (b % 16) q ≡ level s at n
+    pub level_is : Ok (b % 16, q) ≡ level s at n
     unfolding level
     level_is = rw halved
 
   -- ---- resources
 
-  module _ (r : Refusal) (e : NoNumber r ≡ resource_count s at n) where
-    pub resource_no : (i : ℕ) → NoNumber r ≡ number_of (resource_at s at n i)
+  module _ (r : Refusal) (e : Err r ≡ resource_count s at n) where
+    pub resource_no : (i : ℕ) → Err r ≡ number_of (resource_at s at n i)
     unfolding resource_count resource_at
     resource_no i = rw (number_refused (field_in (count 1) resource_count_place s at n) r e)
 
-    pub flag_no : NoNumber r ≡ flag s at n
+    pub flag_no : Err r ≡ flag s at n
     unfolding resource_count flag flag_at
     flag_no = rw (number_refused (field_in (count 1) resource_count_place s at n) r e)
 
-  module _ (m q : ℕ) (e : Is m q ≡ resource_count s at n) where
+  module _ (m q : ℕ) (e : Ok (m, q) ≡ resource_count s at n) where
     counted_there : field_in (count 1) resource_count_place s at n ≡ found m q
     unfolding resource_count
     counted_there = number_found (field_in (count 1) resource_count_place s at n) m q e
@@ -181,11 +179,11 @@ module _ (s : List ℕ) (at n : ℕ) where
         let i = found_inj w.2 in
         (f.0, rw (← i.1) w.0, rw (← i.0) (number_below s (at + resource_count_place) 1 b))
 
-    pub resource_none : (i : ℕ) → m ≤ i → NoNumber (OutsideSet 0) ≡ number_of (resource_at s at n i)
+    pub resource_none : (i : ℕ) → m ≤ i → Err (OutsideSet 0) ≡ number_of (resource_at s at n i)
     unfolding resource_at
     resource_none i h = rw (counted_there, le-ltb i m h)
 
-    pub resource_is : (i : ℕ) → i < m → Is m (q + resource_bytes * i) ≡ number_of (resource_at s at n i)
+    pub resource_is : (i : ℕ) → i < m → Ok (m, q + resource_bytes * i) ≡ number_of (resource_at s at n i)
     unfolding resource_at
     resource_is i h = rw (counted_there, lt-ltb i m h)
 
@@ -193,16 +191,16 @@ module _ (s : List ℕ) (at n : ℕ) where
     unfolding flag flag_at
     flag_is = rw counted_there
 
-  module _ (i : ℕ) (r : Refusal) (e : NoNumber r ≡ number_of (resource_at s at n i)) where
-    pub resource_part_no : NoPart r ≡ resource_part s at n i
+  module _ (i : ℕ) (r : Refusal) (e : Err r ≡ number_of (resource_at s at n i)) where
+    pub resource_part_no : Err r ≡ resource_part s at n i
     unfolding resource_part
     resource_part_no = rw (number_refused (resource_at s at n i) r e)
 
-    pub resource_digit_no : (j : ℕ) → NoNumber r ≡ resource_digit s at n i j
+    pub resource_digit_no : (j : ℕ) → Err r ≡ resource_digit s at n i j
     unfolding resource_digit
     resource_digit_no j = rw (number_refused (resource_at s at n i) r e)
 
-  module _ (i m p : ℕ) (e : Is m p ≡ number_of (resource_at s at n i)) where
+  module _ (i m p : ℕ) (e : Ok (m, p) ≡ number_of (resource_at s at n i)) where
     resource_there : (at + n ≤ length s) × (p ≡ at + resources_place + resource_bytes * i)
     unfolding resource_at count
     resource_there =
@@ -225,23 +223,23 @@ module _ (s : List ℕ) (at n : ℕ) where
 
   -- ---- the channel
 
-  pub channel_no : (r : Refusal) → NoNumber r ≡ flag s at n → NoNumber r ≡ number_of (channel_at s at n)
+  pub channel_no : (r : Refusal) → Err r ≡ flag s at n → Err r ≡ number_of (channel_at s at n)
   unfolding flag channel_at
   channel_no r e = rw (number_refused (flag_at s at n) r e)
 
-  module _ (f q : ℕ) (e : Is f q ≡ flag s at n) where
-    pub channel_none : f ≤ 0 → NoNumber (OutsideSet 0) ≡ number_of (channel_at s at n)
+  module _ (f q : ℕ) (e : Ok (f, q) ≡ flag s at n) where
+    pub channel_none : f ≤ 0 → Err (OutsideSet 0) ≡ number_of (channel_at s at n)
     unfolding flag channel_at
     channel_none h = rw (number_found (flag_at s at n) f q e, le-ltb 0 f h)
 
-    pub channel_is : 0 < f → Is f q ≡ number_of (channel_at s at n)
+    pub channel_is : 0 < f → Ok (f, q) ≡ number_of (channel_at s at n)
     unfolding flag channel_at
     channel_is h = rw (number_found (flag_at s at n) f q e, lt-ltb 0 f h)
 
-  pub in_channel_no : {A : Type 0} (F : Format A) (k : ℕ) (r : Refusal) → NoNumber r ≡ number_of (channel_at s at n) → refused r ≡ in_channel F k s at n
+  pub in_channel_no : {A : Type 0} (F : Format A) (k : ℕ) (r : Refusal) → Err r ≡ number_of (channel_at s at n) → refused r ≡ in_channel F k s at n
   in_channel_no F k r e = rw (number_refused (channel_at s at n) r e)
 
-  module _ (f q : ℕ) (e : Is f q ≡ number_of (channel_at s at n)) where
+  module _ (f q : ℕ) (e : Ok (f, q) ≡ number_of (channel_at s at n)) where
     pub in_channel_lem : {A : Type 0} (F : Format A) (k : ℕ) → F.parse s (at + n) (q + k) ≡ in_channel F k s at n
     in_channel_lem F k = rw (number_found (channel_at s at n) f q e)
 
@@ -257,7 +255,7 @@ module _ (s : List ℕ) (at n : ℕ) where
 -- ---- streams
 
 module _ (s : List ℕ) (at n : ℕ) where
-  pub streams_no : (r : Refusal) → NoPart r ≡ descriptors_part s at n → NoPart r ≡ streams_part s at n
+  pub streams_no : (r : Refusal) → Err r ≡ descriptors_part s at n → Err r ≡ streams_part s at n
   unfolding descriptors_part streams_part
   streams_no r e = rw (part_refused (in_channel (counted length12 rest) channel_descriptors_place s at n) r e)
 
@@ -270,7 +268,7 @@ module _ (s : List ℕ) (at n : ℕ) where
       let m = length-take-le (h.at + h.size - h.at) (drop h.at s) (simp length-drop (omega (arith, h.in_body_lem))) in
       (omega (arith, ap length f.0, f.1, m), omega (arith, f.1, h.in_body_lem), (channel_in s at n i.0 i.1 (ap number_of (sym i.2))).0)
 
-  module _ (a m : ℕ) (e : Of a m ≡ descriptors_part s at n) where
+  module _ (a m : ℕ) (e : Ok (a, m) ≡ descriptors_part s at n) where
     there : (xs : List ℕ) × (in_channel (counted length12 rest) channel_descriptors_place s at n ≡ found xs (a + m))
     unfolding descriptors_part
     there = part_found (in_channel (counted length12 rest) channel_descriptors_place s at n) a m e (λ xs q f. (descriptors_found xs q f).0)

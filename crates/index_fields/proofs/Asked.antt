@@ -1,5 +1,6 @@
 -- The fields asked for of an accepted body are its table's: of the body, of its messages, and of the descriptors and streams in their parts.
 use Prim.Native.Nat.{ℕ, zero, suc, ◌+◌, ◌-◌, ◌*◌, ◌≤◌, ◌<◌}
+use Rattle.std.specs.Prelude.{Ok}
 use mathlib.Core.Path.{◌≡◌, refl, sym, ap, subst, ◌∙◌}
 use mathlib.Core.List.{List, []}
 use mathlib.Core.Bool.{Bool, true, false, ◌&&◌}
@@ -15,8 +16,6 @@ use Rattle.body_formats.specs.Format.{Format, Length, count, number, nibbles_amo
 use Rattle.body_formats.specs.Time.{time, end_time}
 use Rattle.body_formats.specs.Body.{reading}
 use Rattle.body_formats.specs.Answers.{number_of, part_of, number_read, part_listed, thing_listed}
-use Rattle.body_formats.specs.declared.Number.TheVariants.{Is}
-use Rattle.body_formats.specs.declared.Part.TheVariants.{Of}
 use Rattle.body_formats.proofs.Classes.{Bytes, Filling}
 use Rattle.body_formats.proofs.Elements.{exact_found, view_found, followed_found, list_found}
 use Rattle.body_formats.proofs.RoundTrips as trips
@@ -89,7 +88,7 @@ module _ (s : List ℕ) (b : Bytes s) (l : ℕ) (inside : l ≤ length s) (p q :
 -- as many things are counted in a part as are read in it
 all_counted : {A : Type 0} (L : Length) (k : ℕ) → Sized L.field k → (F : Format A) → Filling (many F) → (s : List ℕ) → Bytes s
     → (l p at : ℕ) → at ≡ p + k → (xs : List A) (q : ℕ) → (counted L (many F)).parse s l p ≡ found xs q
-    → number_of (count_of (in_body s at (q - at) (λ m. (many F).parse s m at))) ≡ Is (length xs) q
+    → number_of (count_of (in_body s at (q - at) (λ m. (many F).parse s m at))) ≡ Ok (length xs, q)
 all_counted L k z F f s b l p at from xs q e =
     let h = part_holds L (many F) f s b l p xs q e in
     let begins : h.at ≡ at = part_after_lem L k z (many F) f s b l p xs q e ∙ sym from in
@@ -270,7 +269,7 @@ module _ (s : List ℕ) (at n : ℕ) (b : Bytes s) (there : at + n ≤ length s)
         network_is = rw (asked s at n (number 2) network_place _ _ there h.1);
         start_is = rw (asked s at n time start_place _ _ there h.2);
         end_is = rw (asked s at n end_time end_place _ _ there h.3);
-        type_is = rw (asked s at n (bytes_among 0 0x7F 5) type_place _ _ there h.4) (let z : at + class_place - (at + type_place) ≡ 5 = omega arith in ap (Of (at + type_place)) z);
+        type_is = rw (asked s at n (bytes_among 0 0x7F 5) type_place _ _ there h.4) (let z : at + class_place - (at + type_place) ≡ 5 = omega arith in ap (λ b. Ok (at + type_place, b)) z);
         type_bytes = (bytes_are 0 0x7F 5 s (at + n) (at + type_place) x.0.1.1.1.1.0 (at + class_place) h.4).0;
         class_is = rw (asked s at n (nibbles_among 1 4) class_place _ _ there h.5);
         level_is = rw (asked s at n (nibbles_among 1 4) class_place _ _ there h.5);

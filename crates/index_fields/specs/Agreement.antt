@@ -1,10 +1,8 @@
 -- What a reader has to believe of the fields asked for of an accepted index table: each is the table's own, and what isn't there is refused.
-use Rattle.std.specs.Prelude.{ℕ, zero, suc, ◌+◌, ◌-◌, ◌*◌, ◌/◌, ◌≤◌, ◌<◌, ◌≡◌, List, [], length, get_or, take, drop}
+use Rattle.std.specs.Prelude.{ℕ, zero, suc, ◌+◌, ◌-◌, ◌*◌, ◌/◌, ◌≤◌, ◌<◌, ◌≡◌, List, [], length, get_or, take, drop, Result, Ok}
+use Rattle.ground_refusal.specs.declared.Refusal.{Refusal}
 use Rattle.body_formats.specs.Format.{Under}
 use Rattle.body_formats.specs.Resource.{resource_bytes, resource}
-use Rattle.body_formats.specs.declared.Number.TheVariants.{Is}
-use Rattle.body_formats.specs.declared.Part.{Part}
-use Rattle.body_formats.specs.declared.Part.TheVariants.{Of}
 use Rattle.body_asking.specs.Agreement.{NoNumberThere, NoPartThere, FillsAt, FollowsLength, InTurn, HoldsInTurn}
 use Rattle.body_formats.specs.Identifier.{identifier_bytes, identifier}
 use Rattle.body_extension.specs.Extension.{extension_of}
@@ -20,7 +18,7 @@ use Rattle.index_stream_fields.specs.Asked.{descriptor_tag, descriptor_part, str
 
 -- a descriptor that stands from p to q
 pub record DescriptorAsked (s : List ℕ) (l : ℕ) (d : Descriptor) (p q : ℕ) : Type 0 where
-  pub tag_is : descriptor_tag s p (l - p) ≡ Is d.tag (p + 1)
+  pub tag_is : descriptor_tag s p (l - p) ≡ Ok (d.tag, p + 1)
   pub bytes_fill : FillsAt s (p + 2) (descriptor_part s p (l - p)) d.bytes
   pub ends : p + 2 + length d.bytes ≡ q
 
@@ -29,20 +27,20 @@ pub record NoDescriptor (s : List ℕ) (at n : ℕ) : Type 0 where
   pub no_bytes : NoPartThere (descriptor_part s at n)
 
 -- the part answered goes from p to q, all of its descriptors are ds, in order, and so many are counted in it
-pub record DescriptorsAsked (s : List ℕ) (part : Part) (p : ℕ) (ds : List Descriptor) (q : ℕ) : Type 0 where
+pub record DescriptorsAsked (s : List ℕ) (part : Result (ℕ × ℕ) Refusal) (p : ℕ) (ds : List Descriptor) (q : ℕ) : Type 0 where
   pub in_turn : HoldsInTurn (λ i. DescriptorAsked s q) s part p ds q
-  pub counted : descriptor_count s p (q - p) ≡ Is (length ds) q
+  pub counted : descriptor_count s p (q - p) ≡ Ok (length ds, q)
 
 -- a stream that stands from p to q: its descriptors follow their length, and end where it ends
 pub record StreamAsked (s : List ℕ) (l : ℕ) (t : Stream) (p q : ℕ) : Type 0 where
-  pub type_is : stream_type s p (l - p) ≡ Is t.type (p + stream_pid_place)
-  pub pid_is : stream_pid s p (l - p) ≡ Is t.pid (p + stream_descriptors_place)
+  pub type_is : stream_type s p (l - p) ≡ Ok (t.type, p + stream_pid_place)
+  pub pid_is : stream_pid s p (l - p) ≡ Ok (t.pid, p + stream_descriptors_place)
   pub descriptors_asked : DescriptorsAsked s (stream_descriptors s p (l - p)) (p + stream_descriptors_place + 2) t.descriptors q
 
 -- the part answered goes from p to q, all of its streams are ts, in order, and so many are counted in it
-pub record StreamsAsked (s : List ℕ) (part : Part) (p : ℕ) (ts : List Stream) (q : ℕ) : Type 0 where
+pub record StreamsAsked (s : List ℕ) (part : Result (ℕ × ℕ) Refusal) (p : ℕ) (ts : List Stream) (q : ℕ) : Type 0 where
   pub in_turn : HoldsInTurn (λ i. StreamAsked s q) s part p ts q
-  pub counted : stream_count s p (q - p) ≡ Is (length ts) q
+  pub counted : stream_count s p (q - p) ≡ Ok (length ts, q)
 
 pub record NoStream (s : List ℕ) (at n : ℕ) : Type 0 where
   pub no_type : NoNumberThere (stream_type s at n)
@@ -53,10 +51,10 @@ pub record NoStream (s : List ℕ) (at n : ℕ) : Type 0 where
 
 -- it stands from p to q
 pub record ChannelAsked (s : List ℕ) (at n : ℕ) (c : Channel) (p q : ℕ) : Type 0 where
-  pub network_is : channel_network s at n ≡ Is c.network (p + channel_stream_place)
-  pub stream_is : channel_stream s at n ≡ Is c.stream (p + channel_program_place)
-  pub program_is : channel_program s at n ≡ Is c.program (p + pcr_pid_place)
-  pub pcr_pid_is : pcr_pid s at n ≡ Is c.pcr_pid (p + channel_descriptors_place)
+  pub network_is : channel_network s at n ≡ Ok (c.network, p + channel_stream_place)
+  pub stream_is : channel_stream s at n ≡ Ok (c.stream, p + channel_program_place)
+  pub program_is : channel_program s at n ≡ Ok (c.program, p + pcr_pid_place)
+  pub pcr_pid_is : pcr_pid s at n ≡ Ok (c.pcr_pid, p + channel_descriptors_place)
   -- where the descriptors end: there stands the length of the streams
   pub middle : ℕ
   pub descriptors_asked : DescriptorsAsked s (descriptors_part s at n) (p + channel_descriptors_place + 2) c.descriptors middle
@@ -78,28 +76,28 @@ UnderFlag s at n (suc f) c p q = ChannelAsked s at n c p q
 -- ---- a message that begins at `at` and has n bytes
 
 pub record FieldsAsked (s : List ℕ) (at n : ℕ) (m : Message) : Type 0 where
-  pub identifier_is : identifier_part s at n ≡ Of at identifier_bytes
+  pub identifier_is : identifier_part s at n ≡ Ok (at, identifier_bytes)
   pub identifier_bytes_lem : take identifier_bytes (drop at s) ≡ identifier.print m.identifier
-  pub identifier_digits : (i : ℕ) → i < 35 → identifier_digit s at n i ≡ Is (get_or m.identifier i 0) (at + (i + 1) / 2)
+  pub identifier_digits : (i : ℕ) → i < 35 → identifier_digit s at n i ≡ Ok (get_or m.identifier i 0, at + (i + 1) / 2)
   pub identifier_past : (i : ℕ) → 35 ≤ i → NoNumberThere (identifier_digit s at n i)
-  pub extension_is : extension s at n ≡ Is (extension_of m.identifier) (at + identifier_bytes)
-  pub network_is : network s at n ≡ Is m.network (at + start_place)
-  pub start_is : start s at n ≡ Is m.start (at + end_place)
-  pub end_is : end s at n ≡ Is m.end (at + type_place)
-  pub type_is : type_part s at n ≡ Of (at + type_place) 5
+  pub extension_is : extension s at n ≡ Ok (extension_of m.identifier, at + identifier_bytes)
+  pub network_is : network s at n ≡ Ok (m.network, at + start_place)
+  pub start_is : start s at n ≡ Ok (m.start, at + end_place)
+  pub end_is : end s at n ≡ Ok (m.end, at + type_place)
+  pub type_is : type_part s at n ≡ Ok (at + type_place, 5)
   pub type_bytes : take 5 (drop (at + type_place) s) ≡ m.type
-  pub class_is : class s at n ≡ Is m.class (at + resource_count_place)
-  pub level_is : level s at n ≡ Is m.level (at + resource_count_place)
-  pub resources_counted : resource_count s at n ≡ Is (length m.resources) (at + resources_place)
-  pub resource_is : (i : ℕ) → i < length m.resources → resource_part s at n i ≡ Of (at + resources_place + resource_bytes * i) resource_bytes
+  pub class_is : class s at n ≡ Ok (m.class, at + resource_count_place)
+  pub level_is : level s at n ≡ Ok (m.level, at + resource_count_place)
+  pub resources_counted : resource_count s at n ≡ Ok (length m.resources, at + resources_place)
+  pub resource_is : (i : ℕ) → i < length m.resources → resource_part s at n i ≡ Ok (at + resources_place + resource_bytes * i, resource_bytes)
   pub resource_bytes_lem : (i : ℕ) → i < length m.resources → take resource_bytes (drop (at + resources_place + resource_bytes * i) s) ≡ resource.print (get_or m.resources i [])
   pub resource_digits : (i j : ℕ) → i < length m.resources → j < 23
-      → resource_digit s at n i j ≡ Is (get_or (get_or m.resources i []) j 0) (at + resources_place + resource_bytes * i + (j + 1) / 2)
+      → resource_digit s at n i j ≡ Ok (get_or (get_or m.resources i []) j 0, at + resources_place + resource_bytes * i + (j + 1) / 2)
   pub resource_digit_past : (i j : ℕ) → i < length m.resources → 23 ≤ j → NoNumberThere (resource_digit s at n i j)
   pub resource_past : (i : ℕ) → length m.resources ≤ i → NoPartThere (resource_part s at n i)
   pub resource_past_digit : (i j : ℕ) → length m.resources ≤ i → NoNumberThere (resource_digit s at n i j)
   -- the flag stands after the last resource, and the channel after the flag
-  pub flag_is : flag s at n ≡ Is m.channel.0 (at + resources_place + resource_bytes * length m.resources + 1)
+  pub flag_is : flag s at n ≡ Ok (m.channel.0, at + resources_place + resource_bytes * length m.resources + 1)
   pub channel_asked : UnderFlag s at n m.channel.0 m.channel.1 (at + resources_place + resource_bytes * length m.resources + 1) (at + n)
 
 pub record NoMessage (s : List ℕ) (at n : ℕ) : Type 0 where
@@ -127,7 +125,7 @@ pub record MessageAsked (s : List ℕ) (i : ℕ) (m : Message) (p q : ℕ) : Typ
 -- ---- the table t of the body s
 
 pub record IndexAsked (s : List ℕ) (t : Index) : Type 0 where
-  pub messages_counted : message_count s ≡ Is (length t.messages) 1
+  pub messages_counted : message_count s ≡ Ok (length t.messages, 1)
   -- the messages stand one after the other from byte 1 on, and where the last one ends stands the length of the signature
   pub messages_end : ℕ
   pub messages_asked : InTurn (MessageAsked s) 0 t.messages 1 messages_end

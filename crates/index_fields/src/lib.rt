@@ -10,7 +10,8 @@ ghost use Rattle.index.specs.Index.{descriptor, descriptors, stream};
 ghost use Rattle.index.specs.Places.{class_place, channel_program_place};
 ghost use Rattle.index_fields.specs.Asked.{message_count, message_part, signature_part, identifier_part, identifier_digit, extension, network, start, end, type_part, class, level, resource_count, resource_at, resource_part, resource_digit, flag, channel_at, in_channel, channel_network, channel_stream, channel_program, pcr_pid, descriptors_part, streams_part};
 
-use body_formats::{Number, Part, RESOURCE_BYTES, RESOURCE_PAIRS, Step};
+use body_formats::{Number, Part, RESOURCE_BYTES, RESOURCE_PAIRS};
+use ground_numbers::within;
 use ground_refusal::Refusal;
 use index::{
     CHANNEL_DESCRIPTORS_PLACE, CHANNEL_PROGRAM_PLACE, CHANNEL_STREAM_PLACE, CLASS_PLACE, END_PLACE,
@@ -36,10 +37,8 @@ pub fn signature(s: &[u8]) -> Part
     ensures { result ≡ signature_part s.now }
 {
     let l = s.len();
-    match body_parts::skip_list(s, l, 0, 1, 2) {
-        Step::Refused(r) => Part::Refused(r),
-        Step::At(q) => body_parts::read_part(s, l, q, 2),
-    }
+    let q = body_parts::skip_list(s, l, 0, 1, 2)?;
+    body_parts::read_part(s, l, q, 2)
 }
 
 // The part of the body that the identifier fills.
@@ -49,7 +48,7 @@ pub fn identifier(s: &[u8], at: usize, n: usize) -> Part
     if body_asking::in_body(s, at, n) {
         return body_identifier::read_identifier(s, at + n, at);
     }
-    Part::Refused(Refusal::OutsideSet(0))
+    Err(Refusal::OutsideSet(0))
 }
 
 // The i-th digit of the identifier.
@@ -59,7 +58,7 @@ pub fn identifier_digit(s: &[u8], at: usize, n: usize, i: u64) -> Number
     if body_asking::in_body(s, at, n) {
         return body_identifier::identifier_digit_at(s, at + n, at, i);
     }
-    Number::Refused(Refusal::OutsideSet(0))
+    Err(Refusal::OutsideSet(0))
 }
 
 // The extension of the message's content table: that of the identifier.
@@ -69,7 +68,7 @@ pub fn extension(s: &[u8], at: usize, n: usize) -> Number
     if body_asking::in_body(s, at, n) {
         return body_extension::extension_at(s, at + n, at);
     }
-    Number::Refused(Refusal::OutsideSet(0))
+    Err(Refusal::OutsideSet(0))
 }
 
 pub fn network(s: &[u8], at: usize, n: usize) -> Number
@@ -84,7 +83,7 @@ pub fn start(s: &[u8], at: usize, n: usize) -> Number
     if body_asking::in_body(s, at, n) {
         return body_numbers::read_time(s, at + n, at + START_PLACE);
     }
-    Number::Refused(Refusal::OutsideSet(0))
+    Err(Refusal::OutsideSet(0))
 }
 
 pub fn end(s: &[u8], at: usize, n: usize) -> Number
@@ -93,7 +92,7 @@ pub fn end(s: &[u8], at: usize, n: usize) -> Number
     if body_asking::in_body(s, at, n) {
         return body_numbers::read_end(s, at + n, at + END_PLACE);
     }
-    Number::Refused(Refusal::OutsideSet(0))
+    Err(Refusal::OutsideSet(0))
 }
 
 // The part of the body that the type fills.
@@ -103,24 +102,15 @@ pub fn type_part(s: &[u8], at: usize, n: usize) -> Part
     if body_asking::in_body(s, at, n) {
         return body_digits::read_bytes(s, at + n, at + TYPE_PLACE, 5, 0, 0x7F);
     }
-    Part::Refused(Refusal::OutsideSet(0))
-}
-
-fn one_to_four(x: u64) -> bool
-    ensures { result ≡ (leb 1 x && leb x 4) }
-{
-    if x < 1 {
-        return false;
-    }
-    x <= 4
+    Err(Refusal::OutsideSet(0))
 }
 
 // "class 4 bits (1 to 4), level 4 bits (1 to 4)", in the byte b.
 fn halves_good(b: u64) -> bool
     ensures { result ≡ ((leb 1 (b / 16) && leb (b / 16) 4) && (leb 1 (b % 16) && leb (b % 16) 4)) }
 {
-    if one_to_four(b / 16) {
-        return one_to_four(b % 16);
+    if within(1, b / 16, 4) {
+        return within(1, b % 16, 4);
     }
     false
 }
@@ -129,33 +119,25 @@ fn halves_good(b: u64) -> bool
 fn class_and_level(s: &[u8], at: usize, n: usize) -> Number
     ensures { result ≡ number_of (and_then (field_in (nibbles_among 1 4) class_place s.now at n) (λ x q. found (x.0 * 16 + x.1) q)) }
 {
-    match body_asking::number_in(s, at, n, CLASS_PLACE, 1) {
-        Number::Refused(r) => Number::Refused(r),
-        Number::Is(b, q) => {
-            if halves_good(b) {
-                return Number::Is(b, q);
-            }
-            Number::Refused(Refusal::OutsideSet(at + CLASS_PLACE))
-        }
+    let (b, q) = body_asking::number_in(s, at, n, CLASS_PLACE, 1)?;
+    if halves_good(b) {
+        return Ok((b, q));
     }
+    Err(Refusal::OutsideSet(at + CLASS_PLACE))
 }
 
 pub fn class(s: &[u8], at: usize, n: usize) -> Number
     ensures { result ≡ class s.now at n }
 {
-    match class_and_level(s, at, n) {
-        Number::Refused(r) => Number::Refused(r),
-        Number::Is(b, q) => Number::Is(b / 16, q),
-    }
+    let (b, q) = class_and_level(s, at, n)?;
+    Ok((b / 16, q))
 }
 
 pub fn level(s: &[u8], at: usize, n: usize) -> Number
     ensures { result ≡ level s.now at n }
 {
-    match class_and_level(s, at, n) {
-        Number::Refused(r) => Number::Refused(r),
-        Number::Is(b, q) => Number::Is(b % 16, q),
-    }
+    let (b, q) = class_and_level(s, at, n)?;
+    Ok((b % 16, q))
 }
 
 // How many resources the message has.
@@ -169,51 +151,35 @@ pub fn resource_count(s: &[u8], at: usize, n: usize) -> Number
 fn resource_at(s: &[u8], at: usize, n: usize, i: u64) -> Number
     ensures { result ≡ number_of (resource_at s.now at n i) }
 {
-    match resource_count(s, at, n) {
-        Number::Refused(r) => Number::Refused(r),
-        Number::Is(m, q) => {
-            if i < m {
-                return Number::Is(m, q + RESOURCE_BYTES * (i as usize));
-            }
-            Number::Refused(Refusal::OutsideSet(0))
-        }
+    let (m, q) = resource_count(s, at, n)?;
+    if i < m {
+        return Ok((m, q + RESOURCE_BYTES * (i as usize)));
     }
+    Err(Refusal::OutsideSet(0))
 }
 
 // The part of the body that the i-th resource fills.
 pub fn resource(s: &[u8], at: usize, n: usize, i: u64) -> Part
     ensures { result ≡ resource_part s.now at n i }
 {
-    match resource_at(s, at, n, i) {
-        Number::Refused(r) => Part::Refused(r),
-        Number::Is(m, p) => body_digits::read_digits(s, at + n, p, RESOURCE_PAIRS),
-    }
+    let (m, p) = resource_at(s, at, n, i)?;
+    body_digits::read_digits(s, at + n, p, RESOURCE_PAIRS)
 }
 
 // The j-th digit of the i-th resource.
 pub fn resource_digit(s: &[u8], at: usize, n: usize, i: u64, j: u64) -> Number
     ensures { result ≡ resource_digit s.now at n i j }
 {
-    match resource_at(s, at, n, i) {
-        Number::Refused(r) => Number::Refused(r),
-        Number::Is(m, p) => body_digits::digit_at(s, at + n, p, RESOURCE_PAIRS, j),
-    }
+    let (m, p) = resource_at(s, at, n, i)?;
+    body_digits::digit_at(s, at + n, p, RESOURCE_PAIRS, j)
 }
 
 // The channel flag, which follows the resources.
 pub fn flag(s: &[u8], at: usize, n: usize) -> Number
     ensures { result ≡ flag s.now at n }
 {
-    match resource_count(s, at, n) {
-        Number::Refused(r) => Number::Refused(r),
-        Number::Is(m, q) => body_numbers::read_reserved(
-            s,
-            at + n,
-            q + RESOURCE_BYTES * (m as usize),
-            7,
-            0,
-        ),
-    }
+    let (m, q) = resource_count(s, at, n)?;
+    body_numbers::read_reserved(s, at + n, q + RESOURCE_BYTES * (m as usize), 7, 0)
 }
 
 // The flag, and where the channel begins; 19 where the flag is 0.
@@ -221,15 +187,11 @@ pub fn flag(s: &[u8], at: usize, n: usize) -> Number
 fn channel_at(s: &[u8], at: usize, n: usize) -> Number
     ensures { result ≡ number_of (channel_at s.now at n) }
 {
-    match flag(s, at, n) {
-        Number::Refused(r) => Number::Refused(r),
-        Number::Is(f, q) => {
-            if 0 < f {
-                return Number::Is(f, q);
-            }
-            Number::Refused(Refusal::OutsideSet(0))
-        }
+    let (f, q) = flag(s, at, n)?;
+    if 0 < f {
+        return Ok((f, q));
     }
+    Err(Refusal::OutsideSet(0))
 }
 
 // The number of two bytes that stands k bytes into the channel.
@@ -237,10 +199,8 @@ fn channel_number(s: &[u8], at: usize, n: usize, k: usize) -> Number
     requires { k ≤ channel_program_place }
     ensures { result ≡ number_of (in_channel (number 2) k s.now at n) }
 {
-    match channel_at(s, at, n) {
-        Number::Refused(r) => Number::Refused(r),
-        Number::Is(f, q) => body_numbers::read_number(s, at + n, q + k, 2),
-    }
+    let (f, q) = channel_at(s, at, n)?;
+    body_numbers::read_number(s, at + n, q + k, 2)
 }
 
 pub fn channel_network(s: &[u8], at: usize, n: usize) -> Number
@@ -264,28 +224,22 @@ pub fn channel_program(s: &[u8], at: usize, n: usize) -> Number
 pub fn pcr_pid(s: &[u8], at: usize, n: usize) -> Number
     ensures { result ≡ pcr_pid s.now at n }
 {
-    match channel_at(s, at, n) {
-        Number::Refused(r) => Number::Refused(r),
-        Number::Is(f, q) => body_numbers::read_reserved(s, at + n, q + PCR_PID_PLACE, 3, 1),
-    }
+    let (f, q) = channel_at(s, at, n)?;
+    body_numbers::read_reserved(s, at + n, q + PCR_PID_PLACE, 3, 1)
 }
 
 // The part of the body that the channel's descriptors fill.
 pub fn descriptors(s: &[u8], at: usize, n: usize) -> Part
     ensures { result ≡ descriptors_part s.now at n }
 {
-    match channel_at(s, at, n) {
-        Number::Refused(r) => Part::Refused(r),
-        Number::Is(f, q) => body_parts::read_part12(s, at + n, q + CHANNEL_DESCRIPTORS_PLACE),
-    }
+    let (f, q) = channel_at(s, at, n)?;
+    body_parts::read_part12(s, at + n, q + CHANNEL_DESCRIPTORS_PLACE)
 }
 
 // The part of the body that the streams fill: it follows the descriptors.
 pub fn streams(s: &[u8], at: usize, n: usize) -> Part
     ensures { result ≡ streams_part s.now at n }
 {
-    match descriptors(s, at, n) {
-        Part::Refused(r) => Part::Refused(r),
-        Part::Of(a, m) => body_parts::read_part(s, at + n, a + m, 2),
-    }
+    let (a, m) = descriptors(s, at, n)?;
+    body_parts::read_part(s, at + n, a + m, 2)
 }

@@ -85,8 +85,7 @@ pub fn good_index(s: &[u8]) -> bool
         return false;
     }
     let mut at: usize = 1;
-    let mut left = s[0];
-    while 0 < left {
+    for i in 0..s[0] {
         if l - at < 2 {
             return false;
         }
@@ -99,7 +98,6 @@ pub fn good_index(s: &[u8]) -> bool
             return false;
         }
         at = end;
-        left = left - 1;
     }
     if l - at < 2 {
         return false;

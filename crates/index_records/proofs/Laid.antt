@@ -1,5 +1,6 @@
 -- The records laid of an accepted body are its messages': both stand one after the other, each where the bytes of the one before end.
 use Prim.Native.Nat.{ℕ, suc, ◌+◌, ◌-◌, ◌≤◌, ◌<◌}
+use Rattle.std.specs.Prelude.{Err}
 use mathlib.Core.Path.{◌≡◌, refl, sym, ap, ap₂, subst, ◌∙◌}
 use mathlib.Core.List.{List, [], ◌∷◌, ◌++◌}
 use native.Mathlib.Omega.{arith}
@@ -10,7 +11,6 @@ use borrow.Author.Tests.{le-leb, lt-leb}
 use Rattle.ground_refusal.specs.declared.Refusal.TheVariants.{OutputTooSmall}
 use Rattle.body_formats.specs.Reading.{found}
 use Rattle.body_formats.specs.Body.{reading}
-use Rattle.body_formats.specs.declared.Step.TheVariants.{Refused as NoStep}
 use Rattle.body_formats.proofs.Classes.{Bytes}
 use Rattle.body_asking.specs.Agreement.{InTurn}
 use Rattle.body_asking.proofs.Turns.{read_in_turn, follows_length, follows_takes}
@@ -107,7 +107,7 @@ module _ (kind : ℕ) (s : List ℕ) (b : Bytes s) (t : Index) (q : ℕ) (e : re
           as_long = ap length list_is ∙ simp (length-append, length-drop) (omega (arith, length_records ms 1));
         }
 
-  none_laid : length list < length ms → (body_recorded kind s (length list) ≡ NoStep OutputTooSmall) × (recorded kind s list ≡ list)
+  none_laid : length list < length ms → (body_recorded kind s (length list) ≡ Err OutputTooSmall) × (recorded kind s list ≡ list)
   unfolding body_recorded recorded recording
   none_laid small =
       let x = lt-leb (length ms) (length list) small in

@@ -1,5 +1,6 @@
 -- What stands at a message's fixed places is what its format reads there, so that the records found by places are the table's.
 use Prim.Native.Nat.{ℕ, zero, suc, ◌+◌, ◌-◌, ◌/◌, ◌%◌, ◌^◌, ◌≤◌, ◌<◌, min}
+use Rattle.std.specs.Prelude.{Ok, Err}
 use mathlib.Core.Path.{◌≡◌, sym, ap, ◌∙◌}
 use mathlib.Core.List.{List, ◌∷◌}
 use native.Mathlib.Omega.{arith}
@@ -13,7 +14,6 @@ use Rattle.body_formats.specs.Format.{number_at, count, number, nibbles, nibbles
 use Rattle.body_formats.specs.Time.{time, end_time}
 use Rattle.body_formats.specs.Answers.{number_of, number_read}
 use Rattle.ground_numbers.specs.Sizes.{body_most}
-use Rattle.body_formats.specs.declared.Number.TheVariants.{Is, Refused as NoNumber}
 use Rattle.body_formats.proofs.Classes.{Bytes}
 use Rattle.body_formats.proofs.Outcomes.{found_inj, and_then_found, within_found}
 use Rattle.body_formats.proofs.Elements.{exact_found, view_found, followed_found}
@@ -25,16 +25,16 @@ use Rattle.index.specs.Index.{HeadFields, head, message_fields, named, unnamed, 
 use Rattle.index.specs.Places.{start_place, end_place, class_place}
 use Rattle.index.proofs.Lawful.{inner_filling, message_lawful}
 use Rattle.index_records.specs.Records.{record_of, records_of}
+use Rattle.index_records.specs.declared.Record.{Record}
 use Rattle.index_records.specs.Steps.{standing, placed_from, placed_at, records_from}
-use Rattle.index_records.specs.declared.Placed.{Placed}
 
 -- ---- a number, by its reader's answer
 
-pub nothing_stands : (s : List ℕ) (p w : ℕ) (r : Refusal) → NoNumber r ≡ number_read w s (length s) p → (0 ≡ standing s p w) × (0 < 256 ^ w)
+pub nothing_stands : (s : List ℕ) (p w : ℕ) (r : Refusal) → Err r ≡ number_read w s (length s) p → (0 ≡ standing s p w) × (0 < 256 ^ w)
 unfolding standing
 nothing_stands s p w r e = (ap number_worth e, one-le-pow w 256 (omega arith))
 
-pub number_stood : (s : List ℕ) (p w v q : ℕ) → Bytes s → Is v q ≡ number_read w s (length s) p → (v ≡ standing s p w) × (v < 256 ^ w)
+pub number_stood : (s : List ℕ) (p w v q : ℕ) → Bytes s → Ok (v, q) ≡ number_read w s (length s) p → (v ≡ standing s p w) × (v < 256 ^ w)
 unfolding standing
 number_stood s p w v q b e = (ap number_worth e, (number_facts s (length s) p w v q b e).2)
 
@@ -100,9 +100,8 @@ head_stands s p l at h q from e =
 -- ---- a message
 
 -- a message by its numbers, and the position after it
-abbrev placed : ℕ → ℕ → ℕ → ℕ → ℕ → ℕ → ℕ → Placed
-placed at n start end class level next =
-    record { message = record { at = at; length = n; start = start; end = end; class = class; level = level }; next = next }
+abbrev placed : ℕ → ℕ → ℕ → ℕ → ℕ → ℕ → ℕ → Record × ℕ
+placed at n start end class level next = (record { at = at; length = n; start = start; end = end; class = class; level = level }, next)
 
 -- what the code puts together
 pub by_places : (s : List ℕ) (p a n start end both : ℕ) → a ≡ min p body_most → n ≡ standing s a 2 → start ≡ standing s (a + 2 + start_place) 5
@@ -118,7 +117,7 @@ same_placed at e₀ e₁ e₂ e₃ e₄ e₅ = rw (e₀, e₁, e₂, e₃, e₄,
 
 -- the message whose EBM_length stands at p, by places and by its format
 pub message_placed : (s : List ℕ) (p : ℕ) (m : Message) (q : ℕ) → Bytes s → length s ≤ body_most → message.parse s (length s) p ≡ found m q
-    → (placed_at s p ≡ record { message = record_of m p; next = q }) × (q ≡ p + length (message.print m))
+    → (placed_at s p ≡ (record_of m p, q)) × (q ≡ p + length (message.print m))
 unfolding message message_fields counted length_of placed_at number_read
 message_placed s p m q b small e =
     let i = and_then_found ((count 2).parse s (length s) p) _ m q e in
@@ -152,5 +151,5 @@ messages_placed s b small (suc n) p ms q e =
     let j = and_then_found (repeat (message.parse s (length s)) n i.1) _ ms q i.3 in
     let f = message_placed s p i.0 i.1 b small i.2 in
     let rest = messages_placed s b small n i.1 j.0 j.1 j.2 in
-    ap (λ x. x.message ∷ records_from s x.next n) f.0 ∙ ap (λ rs. record_of i.0 p ∷ rs) (rest ∙ ap (records_of j.0) f.1)
+    ap (λ (x : Record × ℕ). x.0 ∷ records_from s x.1 n) f.0 ∙ ap (λ rs. record_of i.0 p ∷ rs) (rest ∙ ap (records_of j.0) f.1)
     ∙ ap (λ ms. records_of ms p) (found_inj j.3).0

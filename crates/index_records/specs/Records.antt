@@ -1,10 +1,10 @@
 -- What a reader has to believe of the message records: one for each message, in order, where "each begins, its length, start, end, class, level".
-use Rattle.std.specs.Prelude.{ℕ, ◌+◌, ◌-◌, List, [], ◌∷◌, ◌++◌, length, drop, leb}
+use Rattle.std.specs.Prelude.{ℕ, ◌+◌, ◌-◌, List, [], ◌∷◌, ◌++◌, length, drop, leb, Result}
+use Rattle.ground_refusal.specs.declared.Refusal.{Refusal}
 use Rattle.ground_refusal.specs.declared.Refusal.TheVariants.{OutputTooSmall}
 use Rattle.body_formats.specs.Reading.{Reading, found, refused, and_then, need}
 use Rattle.body_formats.specs.Body.{reading}
 use Rattle.body_formats.specs.Answers.{step_of}
-use Rattle.body_formats.specs.declared.Step.{Step}
 use Rattle.index.specs.Index.{Message, message, Index, index, index_kind}
 use Rattle.index_records.specs.declared.Record.{Record}
 
@@ -24,7 +24,7 @@ recording kind s room =
     need (leb (length t.messages) room) OutputTooSmall (found t (length t.messages)))
 
 -- how many records are laid, or why none is
-unfoldable pub body_recorded : ℕ → List ℕ → ℕ → Step
+unfoldable pub body_recorded : ℕ → List ℕ → ℕ → Result ℕ Refusal
 body_recorded kind s room = step_of (recording kind s room)
 
 -- "records past the count stay", and a refusal writes no record

@@ -1,5 +1,6 @@
 -- Things that fill a part, counted as they are passed: the laws of the loop, of one descriptor and of one stream.
 use Prim.Native.Nat.{ℕ, zero, suc, ◌+◌, ◌-◌, ◌%◌, ◌≤◌, ◌<◌}
+use Rattle.std.specs.Prelude.{Result, Ok, Err}
 use mathlib.Core.Path.{◌≡◌, refl, sym, ap, ap₂, ◌∙◌}
 use mathlib.Core.List.{List, ◌∷◌}
 use mathlib.Core.Bool.{Bool, true, false}
@@ -11,13 +12,10 @@ use lib.Dec.{leb}
 use borrow.Author.Tests.{le-leb, lt-leb}
 use Rattle.ground_refusal.specs.declared.Refusal.{Refusal}
 use Rattle.ground_refusal.specs.declared.Refusal.TheVariants.{PastBody, PastPart}
+use Rattle.ground_refusal.proofs.Exits.{ok_pair_inj}
 use Rattle.body_formats.specs.Reading.{Reading, found, refused, and_then, need, Fault, fine, faulty, judged, within}
 use Rattle.body_formats.specs.Format.{Format, number_at, number, reserved, followed, view, parse_many, many, rest, Length, length12, counted}
 use Rattle.body_formats.specs.Answers.{step_of, number_of, part_of, ended, number_read, part_read}
-use Rattle.body_formats.specs.declared.Step.TheVariants.{At, Refused as NoStep}
-use Rattle.body_formats.specs.declared.Number.{Number}
-use Rattle.body_formats.specs.declared.Number.TheVariants.{Is, Refused as NoNumber}
-use Rattle.body_formats.specs.declared.Part.TheVariants.{Of, Refused as NoPart}
 use Rattle.body_formats.proofs.Outcomes.{found_inj, and_then_found, judged_found, within_found}
 use Rattle.body_formats.proofs.Classes.{Bytes, Lawful}
 use Rattle.body_formats.proofs.Inner.{forward}
@@ -29,16 +27,16 @@ use Rattle.index_stream_fields.specs.Asked.{count_of}
 -- ---- the loop, for things of any format
 
 -- what is answered where m things lie behind, and at most k are read from p on
-abbrev counts : {A : Type 0} → Format A → List ℕ → ℕ → ℕ → ℕ → ℕ → Number
+abbrev counts : {A : Type 0} → Format A → List ℕ → ℕ → ℕ → ℕ → ℕ → Result (ℕ × ℕ) Refusal
 counts F s l m k p = number_of (and_then (parse_many F k s l p) (λ xs q. found (m + length xs) q))
 
 none_behind : {A : Type 0} (x : Reading (List A)) → number_of (count_of x) ≡ number_of (and_then x (λ xs q. found (0 + length xs) q))
-none_behind (found xs q) = ap (λ (n : ℕ). Is n q) (let z : length xs ≡ 0 + length xs = omega arith in z)
+none_behind (found xs q) = ap (λ (n : ℕ). Ok (n, q)) (let z : length xs ≡ 0 + length xs = omega arith in z)
 none_behind (refused r) = refl
 
 one_behind : {A : Type 0} (m : ℕ) (a : A) (x : Reading (List A))
     → number_of (and_then (and_then x (λ xs r. found (a ∷ xs) r)) (λ xs q. found (m + length xs) q)) ≡ number_of (and_then x (λ xs q. found (m + 1 + length xs) q))
-one_behind m a (found xs q) = ap (λ (n : ℕ). Is n q) (let z : m + suc (length xs) ≡ m + 1 + length xs = omega arith in z)
+one_behind m a (found xs q) = ap (λ (n : ℕ). Ok (n, q)) (let z : m + suc (length xs) ≡ m + 1 + length xs = omega arith in z)
 one_behind m a (refused r) = refl
 
 -- The loop stands at `at` with m things behind it: the answer is theirs and that of the rest, for which enough turns are left.
@@ -53,17 +51,17 @@ module _ {A : Type 0} (F : Format A) (s : List ℕ) (l : ℕ) where
       let all : l - p - 0 ≡ l - p = omega arith in
       record { enough = omega arith; answer = none_behind (parse_many F (l - p) s l p) ∙ ap (λ (k : ℕ). counts F s l 0 k p) (sym all) }
 
-  count_end : (m k at : ℕ) → l ≤ at → counts F s l m k at ≡ Is m at
+  count_end : (m k at : ℕ) → l ≤ at → counts F s l m k at ≡ Ok (m, at)
   unfolding parse_many
-  count_end m zero at h = rw (le-leb l at h) (ap (λ (n : ℕ). Is n at) (add-zero m))
-  count_end m (suc k) at h = rw (le-leb l at h) (ap (λ (n : ℕ). Is n at) (add-zero m))
+  count_end m zero at h = rw (le-leb l at h) (ap (λ (n : ℕ). Ok (n, at)) (add-zero m))
+  count_end m (suc k) at h = rw (le-leb l at h) (ap (λ (n : ℕ). Ok (n, at)) (add-zero m))
 
-  count_refused : (m k at : ℕ) (r : Refusal) → at < l → l - at ≤ k → NoStep r ≡ ended F s l at → counts F s l m k at ≡ NoNumber r
+  count_refused : (m k at : ℕ) (r : Refusal) → at < l → l - at ≤ k → Err r ≡ ended F s l at → counts F s l m k at ≡ Err r
   unfolding parse_many
   count_refused m zero at r h f e = absurd (omega arith)
   count_refused m (suc k) at r h f e = rw (lt-leb l at h, step_refused F s l at r e)
 
-  count_turn : (m k at q : ℕ) → at < l → l - at ≤ k → At q ≡ ended F s l at → counts F s l m k at ≡ counts F s l (m + 1) (k - 1) q
+  count_turn : (m k at q : ℕ) → at < l → l - at ≤ k → Ok q ≡ ended F s l at → counts F s l m k at ≡ counts F s l (m + 1) (k - 1) q
   unfolding parse_many
   count_turn m zero at q h f e = absurd (omega arith)
   count_turn m (suc k) at q h f e =
@@ -78,13 +76,13 @@ module _ {A : Type 0} (F : Format A) (s : List ℕ) (l : ℕ) where
     pub again : Counted F s l p (m + 1) q
 
   module _ (p m at : ℕ) (c : Counted F s l p m at) where
-    pub count_done : l ≤ at → Is m at ≡ number_of (count_of ((many F).parse s l p))
+    pub count_done : l ≤ at → Ok (m, at) ≡ number_of (count_of ((many F).parse s l p))
     count_done h = sym (c.answer ∙ count_end m (l - p - m) at h)
 
-    pub count_stop : (r : Refusal) → at < l → NoStep r ≡ ended F s l at → NoNumber r ≡ number_of (count_of ((many F).parse s l p))
+    pub count_stop : (r : Refusal) → at < l → Err r ≡ ended F s l at → Err r ≡ number_of (count_of ((many F).parse s l p))
     count_stop r h e = sym (c.answer ∙ count_refused m (l - p - m) at r h c.enough e)
 
-    pub count_go : Lawful F → ((a : A) → 0 < length (F.print a)) → Bytes s → l ≤ length s → (q : ℕ) → at < l → At q ≡ ended F s l at → Turn p m at q
+    pub count_go : Lawful F → ((a : A) → 0 < length (F.print a)) → Bytes s → l ≤ length s → (q : ℕ) → at < l → Ok q ≡ ended F s l at → Turn p m at q
     count_go f takes b inb q h e =
         let g = step_found F s l at q e in
         let nearer = (forward F f takes s b l inb at g.0 q (omega arith) g.1).0 in
@@ -107,19 +105,19 @@ module _ (s : List ℕ) (b : Bytes s) (l p : ℕ) (here : p < l) (inside : l ≤
       number_found ((number 1).parse s l p) (number_at s p 1) (p + 1)
       (number_is s l p 1 (omega arith) (omega arith) (number_at s p 1) (p + 1) refl refl ∙ count_number 1 s l p b)
 
-  pub descriptor_no : (r : Refusal) → NoPart r ≡ part_read 1 s l (p + 1) → NoStep r ≡ ended descriptor s l p
+  pub descriptor_no : (r : Refusal) → Err r ≡ part_read 1 s l (p + 1) → Err r ≡ ended descriptor s l p
   unfolding ended descriptor view followed
   descriptor_no r e = rw (byte_found, part_refused s l (p + 1) 1 r e)
 
-  pub descriptor_at : (a m : ℕ) → Of a m ≡ part_read 1 s l (p + 1) → At (a + m) ≡ ended descriptor s l p
+  pub descriptor_at : (a m : ℕ) → Ok (a, m) ≡ part_read 1 s l (p + 1) → Ok (a + m) ≡ ended descriptor s l p
   unfolding ended descriptor view followed
   descriptor_at a m e = rw (byte_found, (part_found s l (p + 1) 1 a m e).1)
 
-  pub stream_no : (r : Refusal) → NoNumber r ≡ number_of ((reserved 3 1).parse s l (p + 1)) → NoStep r ≡ ended stream s l p
+  pub stream_no : (r : Refusal) → Err r ≡ number_of ((reserved 3 1).parse s l (p + 1)) → Err r ≡ ended stream s l p
   unfolding ended stream stream_fields view followed
   stream_no r e = rw (byte_found, number_refused ((reserved 3 1).parse s l (p + 1)) r e)
 
-  pub stream_is : (v q : ℕ) → Is v q ≡ number_of ((reserved 3 1).parse s l (p + 1)) → ended descriptors s l q ≡ ended stream s l p
+  pub stream_is : (v q : ℕ) → Ok (v, q) ≡ number_of ((reserved 3 1).parse s l (p + 1)) → ended descriptors s l q ≡ ended stream s l p
   unfolding ended stream stream_fields view followed
   stream_is v q e = rw (byte_found, number_found ((reserved 3 1).parse s l (p + 1)) v q e) (go (descriptors.parse s l q))
     where
@@ -138,19 +136,19 @@ module _ (s : List ℕ) (b : Bytes s) (l p : ℕ) (here : p < l) (inside : l ≤
 
 module _ (L : Length) {A : Type 0} (F : Format A) (s : List ℕ) (l p : ℕ) where
   still : (r : Refusal) (x : List ℕ) (q : ℕ) (y : Reading A) (t u : Bool) (a c : Refusal) (f : Fault)
-      → NoPart r ≡ part_of (need t a (need u c (judged f (found x q))))
+      → Err r ≡ part_of (need t a (need u c (judged f (found x q))))
       → need t a (need u c (judged f y)) ≡ refused r
   still r x q y true true a c fine e = absurd (let z : ◌≡◌ {A = ℕ} 0 1 = cc in omega arith)
   still r x q y true true a c (faulty w) e = let z : w ≡ r = cc in ap refused z
   still r x q y true false a c f e = let z : c ≡ r = cc in ap refused z
   still r x q y false u a c f e = let z : a ≡ r = cc in ap refused z
 
-  no_part : (r : Refusal) → NoPart r ≡ part_of ((counted L rest).parse s l p) → (counted L F).parse s l p ≡ refused r
+  no_part : (r : Refusal) → Err r ≡ part_of ((counted L rest).parse s l p) → (counted L F).parse s l p ≡ refused r
   unfolding counted rest
   no_part r e = go (L.field.parse s l p) e
     where
       go : (x : Reading ℕ)
-          → NoPart r
+          → Err r
           ≡ part_of (and_then x (λ n q.
           within s l p (q + n % L.limit) (judged (L.fault n p) (found (take (q + n % L.limit - q) (drop q s)) (q + n % L.limit)))))
           → and_then x (λ n q. within s l p (q + n % L.limit) (judged (L.fault n p) (F.parse s (q + n % L.limit) q))) ≡ refused r
@@ -176,38 +174,39 @@ module _ (L : Length) {A : Type 0} (F : Format A) (s : List ℕ) (l p : ℕ) whe
         rw (i.2, le-leb (i.1 + m) (length s) g.0, le-leb (i.1 + m) l g.1, j.0) (ap₂ (F.parse s) ends begins),
       )
 
-  pub into_part : (a m : ℕ) → Of a m ≡ part_of ((counted L rest).parse s l p) → (a + m ≤ length s) × ((counted L F).parse s l p ≡ F.parse s (a + m) a)
+  pub into_part : (a m : ℕ) → Ok (a, m) ≡ part_of ((counted L rest).parse s l p) → (a + m ≤ length s) × ((counted L F).parse s l p ≡ F.parse s (a + m) a)
   into_part a m e = go ((counted L rest).parse s l p) refl e
     where
-      go : (x : Reading (List ℕ)) → (counted L rest).parse s l p ≡ x → Of a m ≡ part_of x → (a + m ≤ length s) × ((counted L F).parse s l p ≡ F.parse s (a + m) a)
+      go : (x : Reading (List ℕ)) → (counted L rest).parse s l p ≡ x → Ok (a, m) ≡ part_of x → (a + m ≤ length s) × ((counted L F).parse s l p ≡ F.parse s (a + m) a)
       go (refused r) f e = absurd (let z : ◌≡◌ {A = ℕ} 0 1 = cc in omega arith)
       go (found x q) f e =
           let h = part_there x q f in
-          let begins : a ≡ q - length x = cc in
-          let size : m ≡ length x = cc in
+          let i = ok_pair_inj e in
+          let begins = i.0 in
+          let size = i.1 in
           let ends : q ≡ a + m = omega (arith, h.0, begins, size) in
           (omega (arith, h.1, ends), h.2 ∙ ap₂ (F.parse s) ends (sym begins))
 
 -- ---- the descriptors after their 12-bit length
 
 module _ (s : List ℕ) (l p : ℕ) where
-  pub descriptors_no : (r : Refusal) → NoPart r ≡ part_of ((counted length12 rest).parse s l p) → NoStep r ≡ ended descriptors s l p
+  pub descriptors_no : (r : Refusal) → Err r ≡ part_of ((counted length12 rest).parse s l p) → Err r ≡ ended descriptors s l p
   unfolding ended descriptors
   descriptors_no r e = rw (no_part length12 (many descriptor) s l p r e)
 
-  module _ (a m : ℕ) (e : Of a m ≡ part_of ((counted length12 rest).parse s l p)) where
-    pub descriptors_bad : (r : Refusal) → NoNumber r ≡ number_of (count_of ((many descriptor).parse s (a + m) a)) → NoStep r ≡ ended descriptors s l p
+  module _ (a m : ℕ) (e : Ok (a, m) ≡ part_of ((counted length12 rest).parse s l p)) where
+    pub descriptors_bad : (r : Refusal) → Err r ≡ number_of (count_of ((many descriptor).parse s (a + m) a)) → Err r ≡ ended descriptors s l p
     unfolding ended descriptors
     descriptors_bad r f = go ((many descriptor).parse s (a + m) a) f ∙ ap step_of (sym (into_part length12 (many descriptor) s l p a m e).1)
       where
-        go : (x : Reading (List Descriptor)) → NoNumber r ≡ number_of (count_of x) → NoStep r ≡ step_of x
+        go : (x : Reading (List Descriptor)) → Err r ≡ number_of (count_of x) → Err r ≡ step_of x
         go (found ds q) f = absurd (let z : ◌≡◌ {A = ℕ} 0 1 = cc in omega arith)
-        go (refused t) f = let z : r ≡ t = cc in ap NoStep z
+        go (refused t) f = let z : r ≡ t = cc in ap Err z
 
-    pub descriptors_at : (k q : ℕ) → Is k q ≡ number_of (count_of ((many descriptor).parse s (a + m) a)) → At q ≡ ended descriptors s l p
+    pub descriptors_at : (k q : ℕ) → Ok (k, q) ≡ number_of (count_of ((many descriptor).parse s (a + m) a)) → Ok q ≡ ended descriptors s l p
     unfolding ended descriptors
     descriptors_at k q f = go ((many descriptor).parse s (a + m) a) f ∙ ap step_of (sym (into_part length12 (many descriptor) s l p a m e).1)
       where
-        go : (x : Reading (List Descriptor)) → Is k q ≡ number_of (count_of x) → At q ≡ step_of x
-        go (found ds t) f = let z : q ≡ t = cc in ap At z
+        go : (x : Reading (List Descriptor)) → Ok (k, q) ≡ number_of (count_of x) → Ok q ≡ step_of x
+        go (found ds t) f = ap Ok (ok_pair_inj f).1
         go (refused t) f = absurd (let z : ◌≡◌ {A = ℕ} 0 1 = cc in omega arith)

@@ -20,7 +20,7 @@ fn first_byte(s: &[u8], at: usize, n: usize) -> Number
     if body_asking::in_part(s, at, n) {
         return body_numbers::read_number(s, at + n, at, 1);
     }
-    Number::Refused(Refusal::OutsideSet(0))
+    Err(Refusal::OutsideSet(0))
 }
 
 pub fn descriptor_tag(s: &[u8], at: usize, n: usize) -> Number
@@ -50,7 +50,7 @@ fn part_walked(s: &[u8], at: usize, n: usize) -> Part
     if body_asking::in_part(s, at, n) {
         return body_parts::read_part(s, at + n, at + 1, 1);
     }
-    Part::Refused(Refusal::OutsideSet(0))
+    Err(Refusal::OutsideSet(0))
 }
 
 // The part of the body that the descriptor's data fill.
@@ -60,7 +60,7 @@ pub fn descriptor_part(s: &[u8], at: usize, n: usize) -> Part
     if holds(s, at, n, 2) {
         let m = wide(s[at + 1]) as usize;
         if m <= n - 2 {
-            return Part::Of(at + 2, m);
+            return Ok((at + 2, m));
         }
     }
     part_walked(s, at, n)
@@ -79,7 +79,7 @@ fn pid_walked(s: &[u8], at: usize, n: usize) -> Number
     if body_asking::in_part(s, at, n) {
         return body_numbers::read_reserved(s, at + n, at + STREAM_PID_PLACE, 3, 1);
     }
-    Number::Refused(Refusal::OutsideSet(0))
+    Err(Refusal::OutsideSet(0))
 }
 
 pub fn stream_pid(s: &[u8], at: usize, n: usize) -> Number
@@ -88,7 +88,7 @@ pub fn stream_pid(s: &[u8], at: usize, n: usize) -> Number
     if holds(s, at, n, 3) {
         let field = body_numbers::two_bytes(s, at + STREAM_PID_PLACE);
         if 0xE000 <= field {
-            return Number::Is((field - 0xE000) as u64, at + 3);
+            return Ok(((field - 0xE000) as u64, at + 3));
         }
     }
     pid_walked(s, at, n)
@@ -101,7 +101,7 @@ fn descriptors_walked(s: &[u8], at: usize, n: usize) -> Part
     if body_asking::in_part(s, at, n) {
         return body_parts::read_part12(s, at + n, at + STREAM_DESCRIPTORS_PLACE);
     }
-    Part::Refused(Refusal::OutsideSet(0))
+    Err(Refusal::OutsideSet(0))
 }
 
 // The part of the body that the stream's descriptors fill.
@@ -114,7 +114,7 @@ pub fn stream_descriptors(s: &[u8], at: usize, n: usize) -> Part
             let m = field - 0xF000;
             if m < 1024 {
                 if m <= n - 5 {
-                    return Part::Of(at + 5, m);
+                    return Ok((at + 5, m));
                 }
             }
         }
@@ -127,10 +127,8 @@ fn skip_descriptor(s: &[u8], l: usize, p: usize) -> Step
     requires { (p < l) × (l ≤ length s.now) }
     ensures { result ≡ ended descriptor s.now l p }
 {
-    match body_parts::read_part(s, l, p + 1, 1) {
-        Part::Refused(r) => Step::Refused(r),
-        Part::Of(a, m) => Step::At(a + m),
-    }
+    let (a, m) = body_parts::read_part(s, l, p + 1, 1)?;
+    Ok(a + m)
 }
 
 // How many descriptors fill the part from p to l.
@@ -141,17 +139,10 @@ fn descriptors_in(s: &[u8], l: usize, p: usize) -> Number
     let mut at = p;
     let mut m: u64 = 0;
     while at < l {
-        match skip_descriptor(s, l, at) {
-            Step::Refused(r) => {
-                return Number::Refused(r);
-            }
-            Step::At(q) => {
-                at = q;
-            }
-        }
+        at = skip_descriptor(s, l, at)?;
         m = m + 1;
     }
-    Number::Is(m, at)
+    Ok((m, at))
 }
 
 // How many descriptors the part of n bytes from at on has.
@@ -161,20 +152,16 @@ pub fn descriptor_count(s: &[u8], at: usize, n: usize) -> Number
     if body_asking::in_body(s, at, n) {
         return descriptors_in(s, at + n, at);
     }
-    Number::Refused(Refusal::OutsideSet(0))
+    Err(Refusal::OutsideSet(0))
 }
 
 // Past the descriptors after their 12-bit length at p, each of them looked at.
 fn skip_descriptors(s: &[u8], l: usize, p: usize) -> Step
     ensures { result ≡ ended descriptors s.now l p }
 {
-    match body_parts::read_part12(s, l, p) {
-        Part::Refused(r) => Step::Refused(r),
-        Part::Of(a, m) => match descriptors_in(s, a + m, a) {
-            Number::Refused(r) => Step::Refused(r),
-            Number::Is(k, q) => Step::At(q),
-        },
-    }
+    let (a, m) = body_parts::read_part12(s, l, p)?;
+    let (k, q) = descriptors_in(s, a + m, a)?;
+    Ok(q)
 }
 
 // Past the stream at p, whose type stands in the part.
@@ -182,13 +169,12 @@ fn skip_stream(s: &[u8], l: usize, p: usize) -> Step
     requires { (p < l) × (l ≤ length s.now) }
     ensures { result ≡ ended stream s.now l p }
 {
-    match body_numbers::read_reserved(s, l, p + STREAM_PID_PLACE, 3, 1) {
-        Number::Refused(r) => Step::Refused(r),
-        Number::Is(v, q) => skip_descriptors(s, l, q),
-    }
+    let (v, q) = body_numbers::read_reserved(s, l, p + STREAM_PID_PLACE, 3, 1)?;
+    skip_descriptors(s, l, q)
 }
 
-// How many streams fill the part from p to l.
+// How many streams fill the part from p to l. One function of this and descriptors_in would take what skips a thing as a closure, and its clauses would
+// have to speak of every format.
 fn streams_in(s: &[u8], l: usize, p: usize) -> Number
     requires { l ≤ length s.now }
     ensures { result ≡ number_of (count_of ((many stream).parse s.now l p)) }
@@ -196,17 +182,10 @@ fn streams_in(s: &[u8], l: usize, p: usize) -> Number
     let mut at = p;
     let mut k: u64 = 0;
     while at < l {
-        match skip_stream(s, l, at) {
-            Step::Refused(r) => {
-                return Number::Refused(r);
-            }
-            Step::At(q) => {
-                at = q;
-            }
-        }
+        at = skip_stream(s, l, at)?;
         k = k + 1;
     }
-    Number::Is(k, at)
+    Ok((k, at))
 }
 
 // How many streams the part of n bytes from at on has.
@@ -216,5 +195,5 @@ pub fn stream_count(s: &[u8], at: usize, n: usize) -> Number
     if body_asking::in_body(s, at, n) {
         return streams_in(s, at + n, at);
     }
-    Number::Refused(Refusal::OutsideSet(0))
+    Err(Refusal::OutsideSet(0))
 }

@@ -21,15 +21,14 @@ fn ink_all_descriptors(pool: &[u8], tape: &[u64], k: usize, out: &mut [u8], at: 
     requires { Ready (many descriptor) pool.now tape.now at k (length out.old) }
     ensures { Inked (many descriptor) pool.now tape.now at k out.old result.at result.entry out.new }
 {
-    let mut past = at;
-    let mut entry = k + 1;
-    let mut left = tape[k];
-    while 0 < left {
-        past = ink_descriptor(pool, tape, entry, out, past);
-        entry = entry + 3;
-        left = left - 1;
+    let mut past = Mark { at, entry: k + 1 };
+    for _ in 0..tape[k] {
+        past = Mark {
+            at: ink_descriptor(pool, tape, past.entry, out, past.at),
+            entry: past.entry + 3,
+        };
     }
-    Mark { at: past, entry }
+    past
 }
 
 // "4 reserved, length 12, descriptors".
@@ -57,16 +56,11 @@ fn ink_all_streams(pool: &[u8], tape: &[u64], k: usize, out: &mut [u8], at: usiz
     requires { Ready (many stream) pool.now tape.now at k (length out.old) }
     ensures { Inked (many stream) pool.now tape.now at k out.old result.at result.entry out.new }
 {
-    let mut past = at;
-    let mut entry = k + 1;
-    let mut left = tape[k];
-    while 0 < left {
-        let next = ink_stream(pool, tape, entry, out, past);
-        past = next.at;
-        entry = next.entry;
-        left = left - 1;
+    let mut past = Mark { at, entry: k + 1 };
+    for _ in 0..tape[k] {
+        past = ink_stream(pool, tape, past.entry, out, past.at);
     }
-    Mark { at: past, entry }
+    past
 }
 
 // "16-bit stream length; streams".
@@ -148,16 +142,11 @@ fn ink_messages(pool: &[u8], tape: &[u64], out: &mut [u8]) -> Mark
 {
     let n = tape[0];
     body_ink::number(out, 0, 1, n);
-    let mut past: usize = 1;
-    let mut entry: usize = 1;
-    let mut left = n;
-    while 0 < left {
-        let next = ink_message(pool, tape, entry, out, past);
-        past = next.at;
-        entry = next.entry;
-        left = left - 1;
+    let mut past = Mark { at: 1, entry: 1 };
+    for _ in 0..n {
+        past = ink_message(pool, tape, past.entry, out, past.at);
     }
-    Mark { at: past, entry }
+    past
 }
 
 // The whole table: its messages and the signature.

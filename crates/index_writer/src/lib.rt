@@ -9,13 +9,12 @@ ghost use Rattle.body_formats.specs.Body.{measured, body_written, output_written
 ghost use Rattle.index.specs.Index.{index};
 
 use body_formats::Step;
-use body_pen::Pen;
 
 // Judges and measures the body of a form: how long it is, or the first field that is refused and the entry where it begins.
 pub fn measure(pool: &[u8], tape: &[u64]) -> Step
     ensures { result ≡ measured index pool.now tape.now }
 {
-    let past = measuring::pen_index(pool, tape, Pen::At(0, 0));
+    let past = measuring::pen_index(pool, tape, Ok((0, 0)));
     body_pen::measured(past, tape.len())
 }
 
@@ -25,11 +24,7 @@ pub fn write(pool: &[u8], tape: &[u64], out: &mut [u8]) -> Step
     ensures said { result ≡ body_written index pool.now tape.now (length out.old) }
     ensures left { out.new ≡ output_written index pool.now tape.now out.old }
 {
-    match body_pen::fitted(measure(pool, tape), out.len()) {
-        Step::Refused(r) => Step::Refused(r),
-        Step::At(size) => {
-            inking::ink_index(pool, tape, out);
-            Step::At(size)
-        }
-    }
+    let size = body_pen::fitted(measure(pool, tape), out.len())?;
+    inking::ink_index(pool, tape, out);
+    Ok(size)
 }

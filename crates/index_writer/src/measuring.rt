@@ -14,33 +14,24 @@ fn pen_descriptor(pool: &[u8], tape: &[u64], x: Pen) -> Pen
     body_pen::pen_part(pool, tape, a, 1)
 }
 
-// The descriptors that fill a part.
-fn pen_all_descriptors(pool: &[u8], tape: &[u64], x: Pen) -> Pen
+// The descriptors that fill a part. There is one of this for each place that calls it, a stream's 0 and the channel's own 1: the compiler lays a function of
+// this length into its caller only where it is called at one place.
+fn pen_all_descriptors<const PLACE: usize>(pool: &[u8], tape: &[u64], x: Pen) -> Pen
     ensures { result ≡ penned (many descriptor) pool.now tape.now x }
 {
-    let things = body_pen::take_count(tape, x);
-    let mut pen = things.pen;
-    let mut left = things.n;
-    while 0 < left {
-        match pen_descriptor(pool, tape, pen) {
-            Pen::Refused(r) => {
-                return Pen::Refused(r);
-            }
-            Pen::At(size, k) => {
-                pen = Pen::At(size, k);
-            }
-        }
-        left = left - 1;
+    let (mut past, n) = body_pen::take_count(tape, x)?;
+    for _ in 0..n {
+        past = pen_descriptor(pool, tape, Ok(past))?;
     }
-    pen
+    Ok(past)
 }
 
 // "4 reserved, length 12, descriptors".
-fn pen_descriptors(pool: &[u8], tape: &[u64], x: Pen) -> Pen
+fn pen_descriptors<const PLACE: usize>(pool: &[u8], tape: &[u64], x: Pen) -> Pen
     ensures { result ≡ penned descriptors pool.now tape.now x }
 {
     let a = body_pen::gap(x, 2);
-    let b = pen_all_descriptors(pool, tape, a);
+    let b = pen_all_descriptors::<PLACE>(pool, tape, a);
     body_pen::close(x, b, 2, 1024)
 }
 
@@ -49,30 +40,19 @@ fn pen_stream(pool: &[u8], tape: &[u64], x: Pen) -> Pen
     ensures { result ≡ penned stream pool.now tape.now x }
 {
     let a = body_pen::pen_number(tape, x, 1);
-    let pid = body_pen::pen_reserved(tape, a, 3, 1);
-    let b = pid.pen;
-    pen_descriptors(pool, tape, b)
+    let (b, pid) = body_pen::pen_reserved(tape, a, 3, 1)?;
+    pen_descriptors::<0>(pool, tape, Ok(b))
 }
 
 // The streams that fill a part.
 fn pen_all_streams(pool: &[u8], tape: &[u64], x: Pen) -> Pen
     ensures { result ≡ penned (many stream) pool.now tape.now x }
 {
-    let things = body_pen::take_count(tape, x);
-    let mut pen = things.pen;
-    let mut left = things.n;
-    while 0 < left {
-        match pen_stream(pool, tape, pen) {
-            Pen::Refused(r) => {
-                return Pen::Refused(r);
-            }
-            Pen::At(size, k) => {
-                pen = Pen::At(size, k);
-            }
-        }
-        left = left - 1;
+    let (mut past, n) = body_pen::take_count(tape, x)?;
+    for _ in 0..n {
+        past = pen_stream(pool, tape, Ok(past))?;
     }
-    pen
+    Ok(past)
 }
 
 // "16-bit stream length; streams".
@@ -84,36 +64,6 @@ fn pen_streams(pool: &[u8], tape: &[u64], x: Pen) -> Pen
     body_pen::close(x, b, 2, 65536)
 }
 
-// The same once more for the channel's own: the compiler lays a function of this length into its caller only where it is called at one place.
-fn pen_all_descriptors_of_channel(pool: &[u8], tape: &[u64], x: Pen) -> Pen
-    ensures { result ≡ penned (many descriptor) pool.now tape.now x }
-{
-    let things = body_pen::take_count(tape, x);
-    let mut pen = things.pen;
-    let mut left = things.n;
-    while 0 < left {
-        match pen_descriptor(pool, tape, pen) {
-            Pen::Refused(r) => {
-                return Pen::Refused(r);
-            }
-            Pen::At(size, k) => {
-                pen = Pen::At(size, k);
-            }
-        }
-        left = left - 1;
-    }
-    pen
-}
-
-// And so its length and they.
-fn pen_descriptors_of_channel(pool: &[u8], tape: &[u64], x: Pen) -> Pen
-    ensures { result ≡ penned descriptors pool.now tape.now x }
-{
-    let a = body_pen::gap(x, 2);
-    let b = pen_all_descriptors_of_channel(pool, tape, a);
-    body_pen::close(x, b, 2, 1024)
-}
-
 // "network, stream, program 16 each; 3 reserved, PCR PID 13", descriptors and streams.
 fn pen_channel(pool: &[u8], tape: &[u64], x: Pen) -> Pen
     ensures { result ≡ penned channel pool.now tape.now x }
@@ -121,9 +71,8 @@ fn pen_channel(pool: &[u8], tape: &[u64], x: Pen) -> Pen
     let a = body_pen::pen_number(tape, x, 2);
     let b = body_pen::pen_number(tape, a, 2);
     let c = body_pen::pen_number(tape, b, 2);
-    let pid = body_pen::pen_reserved(tape, c, 3, 1);
-    let d = pid.pen;
-    let e = pen_descriptors_of_channel(pool, tape, d);
+    let (d, pid) = body_pen::pen_reserved(tape, c, 3, 1)?;
+    let e = pen_descriptors::<1>(pool, tape, Ok(d));
     pen_streams(pool, tape, e)
 }
 
@@ -131,13 +80,11 @@ fn pen_channel(pool: &[u8], tape: &[u64], x: Pen) -> Pen
 fn pen_flagged(pool: &[u8], tape: &[u64], x: Pen) -> Pen
     ensures { result ≡ penned flagged pool.now tape.now x }
 {
-    let flag = body_pen::pen_reserved(tape, x, 7, 0);
-    let n = flag.n;
-    let a = flag.pen;
-    if n == 0 {
-        return a;
+    let (past, flag) = body_pen::pen_reserved(tape, x, 7, 0)?;
+    if flag == 0 {
+        return Ok(past);
     }
-    pen_channel(pool, tape, a)
+    pen_channel(pool, tape, Ok(past))
 }
 
 // From the identifier to the level.
@@ -167,21 +114,11 @@ fn pen_message(pool: &[u8], tape: &[u64], x: Pen) -> Pen
 fn pen_messages(pool: &[u8], tape: &[u64], x: Pen) -> Pen
     ensures { result ≡ penned (list_of (count 1) message) pool.now tape.now x }
 {
-    let things = body_pen::pen_count(tape, x, 1);
-    let mut pen = things.pen;
-    let mut left = things.n;
-    while 0 < left {
-        match pen_message(pool, tape, pen) {
-            Pen::Refused(r) => {
-                return Pen::Refused(r);
-            }
-            Pen::At(size, k) => {
-                pen = Pen::At(size, k);
-            }
-        }
-        left = left - 1;
+    let (mut past, n) = body_pen::pen_count(tape, x, 1)?;
+    for _ in 0..n {
+        past = pen_message(pool, tape, Ok(past))?;
     }
-    pen
+    Ok(past)
 }
 
 // The whole table: its messages and the signature.

@@ -3,7 +3,7 @@ ghost use Rattle.std.specs.Prelude.{◌≡◌};
 ghost use Rattle.gathering_feed.specs.Feeding.{fed_of, store_after};
 ghost use Rattle.gathering_hand_out.specs.Handing.{handed_of, out_after};
 ghost use Rattle.gathering_pack.specs.Packing.{packing_of, store_packed};
-ghost use Rattle.c_answers.specs.Answers.{feed_answer, hand_answer};
+ghost use Rattle.c_answers.specs.Answers.{feed_answer, value_answer};
 
 use gathering_state::Gathering;
 
@@ -18,16 +18,16 @@ pub fn nw_gathering_feed(g: &mut Gathering, store: &mut [u8], s: &[u8]) -> u64
 
 // The body is handed out, or the first rule that forbids it is told. The state is only looked at.
 pub fn nw_gathering_hand_out(g: &Gathering, store: &[u8], out: &mut [u8]) -> u64
-    ensures { (result ≡ hand_answer (handed_of g.now store.now out.old)) × (out.new ≡ out_after g.now store.now out.old) }
+    ensures { (result ≡ value_answer (handed_of g.now store.now out.old)) × (out.new ≡ out_after g.now store.now out.old) }
 {
-    c_answers::hand_answer(gathering_hand_out::hand_out(*g, store, out))
+    c_answers::length_answer(gathering_hand_out::hand_out(*g, store, out))
 }
 
 // The body is packed where it stands, and the state that was lent becomes fresh; or the first rule that forbids it is told, and all stays.
 pub fn nw_gathering_pack(g: &mut Gathering, store: &mut [u8]) -> u64
-    ensures { (result ≡ hand_answer (packing_of g.old store.old).answer) × (g.new ≡ (packing_of g.old store.old).state) × (store.new ≡ store_packed g.old store.old) }
+    ensures { (result ≡ value_answer (packing_of g.old store.old).answer) × (g.new ≡ (packing_of g.old store.old).state) × (store.new ≡ store_packed g.old store.old) }
 {
     let packed = gathering_pack::pack_step(*g, store);
     *g = packed.state;
-    c_answers::hand_answer(packed.answer)
+    c_answers::length_answer(packed.answer)
 }

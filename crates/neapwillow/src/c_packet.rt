@@ -2,13 +2,13 @@
 ghost use Rattle.std.specs.Prelude.{◌≡◌};
 ghost use Rattle.packet_writer.specs.Answers.{packed_of, packets_over};
 ghost use Rattle.packet_reader.specs.Answers.{completed_of, state_after, sections_over};
-ghost use Rattle.c_answers.specs.Answers.{pack_answer, unpack_answer};
+ghost use Rattle.c_answers.specs.Answers.{value_answer};
 
 pub fn nw_packet_pack(section: &[u8], counter: u32, out: &mut [u8]) -> u64
-    ensures value { result ≡ pack_answer (packed_of counter section.now out.old) }
+    ensures value { result ≡ value_answer (packed_of counter section.now out.old) }
     ensures out_after { out.new ≡ packets_over counter section.now out.old }
 {
-    c_answers::pack_answer(packet_writer::pack(section, counter, out))
+    c_answers::length_answer(packet_writer::pack(section, counter, out))
 }
 
 // The state that was lent becomes the state after the packet.
@@ -17,7 +17,7 @@ pub fn nw_packet_unpack(
     packet: &[u8],
     out: &mut [u8],
 ) -> u64
-    ensures { (result ≡ unpack_answer (completed_of state.old packet.now out.old)) × (state.new ≡ state_after state.old packet.now out.old) × (out.new ≡ sections_over state.old packet.now out.old) }
+    ensures { (result ≡ value_answer (completed_of state.old packet.now out.old)) × (state.new ≡ state_after state.old packet.now out.old) × (out.new ≡ sections_over state.old packet.now out.old) }
 {
-    c_answers::unpack_answer(packet_reader::unpack(state, packet, out))
+    c_answers::length_answer(packet_reader::unpack(state, packet, out))
 }

@@ -2,7 +2,7 @@
 ghost use Rattle.std.specs.Prelude.{◌≡◌};
 ghost use Rattle.section_reader.specs.Section.{read_section, stated_length};
 ghost use Rattle.section_cutter.specs.Cutting.{counted_of, cut_answer, cut_output};
-ghost use Rattle.c_answers.specs.Answers.{section_answer, stated_answer, count_answer, length_answer};
+ghost use Rattle.c_answers.specs.Answers.{section_answer, value_answer};
 
 pub fn nw_section_read(s: &[u8]) -> u64
     ensures { result ≡ section_answer (read_section s.now) }
@@ -11,15 +11,15 @@ pub fn nw_section_read(s: &[u8]) -> u64
 }
 
 pub fn nw_section_length(s: &[u8]) -> u64
-    ensures { result ≡ stated_answer (stated_length s.now) }
+    ensures { result ≡ value_answer (stated_length s.now) }
 {
-    c_answers::stated_answer(section_reader::stated_length(s))
+    c_answers::length_answer(section_reader::stated_length(s))
 }
 
 pub fn nw_section_count(length: usize) -> u64
-    ensures { result ≡ count_answer (counted_of length) }
+    ensures { result ≡ value_answer (counted_of length) }
 {
-    c_answers::count_answer(section_cutter::section_count(length))
+    c_answers::length_answer(section_cutter::section_count(length))
 }
 
 pub fn nw_section_cut(
@@ -30,7 +30,7 @@ pub fn nw_section_cut(
     number: u32,
     out: &mut [u8],
 ) -> u64
-    ensures value { result ≡ length_answer (cut_answer body.now kind extension version number out.old) }
+    ensures value { result ≡ value_answer (cut_answer body.now kind extension version number out.old) }
     ensures out_after { out.new ≡ cut_output body.now kind extension version number out.old }
 {
     c_answers::length_answer(section_cutter::cut_section(

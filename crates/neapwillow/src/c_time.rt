@@ -3,7 +3,7 @@ ghost use Rattle.std.specs.Prelude.{◌≡◌};
 ghost use Rattle.time_fields.specs.Showing.{showing};
 ghost use Rattle.time_local.specs.Clock.{pack_of, unpack_of};
 ghost use Rattle.time_local.specs.Text.{read_text};
-ghost use Rattle.c_answers.specs.Answers.{field_answer, local_answer, showing_answer};
+ghost use Rattle.c_answers.specs.Answers.{value_answer, local_answer, showing_answer};
 
 use time_local::LocalTime;
 
@@ -16,9 +16,9 @@ pub fn nw_time_pack(
     second: u32,
     offset: i32,
 ) -> u64
-    ensures { result ≡ field_answer (pack_of (record { year = year; month = month; day = day; hour = hour; minute = minute; second = second }) offset) }
+    ensures { result ≡ value_answer (pack_of (record { year = year; month = month; day = day; hour = hour; minute = minute; second = second }) offset) }
 {
-    c_answers::field_answer(time_local::pack(
+    c_answers::value_answer(time_local::pack(
         LocalTime {
             year,
             month,
@@ -32,9 +32,9 @@ pub fn nw_time_pack(
 }
 
 pub fn nw_time_read_text(text: &[u8], offset: i32) -> u64
-    ensures { result ≡ field_answer (read_text text.now offset) }
+    ensures { result ≡ value_answer (read_text text.now offset) }
 {
-    c_answers::field_answer(time_local::read_text(text, offset))
+    c_answers::value_answer(time_local::read_text(text, offset))
 }
 
 pub fn nw_time_unpack(field: u64, offset: i32) -> u64

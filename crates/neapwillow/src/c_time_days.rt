@@ -1,10 +1,10 @@
 // Days, dates and weekdays for C.
 ghost use Rattle.std.specs.Prelude.{◌≡◌};
 ghost use Rattle.time_days.specs.Calendar.{day_of, date_of, weekday_of};
-ghost use Rattle.c_answers.specs.Answers.{day_answer, date_answer, weekday_answer};
+ghost use Rattle.c_answers.specs.Answers.{value_answer, date_answer};
 
 pub fn nw_day_of(year: u32, month: u32, day: u32) -> u64
-    ensures { result ≡ day_answer (day_of year month day) }
+    ensures { result ≡ value_answer (day_of year month day) }
 {
     c_answers::day_answer(time_days::day_of(year, month, day))
 }
@@ -16,7 +16,7 @@ pub fn nw_date_of(day: u32) -> u64
 }
 
 pub fn nw_weekday(day: u32) -> u64
-    ensures { result ≡ weekday_answer (weekday_of day) }
+    ensures { result ≡ value_answer (weekday_of day) }
 {
-    c_answers::weekday_answer(time_days::weekday(day))
+    c_answers::day_answer(time_days::weekday(day))
 }

@@ -2,20 +2,20 @@
 ghost use Rattle.std.specs.Prelude.{◌≡◌, not, eqb};
 ghost use Rattle.time_printing.specs.Printing.{start_text, end_text, printed_of, output_of};
 ghost use Rattle.time_printing.specs.Typing.{typed_times};
-ghost use Rattle.c_answers.specs.Answers.{printed_answer, times_answer, fields_after};
+ghost use Rattle.c_answers.specs.Answers.{value_answer, times_answer, fields_after};
 
 pub fn nw_time_print_start(field: u64, offset: i32, out: &mut [u8]) -> u64
-    ensures value { result ≡ printed_answer (printed_of (start_text field offset) out.old) }
+    ensures value { result ≡ value_answer (printed_of (start_text field offset) out.old) }
     ensures out_after { out.new ≡ output_of (start_text field offset) out.old }
 {
-    c_answers::printed_answer(time_printing::print_start(field, offset, out))
+    c_answers::length_answer(time_printing::print_start(field, offset, out))
 }
 
 pub fn nw_time_print_end(field: u64, offset: i32, out: &mut [u8]) -> u64
-    ensures value { result ≡ printed_answer (printed_of (end_text field offset) out.old) }
+    ensures value { result ≡ value_answer (printed_of (end_text field offset) out.old) }
     ensures out_after { out.new ≡ output_of (end_text field offset) out.old }
 {
-    c_answers::printed_answer(time_printing::print_end(field, offset, out))
+    c_answers::length_answer(time_printing::print_end(field, offset, out))
 }
 
 // Any number but 0 asks for a live end.

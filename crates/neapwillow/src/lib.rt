@@ -1,4 +1,5 @@
 // What is offered to C: each function takes numbers and byte strings, and tells what its inner one answers by one convention. A module carries the name of its crate, or of its group, after `c_`.
+// Many differ only in what they call: each is a function all the same, as C needs its name, and a macro can write no item.
 #![tactic(auto)]
 
 pub mod c_certificate;

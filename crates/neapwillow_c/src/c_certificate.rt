@@ -3,7 +3,7 @@ ghost use Rattle.std.specs.Prelude.{◌≡◌, length};
 ghost use Rattle.body_formats.specs.Body.{body_read, body_laid, laid_tape, measured, body_written, output_written};
 ghost use Rattle.certificate.specs.Certificate.{certificate_kind, certificate};
 ghost use Rattle.certificate_fields.specs.Asked.{authorization_count, authorization_part, certificate_count, certificate_part, signature_part};
-ghost use Rattle.c_answers.specs.Answers.{read_answer, number_answer, part_answer, written_answer};
+ghost use Rattle.c_answers.specs.Answers.{read_answer, number_answer, part_answer, value_answer};
 
 #[unsafe(no_mangle)]
 pub extern "C" fn nw_certificate_read(kind: u32, body: &[u8]) -> u64
@@ -49,14 +49,14 @@ pub extern "C" fn nw_certificate_signature(body: &[u8]) -> u64
 
 #[unsafe(no_mangle)]
 pub extern "C" fn nw_certificate_measure(pool: &[u8], tape: &[u64]) -> u64
-    ensures { result ≡ written_answer (measured certificate pool.now tape.now) }
+    ensures { result ≡ value_answer (measured certificate pool.now tape.now) }
 {
     neapwillow::c_certificate::nw_certificate_measure(pool, tape)
 }
 
 #[unsafe(no_mangle)]
 pub extern "C" fn nw_certificate_write(pool: &[u8], tape: &[u64], out: &mut [u8]) -> u64
-    ensures value { result ≡ written_answer (body_written certificate pool.now tape.now (length out.old)) }
+    ensures value { result ≡ value_answer (body_written certificate pool.now tape.now (length out.old)) }
     ensures out_after { out.new ≡ output_written certificate pool.now tape.now out.old }
 {
     neapwillow::c_certificate::nw_certificate_write(pool, tape, out)
@@ -64,7 +64,7 @@ pub extern "C" fn nw_certificate_write(pool: &[u8], tape: &[u64], out: &mut [u8]
 
 #[unsafe(no_mangle)]
 pub extern "C" fn nw_certificate_lay(kind: u32, body: &[u8], tape: &mut [u64]) -> u64
-    ensures value { result ≡ written_answer (body_laid certificate certificate_kind kind body.now (length tape.old)) }
+    ensures value { result ≡ value_answer (body_laid certificate certificate_kind kind body.now (length tape.old)) }
     ensures tape_after { tape.new ≡ laid_tape certificate certificate_kind kind body.now tape.old }
 {
     neapwillow::c_certificate::nw_certificate_lay(kind, body, tape)

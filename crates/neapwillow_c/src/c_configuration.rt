@@ -2,7 +2,7 @@
 ghost use Rattle.std.specs.Prelude.{◌≡◌, length};
 ghost use Rattle.body_formats.specs.Body.{body_read, body_laid, laid_tape, measured, body_written, output_written};
 ghost use Rattle.configuration.specs.Configuration.{configuration_kind, configuration};
-ghost use Rattle.c_answers.specs.Answers.{read_answer, written_answer};
+ghost use Rattle.c_answers.specs.Answers.{read_answer, value_answer};
 
 #[unsafe(no_mangle)]
 pub extern "C" fn nw_configuration_read(kind: u32, body: &[u8]) -> u64
@@ -13,7 +13,7 @@ pub extern "C" fn nw_configuration_read(kind: u32, body: &[u8]) -> u64
 
 #[unsafe(no_mangle)]
 pub extern "C" fn nw_configuration_lay(kind: u32, body: &[u8], tape: &mut [u64]) -> u64
-    ensures value { result ≡ written_answer (body_laid configuration configuration_kind kind body.now (length tape.old)) }
+    ensures value { result ≡ value_answer (body_laid configuration configuration_kind kind body.now (length tape.old)) }
     ensures tape_after { tape.new ≡ laid_tape configuration configuration_kind kind body.now tape.old }
 {
     neapwillow::c_configuration::nw_configuration_lay(kind, body, tape)
@@ -21,14 +21,14 @@ pub extern "C" fn nw_configuration_lay(kind: u32, body: &[u8], tape: &mut [u64])
 
 #[unsafe(no_mangle)]
 pub extern "C" fn nw_configuration_measure(pool: &[u8], tape: &[u64]) -> u64
-    ensures { result ≡ written_answer (measured configuration pool.now tape.now) }
+    ensures { result ≡ value_answer (measured configuration pool.now tape.now) }
 {
     neapwillow::c_configuration::nw_configuration_measure(pool, tape)
 }
 
 #[unsafe(no_mangle)]
 pub extern "C" fn nw_configuration_write(pool: &[u8], tape: &[u64], out: &mut [u8]) -> u64
-    ensures value { result ≡ written_answer (body_written configuration pool.now tape.now (length out.old)) }
+    ensures value { result ≡ value_answer (body_written configuration pool.now tape.now (length out.old)) }
     ensures out_after { out.new ≡ output_written configuration pool.now tape.now out.old }
 {
     neapwillow::c_configuration::nw_configuration_write(pool, tape, out)

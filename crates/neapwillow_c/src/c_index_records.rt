@@ -1,13 +1,13 @@
 // The message records of an index table for C, which lends the list.
 ghost use Rattle.std.specs.Prelude.{◌≡◌, length};
 ghost use Rattle.index_records.specs.Records.{body_recorded, recorded};
-ghost use Rattle.c_answers.specs.Answers.{written_answer};
+ghost use Rattle.c_answers.specs.Answers.{value_answer};
 
 use index_records::Record;
 
 #[unsafe(no_mangle)]
 pub extern "C" fn nw_index_records(kind: u32, body: &[u8], list: &mut [Record]) -> u64
-    ensures { (result ≡ written_answer (body_recorded kind body.now (length list.old))) × (list.new ≡ recorded kind body.now list.old) }
+    ensures { (result ≡ value_answer (body_recorded kind body.now (length list.old))) × (list.new ≡ recorded kind body.now list.old) }
 {
     neapwillow::c_index_records::nw_index_records(kind, body, list)
 }

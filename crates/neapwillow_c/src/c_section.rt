@@ -2,7 +2,7 @@
 ghost use Rattle.std.specs.Prelude.{◌≡◌};
 ghost use Rattle.section_reader.specs.Section.{read_section, stated_length};
 ghost use Rattle.section_cutter.specs.Cutting.{counted_of, cut_answer, cut_output};
-ghost use Rattle.c_answers.specs.Answers.{section_answer, stated_answer, count_answer, length_answer};
+ghost use Rattle.c_answers.specs.Answers.{section_answer, value_answer};
 
 #[unsafe(no_mangle)]
 pub extern "C" fn nw_section_read(s: &[u8]) -> u64
@@ -13,14 +13,14 @@ pub extern "C" fn nw_section_read(s: &[u8]) -> u64
 
 #[unsafe(no_mangle)]
 pub extern "C" fn nw_section_length(s: &[u8]) -> u64
-    ensures { result ≡ stated_answer (stated_length s.now) }
+    ensures { result ≡ value_answer (stated_length s.now) }
 {
     neapwillow::c_section::nw_section_length(s)
 }
 
 #[unsafe(no_mangle)]
 pub extern "C" fn nw_section_count(length: usize) -> u64
-    ensures { result ≡ count_answer (counted_of length) }
+    ensures { result ≡ value_answer (counted_of length) }
 {
     neapwillow::c_section::nw_section_count(length)
 }
@@ -34,7 +34,7 @@ pub extern "C" fn nw_section_cut(
     number: u32,
     out: &mut [u8],
 ) -> u64
-    ensures value { result ≡ length_answer (cut_answer body.now kind extension version number out.old) }
+    ensures value { result ≡ value_answer (cut_answer body.now kind extension version number out.old) }
     ensures out_after { out.new ≡ cut_output body.now kind extension version number out.old }
 {
     neapwillow::c_section::nw_section_cut(body, kind, extension, version, number, out)

@@ -7,8 +7,8 @@ ghost use Rattle.rooms_feed.specs.Feeding.{fed_of, store_after};
 ghost use Rattle.rooms_hand_out.specs.Handing.{handed_of, out_after};
 ghost use Rattle.rooms_end.specs.Ending.{ended_of};
 ghost use Rattle.rooms_count.specs.Counting.{held_of, free_of};
-ghost use Rattle.c_answers.specs.Answers.{feed_answer, hand_answer};
-ghost use Rattle.c_rooms_answers.specs.Answers.{ended_answer, rooms_answer};
+ghost use Rattle.c_answers.specs.Answers.{feed_answer, value_answer};
+ghost use Rattle.c_rooms_answers.specs.Answers.{ended_answer};
 
 use rooms_state::Networks;
 
@@ -32,9 +32,9 @@ pub fn nw_networks_feed(x: &mut Networks, network: u32, store: &mut [u8], s: &[u
 
 // A network's body is handed out, or the first rule that forbids it is told. The state is only looked at.
 pub fn nw_networks_hand_out(x: &Networks, network: u32, store: &[u8], out: &mut [u8]) -> u64
-    ensures { (result ≡ hand_answer (handed_of (network_of network) x.now store.now out.old)) × (out.new ≡ out_after (network_of network) x.now store.now out.old) }
+    ensures { (result ≡ value_answer (handed_of (network_of network) x.now store.now out.old)) × (out.new ≡ out_after (network_of network) x.now store.now out.old) }
 {
-    c_answers::hand_answer(rooms_hand_out::hand_out(*x, network, store, out))
+    c_answers::length_answer(rooms_hand_out::hand_out(*x, network, store, out))
 }
 
 // A network's gathering ends: its part of the state that was lent becomes fresh.
@@ -48,14 +48,14 @@ pub fn nw_networks_end(x: &mut Networks, network: u32, bytes: usize) -> u64
 
 // How many rooms both networks hold.
 pub fn nw_networks_held_rooms(x: &Networks, bytes: usize) -> u64
-    ensures { result ≡ rooms_answer (held_of x.now bytes) }
+    ensures { result ≡ value_answer (held_of x.now bytes) }
 {
-    c_rooms_answers::rooms_answer(rooms_count::rooms_held(*x, bytes))
+    c_answers::length_answer(rooms_count::rooms_held(*x, bytes))
 }
 
 // How many rooms nobody holds.
 pub fn nw_networks_free_rooms(x: &Networks, bytes: usize) -> u64
-    ensures { result ≡ rooms_answer (free_of x.now bytes) }
+    ensures { result ≡ value_answer (free_of x.now bytes) }
 {
-    c_rooms_answers::rooms_answer(rooms_count::rooms_free(*x, bytes))
+    c_answers::length_answer(rooms_count::rooms_free(*x, bytes))
 }

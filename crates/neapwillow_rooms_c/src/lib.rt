@@ -8,8 +8,8 @@ ghost use Rattle.rooms_feed.specs.Feeding.{fed_of, store_after};
 ghost use Rattle.rooms_hand_out.specs.Handing.{handed_of, out_after};
 ghost use Rattle.rooms_end.specs.Ending.{ended_of};
 ghost use Rattle.rooms_count.specs.Counting.{held_of, free_of};
-ghost use Rattle.c_answers.specs.Answers.{feed_answer, hand_answer};
-ghost use Rattle.c_rooms_answers.specs.Answers.{ended_answer, rooms_answer};
+ghost use Rattle.c_answers.specs.Answers.{feed_answer, value_answer};
+ghost use Rattle.c_rooms_answers.specs.Answers.{ended_answer};
 
 use rooms_state::Networks;
 
@@ -42,7 +42,7 @@ pub extern "C" fn nw_networks_hand_out(
     store: &[u8],
     out: &mut [u8],
 ) -> u64
-    ensures { (result ≡ hand_answer (handed_of (network_of network) x.now store.now out.old)) × (out.new ≡ out_after (network_of network) x.now store.now out.old) }
+    ensures { (result ≡ value_answer (handed_of (network_of network) x.now store.now out.old)) × (out.new ≡ out_after (network_of network) x.now store.now out.old) }
 {
     neapwillow_rooms::nw_networks_hand_out(x, network, store, out)
 }
@@ -58,7 +58,7 @@ pub extern "C" fn nw_networks_end(x: &mut Networks, network: u32, bytes: usize) 
 // How many rooms both networks hold.
 #[unsafe(no_mangle)]
 pub extern "C" fn nw_networks_held_rooms(x: &Networks, bytes: usize) -> u64
-    ensures { result ≡ rooms_answer (held_of x.now bytes) }
+    ensures { result ≡ value_answer (held_of x.now bytes) }
 {
     neapwillow_rooms::nw_networks_held_rooms(x, bytes)
 }
@@ -66,7 +66,7 @@ pub extern "C" fn nw_networks_held_rooms(x: &Networks, bytes: usize) -> u64
 // How many rooms nobody holds.
 #[unsafe(no_mangle)]
 pub extern "C" fn nw_networks_free_rooms(x: &Networks, bytes: usize) -> u64
-    ensures { result ≡ rooms_answer (free_of x.now bytes) }
+    ensures { result ≡ value_answer (free_of x.now bytes) }
 {
     neapwillow_rooms::nw_networks_free_rooms(x, bytes)
 }

@@ -1,11 +1,10 @@
 -- What C takes from a choice is what went in, by what include/neapwillow-screen.h takes from it.
-use Rattle.std.specs.Prelude.{ℕ, ◌≡◌, List}
+use Rattle.std.specs.Prelude.{ℕ, ◌≡◌, List, Ok, Err, Some, None}
 use Rattle.ground_refusal.specs.declared.Refusal.{Refusal}
 use Rattle.crc.specs.Crc.{AreBytes}
 use Rattle.time_fields.specs.declared.Moment.{Moment}
 use Rattle.c_answers.specs.Taking.{refusal_told, field_told, TellsRefusal}
 use Rattle.screen_choice.specs.Choice.{choice_of}
-use Rattle.screen_choice.specs.declared.Choice.TheVariants.{Shows, Nothing, Refused}
 use Rattle.neapwillow_screen.specs.Answer.{choice_answer}
 
 -- nw_choice_shown to nw_choice_length
@@ -22,7 +21,7 @@ pub record TellsNone (a : ℕ) : Type 0 where
   pub shown : field_told 48 8 a ≡ 0
 
 pub record Told : Type 0 where
-  pub shows : (kind : ℕ) (s code : List ℕ) (present : Moment) → AreBytes s → (i at n : ℕ) → choice_of kind s code present ≡ Shows i at n
-      → TellsChoice (choice_answer (Shows i at n)) i at n
-  pub nothing : TellsNone (choice_answer Nothing)
-  pub refused : (r : Refusal) → TellsRefusal (choice_answer (Refused r)) r
+  pub shows : (kind : ℕ) (s code : List ℕ) (present : Moment) → AreBytes s → (i at n : ℕ) → choice_of kind s code present ≡ Ok (Some (i, at, n))
+      → TellsChoice (choice_answer (Ok (Some (i, at, n)))) i at n
+  pub nothing : TellsNone (choice_answer (Ok None))
+  pub refused : (r : Refusal) → TellsRefusal (choice_answer (Err r)) r

@@ -8,12 +8,11 @@ ghost use Rattle.screen_choice.specs.Choice.{choice_of};
 ghost use Rattle.neapwillow_screen.specs.Answer.{choice_fields, choice_answer};
 
 use ground_refusal::Refusal;
-use screen_choice::Choice;
 
 // What an answer holds above its low byte: 56 bits.
 const ABOVE: u64 = 0x0100_0000_0000_0000;
 
-// A refusal as C is told of it.
+// A refusal as C is told of it: not that of c_answers, as must-fail shows here that the place is told (`place_forgotten`).
 fn refused(r: Refusal) -> u64
     ensures { result ≡ refused_of r }
 {
@@ -21,6 +20,7 @@ fn refused(r: Refusal) -> u64
 }
 
 // A message that is shown as one number: that there is one, its number, where it begins, its length.
+#[tactic(auto, unfolding(c_answers::specs::Packing::packed, c_answers::specs::Packing::widths, crate::specs::Answer::choice_fields))]
 fn packed_choice(number: u64, at: usize, length: usize) -> u64
     ensures { (result ≡ packed (choice_fields number at length)) × (result < 2 ^ 56) }
 {
@@ -30,13 +30,14 @@ fn packed_choice(number: u64, at: usize, length: usize) -> u64
         + (length % 0x1_0000) as u64
 }
 
-fn choice_answer(c: Choice) -> u64
+#[tactic(auto, using(crate::proofs::Answer::answered))]
+fn choice_answer(c: Result<Option<(u64, usize, usize)>, Refusal>) -> u64
     ensures { result ≡ choice_answer c }
 {
     match c {
-        Choice::Shows(number, at, length) => 256 * packed_choice(number, at, length),
-        Choice::Nothing => 0,
-        Choice::Refused(why) => refused(why),
+        Ok(Some((number, at, length))) => 256 * packed_choice(number, at, length),
+        Ok(None) => 0,
+        Err(why) => refused(why),
     }
 }
 

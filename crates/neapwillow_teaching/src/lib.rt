@@ -4,7 +4,7 @@
 ghost use Rattle.std.specs.Prelude.{◌≡◌};
 ghost use Rattle.teaching_feed.specs.Feeding.{taught_of, buffer_after};
 ghost use Rattle.teaching_hand_out.specs.Asking.{heading_of, lacking_of, handed_of, out_after};
-ghost use Rattle.c_answers.specs.Answers.{feed_answer, hand_answer};
+ghost use Rattle.c_answers.specs.Answers.{feed_answer, value_answer};
 ghost use Rattle.c_teaching_answers.specs.Answers.{headed_answer, lacking_answer};
 
 // One byte string is fed: it is kept after the bytes in use, and the number of these that was lent becomes the number after it.
@@ -23,10 +23,10 @@ pub fn nw_teaching_feed(buffer: &mut [u8], used: &mut usize, store: usize, s: &[
 
 // The body of what is kept is handed out, or the first rule that forbids it is told. What is kept is only looked at.
 pub fn nw_teaching_hand_out(buffer: &[u8], used: usize, store: usize, out: &mut [u8]) -> u64
-    ensures { (result ≡ hand_answer (handed_of buffer.now used store out.old)) ×
+    ensures { (result ≡ value_answer (handed_of buffer.now used store out.old)) ×
         (out.new ≡ out_after buffer.now used store out.old) }
 {
-    c_answers::hand_answer(teaching_hand_out::hand_out(buffer, used, store, out))
+    c_answers::length_answer(teaching_hand_out::hand_out(buffer, used, store, out))
 }
 
 // The heading of the section that began the fixed table.

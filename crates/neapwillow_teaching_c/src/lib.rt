@@ -5,7 +5,7 @@
 ghost use Rattle.std.specs.Prelude.{◌≡◌};
 ghost use Rattle.teaching_feed.specs.Feeding.{taught_of, buffer_after};
 ghost use Rattle.teaching_hand_out.specs.Asking.{heading_of, lacking_of, handed_of, out_after};
-ghost use Rattle.c_answers.specs.Answers.{feed_answer, hand_answer};
+ghost use Rattle.c_answers.specs.Answers.{feed_answer, value_answer};
 ghost use Rattle.c_teaching_answers.specs.Answers.{headed_answer, lacking_answer};
 
 // One byte string is fed: it is kept after the bytes in use, and the number of these that was lent becomes the number after it.
@@ -31,7 +31,7 @@ pub extern "C" fn nw_teaching_hand_out(
     store: usize,
     out: &mut [u8],
 ) -> u64
-    ensures { (result ≡ hand_answer (handed_of buffer.now used store out.old)) ×
+    ensures { (result ≡ value_answer (handed_of buffer.now used store out.old)) ×
         (out.new ≡ out_after buffer.now used store out.old) }
 {
     neapwillow_teaching::nw_teaching_hand_out(buffer, used, store, out)

@@ -1,5 +1,7 @@
 -- Laws of a packet's judgement: each way out of the function that makes it, and what a packet that is taken has.
 use Prim.Native.Nat.{ℕ, ◌≤◌, ◌<◌}
+use Rattle.std.specs.Prelude.{Result, Ok, Err}
+use Rattle.ground_refusal.specs.declared.Refusal.{Refusal}
 use mathlib.Core.Bool.{Bool, true, false, not, ◌&&◌, ◌||◌, true≢false, false≢true}
 use mathlib.Core.List.{List}
 use mathlib.Core.Path.{◌≡◌, refl}
@@ -10,7 +12,7 @@ use lib.ListN.{length}
 use Rattle.ground_choices.proofs.Tests.{both, past}
 use Rattle.ground_refusal.specs.declared.Refusal.TheVariants.{NotAPacket, NoSyncByte, OtherPid, Scrambled, PastPacket}
 use Rattle.packet.specs.declared.Judged.{Judged}
-use Rattle.packet.specs.declared.Judged.TheVariants.{Refused, Damaged, Skipped, Carrying}
+use Rattle.packet.specs.declared.Judged.TheVariants.{Damaged, Skipped, Carrying}
 use Rattle.packet.specs.Sizes.{packet_bytes, sync_byte, our_pid}
 use Rattle.packet.specs.Fields.{byte, has_error, starts, pid, scrambling, control, payload_at, pointed_at, in_place}
 use Rattle.packet.specs.Judging.{judged, is_carrying}
@@ -18,43 +20,34 @@ use Rattle.packet.specs.Judging.{judged, is_carrying}
 -- ---- each way out
 
 module _ (p : List ℕ) where
-  pub judged_length : (length p ≡ packet_bytes → ⊥) → Refused NotAPacket ≡ judged p
+  pub judged_length : (length p ≡ packet_bytes → ⊥) → Err NotAPacket ≡ judged p
   unfolding judged
   judged_length h = rw (ne_eqb (length p) packet_bytes h)
 
   module _ (size : length p ≡ packet_bytes) where
-    pub judged_sync : (byte p 0 ≡ sync_byte → ⊥) → Refused NoSyncByte ≡ judged p
+    pub judged_sync : (byte p 0 ≡ sync_byte → ⊥) → Err NoSyncByte ≡ judged p
     unfolding judged
     judged_sync h = simp (size, ne_eqb (byte p 0) sync_byte h)
 
     module _ (sync : byte p 0 ≡ sync_byte) where
-      pub judged_error : 0x80 ≤ byte p 1 → Damaged ≡ judged p
+      pub judged_error : 0x80 ≤ byte p 1 → (Ok Damaged) ≡ judged p
       unfolding judged has_error
       judged_error h = simp (size, sync, le-leb 0x80 (byte p 1) h)
 
       module _ (whole : byte p 1 < 0x80) where
-        pub judged_pid : (pid p ≡ our_pid → ⊥) → Refused OtherPid ≡ judged p
+        pub judged_pid : (pid p ≡ our_pid → ⊥) → Err OtherPid ≡ judged p
         unfolding judged has_error
         judged_pid h = simp (size, sync, lt-leb 0x80 (byte p 1) whole, ne_eqb (pid p) our_pid h)
 
         module _ (ours : pid p ≡ our_pid) where
-          pub judged_scrambled : (scrambling p ≡ 0 → ⊥) → Refused Scrambled ≡ judged p
+          pub judged_scrambled : (scrambling p ≡ 0 → ⊥) → Err Scrambled ≡ judged p
           unfolding judged has_error
           judged_scrambled h = simp (size, sync, lt-leb 0x80 (byte p 1) whole, ours, ne_eqb (scrambling p) 0 h)
 
           module _ (clear : scrambling p ≡ 0) where
-            pub judged_past : in_place p ≡ false → Refused PastPacket ≡ judged p
+            pub judged_past : in_place p ≡ false → Err PastPacket ≡ judged p
             unfolding judged has_error
             judged_past h = simp (size, sync, lt-leb 0x80 (byte p 1) whole, ours, clear, h)
-
-            module _ (placed : in_place p ≡ true) where
-              pub judged_skipped : control p ≡ 2 → Skipped ≡ judged p
-              unfolding judged has_error
-              judged_skipped h = simp (size, sync, lt-leb 0x80 (byte p 1) whole, ours, clear, placed, h)
-
-              pub judged_carrying : (control p ≡ 2 → ⊥) → Carrying ≡ judged p
-              unfolding judged has_error
-              judged_carrying h = simp (size, sync, lt-leb 0x80 (byte p 1) whole, ours, clear, placed, ne_eqb (control p) 2 h)
 
 -- a packet that is taken has its fields in place
 pub record Carried (p : List ℕ) : Type 0 where
@@ -62,16 +55,16 @@ pub record Carried (p : List ℕ) : Type 0 where
   pub at : payload_at p ≤ packet_bytes
   pub pointed : starts p ≡ true → (payload_at p < packet_bytes) × (pointed_at p < packet_bytes)
 
-pub carried : (p : List ℕ) → judged p ≡ Carrying → Carried p
+pub carried : (p : List ℕ) → judged p ≡ (Ok Carrying) → Carried p
 unfolding judged in_place
 carried p e =
-    let a = past (not (eqb (length p) packet_bytes)) (Refused NotAPacket) _ Carrying (λ z. let y : ◌≡◌ {A = ℕ} 0 1 = cc in omega arith) e in
-    let b = past (not (eqb (byte p 0) sync_byte)) (Refused NoSyncByte) _ Carrying (λ z. let y : ◌≡◌ {A = ℕ} 0 1 = cc in omega arith) a.1 in
-    let c = past (has_error p) Damaged _ Carrying (λ z. let y : ◌≡◌ {A = ℕ} 0 1 = cc in omega arith) b.1 in
-    let d = past (not (eqb (pid p) our_pid)) (Refused OtherPid) _ Carrying (λ z. let y : ◌≡◌ {A = ℕ} 0 1 = cc in omega arith) c.1 in
-    let f = past (not (eqb (scrambling p) 0)) (Refused Scrambled) _ Carrying (λ z. let y : ◌≡◌ {A = ℕ} 0 1 = cc in omega arith) d.1 in
-    let g = past (not (in_place p)) (Refused PastPacket) _ Carrying (λ z. let y : ◌≡◌ {A = ℕ} 0 1 = cc in omega arith) f.1 in
-    let h = past (eqb (control p) 2) Skipped Carrying Carrying (λ z. let y : ◌≡◌ {A = ℕ} 0 1 = cc in omega arith) g.1 in
+    let a = past (not (eqb (length p) packet_bytes)) (Err NotAPacket) _ (Ok Carrying) (λ z. let y : ◌≡◌ {A = ℕ} 0 1 = cc in omega arith) e in
+    let b = past (not (eqb (byte p 0) sync_byte)) (Err NoSyncByte) _ (Ok Carrying) (λ z. let y : ◌≡◌ {A = ℕ} 0 1 = cc in omega arith) a.1 in
+    let c = past (has_error p) (Ok Damaged) _ (Ok Carrying) (λ z. let y : ◌≡◌ {A = ℕ} 0 1 = cc in omega arith) b.1 in
+    let d = past (not (eqb (pid p) our_pid)) (Err OtherPid) _ (Ok Carrying) (λ z. let y : ◌≡◌ {A = ℕ} 0 1 = cc in omega arith) c.1 in
+    let f = past (not (eqb (scrambling p) 0)) (Err Scrambled) _ (Ok Carrying) (λ z. let y : ◌≡◌ {A = ℕ} 0 1 = cc in omega arith) d.1 in
+    let g = past (not (in_place p)) (Err PastPacket) _ (Ok Carrying) (λ z. let y : ◌≡◌ {A = ℕ} 0 1 = cc in omega arith) f.1 in
+    let h = past (eqb (control p) 2) (Ok Skipped) (Ok Carrying) (Ok Carrying) (λ z. let y : ◌≡◌ {A = ℕ} 0 1 = cc in omega arith) g.1 in
     let i = both (not (eqb (control p) 0) && leb (payload_at p) packet_bytes) _ (not-false (in_place p) g.0) in
     record {
       size = eqb-true (length p) packet_bytes (not-false (eqb (length p) packet_bytes) a.0);
@@ -87,9 +80,9 @@ carried p e =
         (ltb-true (payload_at p) packet_bytes w.0, ltb-true (pointed_at p) packet_bytes w.1)
     ends false false x y z = absurd (false≢true y)
 
-pub carrying_is : (j : Judged) → is_carrying j ≡ true → j ≡ Carrying
+pub carrying_is : (j : Result Judged Refusal) → is_carrying j ≡ true → j ≡ Ok Carrying
 unfolding is_carrying
-carrying_is (Refused r) e = absurd (false≢true e)
-carrying_is Damaged e = absurd (false≢true e)
-carrying_is Skipped e = absurd (false≢true e)
-carrying_is Carrying e = refl
+carrying_is (Err r) e = absurd (false≢true e)
+carrying_is (Ok Damaged) e = absurd (false≢true e)
+carrying_is (Ok Skipped) e = absurd (false≢true e)
+carrying_is (Ok Carrying) e = refl

@@ -6,7 +6,6 @@ ghost use Rattle.packet.specs.Sizes.{packet_bytes, counter_most};
 ghost use Rattle.packet.specs.Fields.{byte, starts, pid, scrambling, control, counter, payload_at, in_place};
 ghost use Rattle.packet.specs.Judging.{judged, is_carrying};
 
-use ground_numbers::wide;
 use ground_refusal::Refusal;
 
 // ---- the numbers, as specs/Sizes.antt has them
@@ -29,7 +28,6 @@ pub const COUNTER_MOST: u32 = 15;
 // What a packet is by itself, before anything that is remembered.
 #[derive(Clone, Copy)]
 pub enum Judged {
-    Refused(Refusal),
     // Its error bit is set.
     Damaged,
     // It has an adaptation field and no payload.
@@ -44,9 +42,10 @@ pub fn byte_at(p: &[u8], i: usize) -> usize
     requires { i < length p.now }
     ensures { (result ≡ byte p.now i) × (result ≤ 255) }
 {
-    wide(p[i]) as usize
+    usize::from(p[i])
 }
 
+#[tactic(auto, unfolding(crate::specs::Fields::control))]
 fn control_of(p: &[u8]) -> usize
     requires { packet_bytes ≤ length p.now }
     ensures { result ≡ control p.now }
@@ -54,6 +53,7 @@ fn control_of(p: &[u8]) -> usize
     byte_at(p, 3) / 16 % 4
 }
 
+#[tactic(auto, unfolding(crate::specs::Fields::pid))]
 fn pid_of(p: &[u8]) -> usize
     requires { packet_bytes ≤ length p.now }
     ensures { result ≡ pid p.now }
@@ -61,6 +61,7 @@ fn pid_of(p: &[u8]) -> usize
     byte_at(p, 1) % 32 * 256 + byte_at(p, 2)
 }
 
+#[tactic(auto, unfolding(crate::specs::Fields::scrambling))]
 fn scrambling_of(p: &[u8]) -> usize
     requires { packet_bytes ≤ length p.now }
     ensures { result ≡ scrambling p.now }
@@ -69,6 +70,7 @@ fn scrambling_of(p: &[u8]) -> usize
 }
 
 // The four-bit continuity counter.
+#[tactic(auto, unfolding(crate::specs::Fields::counter))]
 pub fn counter_of(p: &[u8]) -> usize
     requires { packet_bytes ≤ length p.now }
     ensures { (result ≡ counter p.now) × (result ≤ counter_most) }
@@ -77,6 +79,7 @@ pub fn counter_of(p: &[u8]) -> usize
 }
 
 // The start indicator.
+#[tactic(auto, unfolding(crate::specs::Fields::starts))]
 pub fn has_start(p: &[u8]) -> bool
     requires { packet_bytes ≤ length p.now }
     ensures { result ≡ starts p.now }
@@ -85,6 +88,7 @@ pub fn has_start(p: &[u8]) -> bool
 }
 
 // Where the payload begins.
+#[tactic(auto, unfolding(crate::specs::Fields::payload_at))]
 pub fn payload_at(p: &[u8]) -> usize
     requires { packet_bytes ≤ length p.now }
     ensures { (result ≡ payload_at p.now) × (result ≤ 260) }
@@ -96,68 +100,55 @@ pub fn payload_at(p: &[u8]) -> usize
 }
 
 // Do adaptation field and pointer stay in the packet, and is the adaptation control not 00?
+#[tactic(auto, unfolding(crate::specs::Fields::in_place, crate::specs::Fields::pointed_at))]
 fn in_place(p: &[u8]) -> bool
     requires { packet_bytes ≤ length p.now }
     ensures { result ≡ in_place p.now }
 {
     let control = control_of(p);
-    if control == 0 {
-        return false;
-    }
     let at = payload_at(p);
-    if PACKET_BYTES < at {
-        return false;
-    }
-    if control == 2 {
-        return true;
-    }
-    if !has_start(p) {
-        return true;
-    }
-    if PACKET_BYTES <= at {
-        return false;
-    }
-    at + 1 + byte_at(p, at) < PACKET_BYTES
+    control != 0
+        && at <= PACKET_BYTES
+        && (control == 2
+            || !has_start(p)
+            || (at < PACKET_BYTES && at + 1 + byte_at(p, at) < PACKET_BYTES))
 }
 
 // ---- the judgement
 
 // Any byte string as a packet: refusals 30 to 34, in this order, the error bit after the sync byte.
-pub fn judge(p: &[u8]) -> Judged
+#[tactic(auto, unfolding(crate::specs::Judging::judged, crate::specs::Fields::has_error))]
+pub fn judge(p: &[u8]) -> Result<Judged, Refusal>
     ensures { result ≡ judged p.now }
 {
     if p.len() != PACKET_BYTES {
-        return Judged::Refused(Refusal::NotAPacket);
+        return Err(Refusal::NotAPacket);
     }
     if p[0] != SYNC_BYTE {
-        return Judged::Refused(Refusal::NoSyncByte);
+        return Err(Refusal::NoSyncByte);
     }
     if 0x80 <= p[1] {
-        return Judged::Damaged;
+        return Ok(Judged::Damaged);
     }
     if pid_of(p) != OUR_PID {
-        return Judged::Refused(Refusal::OtherPid);
+        return Err(Refusal::OtherPid);
     }
     if scrambling_of(p) != 0 {
-        return Judged::Refused(Refusal::Scrambled);
+        return Err(Refusal::Scrambled);
     }
     if !in_place(p) {
-        return Judged::Refused(Refusal::PastPacket);
+        return Err(Refusal::PastPacket);
     }
     if control_of(p) == 2 {
-        return Judged::Skipped;
+        return Ok(Judged::Skipped);
     }
-    Judged::Carrying
+    Ok(Judged::Carrying)
 }
 
 // Is it a packet that is taken?
+#[tactic(auto, unfolding(crate::specs::Judging::is_carrying))]
 pub fn is_carrying(p: &[u8]) -> bool
     ensures { result ≡ is_carrying (judged p.now) }
 {
-    match judge(p) {
-        Judged::Refused(_r) => false,
-        Judged::Damaged => false,
-        Judged::Skipped => false,
-        Judged::Carrying => true,
-    }
+    matches!(judge(p), Ok(Judged::Carrying))
 }

@@ -4,7 +4,7 @@ use mathlib.Core.Bool.{Bool, true, false}
 use mathlib.Core.List.{List, [], ◌∷◌, ◌++◌}
 use mathlib.Core.Path.{◌≡◌, refl, ap, ◌∙◌}
 use lib.ListN.{drop}
-use Rattle.std.specs.Prelude.{if◌then◌else◌}
+use Rattle.std.specs.Prelude.{if◌then◌else◌, Ok}
 use Rattle.packet.specs.Fields.{starts, payload_at, pointed_at}
 use Rattle.packet.specs.Judging.{judged}
 use Rattle.packet.specs.declared.Judged.TheVariants.{Damaged, Carrying}
@@ -22,13 +22,13 @@ unfolding read_on ended gone_on nothing
 own_pointer p s = rw s
 
 -- "A counter gap [..] drops the unfinished section; reading goes on at the next pointer, a gap packet's own included"
-pub gap_drops : (room : ℕ) (m : Memory) (p : List ℕ) → judged p ≡ Carrying → is_repeat m p ≡ false → follows m.last p ≡ false
+pub gap_drops : (room : ℕ) (m : Memory) (p : List ℕ) → judged p ≡ (Ok Carrying) → is_repeat m p ≡ false → follows m.last p ≡ false
     → unpacking room m p ≡ fitting room p (read_on [] p)
 unfolding going_on
 gap_drops room m p t n f = taken_read room m p t n ∙ rw f
 
 -- "an error bit (looked at after the sync byte; the next counter is free)"
-pub error_drops : (room : ℕ) (m : Memory) (p : List ℕ) → judged p ≡ Damaged → unpacking room m p ≡ gives [] fresh
+pub error_drops : (room : ℕ) (m : Memory) (p : List ℕ) → judged p ≡ (Ok Damaged) → unpacking room m p ≡ gives [] fresh
 unfolding unpacking verdict_on
 error_drops room m p e = rw e
 

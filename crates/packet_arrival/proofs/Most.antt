@@ -1,6 +1,8 @@
 -- How many bytes a section's packets have, and the most that one packet completes: 61 sections, of 4,278 bytes together. Each of them but the one
 -- that was unfinished has 3 bytes or more of the packet's own.
 use Prim.Native.Nat.{ℕ, zero, suc, ◌+◌, ◌-◌, ◌*◌, ◌/◌, ◌≤◌}
+use Rattle.ground_refusal.specs.declared.Refusal.{Refusal}
+use Rattle.section_reader.specs.declared.Heading.{Heading}
 use mathlib.Core.Bool.{Bool, true, false, ◌&&◌}
 use mathlib.Core.List.{List, [], ◌∷◌, ◌++◌, append-nil}
 use mathlib.Core.Path.{◌≡◌, refl, sym, ap, ◌∙◌, subst}
@@ -9,14 +11,14 @@ use borrow.Author.Tests.{leb-true, ltb-false}
 use lib.Dec.{eqb, leb, ltb}
 use lib.ListN.{length, take, drop, length-append, length-drop, length-take}
 use lib.Seq.{length-take-le}
-use Rattle.std.specs.Prelude.{if◌then◌else◌}
+use Rattle.std.specs.Prelude.{if◌then◌else◌, Result, Ok, Err}
 use Rattle.ground_choices.proofs.Tests.{both}
 use Rattle.ground_numbers.specs.Sizes.{section_length_most}
 use Rattle.packet.specs.Sizes.{packet_bytes, counter_most}
 use Rattle.packet.specs.Fields.{starts, control, payload_at, pointed_at, byte}
 use Rattle.packet.specs.Judging.{judged}
 use Rattle.packet.specs.declared.Judged.{Judged}
-use Rattle.packet.specs.declared.Judged.TheVariants.{Refused, Damaged, Skipped, Carrying}
+use Rattle.packet.specs.declared.Judged.TheVariants.{Damaged, Skipped, Carrying}
 use Rattle.packet.proofs.Judging.{Carried, carried}
 use Rattle.packet_frames.specs.Framing.{at_stuffing, framed, too_long, is_whole, is_begun, Read, nothing, longer, gone_on, before, begun_in, begun, joined}
 use Rattle.packet_frames.proofs.Frames.{framed_least}
@@ -28,11 +30,8 @@ use Rattle.ground_refusal.specs.declared.Refusal.TheVariants.{OutsideSet, Output
 use Rattle.packet_memory.specs.State.{memory_of}
 use Rattle.packet_memory.proofs.States.{memory_begun, going_begun}
 use Rattle.section_reader.specs.Section.{section_length, read_section}
-use Rattle.section_reader.specs.declared.Sectioned.{Sectioned}
-use Rattle.section_reader.specs.declared.Sectioned.TheVariants.{Good, Refused as NotGood}
 use Rattle.packet_writer.specs.Packing.{next_room, packed, laid, writes, packing_if_room, packing_of, packing, refuses as refused}
 use Rattle.packet_writer.specs.Answers.{packed_by, packed_of}
-use Rattle.packet_writer.specs.declared.Packed.TheVariants.{Packets}
 use Rattle.packet_writer.proofs.Packets.{packed_long}
 use Rattle.packet_writer.proofs.Calls.{good_short}
 use Rattle.packet_reader.specs.Unpacking.{refuses, gives, fitting, carrying, verdict_on, unpacking}
@@ -236,22 +235,22 @@ pub gives_most : (room : ℕ) (s p : List ℕ) (ss : List (List ℕ)) (m : Memor
 unfolding unpacking verdict_on
 gives_most room s p ss m e = let most = go (judged p) refl e in (most.sections, most.bytes)
   where
-    go : (j : Judged) → judged p ≡ j → verdict_on j room (memory_of s) p ≡ gives ss m → Most ss
-    go (Refused r) q x = absurd (let z : ◌≡◌ {A = ℕ} 0 1 = cc in omega arith)
-    go Damaged q x = none_given _ m ss x
-    go Skipped q x = none_given _ m ss x
-    go Carrying q x = carrying_most room s p ss m (carried p q) x
+    go : (j : Result Judged Refusal) → judged p ≡ j → verdict_on j room (memory_of s) p ≡ gives ss m → Most ss
+    go (Err r) q x = absurd (let z : ◌≡◌ {A = ℕ} 0 1 = cc in omega arith)
+    go (Ok Damaged) q x = none_given _ m ss x
+    go (Ok Skipped) q x = none_given _ m ss x
+    go (Ok Carrying) q x = carrying_most room s p ss m (carried p q) x
 
 -- ---- the packer
 
 -- the packets' bytes, which the longest section has 4,324 of
-pub packs_most : (counter : ℕ) (section out : List ℕ) (n : ℕ) → packed_of counter section out ≡ Packets n
+pub packs_most : (counter : ℕ) (section out : List ℕ) (n : ℕ) → packed_of counter section out ≡ Ok n
     → (n ≡ packet_bytes * (1 + length section / next_room)) × (n ≤ 4324)
 unfolding packing packing_of packing_if_room packed_by
 packs_most counter section out n e = go (read_section section) refl e
   where
     by : (b c : Bool) (l : length section ≤ 4096)
-        → packed_by (if b then refused (OutsideSet 0) else if c then refused OutputTooSmall else writes (laid (packed counter section))) ≡ Packets n
+        → packed_by (if b then refused (OutsideSet 0) else if c then refused OutputTooSmall else writes (laid (packed counter section))) ≡ Ok n
         → (n ≡ packet_bytes * (1 + length section / next_room)) × (n ≤ 4324)
     by true c l x = absurd (let z : ◌≡◌ {A = ℕ} 0 1 = cc in omega arith)
     by false true l x = absurd (let z : ◌≡◌ {A = ℕ} 0 1 = cc in omega arith)
@@ -260,7 +259,7 @@ packs_most counter section out n e = go (read_section section) refl e
         let q : length (laid (packed counter section)) ≡ n = cc in
         (omega arith, omega arith)
 
-    go : (r : Sectioned) → read_section section ≡ r → packed_by (packing_of r (length out) counter section) ≡ Packets n
+    go : (r : Result (Heading × ℕ) Refusal) → read_section section ≡ r → packed_by (packing_of r (length out) counter section) ≡ Ok n
         → (n ≡ packet_bytes * (1 + length section / next_room)) × (n ≤ 4324)
-    go (NotGood why) q x = absurd (let z : ◌≡◌ {A = ℕ} 0 1 = cc in omega arith)
-    go (Good h m) q x = by (ltb counter_most counter) (ltb (length out) (length (laid (packed counter section)))) (good_short section h m q) x
+    go (Err why) q x = absurd (let z : ◌≡◌ {A = ℕ} 0 1 = cc in omega arith)
+    go (Ok (h, m)) q x = by (ltb counter_most counter) (ltb (length out) (length (laid (packed counter section)))) (good_short section (h, m) q) x

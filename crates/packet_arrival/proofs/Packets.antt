@@ -7,7 +7,7 @@ use native.Mathlib.Omega.{arith}
 use borrow.Author.Tests.{eq-eqb}
 use lib.Dec.{eqb}
 use lib.ListN.{length, get_or, drop, replicate}
-use Rattle.std.specs.Prelude.{if◌then◌else◌}
+use Rattle.std.specs.Prelude.{if◌then◌else◌, Ok}
 use Rattle.ground_equal.specs.Same.{same_bytes}
 use Rattle.ground_equal.proofs.Same.{same_is}
 use Rattle.packet.specs.Sizes.{packet_bytes, sync_byte, our_pid, stuffing, counter_most}
@@ -87,7 +87,7 @@ awaited_other l p a n = go (same_bytes l p) refl
 -- ---- what the unpacker makes of it
 
 -- a packet that is taken and is no repeat is read after what it goes on from
-pub taken_read : (room : ℕ) (m : Memory) (p : List ℕ) → judged p ≡ Carrying → is_repeat m p ≡ false
+pub taken_read : (room : ℕ) (m : Memory) (p : List ℕ) → judged p ≡ (Ok Carrying) → is_repeat m p ≡ false
     → unpacking room m p ≡ fitting room p (read_on (going_on m p) p)
 unfolding unpacking verdict_on carrying
 taken_read room m p t n = rw (t, n)
@@ -106,7 +106,7 @@ unfolding packet_of header
 packet_sync start c payload = refl
 
 packet_judged : (start : Bool) (c : ℕ) → c ≤ counter_most → (payload : List ℕ) → length payload ≤ next_room → in_place (packet_of start c payload) ≡ true
-    → judged (packet_of start c payload) ≡ Carrying
+    → judged (packet_of start c payload) ≡ Ok Carrying
 unfolding judged
 packet_judged start c low payload h i =
     simp (

@@ -1,5 +1,6 @@
 -- From a state's bytes that mean a fresh unpacker, the calls give what was packed, in order, and nothing else.
 use Prim.Native.Nat.{ℕ, ◌≤◌}
+use Rattle.std.specs.Prelude.{Ok}
 use mathlib.Core.List.{List, [], ◌∷◌, ◌++◌}
 use mathlib.Core.Path.{◌≡◌, refl, sym, ap, ap₂, ◌∙◌, subst}
 use native.Mathlib.Omega.{arith}
@@ -11,7 +12,6 @@ use Rattle.packet_plan.proofs.Plans.{joined_append}
 use Rattle.packet_memory.specs.Memory.{Memory, fresh}
 use Rattle.packet_memory.specs.State.{state_bytes, is_possible, memory_of}
 use Rattle.packet_reader.specs.Unpacking.{Verdict, refuses, gives, unpacking, more, and_then, unpacking_all}
-use Rattle.packet_reader.specs.declared.Completed.TheVariants.{Sections}
 use Rattle.packet_reader.specs.Answers.{answer_by, output_by, verdict_for, StateBy}
 use Rattle.packet_reader.proofs.States.{state_means}
 use Rattle.packet_writer.specs.Packing.{packed_all}
@@ -21,7 +21,7 @@ use Rattle.packet_arrival.proofs.Arrival.{arrives}
 
 -- what a call shows, by the meaning of the state's bytes
 record Shown (w : Verdict) (s out left written : List ℕ) (n : ℕ) : Type 0 where
-  told : Sections n ≡ answer_by w
+  told : Ok n ≡ answer_by w
   output : written ≡ output_by w out
   means : StateBy w s left
 

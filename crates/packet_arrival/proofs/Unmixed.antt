@@ -10,7 +10,7 @@ use borrow.Author.Tests.{le-leb, leb-true}
 use lib.Dec.{eqb, leb, ltb}
 use lib.ListN.{length, take, drop, length-append, length-drop, take-append-drop}
 use lib.Seq.{drop-drop, drop_at, take-append-le, drop-append-le}
-use Rattle.std.specs.Prelude.{if◌then◌else◌}
+use Rattle.std.specs.Prelude.{if◌then◌else◌, Result, Ok, Err}
 use Rattle.ground_choices.proofs.Tests.{both}
 use Rattle.ground_refusal.specs.declared.Refusal.{Refusal}
 use Rattle.ground_refusal.specs.declared.Refusal.TheVariants.{NotAPacket, NoSyncByte, OtherPid, Scrambled, PastPacket, OutputTooSmall}
@@ -18,7 +18,7 @@ use Rattle.packet.specs.Sizes.{packet_bytes, sync_byte, our_pid}
 use Rattle.packet.specs.Fields.{byte, has_error, starts, pid, scrambling, control, payload_at, pointed_at, in_place}
 use Rattle.packet.specs.Judging.{judged}
 use Rattle.packet.specs.declared.Judged.{Judged}
-use Rattle.packet.specs.declared.Judged.TheVariants.{Refused, Damaged, Skipped, Carrying}
+use Rattle.packet.specs.declared.Judged.TheVariants.{Damaged, Skipped, Carrying}
 use Rattle.packet_frames.specs.Framing.{at_stuffing, framed, too_long, is_whole, Read, nothing, longer, gone_on, before, begun_in, begun, joined}
 use Rattle.packet_frames.proofs.Frames.{framed_front}
 use Rattle.packet_plan.specs.Reading.{ended, ahead, read_on}
@@ -378,11 +378,11 @@ module _ (room : ℕ) (m : Memory) (h : Heard) (p : List ℕ) (v : Ready m.unfin
         go false = rw (good, t) (s.0, (s.1, hearing_below g p (going_on m p) going_ready))
 
   -- what the packet's own judgement shows of its fields, as far as `heard_by` asks
-  Told : Judged → Type 0
-  Told (Refused r) = Unit {0}
-  Told Damaged = has_error p ≡ true
-  Told Skipped = (has_error p ≡ false) × (eqb (control p) 2 ≡ true)
-  Told Carrying = (has_error p ≡ false) × (eqb (control p) 2 ≡ false)
+  Told : Result Judged Refusal → Type 0
+  Told (Err r) = Unit {0}
+  Told (Ok Damaged) = has_error p ≡ true
+  Told (Ok Skipped) = (has_error p ≡ false) × (eqb (control p) 2 ≡ true)
+  Told (Ok Carrying) = (has_error p ≡ false) × (eqb (control p) 2 ≡ false)
 
   told : Told (judged p)
   unfolding judged Told
@@ -392,14 +392,14 @@ module _ (room : ℕ) (m : Memory) (h : Heard) (p : List ℕ) (v : Ready m.unfin
     where
       go : (a b c : Bool) → has_error p ≡ c → (d i j k : Bool) → eqb (control p) 2 ≡ k
           → Told
-          (if a then Refused NotAPacket else
-          if b then Refused NoSyncByte else
-          if c then Damaged else
-          if d then Refused OtherPid else
-          if i then Refused Scrambled else
-          if j then Refused PastPacket else
-          if k then Skipped else
-          Carrying)
+          (if a then Err NotAPacket else
+          if b then Err NoSyncByte else
+          if c then (Ok Damaged) else
+          if d then Err OtherPid else
+          if i then Err Scrambled else
+          if j then Err PastPacket else
+          if k then (Ok Skipped) else
+          Ok Carrying)
       go true b c g d i j k s = tt
       go false true c g d i j k s = tt
       go false false true g d i j k s = g
@@ -413,12 +413,12 @@ module _ (room : ℕ) (m : Memory) (h : Heard) (p : List ℕ) (v : Ready m.unfin
   unfolding unpacking verdict_on carrying Told repeated_once
   kept = go (judged p) told (is_repeat m p) refl
     where
-      go : (j : Judged) → Told j → (l : Bool) → is_repeat m p ≡ l → Kept (verdict_on j room m p) m h p
-      go (Refused r) t l s = kept_refusal r
-      go Damaged t l s = kept_error t
-      go Skipped t l s = kept_skipped t.0 m refl (rw t.1)
-      go Carrying t true s = rw s (kept_skipped t.0 (repeated_once m) refl (rw (t.1, s)))
-      go Carrying t false s = rw s (kept_read t.0 (rw (t.1, s)))
+      go : (j : Result Judged Refusal) → Told j → (l : Bool) → is_repeat m p ≡ l → Kept (verdict_on j room m p) m h p
+      go (Err r) t l s = kept_refusal r
+      go (Ok Damaged) t l s = kept_error t
+      go (Ok Skipped) t l s = kept_skipped t.0 m refl (rw t.1)
+      go (Ok Carrying) t true s = rw s (kept_skipped t.0 (repeated_once m) refl (rw (t.1, s)))
+      go (Ok Carrying) t false s = rw s (kept_read t.0 (rw (t.1, s)))
 
 -- ---- a run
 

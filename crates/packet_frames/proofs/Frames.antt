@@ -117,6 +117,11 @@ front_begun (x ∷ xs) f n e = rw e (go (at_stuffing (x ∷ xs)) (too_long (x �
     go false false true = refl
     go false false false = refl
 
+pub not_begun : (u : List ℕ) (f : Frame) → (length u ≡ 0 → ⊥) → f ≡ front_of u → (f ≡ Open → ⊥) → false ≡ is_begun u
+not_begun u Nothing n e k = front_begun u Nothing n e
+not_begun u (Whole m) n e k = front_begun u (Whole m) n e
+not_begun u Open n e k = absurd (k refl)
+
 pub none_begun : (u : List ℕ) → length u ≡ 0 → true ≡ is_begun u
 unfolding is_begun
 none_begun [] e = refl

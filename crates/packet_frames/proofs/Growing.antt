@@ -17,7 +17,6 @@ use Rattle.packet_frames.specs.declared.Frame.TheVariants.{Nothing, Whole, Open}
 use Rattle.packet_frames.specs.Framing.{at_stuffing, framed, too_long, is_whole, is_begun, unfinished_most, nothing, longer, gone_on, before, begun_in, begun}
 use Rattle.packet_frames.specs.Found.{frame_of, Grown}
 use Rattle.packet_frames.proofs.Frames.{framed_least, framed_front}
-use Rattle.packet_frames.proofs.Scans.{turn}
 
 -- ---- the tests of bytes that a section may begin with
 

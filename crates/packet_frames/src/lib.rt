@@ -62,15 +62,13 @@ fn frame_of(u: &[u8], more: &[u8]) -> Frame
 }
 
 // What stands where a section may begin.
+#[tactic(auto, using(crate::proofs::Frames::front_empty, crate::proofs::Frames::front_stuffing))]
 fn front_of(d: &[u8]) -> Frame
     requires { length d.now ≤ unfinished_most }
     ensures { result ≡ front_of d.now }
 {
     let n = d.len();
-    if n == 0 {
-        return Frame::Nothing;
-    }
-    if d[0] == STUFFING {
+    if n == 0 || d[0] == STUFFING {
         return Frame::Nothing;
     }
     frame_of(d, &d[n..])
@@ -84,11 +82,7 @@ pub fn is_begun(u: &[u8]) -> bool
     if u.len() == 0 {
         return true;
     }
-    match front_of(u) {
-        Frame::Nothing => false,
-        Frame::Whole(_n) => false,
-        Frame::Open => true,
-    }
+    matches!(front_of(u), Frame::Open)
 }
 
 // The sections that begin at the front of d, one after the other.
@@ -97,6 +91,7 @@ pub fn find_sections(d: &[u8]) -> Scan
     ensures { Scanned d.now result }
 {
     let mut at: usize = 0;
+    // no `while let Whole(n)`: what is answered hangs on which of the two others ends it
     loop {
         match front_of(&d[at..]) {
             Frame::Nothing => {

@@ -1,31 +1,27 @@
 -- Laws of the state's bytes as they are written: what they mean after a packet, a repeat and an error bit.
 use Prim.Native.Nat.{ℕ, ◌+◌, ◌-◌, ◌/◌, ◌%◌, ◌≤◌, ◌<◌}
-use mathlib.Core.Bool.{true, false, ◌&&◌}
+use mathlib.Core.Bool.{true, ◌&&◌}
 use mathlib.Core.List.{List, [], ◌∷◌, ◌++◌, append_assoc}
 use mathlib.Core.Path.{◌≡◌, refl, sym, ap, ap₂, ◌∙◌}
 use native.Mathlib.Nat.{zero-add}
 use native.Mathlib.Omega.{arith}
 use borrow.Author.Tests.{le-leb}
 use lib.Dec.{eqb}
-use lib.ListN.{length, set, take, drop, length-append, length-drop}
+use lib.ListN.{length, take, drop, length-append, length-drop}
 use lib.Seq.{length-take-le, take-add, take_at, drop_at, drop-append-le}
 use Rattle.ground_placing.specs.Placed.{placed}
-use Rattle.ground_placing.proofs.Placing.{stored as stores, placed_next, placed_length, placed_whole}
+use Rattle.ground_placing.proofs.Placing.{placed_next, placed_length, placed_whole}
 use Rattle.packet.specs.Sizes.{packet_bytes}
 use Rattle.packet.specs.Fields.{byte}
 use Rattle.packet.specs.Judging.{judged, is_carrying}
 use Rattle.packet_frames.specs.Framing.{is_begun, unfinished_most}
 use Rattle.packet_frames.proofs.Frames.{tail}
 use Rattle.packet_memory.specs.Memory.{fresh, repeated_once, held_after}
-use Rattle.packet_memory.specs.State.{unfinished_at, state_bytes, kept_of, last_of, unfinished_of, may_leave, is_possible, memory_of}
+use Rattle.packet_memory.specs.State.{unfinished_at, kept_of, last_of, unfinished_of, may_leave, is_possible, memory_of}
 use Rattle.packet_memory.specs.Keeping.{part_of, Leaves, marked, holding, Keeps}
 use Rattle.packet_memory.proofs.States.{possible_then, possible_shows, memory_fresh, memory_held}
 
 -- ---- the bytes as they are laid
-
-pub mark_stores : (d : List ℕ) (k : ℕ) → 3 ≤ length d
-    → set (set (set d 0 1) 1 (k / 256 % 256)) 2 (k % 256) ≡ placed d 0 (1 ∷ k / 256 % 256 ∷ k % 256 ∷ [])
-mark_stores d k h = stores d 0 (1 ∷ k / 256 % 256 ∷ k % 256 ∷ []) (omega arith)
 
 take_drop : (k n : ℕ) (l : List ℕ) → n ≤ length l → take k (drop n l) ≡ drop n (take (n + k) l)
 take_drop k n l h = sym (ap (drop n) (take-add n k l) ∙ drop_at (take n l) (take k (drop n l)) n (length-take-le n l h))

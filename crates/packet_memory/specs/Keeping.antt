@@ -1,5 +1,5 @@
 -- What the contracts of the functions that read and write the state's bytes cite.
-use Rattle.std.specs.Prelude.{ℕ, ◌+◌, ◌-◌, ◌/◌, ◌%◌, ◌≤◌, true, List, ◌∷◌, ◌++◌, ◌≡◌, length, set, take, drop}
+use Rattle.std.specs.Prelude.{ℕ, ◌+◌, ◌-◌, ◌/◌, ◌%◌, ◌≤◌, true, List, ◌∷◌, ◌++◌, ◌≡◌, length, set, take, drop, Ok}
 use Rattle.ground_placing.specs.Placed.{placed}
 use Rattle.packet.specs.Sizes.{packet_bytes}
 use Rattle.packet.specs.Judging.{judged}
@@ -24,7 +24,7 @@ pub record Leaves (s p : List ℕ) (goes left : ℕ) : Type 0 where
   pub packet : length p ≡ packet_bytes
   pub within : left ≤ packet_bytes
   pub most : goes + (packet_bytes - left) ≤ unfinished_most
-  pub carries : judged p ≡ Carrying
+  pub carries : judged p ≡ Ok Carrying
   pub begun : is_begun (part_of s p goes left) ≡ true
   pub may : may_leave p (part_of s p goes left) ≡ true
 
@@ -43,6 +43,6 @@ pub record Keeps (s p u : List ℕ) : Type 0 where
   pub size : length s ≡ state_bytes
   pub packet : length p ≡ packet_bytes
   pub short : length u ≤ unfinished_most
-  pub carries : judged p ≡ Carrying
+  pub carries : judged p ≡ Ok Carrying
   pub begun : is_begun u ≡ true
   pub may : may_leave p u ≡ true

@@ -1,7 +1,7 @@
 // What the unpacker remembers, in bytes that the caller lends: what they mean, and how they are written.
 #![tactic(auto)]
 
-ghost use Rattle.std.specs.Prelude.{◌≡◌, [], ◌∷◌, ◌/◌, ◌%◌, ◌≤◌, length};
+ghost use Rattle.std.specs.Prelude.{◌≡◌, [], ◌∷◌, ◌/◌, ◌%◌, ◌≤◌, length, Ok};
 ghost use Rattle.ground_placing.specs.Placed.{placed};
 ghost use Rattle.packet.specs.Sizes.{packet_bytes};
 ghost use Rattle.packet.specs.Judging.{judged};
@@ -27,30 +27,25 @@ pub const UNFINISHED_AT: usize = 191;
 // ---- what they mean
 
 // How many bytes of an unfinished section are kept.
+#[tactic(auto, unfolding(crate::specs::State::kept_of))]
 fn kept_of(s: &[u8]) -> usize
     requires { length s.now ≡ state_bytes }
     ensures { (result ≡ kept_of s.now) × (result ≤ 65535) }
 {
-    byte_at(s, 1) * 256 + byte_at(s, 2)
+    usize::from(u16::from_be_bytes([s[1], s[2]]))
 }
 
 // Is u nothing, or longer than `more`, which it ends with?
+#[tactic(auto, using(crate::proofs::Leaving::ends_none, crate::proofs::Leaving::ends_short, crate::proofs::Leaving::ends_then))]
 fn ends_with(u: &[u8], more: &[u8]) -> bool
     ensures { result ≡ ends_with u.now more.now }
 {
-    if u.len() == 0 {
-        return true;
-    }
-    if u.len() <= more.len() {
-        return false;
-    }
-    let at = u.len() - more.len();
-    same_bytes(&u[at..], more)
+    u.len() == 0 || (more.len() < u.len() && same_bytes(&u[u.len() - more.len()..], more))
 }
 
 // Can the packet have left the bytes u unfinished?
 fn may_leave(p: &[u8], u: &[u8]) -> bool
-    requires { judged p.now ≡ Carrying }
+    requires { judged p.now ≡ (Ok Carrying) }
     ensures { result ≡ may_leave p.now u.now }
 {
     let at = packet::payload_at(p);
@@ -64,15 +59,12 @@ fn may_leave(p: &[u8], u: &[u8]) -> bool
 }
 
 // Is it a state that holds something, and can have been left by the unpacker?
+#[tactic(auto, unfolding(crate::specs::State::last_of), using(crate::proofs::States::possible_unmarked))]
 pub fn possible(s: &[u8]) -> bool
     requires { length s.now ≡ state_bytes }
     ensures { result ≡ is_possible s.now }
 {
-    let mark = s[0];
-    if mark == 0 {
-        return false;
-    }
-    if 2 < mark {
+    if s[0] == 0 || 2 < s[0] {
         return false;
     }
     if !packet::is_carrying(&s[LAST_AT..UNFINISHED_AT]) {
@@ -90,10 +82,12 @@ pub fn possible(s: &[u8]) -> bool
 }
 
 // Is the packet the one repeat of the last that is ignored? `known` says whether the state is possible. Most packets are told apart by their counter.
+#[tactic(auto, unfolding(crate::specs::State::last_of))]
 pub fn repeats(s: &[u8], known: bool, p: &[u8]) -> bool
     requires { (length s.now ≡ state_bytes) × (known ≡ is_possible s.now) × (length p.now ≡ packet_bytes) }
     ensures { result ≡ is_repeat (memory_of s.now) p.now }
 {
+    // the first two tests one by one: in one chain of four its proof didn't close
     if !known {
         return false;
     }
@@ -101,13 +95,11 @@ pub fn repeats(s: &[u8], known: bool, p: &[u8]) -> bool
         return false;
     }
     let last = &s[LAST_AT..UNFINISHED_AT];
-    if last[3] != p[3] {
-        return false;
-    }
-    same_bytes(last, p)
+    last[3] == p[3] && same_bytes(last, p)
 }
 
 // How many bytes of an unfinished section the packet goes on from.
+#[tactic(auto, unfolding(crate::specs::State::last_of))]
 pub fn going_on(s: &[u8], known: bool, p: &[u8]) -> usize
     requires { (length s.now ≡ state_bytes) × (known ≡ is_possible s.now) × (length p.now ≡ packet_bytes) }
     ensures { Goes s.now p.now result }
@@ -124,6 +116,7 @@ pub fn going_on(s: &[u8], known: bool, p: &[u8]) -> usize
 // ---- how they are written
 
 // Nothing is remembered any more.
+#[tactic(auto, unfolding(crate::specs::Keeping::marked))]
 pub fn forget(s: &mut [u8])
     requires { length s.old ≡ state_bytes }
     ensures { s.new ≡ marked 0 s.old }
@@ -132,6 +125,7 @@ pub fn forget(s: &mut [u8])
 }
 
 // The last packet's one repeat has been ignored.
+#[tactic(auto, unfolding(crate::specs::Keeping::marked))]
 pub fn mark_repeat(s: &mut [u8])
     requires { length s.old ≡ state_bytes }
     ensures { s.new ≡ marked 2 s.old }
@@ -141,12 +135,12 @@ pub fn mark_repeat(s: &mut [u8])
 
 // The state's mark and the number of unfinished bytes.
 fn put_mark(s: &mut [u8], kept: usize)
-    requires { 3 ≤ length s.old }
+    requires { (3 ≤ length s.old) × (kept ≤ 65535) }
     ensures { s.new ≡ placed s.old 0 (1 ∷ kept / 256 % 256 ∷ kept % 256 ∷ []) }
 {
-    s[0] = 1;
-    s[1] = (kept / 256 % 256) as u8;
-    s[2] = (kept % 256) as u8;
+    let kept = (kept as u16).to_be_bytes();
+    let bytes: [u8; 3] = [1, kept[0], kept[1]];
+    s[..3].copy_from_slice(&bytes);
 }
 
 // The packet is the last one taken, and leaves its bytes from `left` on behind the first `goes` that were unfinished.

@@ -1,7 +1,7 @@
 // What a packet that is taken gives and leaves, decided as places in one struct before a byte is written.
 #![tactic(auto)]
 
-ghost use Rattle.std.specs.Prelude.{◌≡◌, true};
+ghost use Rattle.std.specs.Prelude.{◌≡◌, true, Ok};
 ghost use Rattle.packet.specs.Judging.{judged};
 ghost use Rattle.packet.specs.declared.Judged.TheVariants.{Carrying};
 ghost use Rattle.packet_frames.specs.Framing.{is_begun};
@@ -29,33 +29,26 @@ fn plan_on(u: &[u8], p: &[u8], at: usize) -> Plan
     ensures { Planned u.now p.now result }
 {
     let n = u.len();
+    let nothing = Plan {
+        ended: 0,
+        from: at,
+        upto: at,
+        first: at,
+        stop: at,
+        goes: 0,
+        left: PACKET_BYTES,
+    };
     match packet_frames::grow(u, &p[at..]) {
-        Frame::Nothing => Plan {
-            ended: 0,
-            from: at,
-            upto: at,
-            first: at,
-            stop: at,
-            goes: 0,
-            left: PACKET_BYTES,
-        },
+        Frame::Nothing => nothing,
         Frame::Whole(size) => Plan {
             ended: n,
-            from: at,
             upto: at + (size - n),
-            first: at,
-            stop: at,
-            goes: 0,
-            left: PACKET_BYTES,
+            ..nothing
         },
         Frame::Open => Plan {
-            ended: 0,
-            from: at,
-            upto: at,
-            first: at,
-            stop: at,
             goes: n,
             left: at,
+            ..nothing
         },
     }
 }
@@ -67,42 +60,29 @@ fn plan_pointed(u: &[u8], p: &[u8], at: usize, first: usize) -> Plan
 {
     let n = u.len();
     let found = packet_frames::find_sections(&p[first..]);
-    let stop = first + found.stop;
-    let left = first + found.left;
+    let behind = Plan {
+        ended: 0,
+        from: at,
+        upto: at,
+        first,
+        stop: first + found.stop,
+        goes: 0,
+        left: first + found.left,
+    };
     match packet_frames::grow(u, &p[at..first]) {
-        Frame::Nothing => Plan {
-            ended: 0,
-            from: at,
-            upto: at,
-            first: first,
-            stop: stop,
-            goes: 0,
-            left: left,
-        },
+        Frame::Nothing => behind,
         Frame::Whole(size) => Plan {
             ended: n,
-            from: at,
             upto: at + (size - n),
-            first: first,
-            stop: stop,
-            goes: 0,
-            left: left,
+            ..behind
         },
-        Frame::Open => Plan {
-            ended: 0,
-            from: at,
-            upto: at,
-            first: first,
-            stop: stop,
-            goes: 0,
-            left: left,
-        },
+        Frame::Open => behind,
     }
 }
 
 // What a packet that is taken gives and leaves, after the unfinished bytes u.
 pub fn plan_of(u: &[u8], p: &[u8]) -> Plan
-    requires { (is_begun u.now ≡ true) × (judged p.now ≡ Carrying) }
+    requires { (is_begun u.now ≡ true) × (judged p.now ≡ Ok Carrying) }
     ensures { Planned u.now p.now result }
 {
     let at = packet::payload_at(p);

@@ -1,5 +1,6 @@
 -- Laws of the call: what each way out of it says of answer, output and state.
 use Prim.Native.Nat.{ℕ, ◌+◌, ◌-◌, ◌≤◌, ◌<◌}
+use Rattle.std.specs.Prelude.{Result, Ok, Err}
 use mathlib.Core.Bool.{true, false}
 use mathlib.Core.List.{List, [], ◌++◌}
 use mathlib.Core.Path.{◌≡◌, refl, sym, ap, ◌∙◌, subst}
@@ -13,7 +14,7 @@ use Rattle.ground_refusal.specs.declared.Refusal.{Refusal}
 use Rattle.ground_refusal.specs.declared.Refusal.TheVariants.{OutputTooSmall}
 use Rattle.packet.specs.Sizes.{packet_bytes}
 use Rattle.packet.specs.Judging.{judged}
-use Rattle.packet.specs.declared.Judged.TheVariants.{Refused as NotTaken, Damaged, Skipped, Carrying}
+use Rattle.packet.specs.declared.Judged.TheVariants.{Damaged, Skipped, Carrying}
 use Rattle.packet.proofs.Judging.{carried}
 use Rattle.packet_frames.specs.Framing.{is_begun, unfinished_most, joined}
 use Rattle.packet_frames.proofs.Growing.{begun_short}
@@ -26,8 +27,6 @@ use Rattle.packet_memory.specs.Memory.{Memory, fresh, held_after, repeated_once,
 use Rattle.packet_memory.specs.State.{unfinished_at, may_leave, memory_of}
 use Rattle.packet_memory.specs.Keeping.{part_of, Leaves, marked, holding}
 use Rattle.packet_memory.proofs.Leaving.{leaves_may}
-use Rattle.packet_reader.specs.declared.Completed.{Completed}
-use Rattle.packet_reader.specs.declared.Completed.TheVariants.{Sections, Refused}
 use Rattle.packet_reader.specs.Unpacking.{Verdict, refuses, gives, fitting, carrying, verdict_on, unpacking}
 use Rattle.packet_reader.specs.Answers.{answer_by, output_by, state_read, state_taken, state_on, state_after, Unpacks, Kept}
 
@@ -46,18 +45,18 @@ laid_three d a b c d₁ d₂ d₃ k l e f g m n h =
 -- ---- what a verdict makes
 
 module _ (v : Verdict) (after out : List ℕ) where
-  pub by_refusal : (r : Refusal) (left : List ℕ) → v ≡ refuses r → left ≡ after → Unpacks v after out (Refused r) left out
+  pub by_refusal : (r : Refusal) (left : List ℕ) → v ≡ refuses r → left ≡ after → Unpacks v after out (Err r) left out
   unfolding answer_by output_by
   by_refusal r left e f = record { told = rw e; state = f; output = rw e }
 
   pub by_giving : (ss : List (List ℕ)) (m : Memory) (left written : List ℕ) (n : ℕ)
       → v ≡ gives ss m → n ≡ length (joined ss) → written ≡ placed out 0 (joined ss) → left ≡ after
-      → Unpacks v after out (Sections n) left written
+      → Unpacks v after out (Ok n) left written
   unfolding answer_by output_by
   by_giving ss m left written n e f g h = record { told = rw (e, f); state = h; output = rw e g }
 
   -- where nothing is given
-  pub by_nothing : (m : Memory) (left : List ℕ) → v ≡ gives [] m → left ≡ after → Unpacks v after out (Sections 0) left out
+  pub by_nothing : (m : Memory) (left : List ℕ) → v ≡ gives [] m → left ≡ after → Unpacks v after out (Ok 0) left out
   unfolding joined
   by_nothing m left e h = by_giving [] m left out 0 e refl (sym (placed_none out 0)) h
 
@@ -129,7 +128,7 @@ module _ (s p : List ℕ) (kept : ℕ) (q : Kept s kept p) (plan : Plan)
   module _ (out : List ℕ) (g : ℕ) (e : g ≡ plan.ended + (plan.upto - plan.from) + (plan.stop - plan.first)) where
     pub read_small : length out < g
         → Unpacks (fitting (length out) p (read_on (take kept (drop unfinished_at s)) p)) (state_read s (length out) p (read_on (take kept (drop unfinished_at s)) p))
-        out (Refused OutputTooSmall) s out
+        out (Err OutputTooSmall) s out
     unfolding fitting state_read u
     read_small h =
         let l = given_length u p plan v in
@@ -140,7 +139,7 @@ module _ (s p : List ℕ) (kept : ℕ) (q : Kept s kept p) (plan : Plan)
         → written ≡ placed out 0 (given plan (take (unfinished_at + kept - unfinished_at) (drop unfinished_at s)) p)
         → left ≡ holding s (part_of s p plan.goes plan.left) p
         → Unpacks (fitting (length out) p (read_on (take kept (drop unfinished_at s)) p)) (state_read s (length out) p (read_on (take kept (drop unfinished_at s)) p))
-        out (Sections g) left written
+        out (Ok g) left written
     unfolding fitting state_read u
     read_fits h left written x y =
         let l = given_length u p plan v in
@@ -156,12 +155,12 @@ module _ (s p : List ℕ) (kept : ℕ) (q : Kept s kept p) (plan : Plan)
 
 module _ (s p out : List ℕ) where
   pub carry_repeat : is_repeat (memory_of s) p ≡ true → (left : List ℕ) → left ≡ marked 2 s
-      → Unpacks (carrying (length out) (memory_of s) p) (state_taken s (length out) p) out (Sections 0) left out
+      → Unpacks (carrying (length out) (memory_of s) p) (state_taken s (length out) p) out (Ok 0) left out
   unfolding carrying state_taken
   carry_repeat e left f = by_nothing _ _ out (repeated_once (memory_of s)) left (rw e) (rw e f)
 
   pub carry_read : is_repeat (memory_of s) p ≡ false → (k : ℕ) → going_on (memory_of s) p ≡ take k (drop unfinished_at s)
-      → (r : Completed) (left written : List ℕ)
+      → (r : Result ℕ Refusal) (left written : List ℕ)
       → Unpacks (fitting (length out) p (read_on (take k (drop unfinished_at s)) p)) (state_read s (length out) p (read_on (take k (drop unfinished_at s)) p))
       out r left written
       → Unpacks (carrying (length out) (memory_of s) p) (state_taken s (length out) p) out r left written
@@ -171,21 +170,21 @@ module _ (s p out : List ℕ) where
 -- ---- any byte string
 
 module _ (s p out : List ℕ) where
-  pub unpack_refused : (r : Refusal) → judged p ≡ NotTaken r
-      → Unpacks (unpacking (length out) (memory_of s) p) (state_after s p out) out (Refused r) s out
+  pub unpack_refused : (r : Refusal) → judged p ≡ Err r
+      → Unpacks (unpacking (length out) (memory_of s) p) (state_after s p out) out (Err r) s out
   unfolding unpacking verdict_on state_after state_on
   unpack_refused r e = by_refusal _ _ out r s (rw e) (rw e)
 
-  pub unpack_damaged : judged p ≡ Damaged → (left : List ℕ) → left ≡ marked 0 s
-      → Unpacks (unpacking (length out) (memory_of s) p) (state_after s p out) out (Sections 0) left out
+  pub unpack_damaged : judged p ≡ (Ok Damaged) → (left : List ℕ) → left ≡ marked 0 s
+      → Unpacks (unpacking (length out) (memory_of s) p) (state_after s p out) out (Ok 0) left out
   unfolding unpacking verdict_on state_after state_on
   unpack_damaged e left f = by_nothing _ _ out fresh left (rw e) (rw e f)
 
-  pub unpack_skipped : judged p ≡ Skipped → Unpacks (unpacking (length out) (memory_of s) p) (state_after s p out) out (Sections 0) s out
+  pub unpack_skipped : judged p ≡ (Ok Skipped) → Unpacks (unpacking (length out) (memory_of s) p) (state_after s p out) out (Ok 0) s out
   unfolding unpacking verdict_on state_after state_on
   unpack_skipped e = by_nothing _ _ out (memory_of s) s (rw e) (rw e)
 
-  pub unpack_carries : judged p ≡ Carrying → (r : Completed) (left written : List ℕ)
+  pub unpack_carries : judged p ≡ (Ok Carrying) → (r : Result ℕ Refusal) (left written : List ℕ)
       → Unpacks (carrying (length out) (memory_of s) p) (state_taken s (length out) p) out r left written
       → Unpacks (unpacking (length out) (memory_of s) p) (state_after s p out) out r left written
   unfolding unpacking verdict_on state_after state_on

@@ -1,16 +1,17 @@
 -- The state's bytes after a call mean what is then remembered, and are the same after a refusal.
 use Prim.Native.Nat.{ℕ}
+use Rattle.ground_refusal.specs.declared.Refusal.{Refusal}
 use mathlib.Core.Bool.{Bool, true, false}
 use mathlib.Core.List.{List, []}
 use mathlib.Core.Path.{◌≡◌, refl}
 use native.Mathlib.Omega.{arith}
 use lib.Dec.{ltb}
 use lib.ListN.{length}
-use Rattle.std.specs.Prelude.{if◌then◌else◌}
+use Rattle.std.specs.Prelude.{if◌then◌else◌, Result, Ok, Err}
 use Rattle.ground_refusal.specs.declared.Refusal.TheVariants.{OutputTooSmall}
 use Rattle.packet.specs.Judging.{judged}
 use Rattle.packet.specs.declared.Judged.{Judged}
-use Rattle.packet.specs.declared.Judged.TheVariants.{Refused, Damaged, Skipped, Carrying}
+use Rattle.packet.specs.declared.Judged.TheVariants.{Damaged, Skipped, Carrying}
 use Rattle.packet.proofs.Judging.{carried}
 use Rattle.packet_frames.specs.Framing.{Read, joined}
 use Rattle.packet_frames.proofs.Growing.{begun_short}
@@ -26,7 +27,7 @@ use Rattle.packet_reader.specs.Unpacking.{refuses, gives, fitting, carrying, ver
 use Rattle.packet_reader.specs.Answers.{verdict_for, state_read, state_taken, state_on, state_after, StateBy}
 
 module _ (s p : List ℕ) (room : ℕ) (n : length s ≡ state_bytes) where
-  module _ (c : judged p ≡ Carrying) where
+  module _ (c : judged p ≡ Ok Carrying) where
     r : Read
     r = read_on (going_on (memory_of s) p) p
 
@@ -64,12 +65,12 @@ module _ (s p : List ℕ) (room : ℕ) (n : length s ≡ state_bytes) where
         go true e = memory_repeated s (omega arith) (repeat_possible s p e (carried p c).size)
         go false e = read_means
 
-  means_on : (j : Judged) → judged p ≡ j → StateBy (verdict_on j room (memory_of s) p) s (state_on j s room p)
+  means_on : (j : Result Judged Refusal) → judged p ≡ j → StateBy (verdict_on j room (memory_of s) p) s (state_on j s room p)
   unfolding verdict_on state_on StateBy
-  means_on (Refused why) e = refl
-  means_on Damaged e = memory_damaged s
-  means_on Skipped e = refl
-  means_on Carrying e = taken_means e
+  means_on (Err why) e = refl
+  means_on (Ok Damaged) e = memory_damaged s
+  means_on (Ok Skipped) e = refl
+  means_on (Ok Carrying) e = taken_means e
 
 -- a refusal leaves the state's bytes; else they mean what is then remembered
 pub state_means : (s p out : List ℕ) → length s ≡ state_bytes → StateBy (verdict_for s p out) s (state_after s p out)

@@ -1,22 +1,21 @@
 -- What a reader has to believe of the unpacker's call: what each verdict makes of the answer, the output and the state's bytes.
-use Rattle.std.specs.Prelude.{ℕ, ◌≤◌, true, List, ◌≡◌, ltb, length, take, drop, if◌then◌else◌}
+use Rattle.std.specs.Prelude.{ℕ, ◌≤◌, true, List, ◌≡◌, ltb, length, take, drop, if◌then◌else◌, Result, Ok, Err}
+use Rattle.ground_refusal.specs.declared.Refusal.{Refusal}
 use Rattle.ground_placing.specs.Placed.{placed}
 use Rattle.packet.specs.Judging.{judged}
 use Rattle.packet.specs.declared.Judged.{Judged}
-use Rattle.packet.specs.declared.Judged.TheVariants.{Refused as NotTaken, Damaged, Skipped, Carrying}
+use Rattle.packet.specs.declared.Judged.TheVariants.{Damaged, Skipped, Carrying}
 use Rattle.packet_frames.specs.Framing.{is_begun, unfinished_most, Read, joined}
 use Rattle.packet_plan.specs.Reading.{read_on}
 use Rattle.packet_memory.specs.Memory.{is_repeat, going_on}
 use Rattle.packet_memory.specs.State.{unfinished_at, state_bytes, memory_of}
 use Rattle.packet_memory.specs.Keeping.{marked, holding}
-use Rattle.packet_reader.specs.declared.Completed.{Completed}
-use Rattle.packet_reader.specs.declared.Completed.TheVariants.{Sections, Refused}
 use Rattle.packet_reader.specs.Unpacking.{Verdict, refuses, gives, unpacking}
 
 -- how many bytes of sections are written, or why nothing is taken
-unfoldable pub answer_by : Verdict → Completed
-answer_by (refuses r) = Refused r
-answer_by (gives ss m) = Sections (length (joined ss))
+unfoldable pub answer_by : Verdict → Result ℕ Refusal
+answer_by (refuses r) = Err r
+answer_by (gives ss m) = Ok (length (joined ss))
 
 -- the sections stand at the start of the output, one after the other, each as long as its section_length says
 unfoldable pub output_by : Verdict → List ℕ → List ℕ
@@ -28,7 +27,7 @@ abbrev pub verdict_for : List ℕ → List ℕ → List ℕ → Verdict
 verdict_for s p out = unpacking (length out) (memory_of s) p
 
 -- what the caller is told, and the output as it is left
-abbrev pub completed_of : List ℕ → List ℕ → List ℕ → Completed
+abbrev pub completed_of : List ℕ → List ℕ → List ℕ → Result ℕ Refusal
 completed_of s p out = answer_by (verdict_for s p out)
 
 abbrev pub sections_over : List ℕ → List ℕ → List ℕ → List ℕ
@@ -46,11 +45,11 @@ state_taken s room p =
     if is_repeat (memory_of s) p then marked 2 s else
     state_read s room p (read_on (going_on (memory_of s) p) p)
 
-unfoldable pub state_on : Judged → List ℕ → ℕ → List ℕ → List ℕ
-state_on (NotTaken r) s room p = s
-state_on Damaged s room p = marked 0 s
-state_on Skipped s room p = s
-state_on Carrying s room p = state_taken s room p
+unfoldable pub state_on : Result Judged Refusal → List ℕ → ℕ → List ℕ → List ℕ
+state_on (Err r) s room p = s
+state_on (Ok Damaged) s room p = marked 0 s
+state_on (Ok Skipped) s room p = s
+state_on (Ok Carrying) s room p = state_taken s room p
 
 -- any byte string
 unfoldable pub state_after : List ℕ → List ℕ → List ℕ → List ℕ
@@ -64,7 +63,7 @@ StateBy (gives ss m) s left = memory_of left ≡ m
 -- ---- a call
 
 -- all that a call promises, for a verdict and the state's bytes after it
-pub record Unpacks (v : Verdict) (after out : List ℕ) (answer : Completed) (left written : List ℕ) : Type 0 where
+pub record Unpacks (v : Verdict) (after out : List ℕ) (answer : Result ℕ Refusal) (left written : List ℕ) : Type 0 where
   pub told : answer ≡ answer_by v
   pub state : left ≡ after
   pub output : written ≡ output_by v out
@@ -74,4 +73,4 @@ pub record Kept (s : List ℕ) (kept : ℕ) (p : List ℕ) : Type 0 where
   pub size : length s ≡ state_bytes
   pub most : kept ≤ unfinished_most
   pub begun : is_begun (take kept (drop unfinished_at s)) ≡ true
-  pub carries : judged p ≡ Carrying
+  pub carries : judged p ≡ Ok Carrying

@@ -1,10 +1,10 @@
 -- What a reader has to believe of the unpacker: what each packet gives, and what is remembered after it.
-use Rattle.std.specs.Prelude.{ℕ, List, [], ◌∷◌, ◌++◌, ltb, length, if◌then◌else◌}
+use Rattle.std.specs.Prelude.{ℕ, List, [], ◌∷◌, ◌++◌, ltb, length, if◌then◌else◌, Result, Ok, Err}
 use Rattle.ground_refusal.specs.declared.Refusal.{Refusal}
 use Rattle.ground_refusal.specs.declared.Refusal.TheVariants.{OutputTooSmall}
 use Rattle.packet.specs.Judging.{judged}
 use Rattle.packet.specs.declared.Judged.{Judged}
-use Rattle.packet.specs.declared.Judged.TheVariants.{Refused, Damaged, Skipped, Carrying}
+use Rattle.packet.specs.declared.Judged.TheVariants.{Damaged, Skipped, Carrying}
 use Rattle.packet_frames.specs.Framing.{Read, joined}
 use Rattle.packet_plan.specs.Reading.{read_on}
 use Rattle.packet_memory.specs.Memory.{Memory, fresh, held_after, repeated_once, is_repeat, going_on}
@@ -27,11 +27,11 @@ carrying room m p =
     fitting room p (read_on (going_on m p) p)
 
 -- "an error bit [..] drops the unfinished section", "the next counter is free"; "Adaptation-only packets are skipped, their counter unread"
-unfoldable pub verdict_on : Judged → ℕ → Memory → List ℕ → Verdict
-verdict_on (Refused r) room m p = refuses r
-verdict_on Damaged room m p = gives [] fresh
-verdict_on Skipped room m p = gives [] m
-verdict_on Carrying room m p = carrying room m p
+unfoldable pub verdict_on : Result Judged Refusal → ℕ → Memory → List ℕ → Verdict
+verdict_on (Err r) room m p = refuses r
+verdict_on (Ok Damaged) room m p = gives [] fresh
+verdict_on (Ok Skipped) room m p = gives [] m
+verdict_on (Ok Carrying) room m p = carrying room m p
 
 -- any byte string, for an output of `room` bytes
 unfoldable pub unpacking : ℕ → Memory → List ℕ → Verdict

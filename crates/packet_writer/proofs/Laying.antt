@@ -1,44 +1,25 @@
 -- Laws of one packet as it is laid: header, bytes and stuffing one after the other.
 use Prim.Native.Nat.{ℕ, suc, ◌+◌, ◌-◌, ◌≤◌}
-use mathlib.Core.Bool.{Bool, true, false, true≢false, false≢true}
+use mathlib.Core.Bool.{Bool, true, false}
 use mathlib.Core.List.{List, [], ◌∷◌, ◌++◌}
-use mathlib.Core.Path.{◌≡◌, refl, sym, ap, ◌∙◌}
-use native.Mathlib.Nat.{le_antisymm}
-use native.Mathlib.Numerals.{add-one, add-two, add-three}
+use mathlib.Core.Path.{◌≡◌, refl, ap, ◌∙◌}
 use native.Mathlib.Omega.{arith}
-use lib.ListN.{length, set, replicate, length-append, length-replicate, replicate-append-replicate}
+use lib.ListN.{length, set, replicate}
 use Rattle.ground_placing.specs.Placed.{placed}
-use Rattle.ground_placing.proofs.Placing.{stored, placed_next, placed_none, placed_length}
+use Rattle.ground_placing.proofs.Placing.{stored, placed_next}
 use Rattle.packet.specs.Sizes.{packet_bytes, sync_byte, our_pid, stuffing}
 use Rattle.packet_writer.specs.Packing.{first_room, next_room, start_byte, header, packet_of}
 
-pub header_stores : (d : List ℕ) (at : ℕ) (start : Bool) (c b : ℕ) → b ≡ start_byte start → at + 4 ≤ length d
-    → set (set (set (set d at sync_byte) (at + 1) b) (at + 2) our_pid) (at + 3) (0x10 + c) ≡ placed d at (header start c)
+pub header_is : (start : Bool) (c b : ℕ) → b ≡ start_byte start → sync_byte ∷ b ∷ our_pid ∷ (0x10 + c) ∷ [] ≡ header start c
 unfolding header
-header_stores d at start c b e h =
-    rw (e, add-one at, add-two at, add-three at) (stored d at (sync_byte ∷ start_byte start ∷ our_pid ∷ (0x10 + c) ∷ []) h)
+header_is start c b e = rw e
+
+pub header_length : (start : Bool) (c : ℕ) → length (header start c) ≡ 4
+unfolding header
+header_length start c = refl
 
 pub byte_stored : (d : List ℕ) (at b : ℕ) → at + 1 ≤ length d → set d at b ≡ placed d at (b ∷ [])
 byte_stored d at b h = stored d at (b ∷ []) h
-
--- ---- stuffing
-
-pub stuffing_start : (d : List ℕ) (at : ℕ) → d ≡ placed d at (replicate 0 stuffing)
-stuffing_start d at = sym (placed_none d at)
-
-pub stuffing_step : (d d' : List ℕ) (at i : ℕ) → d' ≡ placed d at (replicate i stuffing) → at + (i + 1) ≤ length d
-    → set d' (at + i) stuffing ≡ placed d at (replicate (i + 1) stuffing)
-stuffing_step d d' at i e h =
-    let l = length-replicate {A = ℕ} i stuffing in
-    let room : at + length (replicate {A = ℕ} i stuffing) ≤ length d = omega arith in
-    byte_stored d' (at + i) stuffing (let m = ap length e in let q = placed_length d at (replicate i stuffing) room in omega arith)
-    ∙ ap (λ x. placed x (at + i) (stuffing ∷ [])) e
-    ∙ placed_next d at (replicate i stuffing) room (stuffing ∷ []) (at + i) (omega arith)
-    ∙ ap (placed d at) (replicate-append-replicate i 1 stuffing)
-
-pub stuffing_end : (d d' : List ℕ) (at i n : ℕ) → d' ≡ placed d at (replicate i stuffing) → i ≤ n → n ≤ i
-    → d' ≡ placed d at (replicate n stuffing)
-stuffing_end d d' at i n e h k = e ∙ ap (λ (j : ℕ). placed d at (replicate j stuffing)) (le_antisymm h k)
 
 -- ---- one part after another
 
@@ -69,13 +50,3 @@ laid_first d d₁ d₂ d₃ d₄ bytes c k l e f g i m n h r =
   where
     less : first_room - length bytes ≡ next_room - suc (length bytes)
     less = omega arith
-
-pub start_on : (b : Bool) → b ≡ true → 0x40 ≡ start_byte b
-unfolding start_byte
-start_on true e = refl
-start_on false e = absurd (false≢true e)
-
-pub start_off : (b : Bool) → b ≡ false → 0 ≡ start_byte b
-unfolding start_byte
-start_off true e = absurd (true≢false e)
-start_off false e = refl

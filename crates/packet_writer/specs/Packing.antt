@@ -1,10 +1,9 @@
 -- What a reader has to believe of the packer: the packets that a section makes, and its refusals in their order.
-use Rattle.std.specs.Prelude.{ℕ, zero, suc, ◌+◌, ◌-◌, ◌/◌, ◌%◌, Bool, true, false, List, [], ◌∷◌, ◌++◌, ltb, length, take, drop, replicate, if◌then◌else◌}
+use Rattle.std.specs.Prelude.{ℕ, zero, suc, ◌+◌, ◌-◌, ◌/◌, ◌%◌, Bool, true, false, List, [], ◌∷◌, ◌++◌, ltb, length, take, drop, replicate, if◌then◌else◌, Result, Ok, Err}
+use Rattle.section_reader.specs.declared.Heading.{Heading}
 use Rattle.ground_refusal.specs.declared.Refusal.{Refusal}
 use Rattle.ground_refusal.specs.declared.Refusal.TheVariants.{OutsideSet, OutputTooSmall}
 use Rattle.section_reader.specs.Section.{read_section}
-use Rattle.section_reader.specs.declared.Sectioned.{Sectioned}
-use Rattle.section_reader.specs.declared.Sectioned.TheVariants.{Good, Refused}
 use Rattle.packet.specs.Sizes.{sync_byte, our_pid, stuffing, counter_most}
 
 -- ---- one packet
@@ -72,9 +71,9 @@ unfoldable pub packing_if_room : ℕ → List ℕ → Verdict
 packing_if_room room bytes = if ltb room (length bytes) then refuses OutputTooSmall else writes bytes
 
 -- 19: "counter above 15"
-unfoldable pub packing_of : Sectioned → ℕ → ℕ → List ℕ → Verdict
-packing_of (Refused why) room counter section = refuses why
-packing_of (Good h n) room counter section =
+unfoldable pub packing_of : Result (Heading × ℕ) Refusal → ℕ → ℕ → List ℕ → Verdict
+packing_of (Err why) room counter section = refuses why
+packing_of (Ok (h, n)) room counter section =
     if ltb counter_most counter then refuses (OutsideSet 0) else
     packing_if_room room (laid (packed counter section))
 

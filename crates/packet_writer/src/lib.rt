@@ -7,17 +7,8 @@ ghost use Rattle.packet.specs.Sizes.{packet_bytes, stuffing, counter_most};
 ghost use Rattle.packet_writer.specs.Packing.{first_room, next_room, start_byte, header, packet_of, continued, packed, laid, packing_if_room};
 ghost use Rattle.packet_writer.specs.Answers.{packed_by, output_by, packed_of, packets_over, Lays};
 
-use ground_numbers::least;
 use ground_refusal::Refusal;
 use packet::{COUNTER_MOST, OUR_PID, PACKET_BYTES, STUFFING, SYNC_BYTE};
-use section_reader::Sectioned;
-
-// What the caller is told: how many bytes of packets were written, or why none were.
-#[derive(Clone, Copy)]
-pub enum Packed {
-    Packets(usize),
-    Refused(Refusal),
-}
 
 // The bytes of a section in its first packet, behind the pointer, and in each after it.
 const FIRST_ROOM: usize = 183;
@@ -27,6 +18,7 @@ const NEXT_ROOM: usize = 184;
 // ---- one packet
 
 // The byte with the start indicator.
+#[tactic(auto, unfolding(crate::specs::Packing::start_byte))]
 fn start_byte(start: bool) -> u8
     ensures { result ≡ start_byte start }
 {
@@ -38,10 +30,9 @@ fn put_header(out: &mut [u8], at: usize, start: bool, counter: u8)
     requires { (at + 4 ≤ length out.old) × (counter ≤ counter_most) }
     ensures { out.new ≡ placed out.old at (header start counter) }
 {
-    out[at] = SYNC_BYTE;
-    out[at + 1] = start_byte(start);
-    out[at + 2] = (OUR_PID % 256) as u8;
-    out[at + 3] = 0x10 + counter;
+    let end = at + 4;
+    let bytes: [u8; 4] = [SYNC_BYTE, start_byte(start), OUR_PID as u8, 0x10 + counter];
+    out[at..end].copy_from_slice(&bytes);
 }
 
 // One byte, at index at.
@@ -57,11 +48,8 @@ fn put_stuffing(out: &mut [u8], at: usize, n: usize)
     requires { at + n ≤ length out.old }
     ensures { out.new ≡ placed out.old at (replicate n stuffing) }
 {
-    let mut i: usize = 0;
-    while i < n {
-        out[at + i] = STUFFING;
-        i += 1;
-    }
+    let end = at + n;
+    out[at..end].fill(STUFFING);
 }
 
 // A packet without a pointer.
@@ -94,11 +82,11 @@ fn put_rest(out: &mut [u8], counter: u8, section: &[u8], k: usize)
     requires { Lays out.old counter section.now k }
     ensures { out.new ≡ placed out.old packet_bytes (laid (continued k counter (drop first_room section.now))) }
 {
-    let mut i: usize = 0;
+    // carried from packet to packet: (counter + i) % 16 would be no plainer
     let mut c = counter;
-    while i < k {
+    for i in 0..k {
         let from = FIRST_ROOM + NEXT_ROOM * i;
-        let upto = least(from + NEXT_ROOM, section.len());
+        let upto = (from + NEXT_ROOM).min(section.len());
         put_continuing(
             out,
             PACKET_BYTES + PACKET_BYTES * i,
@@ -106,7 +94,6 @@ fn put_rest(out: &mut [u8], counter: u8, section: &[u8], k: usize)
             &section[from..upto],
         );
         c = (c + 1) % 16;
-        i += 1;
     }
 }
 
@@ -116,37 +103,35 @@ fn put_packets(out: &mut [u8], counter: u8, section: &[u8])
     ensures { out.new ≡ placed out.old 0 (laid (packed counter section.now)) }
 {
     let n = section.len();
-    let end = least(FIRST_ROOM, n);
+    let end = FIRST_ROOM.min(n);
     put_first(out, counter, &section[..end]);
     put_rest(out, (counter + 1) % 16, section, n / NEXT_ROOM);
 }
 
 // A good section's packets, if out has room for them: refusal 21.
-fn pack_good(section: &[u8], counter: u8, out: &mut [u8]) -> Packed
+#[tactic(auto, unfolding(crate::specs::Packing::packing_if_room, crate::specs::Answers::packed_by, crate::specs::Answers::output_by), using(crate::proofs::Packets::packed_long))]
+fn pack_good(section: &[u8], counter: u8, out: &mut [u8]) -> Result<usize, Refusal>
     requires { (counter ≤ counter_most) × (length section.now ≤ 4096) }
     ensures value { result ≡ packed_by (packing_if_room (length out.old) (laid (packed counter section.now))) }
     ensures out_after { out.new ≡ output_by (packing_if_room (length out.old) (laid (packed counter section.now))) out.old }
 {
     let size = PACKET_BYTES + PACKET_BYTES * (section.len() / NEXT_ROOM);
     if out.len() < size {
-        return Packed::Refused(Refusal::OutputTooSmall);
+        return Err(Refusal::OutputTooSmall);
     }
     put_packets(out, counter, section);
-    Packed::Packets(size)
+    Ok(size)
 }
 
 // A section's packets from a start counter on, at the start of the output: refusals 1 to 7, 19, 21, in this order.
-pub fn pack(section: &[u8], counter: u32, out: &mut [u8]) -> Packed
+#[tactic(auto, unfolding(crate::specs::Packing::packing, crate::specs::Packing::packing_of, crate::specs::Answers::packed_by, crate::specs::Answers::output_by), using(ground_refusal::proofs::Exits::passed_on))]
+pub fn pack(section: &[u8], counter: u32, out: &mut [u8]) -> Result<usize, Refusal>
     ensures value { result ≡ packed_of counter section.now out.old }
     ensures out_after { out.new ≡ packets_over counter section.now out.old }
 {
-    match section_reader::read_section(section) {
-        Sectioned::Refused(why) => Packed::Refused(why),
-        Sectioned::Good(_heading, _length) => {
-            if COUNTER_MOST < counter {
-                return Packed::Refused(Refusal::OutsideSet(0));
-            }
-            pack_good(section, counter as u8, out)
-        }
+    section_reader::read_section(section)?;
+    if COUNTER_MOST < counter {
+        return Err(Refusal::OutsideSet(0));
     }
+    pack_good(section, counter as u8, out)
 }

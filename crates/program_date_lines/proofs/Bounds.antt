@@ -1,5 +1,7 @@
 -- No report is longer than 19 bytes and 17 for each byte of the input.
 use Prim.Native.Nat.{ℕ, zero, suc, ◌+◌, ◌*◌, ◌/◌, ◌^◌, max, ◌≤◌, ◌<◌}
+use Rattle.std.specs.Prelude.{Result, Ok, Err}
+use Rattle.ground_refusal.specs.declared.Refusal.{Refusal}
 use mathlib.Core.Path.{◌≡◌, refl, ap}
 use mathlib.Core.List.{List, ◌++◌}
 use mathlib.Core.Logic.{⊎_elim}
@@ -10,10 +12,6 @@ use lib.ListN.{length, take, drop, length-append, length-drop}
 use lib.Seq.{length-take-le}
 use Rattle.time_days.specs.Calendar.{weekday_of}
 use Rattle.time_days.proofs.Answers.{weekday_accepted}
-use Rattle.time_days.specs.declared.WeekdayAnswer.{WeekdayAnswer}
-use Rattle.time_days.specs.declared.WeekdayAnswer.TheVariants.{Weekday, Refused as NoWeekday}
-use Rattle.time_fields.specs.declared.Fielded.{Fielded}
-use Rattle.time_fields.specs.declared.Fielded.TheVariants.{Field, Refused as NoField}
 use Rattle.time_local.specs.Text.{read_text}
 use Rattle.program_printing.specs.Characters.{ascii, decimal_of, hex_of}
 use Rattle.program_printing.proofs.Digits.{digits_length, below_or_not, decimal_most, refused_most}
@@ -22,23 +20,23 @@ use Rattle.program_date_lines.specs.Lines.{line_length}
 use Rattle.program_date_lines.proofs.Text.{text_length}
 use Rattle.program_date_lines.proofs.Lines.{first_line, length_within, numbered_none, report_lines, report_over}
 
-day_most : (field day : ℕ) (answer : WeekdayAnswer) → weekday_of day ≡ answer → length (day_text field answer) ≤ 12
-day_most field day (Weekday w) e =
+day_most : (field day : ℕ) (answer : Result ℕ Refusal) → weekday_of day ≡ answer → length (day_text field answer) ≤ 12
+day_most field day (Ok w) e =
     omega (
       arith,
       length-append (hex_of 10 field) (ascii " " ++ decimal_of w),
       digits_length 16 10 field,
       decimal_most 0 w (omega (arith, weekday_accepted day w e)),
     )
-day_most field day (NoWeekday r) e = omega (arith, refused_most r)
+day_most field day (Err r) e = omega (arith, refused_most r)
 
 field_most : (field : ℕ) → length (field_text field) ≤ 12
 unfolding field_text
 field_most field = day_most field (field / 2 ^ 24) (weekday_of (field / 2 ^ 24)) refl
 
-answer_most : (s : List ℕ) (answer : Fielded) → read_text s (pos 0) ≡ answer → 7 + length (time_text answer) ≤ max 17 (length s)
-answer_most s (Field field) e = omega (arith, field_most field, text_length s e)
-answer_most s (NoField r) e = omega (arith, refused_most r)
+answer_most : (s : List ℕ) (answer : Result ℕ Refusal) → read_text s (pos 0) ≡ answer → 7 + length (time_text answer) ≤ max 17 (length s)
+answer_most s (Ok field) e = omega (arith, field_most field, text_length s e)
+answer_most s (Err r) e = omega (arith, refused_most r)
 
 line_most : (number : ℕ) (s : List ℕ) → number < 100000 → length (line_of number s) ≤ max 17 (length s)
 unfolding line_of time_answered

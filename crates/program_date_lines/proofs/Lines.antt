@@ -1,31 +1,30 @@
 -- Laws of lines: the first line and the rest, found by a line's length.
 use Prim.Native.Nat.{ℕ, suc, ◌+◌, ◌-◌, ◌≤◌, ◌<◌}
 use mathlib.Core.Bool.{Bool, true, false, cond}
-use mathlib.Core.Path.{◌≡◌, refl, ap}
+use mathlib.Core.Path.{◌≡◌, refl, sym, ap, ◌∙◌}
+use mathlib.Core.Logic.{⊎_elim}
 use mathlib.Core.List.{List, [], ◌∷◌, ◌++◌}
 use native.Mathlib.Omega.{arith}
 use native.Mathlib.Numerals.{add-one}
-use borrow.Author.Tests.{eq-eqb, ne_eqb, le-leb, lt-leb}
-use lib.Dec.{eqb}
-use lib.ListN.{length, get_or, take, drop, length-drop, drop_of_length-le}
-use lib.Seq.{drop-cons, drop-drop}
+use borrow.Author.Tests.{le-leb, lt-leb, lt-ltb, le-ltb}
+use lib.Dec.{eqb, ltb}
+use lib.ListN.{length, take, drop, length-drop, drop_of_length-le}
+use lib.Seq.{drop-drop}
+use Rattle.std.specs.List.{position, position_or_len}
+use Rattle.std.specs.Option.{unwrap_or}
+use Rattle.std.specs.Prelude.{Some, None}
+use Rattle.program_printing.proofs.Digits.{below_or_not}
+use Rattle.std.proofs.lemmas.List.Recursion.{is_position_or_len}
 use Rattle.program_printing.specs.Characters.{ascii}
 use Rattle.program_date_lines.specs.Report.{on_first, lines_of, line_of, numbered, header, report_of}
 use Rattle.program_date_lines.specs.Lines.{line_length}
 
--- ---- the search for a line's end, from the byte at i on
+-- ---- the first LF, or the end
 
-pub length_at_feed : (s : List ℕ) (i : ℕ) → i < length s → get_or s i 0 ≡ 10 → line_length (drop i s) ≡ 0
+length_position : (s : List ℕ) → line_length s ≡ position_or_len (λ b. eqb b 10) s
 unfolding line_length
-length_at_feed s i h e = rw (drop-cons s i 0 h, eq-eqb (get_or s i 0) 10 e)
-
-pub length_at_other : (s : List ℕ) (i : ℕ) → i < length s → (get_or s i 0 ≡ 10 → ⊥) → line_length (drop i s) ≡ suc (line_length (drop (i + 1) s))
-unfolding line_length
-length_at_other s i h e = rw (add-one, drop-cons s i 0 h, ne_eqb (get_or s i 0) 10 e)
-
-pub length_at_end : (s : List ℕ) (i : ℕ) → length s ≤ i → line_length (drop i s) ≡ 0
-unfolding line_length
-length_at_end s i h = rw (drop_of_length-le s h)
+length_position s =
+    is_position_or_len line_length (λ b. eqb b 10) refl (λ b r. ap (λ n. cond (eqb b 10) 0 n) (omega arith)) s
 
 pub length_within : (s : List ℕ) → line_length s ≤ length s
 unfolding line_length
@@ -35,6 +34,17 @@ length_within (b ∷ s) = by (eqb b 10) (length_within s)
     by : (t : Bool) → line_length s ≤ length s → cond t 0 (suc (line_length s)) ≤ suc (length s)
     by true h = omega arith
     by false h = omega arith
+
+found_or_end : (n l : ℕ) → n ≤ l → unwrap_or (cond (ltb n l) (Some n) None) l ≡ n
+found_or_end n l h =
+    ⊎_elim
+    (λ found. rw (lt-ltb n l found))
+    (λ not_found. rw (le-ltb n l not_found) (omega arith))
+    (below_or_not n l)
+
+pub end_found : (s : List ℕ) → unwrap_or (position (λ b. eqb b 10) s) (length s) ≡ line_length s
+end_found s = let e = length_position s in
+    found_or_end _ (length s) (omega (arith, e, length_within s)) ∙ sym e
 
 -- ---- the first line and the rest
 

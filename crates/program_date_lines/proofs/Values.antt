@@ -1,10 +1,10 @@
 -- Document 01's sentences on lines, as theorems.
 use Prim.Native.Nat.{ℕ, ◌+◌, ◌/◌, ◌%◌, ◌^◌}
+use Rattle.std.specs.Prelude.{Ok}
 use mathlib.Core.List.{List, [], ◌++◌}
 use mathlib.Core.Path.{◌≡◌, refl}
 use lib.IntN.{pos}
 use Rattle.time_days.proofs.Answers.{weekday_given}
-use Rattle.time_fields.specs.declared.Fielded.TheVariants.{Field}
 use Rattle.time_offset.specs.Offset.{is_offset}
 use Rattle.time_local.specs.Text.{form, formed, read_text}
 use Rattle.program_printing.specs.Characters.{ascii, digit_character, digits_of, places_within, places_of, decimal_of, refused_text, hex_of}
@@ -22,7 +22,7 @@ unfolding lines_of
 last_line = refl
 
 -- "line number, ten-digit field, weekday": of an accepted line, whose day always has a weekday
-pub accepted_line : (number : ℕ) (s : List ℕ) {f : ℕ} → read_text s (pos 0) ≡ Field f
+pub accepted_line : (number : ℕ) (s : List ℕ) {f : ℕ} → read_text s (pos 0) ≡ Ok f
     → line_of number s ≡ decimal_of number ++ (ascii " " ++ ((hex_of 10 f ++ (ascii " " ++ decimal_of ((f / 2 ^ 24 + 2) % 7 + 1))) ++ ascii "\n"))
 unfolding line_of time_answered field_text
 accepted_line number s {f} e =

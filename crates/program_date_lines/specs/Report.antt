@@ -1,10 +1,7 @@
 -- What a reader has to believe of the date program: its whole output for any input, byte for byte.
-use Rattle.std.specs.Prelude.{ℕ, suc, ◌/◌, ◌^◌, cond, List, [], ◌∷◌, ◌++◌, leb, eqb, pos, length}
+use Rattle.std.specs.Prelude.{ℕ, suc, ◌/◌, ◌^◌, cond, List, [], ◌∷◌, ◌++◌, leb, eqb, pos, length, Result, Ok, Err}
+use Rattle.ground_refusal.specs.declared.Refusal.{Refusal}
 use Rattle.time_days.specs.Calendar.{weekday_of}
-use Rattle.time_days.specs.declared.WeekdayAnswer.{WeekdayAnswer}
-use Rattle.time_days.specs.declared.WeekdayAnswer.TheVariants.{Weekday, Refused as NoWeekday}
-use Rattle.time_fields.specs.declared.Fielded.{Fielded}
-use Rattle.time_fields.specs.declared.Fielded.TheVariants.{Field, Refused as NoField}
 use Rattle.time_local.specs.Text.{read_text}
 use Rattle.program_printing.specs.Input.{most_input}
 use Rattle.program_printing.specs.Characters.{ascii, hex_of, decimal_of, refused_text}
@@ -23,17 +20,17 @@ lines_of (b ∷ s) = cond (eqb b 10) ([] ∷ lines_of s) (on_first b (lines_of s
 -- ---- the report
 
 -- "ten-digit field, weekday"
-abbrev pub day_text : ℕ → WeekdayAnswer → List ℕ
-day_text field (Weekday day) = hex_of 10 field ++ (ascii " " ++ decimal_of day)
-day_text field (NoWeekday r) = refused_text r
+abbrev pub day_text : ℕ → Result ℕ Refusal → List ℕ
+day_text field (Ok day) = hex_of 10 field ++ (ascii " " ++ decimal_of day)
+day_text field (Err r) = refused_text r
 
 -- a field's day stands in its high 16 bits
 unfoldable pub field_text : ℕ → List ℕ
 field_text field = day_text field (weekday_of (field / 2 ^ 24))
 
-abbrev pub time_text : Fielded → List ℕ
-time_text (Field field) = field_text field
-time_text (NoField r) = refused_text r
+abbrev pub time_text : Result ℕ Refusal → List ℕ
+time_text (Ok field) = field_text field
+time_text (Err r) = refused_text r
 
 -- "reads lines .., offset 0"
 unfoldable pub time_answered : List ℕ → List ℕ

@@ -1,33 +1,31 @@
 // The date program's work: for an input of lines, the report of the field and the weekday of each, or of its refusal.
 #![tactic(auto)]
 
-ghost use Rattle.std.specs.Prelude.{◌≡◌, ◌++◌, ◌+◌, ◌^◌, ◌≤◌, ◌<◌, length, drop};
+ghost use Rattle.std.specs.Prelude.{◌≡◌, ◌++◌, ◌+◌, ◌^◌, ◌≤◌, ◌<◌, eqb, length, drop, position};
 ghost use Rattle.ground_placing.specs.Put.{Put};
 ghost use Rattle.program_date_lines.specs.Report.{lines_of, field_text, time_answered, line_of, numbered, report_of};
 ghost use Rattle.program_date_lines.specs.Lines.{line_length};
 
 use program_printing::MOST_INPUT;
-use time_days::WeekdayAnswer;
-use time_fields::Fielded;
 
 // No report is longer: the header's 19 bytes and 17 for each byte of the input. An empty line, one byte, gives a line number of
 // five digits, ` refused 24` and LF; a line that is accepted has 19 bytes and gives 19.
 pub const MOST_OUTPUT: usize = 1_114_131;
 
+// Where the first LF stands.
+fn first_feed(s: &[u8]) -> Option<usize>
+    ensures { result ≡ position (λ b. eqb b 10) s.now }
+{
+    s.iter().position(|b| *b == b'\n')
+}
+
 // Where the line that begins at `from` ends: at its LF, or at the input's end.
-#[tactic(auto, using(crate::proofs::Lines::length_at_feed, crate::proofs::Lines::length_at_other, crate::proofs::Lines::length_at_end))]
 fn line_end(input: &[u8], from: usize) -> usize
     requires { from ≤ length input.now }
     ensures { (result ≡ from + line_length (drop from input.now)) × (result ≤ length input.now) }
 {
-    let mut end = from;
-    while end < input.len() {
-        if input[end] == b'\n' {
-            return end;
-        }
-        end += 1;
-    }
-    end
+    let rest = &input[from..];
+    from + first_feed(rest).unwrap_or(rest.len())
 }
 
 // Puts a field and its weekday.
@@ -36,12 +34,12 @@ fn put_field(out: &mut [u8], at: usize, field: u64) -> usize
     ensures { Put out.old at (field_text field) out.new result }
 {
     match time_days::weekday((field / 0x100_0000) as u32) {
-        WeekdayAnswer::Weekday(day) => {
+        Ok(day) => {
             let digits = program_printing::put_digits(out, at, 16, 10, field);
             let space = program_printing::put_bytes(out, digits, b" ");
             program_printing::put_decimal(out, space, day as u64)
         }
-        WeekdayAnswer::Refused(r) => program_printing::put_refused(out, at, r),
+        Err(r) => program_printing::put_refused(out, at, r),
     }
 }
 
@@ -51,8 +49,8 @@ fn put_answer(out: &mut [u8], at: usize, text: &[u8]) -> usize
     ensures { Put out.old at (time_answered text.now) out.new result }
 {
     match time_local::read_text(text, 0) {
-        Fielded::Field(field) => put_field(out, at, field),
-        Fielded::Refused(r) => program_printing::put_refused(out, at, r),
+        Ok(field) => put_field(out, at, field),
+        Err(r) => program_printing::put_refused(out, at, r),
     }
 }
 
@@ -67,7 +65,7 @@ fn put_line(out: &mut [u8], at: usize, number: u64, text: &[u8]) -> usize
     program_printing::put_bytes(out, answered, b"\n")
 }
 
-// Puts what the report says of each line, numbered from 1.
+// Puts what the report says of each line, numbered from 1. No `split`: it would give one more line, an empty one, after a last LF.
 fn put_lines(out: &mut [u8], at: usize, input: &[u8]) -> usize
     requires { (length input.now ≤ 65536) × (at + length (numbered 1 (lines_of input.now)) ≤ length out.old) }
     ensures { Put out.old at (numbered 1 (lines_of input.now)) out.new result }

@@ -1,5 +1,5 @@
 -- Laws of digits: how many there are, the low one first, and how many decimal digits a number has.
-use Prim.Native.Nat.{ℕ, zero, suc, ◌+◌, ◌-◌, ◌/◌, ◌%◌, ◌^◌, ◌≤◌, ◌<◌}
+use Prim.Native.Nat.{ℕ, zero, suc, ◌+◌, ◌*◌, ◌/◌, ◌%◌, ◌^◌, ◌≤◌, ◌<◌}
 use mathlib.Core.Path.{◌≡◌, refl, sym, ap, ◌∙◌}
 use mathlib.Core.List.{List}
 use native.Mathlib.Omega.{arith}
@@ -21,12 +21,10 @@ digits_length base zero n = refl
 digits_length base (suc width) n = rw (length-append, digits_length base width (n / base)) (omega arith)
 
 -- a turn of the loop that writes from the low digit on
-pub digits_turn : (d : List ℕ) (at base k n : ℕ) → 0 < k → at + k ≤ length d
-    → placed d at (digits_of base k n) ≡ placed (set d (at + (k - 1)) (digit_character (n % base))) at (digits_of base (k - 1) (n / base))
+pub digits_turn : (d : List ℕ) (at base k i n : ℕ) → i ≡ at + k → at + suc k ≤ length d
+    → placed d at (digits_of base (suc k) n) ≡ placed (set d i (digit_character (n % base))) at (digits_of base k (n / base))
 unfolding digits_of
-digits_turn d at base zero n z h = absurd (omega arith)
-digits_turn d at base (suc k) n z h =
-    let e : suc k - 1 ≡ k = omega arith in
+digits_turn d at base k i n e h =
     let m = digits_length base k (n / base) in
     placed_last d at (digits_of base k (n / base)) (digit_character (n % base)) (omega (arith, m)) ∙ rw (m, e)
 
@@ -71,6 +69,18 @@ unfolding places_of
 places_more zero h = absurd (omega arith)
 places_more (suc n) h =
     within_more n (suc n) h ∙ ap suc (within_steps n (suc n / 10) (suc n / 10) (omega arith) (omega arith))
+
+ten_pos : (k : ℕ) → 0 < 10 ^ k
+ten_pos zero = omega arith
+ten_pos (suc k) = omega (arith, pow-suc 10 k, ten_pos k)
+
+-- one more than the logarithm
+pub places_are : (k n : ℕ) → 10 ^ k ≤ n → n < 10 * 10 ^ k → places_of n ≡ k + 1
+places_are zero n l h = omega (arith, places_one n (omega arith))
+places_are (suc k) n l h =
+    let p = pow-suc 10 k in
+    let more : 10 ≤ n = omega (arith, p, ten_pos k) in
+    omega (arith, places_more n more, places_are k (n / 10) (omega (arith, p)) (omega (arith, p)))
 
 -- no leading zeros: a number below 10 ^ w has at most w digits
 pub places_most : (w n : ℕ) → n < 10 ^ suc w → places_of n ≤ suc w

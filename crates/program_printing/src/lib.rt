@@ -12,6 +12,7 @@ use ground_refusal::Refusal;
 pub const MOST_INPUT: usize = 65_536;
 
 // The character of a digit.
+#[tactic(auto, unfolding(crate::specs::Characters::digit_character))]
 fn digit(value: u64) -> u8
     requires { value < 16 }
     ensures { result ≡ digit_character value }
@@ -23,16 +24,11 @@ fn digit(value: u64) -> u8
 }
 
 // How many decimal digits a number has.
+#[tactic(auto, using(crate::proofs::Digits::places_one, crate::proofs::Digits::places_are))]
 fn places(number: u64) -> usize
     ensures { result ≡ places_of number }
 {
-    let mut count: usize = 1;
-    let mut rest = number;
-    while 10 <= rest {
-        rest = rest / 10;
-        count += 1;
-    }
-    count
+    number.checked_ilog10().map_or(1, |log| log as usize + 1)
 }
 
 // Puts a number's last `width` digits at a place of the output, the low one first. Like every writer here it is for the
@@ -41,12 +37,10 @@ pub fn put_digits(out: &mut [u8], at: usize, base: u64, width: usize, number: u6
     requires { (0 < base) × (base ≤ 16) × (at + width ≤ length out.old) }
     ensures { Put out.old at (digits_of base width number) out.new result }
 {
-    let mut left = width;
     let mut rest = number;
-    while 0 < left {
-        left -= 1;
-        out[at + left] = digit(rest % base);
-        rest = rest / base;
+    for i in 0..width {
+        out[at + (width - i - 1)] = digit(rest % base);
+        rest /= base;
     }
     at + width
 }

@@ -2,7 +2,7 @@
 #![tactic(auto)]
 
 use program_salvage_lines::MOST_OUTPUT;
-use salvage::{CAPTURE_MOST, Salvaged};
+use salvage::CAPTURE_MOST;
 use std::io;
 use std::io::Write;
 
@@ -18,8 +18,8 @@ fn main(rt: HostRuntime) -> io::Result<()> {
     let mut sections = [0u8; CAPTURE_MOST];
     let mut runs = [0u32; NUMBERS];
     match salvage::salvage(&capture[..got], &mut sections, &mut runs) {
-        Salvaged::Of(bytes, _runs) => rt.stdout().write_all(&sections[..bytes])?,
-        Salvaged::Refused(_why) => {}
+        Ok((bytes, _runs)) => rt.stdout().write_all(&sections[..bytes])?,
+        Err(_why) => {}
     }
     let mut list = [0u8; MOST_OUTPUT];
     let length = program_salvage_lines::report(&capture[..got], &mut list);

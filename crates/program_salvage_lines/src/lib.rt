@@ -38,7 +38,7 @@ fn put_line(out: &mut [u8], at: usize, kept: bool, first: usize, size: usize) ->
     program_printing::put_bytes(out, length, b"\n")
 }
 
-// Puts the line of each run.
+// Puts the line of each run. No `for`: a turn goes on by as many bytes as it found.
 fn put_lines(out: &mut [u8], at: usize, s: &[u8]) -> usize
     requires { (length s.now ≤ capture_most) × (at + length (lines_of (runs_of s.now)) ≤ length out.old) }
     ensures { Put out.old at (lines_of (runs_of s.now)) out.new result }

@@ -7,17 +7,17 @@ ghost use Rattle.program_section_line.specs.Line.{judged_of, section_answered, l
 
 use ground_refusal::Refusal;
 use program_printing::MOST_INPUT;
-use section_reader::Sectioned;
+use section_reader::Heading;
 
 // No line is longer: `refused 24` and LF have 11 bytes.
 pub const MOST_OUTPUT: usize = 16;
 
 // The judgement of the whole input.
-fn judged(input: &[u8]) -> Sectioned
+fn judged(input: &[u8]) -> Result<(Heading, usize), Refusal>
     ensures { result ≡ judged_of input.now }
 {
     if MOST_INPUT < input.len() {
-        return Sectioned::Refused(Refusal::TooLarge);
+        return Err(Refusal::TooLarge);
     }
     section_reader::read_section(input)
 }
@@ -28,12 +28,12 @@ fn put_answer(out: &mut [u8], input: &[u8]) -> usize
     ensures { Put out.old 0 (section_answered input.now) out.new result }
 {
     match judged(input) {
-        Sectioned::Good(heading, length) => {
+        Ok((heading, length)) => {
             let number = program_printing::put_decimal(out, 0, heading.number as u64);
             let space = program_printing::put_bytes(out, number, b" ");
             program_printing::put_decimal(out, space, length as u64)
         }
-        Sectioned::Refused(r) => program_printing::put_refused(out, 0, r),
+        Err(r) => program_printing::put_refused(out, 0, r),
     }
 }
 

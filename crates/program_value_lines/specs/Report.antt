@@ -1,15 +1,11 @@
 -- What a reader has to believe of the values program: its whole output, each answer by the library's own definition.
-use Rattle.std.specs.Prelude.{ℕ, List, [], ◌∷◌, ◌++◌, pos}
+use Rattle.std.specs.Prelude.{ℕ, List, [], ◌∷◌, ◌++◌, pos, Result, Ok, Err}
+use Rattle.ground_refusal.specs.declared.Refusal.{Refusal}
+use Rattle.time_days.specs.declared.Date.{Date}
 use Rattle.ground_refusal.specs.Numbers.{refusal_place}
 use Rattle.time_days.specs.Calendar.{date_of}
-use Rattle.time_days.specs.declared.DateAnswer.{DateAnswer}
-use Rattle.time_days.specs.declared.DateAnswer.TheVariants.{On, Refused as NoDate}
-use Rattle.time_fields.specs.declared.Fielded.{Fielded}
-use Rattle.time_fields.specs.declared.Fielded.TheVariants.{Field as IsField, Refused as NoField}
 use Rattle.time_local.specs.Text.{read_text}
 use Rattle.body_formats.specs.Body.{body_read}
-use Rattle.body_formats.specs.declared.Step.{Step}
-use Rattle.body_formats.specs.declared.Step.TheVariants.{At, Refused as NoStep}
 use Rattle.index.specs.Index.{index, index_kind}
 use Rattle.configuration.specs.Configuration.{configuration, configuration_kind}
 use Rattle.program_printing.specs.Characters.{ascii, hex_of, decimal_of, refused_text}
@@ -34,33 +30,33 @@ line_of name answer said = name ++ (ascii ": " ++ (value_text answer ++ said_tex
 
 -- ---- the library's answers
 
-abbrev pub date_value : DateAnswer → Answer
-date_value (On date) = Accepted
-date_value (NoDate r) = Refused r
+abbrev pub date_value : Result Date Refusal → Answer
+date_value (Ok date) = Accepted
+date_value (Err r) = Refused r
 
 unfoldable pub of_day : ℕ → Answer
 of_day day = date_value (date_of day)
 
-abbrev pub field_value : Fielded → Answer
-field_value (IsField field) = Field field
-field_value (NoField r) = Refused r
+abbrev pub field_value : Result ℕ Refusal → Answer
+field_value (Ok field) = Field field
+field_value (Err r) = Refused r
 
 -- a local time "at +480"
 unfoldable pub of_time : List ℕ → Answer
 of_time text = field_value (read_text text (pos 480))
 
 -- a refused index is stated with its place: "(14, place 1)"
-abbrev pub placed_answer : Step → Answer
-placed_answer (At end) = Accepted
-placed_answer (NoStep r) = RefusedAt r
+abbrev pub placed_answer : Result ℕ Refusal → Answer
+placed_answer (Ok end) = Accepted
+placed_answer (Err r) = RefusedAt r
 
 unfoldable pub of_index : List ℕ → Answer
 of_index body = placed_answer (body_read index index_kind index_kind body)
 
 -- a refused volume is not: "(19)"
-abbrev pub step_answer : Step → Answer
-step_answer (At end) = Accepted
-step_answer (NoStep r) = Refused r
+abbrev pub step_answer : Result ℕ Refusal → Answer
+step_answer (Ok end) = Accepted
+step_answer (Err r) = Refused r
 
 -- a configuration body of one command 6, of two bytes: the volume and no terminals; then an empty signature
 unfoldable pub of_volume : ℕ → Answer

@@ -5,16 +5,13 @@ ghost use Rattle.std.specs.Prelude.{◌≡◌, ◌++◌, ◌+◌, ◌≤◌, len
 ghost use Rattle.ground_placing.specs.Put.{Put};
 ghost use Rattle.program_value_lines.specs.Report.{value_text, said_text, line_of, of_day, of_time, of_index, of_volume, time_lines, index_lines, volume_lines, report_of};
 
-use body_formats::Step;
 use ground_numbers::{CONFIGURATION_KIND, INDEX_KIND};
 use ground_refusal::Refusal;
-use time_days::DateAnswer;
-use time_fields::Fielded;
 
 // The report's length.
 pub const MOST_OUTPUT: usize = 377;
 
-// What the library answers of a value.
+// What the library answers of a value. An enum, as a `Result` would need a flag for the place beside each refusal.
 #[derive(Clone, Copy)]
 pub enum Answer {
     Accepted,
@@ -63,43 +60,47 @@ fn put_line(out: &mut [u8], at: usize, name: &[u8], answer: Answer, said: &[u8])
 }
 
 // The answer of a day.
+#[tactic(auto, unfolding(crate::specs::Report::of_day))]
 fn day_answer(day: u32) -> Answer
     ensures { result ≡ of_day day }
 {
     match time_days::date_of(day) {
-        DateAnswer::On(date) => Answer::Accepted,
-        DateAnswer::Refused(r) => Answer::Refused(r),
+        Ok(date) => Answer::Accepted,
+        Err(r) => Answer::Refused(r),
     }
 }
 
 // The answer of a local time at +480.
+#[tactic(auto, unfolding(crate::specs::Report::of_time))]
 fn time_answer(text: &[u8]) -> Answer
     ensures { result ≡ of_time text.now }
 {
     match time_local::read_text(text, 480) {
-        Fielded::Field(field) => Answer::Field(field),
-        Fielded::Refused(r) => Answer::Refused(r),
+        Ok(field) => Answer::Field(field),
+        Err(r) => Answer::Refused(r),
     }
 }
 
 // The answer of an index body.
+#[tactic(auto, unfolding(crate::specs::Report::of_index))]
 fn index_answer(body: &[u8]) -> Answer
     ensures { result ≡ of_index body.now }
 {
     match index_reader::read(INDEX_KIND, body) {
-        Step::At(end) => Answer::Accepted,
-        Step::Refused(r) => Answer::RefusedAt(r),
+        Ok(end) => Answer::Accepted,
+        Err(r) => Answer::RefusedAt(r),
     }
 }
 
 // The answer of a volume: a configuration body of one command 6, with no terminals and an empty signature.
+#[tactic(auto, unfolding(crate::specs::Report::of_volume))]
 fn volume_answer(volume: u8) -> Answer
     ensures { result ≡ of_volume volume }
 {
     let body: [u8; 8] = [1, 6, 0, 2, volume, 0, 0, 0];
     match configuration_reader::read(CONFIGURATION_KIND, &body) {
-        Step::At(end) => Answer::Accepted,
-        Step::Refused(r) => Answer::Refused(r),
+        Ok(end) => Answer::Accepted,
+        Err(r) => Answer::Refused(r),
     }
 }
 

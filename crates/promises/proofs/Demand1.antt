@@ -1,6 +1,6 @@
 -- Demand 1: a number and a place tell the refusal, and every verdict that refuses leaves what it was lent.
 use Prim.Native.Nat.{ℕ, ◌≤◌, ◌<◌}
-use mathlib.Core.Path.{◌≡◌, refl, sym, ap, ap₂, ◌∙◌}
+use mathlib.Core.Path.{◌≡◌, refl, ap, ap₂, ◌∙◌}
 use mathlib.Core.Bool.{Bool, true, false, not}
 use mathlib.Core.List.{List, [], ◌∷◌}
 use mathlib.Core.Option.{Option, none, some}
@@ -8,29 +8,21 @@ use native.Mathlib.Omega.{arith}
 use lib.ListN.{length, take}
 use lib.Dec.{eqb}
 use borrow.Author.Tests.{eqb-false}
-use Rattle.std.specs.Prelude.{if◌then◌else◌}
+use Rattle.std.specs.Prelude.{if◌then◌else◌, Result, Ok, Err}
 use Rattle.ground_refusal.specs.Numbers.{refusal_number}
 use Rattle.ground_refusal.specs.declared.Refusal.{Refusal}
 use Rattle.ground_refusal.specs.declared.Refusal.TheVariants.{SectionTooShort, OtherKind, FixedBitZero, SectionLengthOutside, OtherLength, NumberAboveLast, CheckNotZero, NotCurrent, OtherHeading, StoreTooShort, Contradiction, ImpossibleState, TeachingBufferFull}
 use Rattle.ground_refusal.proofs.Numbers.{number_listed, one_refusal}
 use Rattle.section_reader.specs.Section.{payload_of, read_section}
 use Rattle.section_cutter.specs.Cutting as cutter
-use Rattle.section_cutter.specs.declared.Cut.TheVariants.{Refused as NotCut}
 use Rattle.section_reader.specs.declared.Heading.{Heading}
-use Rattle.section_reader.specs.declared.Sectioned.{Sectioned}
-use Rattle.section_reader.specs.declared.Sectioned.TheVariants.{Good, Refused as NotGood}
 use Rattle.salvage.proofs.Calls.{writes_nothing as salvage_keeps}
 use Rattle.packet_writer.specs.Packing as packer
 use Rattle.packet_writer.specs.Answers as packed
-use Rattle.packet_writer.specs.declared.Packed.TheVariants.{Refused as NotPacked}
 use Rattle.packet_reader.specs.Unpacking as unpacker
 use Rattle.packet_reader.specs.Answers as completed
 use Rattle.packet_reader.proofs.States.{state_means}
-use Rattle.packet_reader.specs.declared.Completed.TheVariants.{Refused as NotCompleted}
 use Rattle.time_printing.specs.Printing as printer
-use Rattle.time_printing.specs.declared.Printed.TheVariants.{Refused as NotPrinted}
-use Rattle.time_printing.specs.declared.TypedTimes.{TypedTimes}
-use Rattle.time_printing.specs.declared.TypedTimes.TheVariants.{Fields, Refused as NotTyped}
 use Rattle.c_answers.specs.Answers.{fields_after}
 use Rattle.gathering_state.specs.State.{possible_of, nothing_begun, has_room, spoiled_state}
 use Rattle.gathering_state.specs.declared.Gathering.{Gathering}
@@ -38,12 +30,10 @@ use Rattle.gathering_state.proofs.State.{possible_fresh, possible_begun}
 use Rattle.gathering_verdict.specs.Deciding.{verdict_of}
 use Rattle.gathering_feed.specs.Feeding as feeding
 use Rattle.gathering_verdict.specs.declared.Verdict.{Verdict}
-use Rattle.gathering_verdict.specs.declared.Verdict.TheVariants.{Refuse, Repeat, Contradict, Begin, Take}
-use Rattle.gathering_feed.specs.declared.Answer.TheVariants.{HeldAlready, Refused as NotFed}
+use Rattle.gathering_verdict.specs.declared.Verdict.TheVariants.{Repeat, Contradict, Begin, Take}
+use Rattle.gathering_feed.specs.declared.Answer.TheVariants.{HeldAlready}
 use Rattle.gathering_verdict.proofs.Verdicts.{verdict_impossible, verdict_bad, verdict_good, Decided, old, other, short, begun, spoiled, new, again, clash, decided}
 use Rattle.gathering_hand_out.specs.Handing.{body_held, handed_of, out_by, out_after}
-use Rattle.gathering_hand_out.specs.declared.Handed.{Handed}
-use Rattle.gathering_hand_out.specs.declared.Handed.TheVariants.{Body, Refused as NotHanded}
 use Rattle.gathering_hand_out.proofs.Handing.{body_most_lem}
 use Rattle.gathering_pack.specs.Packing as packing
 use Rattle.rooms_marks.proofs.Tests.{Seen, yes_is, no_is, seen}
@@ -61,14 +51,10 @@ use Rattle.body_formats.specs.Reading.{Reading, found, refused}
 use Rattle.body_formats.specs.Format.{Format}
 use Rattle.body_formats.specs.Answers.{step_of}
 use Rattle.body_formats.specs.Body.{writing, written_over, body_written, output_written, laying, laid_over, body_laid, laid_tape}
-use Rattle.body_formats.specs.declared.Step.TheVariants.{Refused as NoStep}
 use Rattle.index.specs.Index.{Index}
 use Rattle.content_variant.specs.Variant.{width_of, by_width, opened}
-use Rattle.content_variant.specs.declared.Width.{Width}
-use Rattle.content_variant.specs.declared.Width.TheVariants.{Bytes, Refused as NoWidth}
 use Rattle.content.specs.Content.{Content, content_kind, content, variant_laid, variant_tape}
 use Rattle.content_writer.specs.Written.{written_of, content_written, variant_written, variant_output}
-use Rattle.content_writer.specs.declared.Written.TheVariants.{Refused as NotWritten}
 use Rattle.index_records.specs.Records.{recording, body_recorded, recorded_over, recorded}
 use Rattle.index_records.specs.declared.Record.{Record}
 use Rattle.promises.proofs.Places.{absurd_answer, section_refusals, answer_refusals, places}
@@ -81,22 +67,22 @@ numbered = record { in_the_list = number_listed; one_refusal = one_refusal }
 
 -- ---- what refuses writes nothing
 
-cut_keeps : (v : cutter.Verdict) (out : List ℕ) (r : Refusal) → cutter.cut_by v ≡ NotCut r → cutter.output_by v out ≡ out
+cut_keeps : (v : cutter.Verdict) (out : List ℕ) (r : Refusal) → cutter.cut_by v ≡ Err r → cutter.output_by v out ≡ out
 unfolding cutter.cut_by cutter.output_by
 cut_keeps (cutter.refuses r') out r e = refl
 cut_keeps (cutter.writes bytes) out r e = absurd_answer (cc)
 
-pack_keeps : (v : packer.Verdict) (out : List ℕ) (r : Refusal) → packed.packed_by v ≡ NotPacked r → packed.output_by v out ≡ out
+pack_keeps : (v : packer.Verdict) (out : List ℕ) (r : Refusal) → packed.packed_by v ≡ Err r → packed.output_by v out ≡ out
 unfolding packed.packed_by packed.output_by
 pack_keeps (packer.refuses r') out r e = refl
 pack_keeps (packer.writes bytes) out r e = absurd_answer (cc)
 
-unpack_keeps : (v : unpacker.Verdict) (out : List ℕ) (r : Refusal) → completed.answer_by v ≡ NotCompleted r → completed.output_by v out ≡ out
+unpack_keeps : (v : unpacker.Verdict) (out : List ℕ) (r : Refusal) → completed.answer_by v ≡ Err r → completed.output_by v out ≡ out
 unfolding completed.answer_by completed.output_by
 unpack_keeps (unpacker.refuses r') out r e = refl
 unpack_keeps (unpacker.gives ss m) out r e = absurd_answer (cc)
 
-unpacker_keeps : (v : unpacker.Verdict) (s left : List ℕ) (r : Refusal) → completed.StateBy v s left → completed.answer_by v ≡ NotCompleted r → left ≡ s
+unpacker_keeps : (v : unpacker.Verdict) (s left : List ℕ) (r : Refusal) → completed.StateBy v s left → completed.answer_by v ≡ Err r → left ≡ s
 unfolding completed.StateBy completed.answer_by
 unpacker_keeps (unpacker.refuses r') s left r by e = by
 unpacker_keeps (unpacker.gives ss m) s left r by e = absurd_answer (cc)
@@ -115,13 +101,13 @@ module _ (buffer : List ℕ) (used store : ℕ) (s : List ℕ) where
   unwhole f e = (rw (f, e), rw (f, e))
 
   -- a refusal above 11 is the buffer's: 37, or 12
-  taught_keeps : (r : Refusal) → 11 < refusal_number r → answer_of buffer used store s ≡ NotFed r → Unchanged
+  taught_keeps : (r : Refusal) → 11 < refusal_number r → answer_of buffer used store s ≡ Err r → Unchanged
   unfolding answer_of
   taught_keeps r h e = go (row_fits (length buffer) used (length s)) refl (whole_in_use buffer used) refl e
     where
       go : (f : Bool) → row_fits (length buffer) used (length s) ≡ f → (w : Bool) → whole_in_use buffer used ≡ w
-          → (if not f then NotFed TeachingBufferFull else
-          if not w then NotFed ImpossibleState else answer_to (has_room store) (account_in store (take used buffer)) s) ≡ NotFed r → Unchanged
+          → (if not f then Err TeachingBufferFull else
+          if not w then Err ImpossibleState else answer_to (has_room store) (account_in store (take used buffer)) s) ≡ Err r → Unchanged
       go false f w g e = unfitting f
       go true f false g e = unwhole f g
       go true f true g e =
@@ -129,74 +115,74 @@ module _ (buffer : List ℕ) (used store : ℕ) (s : List ℕ) where
           (omega arith) (omega arith) (omega arith) (omega arith) (has_room store) s (account_in store (take used buffer)) r e in
           absurd (omega arith)
 
-printed_keeps : (v : printer.Verdict) (out : List ℕ) (r : Refusal) → printer.answer_by v ≡ NotPrinted r → printer.output_by v out ≡ out
+printed_keeps : (v : printer.Verdict) (out : List ℕ) (r : Refusal) → printer.answer_by v ≡ Err r → printer.output_by v out ≡ out
 unfolding printer.answer_by printer.output_by
 printed_keeps (printer.refuses r') out r e = refl
 printed_keeps (printer.prints s) out r e = absurd_answer (cc)
 
-typed_keeps : (a : TypedTimes) (fields : List ℕ) (r : Refusal) → a ≡ NotTyped r → fields_after a fields ≡ fields
-typed_keeps (NotTyped r') fields r e = refl
-typed_keeps (Fields x y) fields r e = absurd_answer (cc)
+typed_keeps : (a : Result (ℕ × ℕ) Refusal) (fields : List ℕ) (r : Refusal) → a ≡ Err r → fields_after a fields ≡ fields
+typed_keeps (Err r') fields r e = refl
+typed_keeps (Ok (x, y)) fields r e = absurd_answer (cc)
 
-handed_keeps : (body out : List ℕ) (h : Handed) (r : Refusal) → h ≡ NotHanded r → out_by body out h ≡ out
+handed_keeps : (body out : List ℕ) (h : Result ℕ Refusal) (r : Refusal) → h ≡ Err r → out_by body out h ≡ out
 unfolding out_by
-handed_keeps body out (NotHanded r') r e = refl
-handed_keeps body out (Body n) r e = absurd_answer (cc)
+handed_keeps body out (Err r') r e = refl
+handed_keeps body out (Ok n) r e = absurd_answer (cc)
 
-packing_keeps : (g : Gathering) (h : Handed) (r : Refusal) → h ≡ NotHanded r → packing.state_by g h ≡ g
+packing_keeps : (g : Gathering) (h : Result ℕ Refusal) (r : Refusal) → h ≡ Err r → packing.state_by g h ≡ g
 unfolding packing.state_by
-packing_keeps g (NotHanded r') r e = refl
-packing_keeps g (Body n) r e = absurd_answer (cc)
+packing_keeps g (Err r') r e = refl
+packing_keeps g (Ok n) r e = absurd_answer (cc)
 
-written_keeps : {A : Type 0} (F : Format A) (out : List ℕ) (x : Reading A) (r : Refusal) → step_of x ≡ NoStep r → written_over F out x ≡ out
+written_keeps : {A : Type 0} (F : Format A) (out : List ℕ) (x : Reading A) (r : Refusal) → step_of x ≡ Err r → written_over F out x ≡ out
 written_keeps F out (refused r') r e = refl
 written_keeps F out (found a n) r e = absurd_answer (cc)
 
-content_keeps : (w : ℕ) (out : List ℕ) (x : Reading Content) (r : Refusal) → written_of x ≡ NotWritten r → written_over (content w) out x ≡ out
+content_keeps : (w : ℕ) (out : List ℕ) (x : Reading Content) (r : Refusal) → written_of x ≡ Err r → written_over (content w) out x ≡ out
 content_keeps w out (refused r') r e = refl
 content_keeps w out (found a n) r e = absurd_answer (cc)
 
 -- of a variant, which is refused or has its width
-variant_keeps : (pool tape out : List ℕ) (x : Width) (r : Refusal) → by_width x (λ w. content_written w pool tape (length out)) NotWritten ≡ NotWritten r
+variant_keeps : (pool tape out : List ℕ) (x : Result ℕ Refusal) (r : Refusal) → by_width x (λ w. content_written w pool tape (length out)) Err ≡ Err r
     → by_width x (λ w. output_written (content w) pool tape out) (λ u. out) ≡ out
 unfolding content_written output_written
-variant_keeps pool tape out (Bytes w) r e = content_keeps w out (writing (content w) pool tape (length out)) r e
-variant_keeps pool tape out (NoWidth u) r e = refl
+variant_keeps pool tape out (Ok w) r e = content_keeps w out (writing (content w) pool tape (length out)) r e
+variant_keeps pool tape out (Err u) r e = refl
 
-laid_keeps : {A : Type 0} (F : Format A) (tape : List ℕ) (x : Reading A) (r : Refusal) → step_of x ≡ NoStep r → laid_over F tape x ≡ tape
+laid_keeps : {A : Type 0} (F : Format A) (tape : List ℕ) (x : Reading A) (r : Refusal) → step_of x ≡ Err r → laid_over F tape x ≡ tape
 laid_keeps F tape (refused r') r e = refl
 laid_keeps F tape (found a n) r e = absurd_answer (cc)
 
-variant_laid_keeps : (kind : ℕ) (body tape : List ℕ) (x : Width) (r : Refusal)
-    → by_width x (λ w. body_laid (content w) content_kind kind body (length tape)) NoStep ≡ NoStep r
+variant_laid_keeps : (kind : ℕ) (body tape : List ℕ) (x : Result ℕ Refusal) (r : Refusal)
+    → by_width x (λ w. body_laid (content w) content_kind kind body (length tape)) Err ≡ Err r
     → by_width x (λ w. laid_tape (content w) content_kind kind body tape) (λ u. tape) ≡ tape
 unfolding body_laid laid_tape
-variant_laid_keeps kind body tape (Bytes w) r e = laid_keeps (content w) tape (laying (content w) content_kind kind body (length tape)) r e
-variant_laid_keeps kind body tape (NoWidth u) r e = refl
+variant_laid_keeps kind body tape (Ok w) r e = laid_keeps (content w) tape (laying (content w) content_kind kind body (length tape)) r e
+variant_laid_keeps kind body tape (Err u) r e = refl
 
-recorded_keeps : (list : List Record) (x : Reading Index) (r : Refusal) → step_of x ≡ NoStep r → recorded_over list x ≡ list
+recorded_keeps : (list : List Record) (x : Reading Index) (r : Refusal) → step_of x ≡ Err r → recorded_over list x ≡ list
 recorded_keeps list (refused r') r e = refl
 recorded_keeps list (found t n) r e = absurd_answer (cc)
 
-fed_keeps : (store payload : List ℕ) (v : Verdict) (r : Refusal) → feeding.answer_by v ≡ NotFed r → feeding.store_by store payload v ≡ store
+fed_keeps : (store payload : List ℕ) (v : Result Verdict Refusal) (r : Refusal) → feeding.answer_by v ≡ Err r → feeding.store_by store payload v ≡ store
 unfolding feeding.answer_by feeding.store_by
-fed_keeps store payload (Refuse r') r e = refl
-fed_keeps store payload Repeat r e = refl
-fed_keeps store payload Contradict r e = refl
-fed_keeps store payload (Begin h) r e = absurd_answer (cc)
-fed_keeps store payload (Take h) r e = absurd_answer (cc)
+fed_keeps store payload (Err r') r e = refl
+fed_keeps store payload (Ok Repeat) r e = refl
+fed_keeps store payload (Ok Contradict) r e = refl
+fed_keeps store payload (Ok (Begin h)) r e = absurd_answer (cc)
+fed_keeps store payload (Ok (Take h)) r e = absurd_answer (cc)
 
 -- two networks: by the verdict with its room, and where the state is not possible nothing is looked at
-roomed_keeps : (store payload : List ℕ) (room : ℕ) (v : Verdict) (r : Refusal) → feeding.answer_by v ≡ NotFed r
+roomed_keeps : (store payload : List ℕ) (room : ℕ) (v : Result Verdict Refusal) (r : Refusal) → feeding.answer_by v ≡ Err r
     → feeding_rooms.store_by store payload room v ≡ store
 unfolding feeding.answer_by feeding_rooms.store_by
-roomed_keeps store payload room (Refuse r') r e = refl
-roomed_keeps store payload room Repeat r e = refl
-roomed_keeps store payload room Contradict r e = refl
-roomed_keeps store payload room (Begin h) r e = absurd_answer (cc)
-roomed_keeps store payload room (Take h) r e = absurd_answer (cc)
+roomed_keeps store payload room (Err r') r e = refl
+roomed_keeps store payload room (Ok Repeat) r e = refl
+roomed_keeps store payload room (Ok Contradict) r e = refl
+roomed_keeps store payload room (Ok (Begin h)) r e = absurd_answer (cc)
+roomed_keeps store payload room (Ok (Take h)) r e = absurd_answer (cc)
 
-networks_feed_keeps : (o : Option Network) (x : Networks) (store s : List ℕ) (r : Refusal) → (feeding_rooms.fed_of o x store s).answer ≡ NotFed r
+networks_feed_keeps : (o : Option Network) (x : Networks) (store s : List ℕ) (r : Refusal) → (feeding_rooms.fed_of o x store s).answer ≡ Err r
     → feeding_rooms.store_after o x store s ≡ store
 unfolding feeding_rooms.fed_of feeding_rooms.store_after feeding_rooms.fed_for feeding_rooms.store_for feeding_rooms.part_fed feeding_rooms.part_store
 networks_feed_keeps none x store s r e = refl
@@ -206,7 +192,7 @@ networks_feed_keeps (some i) x store s r e = go (seen (networks_possible x (leng
     go (yes_is ok) = rw ok (roomed_keeps store (payload_of s) _ _ r (rw ok at e))
     go (no_is bad) = rw bad
 
-networks_hand_keeps : (o : Option Network) (x : Networks) (store out : List ℕ) (r : Refusal) → handing_rooms.handed_of o x store out ≡ NotHanded r
+networks_hand_keeps : (o : Option Network) (x : Networks) (store out : List ℕ) (r : Refusal) → handing_rooms.handed_of o x store out ≡ Err r
     → handing_rooms.out_after o x store out ≡ out
 unfolding handing_rooms.handed_of handing_rooms.out_after handing_rooms.handed_for handing_rooms.out_for handing_rooms.part_out
 networks_hand_keeps none x store out r e = refl
@@ -244,22 +230,22 @@ writes_nothing =
 
 -- ---- the gathering that is spoiled
 
-state_keeps : (g : Gathering) (payload : List ℕ) (v : Verdict) (r : Refusal) → feeding.answer_by v ≡ NotFed r → (r ≡ Contradiction → ⊥) → feeding.state_by g payload v ≡ g
+state_keeps : (g : Gathering) (payload : List ℕ) (v : Result Verdict Refusal) (r : Refusal) → feeding.answer_by v ≡ Err r → (r ≡ Contradiction → ⊥) → feeding.state_by g payload v ≡ g
 unfolding feeding.answer_by feeding.state_by
-state_keeps g payload (Refuse r') r e n = refl
-state_keeps g payload Repeat r e n = refl
-state_keeps g payload Contradict r e n = absurd (n (cc))
-state_keeps g payload (Begin h) r e n = absurd_answer (cc)
-state_keeps g payload (Take h) r e n = absurd_answer (cc)
+state_keeps g payload (Err r') r e n = refl
+state_keeps g payload (Ok Repeat) r e n = refl
+state_keeps g payload (Ok Contradict) r e n = absurd (n (cc))
+state_keeps g payload (Ok (Begin h)) r e n = absurd_answer (cc)
+state_keeps g payload (Ok (Take h)) r e n = absurd_answer (cc)
 
-repeat_keeps : (g : Gathering) (store payload : List ℕ) (v : Verdict) → feeding.answer_by v ≡ HeldAlready
+repeat_keeps : (g : Gathering) (store payload : List ℕ) (v : Result Verdict Refusal) → feeding.answer_by v ≡ Ok HeldAlready
     → (feeding.state_by g payload v ≡ g) × (feeding.store_by store payload v ≡ store)
 unfolding feeding.answer_by feeding.state_by feeding.store_by
-repeat_keeps g store payload (Refuse r) e = absurd_answer (cc)
-repeat_keeps g store payload Repeat e = (refl, refl)
-repeat_keeps g store payload Contradict e = absurd_answer (cc)
-repeat_keeps g store payload (Begin h) e = absurd_answer (cc)
-repeat_keeps g store payload (Take h) e = absurd_answer (cc)
+repeat_keeps g store payload (Err r) e = absurd_answer (cc)
+repeat_keeps g store payload (Ok Repeat) e = (refl, refl)
+repeat_keeps g store payload (Ok Contradict) e = absurd_answer (cc)
+repeat_keeps g store payload (Ok (Begin h)) e = absurd_answer (cc)
+repeat_keeps g store payload (Ok (Take h)) e = absurd_answer (cc)
 
 -- a state that is spoiled already stays as it is
 spoiled_stays : (g : Gathering) → possible_of g ≡ true → (g.spoiled ≡ 0 → ⊥) → g ≡ spoiled_state g
@@ -282,21 +268,21 @@ differs : (r : Refusal) → eqb (refusal_number r) 11 ≡ false → r ≡ Contra
 differs r n e = eqb-false (refusal_number r) 11 n (ap refusal_number e)
 
 -- a section is never refused for a contradiction
-section_not : (s : List ℕ) → read_section s ≡ NotGood Contradiction → ⊥
+section_not : (s : List ℕ) → read_section s ≡ Err Contradiction → ⊥
 section_not s e =
     section_refusals (λ r. r ≡ Contradiction → ⊥) (differs SectionTooShort refl) (differs OtherKind refl) (differs FixedBitZero refl)
     (differs SectionLengthOutside refl) (differs OtherLength refl) (differs NumberAboveLast refl) (differs CheckNotZero refl) s Contradiction e refl
 
 module _ (g : Gathering) (store s : List ℕ) where
   -- a verdict that is answered with 11 leaves the spoiled state
-  abbrev Spoils : Verdict → Type 0
-  Spoils v = feeding.answer_by v ≡ NotFed Contradiction → feeding.state_by g (payload_of s) v ≡ spoiled_state g
+  abbrev Spoils : Result Verdict Refusal → Type 0
+  Spoils v = feeding.answer_by v ≡ Err Contradiction → feeding.state_by g (payload_of s) v ≡ spoiled_state g
 
-  refuses_other : (r : Refusal) → (r ≡ Contradiction → ⊥) → Spoils (Refuse r)
+  refuses_other : (r : Refusal) → (r ≡ Contradiction → ⊥) → Spoils (Err r)
   unfolding feeding.answer_by
   refuses_other r n e = absurd (n (cc))
 
-  good_spoils : possible_of g ≡ true → (h : Heading) {v : Verdict} → Decided g store h (payload_of s) v → Spoils v
+  good_spoils : possible_of g ≡ true → (h : Heading) {v : Result Verdict Refusal} → Decided g store h (payload_of s) v → Spoils v
   unfolding feeding.answer_by feeding.state_by
   good_spoils p h (old c) e = refuses_other NotCurrent (differs NotCurrent refl) e
   good_spoils p h (other c b a) e = refuses_other OtherHeading (differs OtherHeading refl) e
@@ -310,10 +296,10 @@ module _ (g : Gathering) (store s : List ℕ) where
   verdict_spoils : Spoils (verdict_of g store s)
   verdict_spoils = go (possible_of g) refl (read_section s) refl
     where
-      go : (b : Bool) → possible_of g ≡ b → (x : Sectioned) → read_section s ≡ x → Spoils (verdict_of g store s)
+      go : (b : Bool) → possible_of g ≡ b → (x : Result (Heading × ℕ) Refusal) → read_section s ≡ x → Spoils (verdict_of g store s)
       go false p x e = rw (verdict_impossible g store s p) (refuses_other ImpossibleState (differs ImpossibleState refl))
-      go true p (NotGood r) e = rw (verdict_bad g store s p r e) (refuses_other r (λ z. section_not s (e ∙ ap NotGood z)))
-      go true p (Good h n) e = rw (verdict_good g store s p h n e) (good_spoils p h (decided g store h (payload_of s)))
+      go true p (Err r) e = rw (verdict_bad g store s p r e) (refuses_other r (λ z. section_not s (e ∙ ap Err z)))
+      go true p (Ok (h, n)) e = rw (verdict_good g store s p h n e) (good_spoils p h (decided g store h (payload_of s)))
 
 only_spoils : OnlySpoils
 unfolding feeding.fed_of feeding.store_after packing.packing_of

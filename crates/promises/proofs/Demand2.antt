@@ -1,5 +1,7 @@
 -- Demand 2: for every table from its round trips and the agreement of its fields, for sections, times and days from their crates' theorems.
 use Prim.Native.Nat.{ℕ, zero, suc, ◌+◌, ◌≤◌, ◌<◌}
+use Rattle.ground_refusal.proofs.Exits.{ok_pair_inj}
+use Rattle.std.specs.Prelude.{Ok, Err}
 use mathlib.Core.Path.{◌≡◌, refl, sym, ap, ◌∙◌, subst}
 use mathlib.Core.Bool.{true}
 use mathlib.Core.List.{List, [], ◌∷◌}
@@ -18,7 +20,6 @@ use Rattle.time_days.proofs.Theorems.{date_of_day, day_of_date, next_day}
 use Rattle.time_days.proofs.Values as days
 use Rattle.time_fields.proofs.Inverse.{writes_read, reads_written}
 use Rattle.section_cutter.specs.Cutting.{part_carried, cut_heading, section_of, cut_by, cut_answer, Askable}
-use Rattle.section_cutter.specs.declared.Cut.TheVariants.{Written}
 use Rattle.section_cutter.proofs.Counting.{counted_is}
 use Rattle.section_reader.proofs.Printing.{printed_length}
 use Rattle.section_reader.proofs.RoundTrip.{good_exactly}
@@ -28,8 +29,7 @@ use Rattle.body_formats.specs.Format.{Format, every}
 use Rattle.body_formats.specs.Answers.{step_of}
 use Rattle.ground_numbers.specs.Sizes.{body_most}
 use Rattle.body_formats.specs.Body.{reading, body_read, writing, body_written, output_written, laying, body_laid, laid_tape}
-use Rattle.body_formats.specs.declared.Step.TheVariants.{At, Refused as NoStep}
-use Rattle.body_formats.proofs.Classes.{Ok}
+use Rattle.body_formats.proofs.Classes.{Proper}
 use Rattle.body_formats.proofs.Outcomes.{found_inj, and_then_found, need_found}
 use Rattle.body_formats.proofs.RoundTrips as trips
 use Rattle.certificate.specs.Certificate.{certificate_kind, certificate}
@@ -47,12 +47,10 @@ use Rattle.content.proofs.RoundTrips.{content_trips}
 use Rattle.content.proofs.Smallest.{content_takes, smallest_body, smallest_accepted}
 use Rattle.content.proofs.Variants.{read_no, laid_no, unnamed_tape, variant_reads, variant_lays, variant_tape_lem}
 use Rattle.content_variant.specs.Variant.{width_of}
-use Rattle.content_variant.specs.declared.Width.TheVariants.{Bytes, Refused as NoWidth}
 use Rattle.content_variant.proofs.Variant as variant
 use Rattle.content_fields.proofs.Answers.{variant_type_no, variant_type_is, variant_part_no, variant_part_is}
 use Rattle.content_fields.proofs.Asked.{content_asked}
 use Rattle.content_writer.specs.Written.{written_of, content_written}
-use Rattle.content_writer.specs.declared.Written.TheVariants.{Of}
 use Rattle.content_writer.proofs.Variants.{measured_no, written_no, output_no, measured_wide, written_wide, output_wide}
 use Rattle.configuration.specs.Configuration.{configuration_kind, configuration}
 use Rattle.configuration.proofs.RoundTrips.{configuration_trips}
@@ -64,12 +62,12 @@ use Rattle.promises.proofs.RealDays.{real_days}
 -- ---- tables
 
 -- an answer that accepts has a value found
-step_found : {A : Type 0} (x : Reading A) (n : ℕ) → step_of x ≡ At n → (a : A) × (x ≡ found a n)
+step_found : {A : Type 0} (x : Reading A) (n : ℕ) → step_of x ≡ Ok n → (a : A) × (x ≡ found a n)
 step_found (found a q) n e = let z : q ≡ n = cc in (a, ap (found a) z)
 step_found (refused r) n e = absurd (let z : ◌≡◌ {A = ℕ} 0 1 = cc in omega arith)
 
 module _ {A : Type 0} (F : Format A) (own : ℕ) (f : trips.RoundTrips F own) where
-  ok : (t : A) → WellFormed F t → Ok F t
+  ok : (t : A) → WellFormed F t → Proper F t
   ok t w = record { writable = w.writable; small = w.small }
 
   own_kind : (kind : ℕ) (body : List ℕ) (t : A) (n : ℕ) → reading F own kind body ≡ found t n → kind ≡ own
@@ -92,14 +90,14 @@ module _ {A : Type 0} (F : Format A) (own : ℕ) (f : trips.RoundTrips F own) wh
   held_reads : (kind : ℕ) (body : List ℕ) (t : A) → Holds F own kind body t → reading F own kind body ≡ found t (length body)
   held_reads kind body t h = rw (h.kind_is, h.body_is) (f.reads_back t (ok t h.formed) h.formed.short)
 
-  accepts : (kind : ℕ) (body : List ℕ) (n : ℕ) → AreBytes body → body_read F own kind body ≡ At n → ((t : A) × Holds F own kind body t) × (n ≡ length body)
+  accepts : (kind : ℕ) (body : List ℕ) (n : ℕ) → AreBytes body → body_read F own kind body ≡ Ok n → ((t : A) × Holds F own kind body t) × (n ≡ length body)
   unfolding body_read
   accepts kind body n b e =
       let x = step_found (reading F own kind body) n e in
       let h = read_holds kind body x.0 n b x.1 in
       ((x.0, h.0), h.1)
 
-  held_accepts : (kind : ℕ) (body : List ℕ) (t : A) → Holds F own kind body t → body_read F own kind body ≡ At (length body)
+  held_accepts : (kind : ℕ) (body : List ℕ) (t : A) → Holds F own kind body t → body_read F own kind body ≡ Ok (length body)
   unfolding body_read
   held_accepts kind body t h = ap step_of (held_reads kind body t h)
 
@@ -108,7 +106,7 @@ module _ {A : Type 0} (F : Format A) (own : ℕ) (f : trips.RoundTrips F own) wh
   written pool tape out t n e = rw e
 
   is_laid : (kind : ℕ) (body : List ℕ) (t : A) → reading F own kind body ≡ found t (length body) → (tape : List ℕ) → length (F.tape t 0) ≤ length tape
-      → body_laid F own kind body (length tape) ≡ At (length (F.tape t 0))
+      → body_laid F own kind body (length tape) ≡ Ok (length (F.tape t 0))
   unfolding body_laid laying
   is_laid kind body t e tape h = rw (e, le-leb (length (F.tape t 0)) (length tape) h)
 
@@ -118,7 +116,7 @@ module _ {A : Type 0} (F : Format A) (own : ℕ) (f : trips.RoundTrips F own) wh
   unfolding laid_tape laying
   tape_is kind body tape t n e l = rw (e, l)
 
-  laid_is : (kind : ℕ) (body tape : List ℕ) (m : ℕ) → body_laid F own kind body (length tape) ≡ At m
+  laid_is : (kind : ℕ) (body tape : List ℕ) (m : ℕ) → body_laid F own kind body (length tape) ≡ Ok m
       → (t : A) × (n : ℕ) × (reading F own kind body ≡ found t n) × (take m (laid_tape F own kind body tape) ≡ F.tape t 0)
   unfolding body_laid laying
   laid_is kind body tape m e =
@@ -132,9 +130,9 @@ module _ {A : Type 0} (F : Format A) (own : ℕ) (f : trips.RoundTrips F own) wh
         ap (take m) (tape_is kind body tape t i.1 i.2 c.0) ∙ placed_start tape (F.tape t 0) m (sym (found_inj c.1).1),
       )
 
-  writes_back : (kind : ℕ) (body : List ℕ) → AreBytes body → (tape : List ℕ) (m : ℕ) → body_laid F own kind body (length tape) ≡ At m
+  writes_back : (kind : ℕ) (body : List ℕ) → AreBytes body → (tape : List ℕ) (m : ℕ) → body_laid F own kind body (length tape) ≡ Ok m
       → (out : List ℕ) → length body ≤ length out
-      → (body_written F body (take m (laid_tape F own kind body tape)) (length out) ≡ At (length body))
+      → (body_written F body (take m (laid_tape F own kind body tape)) (length out) ≡ Ok (length body))
       × (output_written F body (take m (laid_tape F own kind body tape)) out ≡ placed out 0 body)
   unfolding body_written
   writes_back kind body b tape m e out l =
@@ -174,25 +172,24 @@ module _ (w kind extension : ℕ) (body : List ℕ) where
   content_reads t h =
       rw (held_reads (content w) content_kind (content_trips w) kind body t h.holds, eq-eqb extension (extension_of t.identifier) h.extension_is)
 
-  content_accepts : AreBytes body → content_read w kind extension body ≡ At (length body) → (t : Content) × HoldsContent w kind extension body t
+  content_accepts : AreBytes body → content_read w kind extension body ≡ Ok (length body) → (t : Content) × HoldsContent w kind extension body t
   unfolding content_read
   content_accepts b e =
       let x = step_found (reading_of w kind extension body) (length body) e in
       (x.0, content_holds x.0 b x.1)
 
-  content_accepted : (t : Content) → HoldsContent w kind extension body t → content_read w kind extension body ≡ At (length body)
+  content_accepted : (t : Content) → HoldsContent w kind extension body t → content_read w kind extension body ≡ Ok (length body)
   unfolding content_read
   content_accepted t h = ap step_of (content_reads t h)
 
 -- the writer's answer is a table's, with the extension of its identifier
-given : (x : Reading Content) (n extension : ℕ) → written_of x ≡ Of n extension → (t : Content) × (x ≡ found t n) × (extension ≡ extension_of t.identifier)
+given : (x : Reading Content) (n extension : ℕ) → written_of x ≡ Ok (n, extension) → (t : Content) × (x ≡ found t n) × (extension ≡ extension_of t.identifier)
 given (found t m) n extension e =
-    let a : m ≡ n = cc in
-    let b : extension ≡ extension_of t.identifier = cc in
-    (t, ap (found t) a, b)
+    let i = ok_pair_inj e in
+    (t, ap (found t) i.0, sym i.1)
 given (refused r) n extension e = absurd (let z : ◌≡◌ {A = ℕ} 0 1 = cc in omega arith)
 
-written_with : (w : ℕ) (pool tape out : List ℕ) (n extension : ℕ) → content_written w pool tape (length out) ≡ Of n extension
+written_with : (w : ℕ) (pool tape out : List ℕ) (n extension : ℕ) → content_written w pool tape (length out) ≡ Ok (n, extension)
     → (t : Content) × (output_written (content w) pool tape out ≡ placed out 0 ((content w).print t)) × (reading_of w content_kind extension ((content w).print t) ≡ found t n)
 unfolding content_written reading_of
 written_with w pool tape out n extension e =
@@ -201,7 +198,7 @@ written_with w pool tape out n extension e =
     (g.0, r.0, rw (r.2, eq-eqb extension (extension_of g.0.identifier) g.2))
 
 old_refused : (w kind : ℕ) (body : List ℕ) (t : Content) → Holds (content w) content_kind kind body t
-    → content_read w kind (crc16_of (take 18 body)) body ≡ NoStep OtherChecksum
+    → content_read w kind (crc16_of (take 18 body)) body ≡ Err OtherChecksum
 unfolding content_read reading_of
 old_refused w kind body t h =
     let never : crc16_of (take 18 body) ≡ extension_of t.identifier → ⊥ = λ e.
@@ -223,7 +220,7 @@ extended w =
 -- ---- the smallest content body
 
 module _ (w kind extension : ℕ) (body : List ℕ) where
-  content_least : (n : ℕ) → AreBytes body → content_read w kind extension body ≡ At n → 33 ≤ length body
+  content_least : (n : ℕ) → AreBytes body → content_read w kind extension body ≡ Ok n → 33 ≤ length body
   unfolding content_read reading_of
   content_least n b e =
       let x = step_found (reading_of w kind extension body) n e in
@@ -262,7 +259,7 @@ of_width w =
           content_asked w kind body b.byte t (length body) (held_reads (content w) content_kind (content_trips w) kind body t h);
     }
 
-is_variant : (v w : ℕ) → Bytes w ≡ width_of v → IsVariant v w
+is_variant : (v w : ℕ) → Ok w ≡ width_of v → IsVariant v w
 is_variant v w e =
     record {
       reads = λ kind extension body. variant_reads v w e kind body extension;
@@ -275,7 +272,7 @@ is_variant v w e =
       file_asked = λ body at n i. sym (variant_part_is v w e body at n i);
     }
 
-no_variant : (v : ℕ) → NoWidth (OutsideSet 0) ≡ width_of v → NoVariant v
+no_variant : (v : ℕ) → Err (OutsideSet 0) ≡ width_of v → NoVariant v
 no_variant v e =
     record {
       other_kind = λ kind extension body h. sym (read_no kind v body OtherKind (variant.other_kind kind v (length body) h) extension);
@@ -302,11 +299,11 @@ variants =
 -- ---- sections
 
 is_cut : (body : List ℕ) (kind extension version number : ℕ) → Askable (length body) kind extension version number
-    → (out : List ℕ) → length (part_carried body number) + 12 ≤ length out → cut_answer body kind extension version number out ≡ Written (length (part_carried body number) + 12)
+    → (out : List ℕ) → length (part_carried body number) + 12 ≤ length out → cut_answer body kind extension version number out ≡ Ok (length (part_carried body number) + 12)
 unfolding section_of cut_by
 is_cut body kind extension version number a out l =
     ap cut_by (cut_writes body kind extension version number (length out) a l)
-    ∙ ap Written (printed_length (cut_heading (length body) kind extension version number) (part_carried body number))
+    ∙ ap Ok (printed_length (cut_heading (length body) kind extension version number) (part_carried body number))
 
 sections : SectionsRead
 sections =

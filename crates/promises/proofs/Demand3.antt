@@ -1,5 +1,6 @@
 -- Demand 3: the theorems of account, and a takeover by the laws of feeding.
 use Prim.Native.Nat.{ℕ}
+use Rattle.std.specs.Prelude.{Ok}
 use mathlib.Core.Path.{◌≡◌, sym, ◌∙◌}
 use mathlib.Core.Bool.{true, or-true}
 use mathlib.Core.List.{List}
@@ -7,7 +8,6 @@ use native.Mathlib.Omega.{arith}
 use lib.ListN.{length}
 use Rattle.section_reader.specs.Section.{payload_of, read_section}
 use Rattle.section_reader.specs.declared.Heading.{Heading}
-use Rattle.section_reader.specs.declared.Sectioned.TheVariants.{Good}
 use Rattle.gathering_state.specs.State.{possible_of, nothing_begun, has_room}
 use Rattle.gathering_state.specs.declared.Gathering.{Gathering}
 use Rattle.gathering_state.proofs.State.{counts_right, first_counts}
@@ -33,18 +33,18 @@ use Rattle.gathering_account.specs.Gathers.{fresh_box}
 use Rattle.promises.specs.Demand3.{fed_to, Demand3}
 
 -- a newer table's section that finds room begins
-module _ (g : Gathering) (store s : List ℕ) (h : Heading) (n : ℕ) (p : possible_of g ≡ true) (e : read_section s ≡ Good h n) (c : h.current ≡ true)
+module _ (g : Gathering) (store s : List ℕ) (h : Heading) (n : ℕ) (p : possible_of g ≡ true) (e : read_section s ≡ Ok (h, n)) (c : h.current ≡ true)
     (newer : is_newer (fixed_heading g) h ≡ true) (r : has_room (length store) h.last ≡ true) where
   first : begins g h ≡ true
   unfolding begins
   first = rw newer (or-true (nothing_begun g))
 
-  over : verdict_of g store s ≡ Begin h
+  over : verdict_of g store s ≡ Ok (Begin h)
   over = verdict_good g store s p h n e ∙ good_begins g store h (payload_of s) (record { current = rw c; known = rw first; roomy = rw r }) first
 
   new_alone : ((fed_of g store s).state.missing ≡ h.last) × ((fed_of g store s).state.bytes ≡ length (payload_of s))
   unfolding state_by
-  new_alone = rw (← (feeds g store s (Begin h) over).0) (first_counts h (length (payload_of s)))
+  new_alone = rw (← (feeds g store s (Ok (Begin h)) over).0) (first_counts h (length (payload_of s)))
 
 pub demand3 : Demand3
 unfolding answer_by state_by store_by
@@ -60,7 +60,7 @@ demand3 =
       all_feeds = run_answers;
       possible = run_possible;
       has_room_lem = λ store. table_room (has_room (length store));
-      takes_over = λ g store s h n p e c newer r. let f = feeds g store s (Begin h) (over g store s h n p e c newer r) in (sym f.0, sym f.1);
+      takes_over = λ g store s h n p e c newer r. let f = feeds g store s (Ok (Begin h)) (over g store s h n p e c newer r) in (sym f.0, sym f.1);
       counts_right = λ store fed b. counts_right (fed_to store fed).state (run_possible store fed b);
       stays_possible = stays_possible;
       counts_stay_right = counts_stay_right;

@@ -17,3 +17,4 @@ pub mod Determined
 pub mod Offered
 pub mod Marks
 pub mod Useless
+pub mod Exits

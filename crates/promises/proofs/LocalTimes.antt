@@ -1,5 +1,6 @@
 -- Local times and text: from the theorems of crate local, and 20 from the lists of crate orders.
 use Prim.Native.Nat.{ℕ, ◌^◌, ◌<◌}
+use Rattle.std.specs.Prelude.{Ok, Err}
 use mathlib.Core.Path.{◌≡◌, refl, sym, ap, ◌∙◌}
 use mathlib.Core.Bool.{Bool, true, false, not, ◌||◌, false≢true}
 use mathlib.Core.List.{List, [], ◌∷◌}
@@ -11,12 +12,10 @@ use Rattle.ground_refusal.specs.declared.Refusal.{Refusal}
 use Rattle.ground_refusal.specs.declared.Refusal.TheVariants.{ImpossibleDay, NotOfTheForm}
 use Rattle.time_days.specs.Calendar.{is_date, has_day}
 use Rattle.time_fields.specs.Field.{is_decimal, possible}
-use Rattle.time_fields.specs.declared.Fielded.TheVariants.{Field, Refused as NotFielded}
 use Rattle.time_offset.specs.Offset.{is_offset}
 use Rattle.time_local.specs.Clock.{is_clock, pack_of, unpack_of}
 use Rattle.time_local.specs.Text.{form, formed, two, typed, read_text, Typable, text_of, IsText}
 use Rattle.time_local.specs.declared.LocalTime.{LocalTime}
-use Rattle.time_local.specs.declared.Unpacked.TheVariants.{At, Refused as NotUnpacked}
 use Rattle.time_local.proofs.Forms.{by_form}
 use Rattle.time_local.proofs.RoundTrip.{packs_exactly, unpacks_exactly, unpack_packed, pack_unpacked}
 use Rattle.time_local.proofs.Characters.{text_formed, text_typed, reads_text, text_typable, text_only, text_accepted}
@@ -56,7 +55,7 @@ module _ (t : LocalTime) (offset : ℤ) where
   given_none (later o (here n)) = n
   given_none (later o (later _ x)) = elim x [ ]
 
-  pack_refused : is_offset offset ≡ true → (pack_of t offset ≡ NotFielded (ImpossibleDay 0)) ↔ NoField t offset
+  pack_refused : is_offset offset ≡ true → (pack_of t offset ≡ Err (ImpossibleDay 0)) ↔ NoField t offset
   unfolding impossible
   pack_refused o =
       let listed = (packing_as_listed t offset).refused_exactly (ImpossibleDay 0) in (
@@ -85,7 +84,7 @@ module _ (field : ℕ) (offset : ℤ) where
   given_no_time (later o (later w (later d (later _ x)))) = elim x [ ]
 
   unpack_refused : is_offset offset ≡ true → field < 2 ^ 40 → is_decimal field ≡ true
-      → (unpack_of field offset ≡ NotUnpacked (ImpossibleDay 0)) ↔ NoLocalTime field offset
+      → (unpack_of field offset ≡ Err (ImpossibleDay 0)) ↔ NoLocalTime field offset
   unpack_refused o w d =
       let listed = (unpacking_as_listed field offset).refused_exactly (ImpossibleDay 0) in (
         λ e. why_no_time _ _ refl refl (given_no_time (listed.0 e)),
@@ -94,7 +93,7 @@ module _ (field : ℕ) (offset : ℤ) where
 
 -- ---- text
 
-text_accepts : (s : List ℕ) (offset : ℤ) (field : ℕ) → IsText s offset field → read_text s offset ≡ Field field
+text_accepts : (s : List ℕ) (offset : ℤ) (field : ℕ) → IsText s offset field → read_text s offset ≡ Ok field
 text_accepts s offset field i = ap (λ (x : List ℕ). read_text x offset) i.characters ∙ reads_text i.time i.typable offset ∙ i.packs
 
 -- one line can give its own refusal alone
@@ -108,19 +107,19 @@ module _ (s : List ℕ) (offset : ℤ) (o : is_offset offset ≡ true) where
   not_formed (later o (here f)) = not-true _ f
   not_formed (later o (later f g)) = let e = last_given g in let z : ◌≡◌ {A = ℕ} 0 1 = cc in absurd (omega arith)
 
-  other_text : (read_text s offset ≡ NotFielded NotOfTheForm) ↔ ((t : LocalTime) → Typable t → s ≡ text_of t → ⊥)
+  other_text : (read_text s offset ≡ Err NotOfTheForm) ↔ ((t : LocalTime) → Typable t → s ≡ text_of t → ⊥)
   other_text =
       let listed = (text_as_listed s offset).refused_exactly NotOfTheForm in (
         λ e t r q. false≢true (sym (not_formed (listed.0 e)) ∙ ap (formed form) q ∙ text_formed t r),
         none (formed form s) refl,
       )
     where
-      none : (b : Bool) → formed form s ≡ b → ((t : LocalTime) → Typable t → s ≡ text_of t → ⊥) → read_text s offset ≡ NotFielded NotOfTheForm
+      none : (b : Bool) → formed form s ≡ b → ((t : LocalTime) → Typable t → s ≡ text_of t → ⊥) → read_text s offset ≡ Err NotOfTheForm
       none true f other = absurd (other (typed s) (text_typable s f) (text_only s f))
       none false f other = by_form s offset o f
 
-third_of_november_lem : (rest : List ℕ) (offset : ℤ) (field : ℕ) → read_text (third_of_november rest) offset ≡ Field field
-    → (t : LocalTime) × (unpack_of field offset ≡ At t) × (t.day ≡ 3) × (t.month ≡ 11)
+third_of_november_lem : (rest : List ℕ) (offset : ℤ) (field : ℕ) → read_text (third_of_november rest) offset ≡ Ok field
+    → (t : LocalTime) × (unpack_of field offset ≡ Ok t) × (t.day ≡ 3) × (t.month ≡ 11)
 unfolding third_of_november typed two
 third_of_november_lem rest offset field e =
     let i = text_accepted (third_of_november rest) offset field e in

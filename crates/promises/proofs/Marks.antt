@@ -1,5 +1,7 @@
 -- One that stores the first section and only marks the rest: of a table whose first section is empty nothing is stored, and a store of zeros gives no 1.
 use Prim.Native.Nat.{ℕ, zero, suc, ◌+◌, ◌-◌, ◌≤◌, ◌<◌}
+use Rattle.std.specs.Prelude.{Result, Ok, Err}
+use Rattle.ground_refusal.specs.declared.Refusal.{Refusal}
 use mathlib.Core.Path.{◌≡◌, refl, sym, ap, ◌∙◌, subst}
 use mathlib.Core.Bool.{true, false}
 use mathlib.Core.List.Memᴰ
@@ -22,7 +24,7 @@ use Rattle.gathering_state.specs.declared.Gathering.{Gathering}
 use Rattle.gathering_verdict.specs.Deciding.{verdict_of}
 use Rattle.gathering_feed.specs.Feeding.{store_by, store_after}
 use Rattle.gathering_verdict.specs.declared.Verdict.{Verdict}
-use Rattle.gathering_verdict.specs.declared.Verdict.TheVariants.{Refuse, Repeat, Contradict, Begin, Take}
+use Rattle.gathering_verdict.specs.declared.Verdict.TheVariants.{Repeat, Contradict, Begin, Take}
 use Rattle.gathering_hand_out.specs.Handing.{joined, body_held, out_by, out_after}
 use Rattle.gathering_account.specs.Account.{Account, idle, table, account}
 use Rattle.gathering_account.specs.Gathers.{Box, fresh_box, ByteStrings, feed, box_after, HandsOut, Fixes}
@@ -99,12 +101,12 @@ empty_stays : (g : Gathering) (store s : List ℕ) → payload_of s ≡ [] → s
 unfolding store_after store_by
 empty_stays g store s e = go (verdict_of g store s)
   where
-    go : (v : Verdict) → store_by store (payload_of s) v ≡ store
-    go (Refuse r) = refl
-    go Repeat = refl
-    go Contradict = refl
-    go (Begin h) = rw e (placed_none store _)
-    go (Take h) = rw e (placed_none store _)
+    go : (v : Result Verdict Refusal) → store_by store (payload_of s) v ≡ store
+    go (Err r) = refl
+    go (Ok Repeat) = refl
+    go (Ok Contradict) = refl
+    go (Ok (Begin h)) = rw e (placed_none store _)
+    go (Ok (Take h)) = rw e (placed_none store _)
 
 -- ---- the two sections fed
 

@@ -7,7 +7,8 @@ use native.Mathlib.Omega.{arith}
 use lib.ListN.{length, get_or, take, length-take}
 use lib.Dec.{eqb, leb, ltb}
 use borrow.Author.Tests.{leb-true, ltb-true}
-use Rattle.std.specs.Prelude.{if◌then◌else◌}
+use Rattle.ground_refusal.proofs.Exits.{err_inj}
+use Rattle.std.specs.Prelude.{if◌then◌else◌, Result, Ok, Err}
 use Rattle.ground_numbers.specs.Sizes.{section_length_most, body_most}
 use Rattle.ground_refusal.specs.Numbers.{refusal_place, placeless}
 use Rattle.ground_refusal.specs.declared.Refusal.{Refusal}
@@ -15,10 +16,7 @@ use Rattle.ground_refusal.specs.declared.Refusal.TheVariants.{SectionTooShort, O
 use Rattle.crc.specs.Crc.{crc32_of}
 use Rattle.section_reader.specs.Section.{is_kind, section_length, fixed_bits, heading_of, payload_of, read_section}
 use Rattle.section_reader.specs.declared.Heading.{Heading}
-use Rattle.section_reader.specs.declared.Sectioned.{Sectioned}
-use Rattle.section_reader.specs.declared.Sectioned.TheVariants.{Good, Refused as NotGood}
 use Rattle.section_cutter.specs.Cutting as cutter
-use Rattle.section_cutter.specs.declared.Cut.TheVariants.{Refused as NotCut}
 use Rattle.salvage.proofs.Calls.{refused_place as salvaged_place}
 use Rattle.gathering_state.specs.Lists.{smallest_missing}
 use Rattle.gathering_state.specs.State.{possible_of, nothing_begun, has_room, lengths}
@@ -26,16 +24,11 @@ use Rattle.gathering_state.specs.declared.Gathering.{Gathering}
 use Rattle.gathering_verdict.specs.Deciding.{verdict_of}
 use Rattle.gathering_feed.specs.Feeding as feeding
 use Rattle.gathering_verdict.specs.declared.Verdict.{Verdict}
-use Rattle.gathering_verdict.specs.declared.Verdict.TheVariants.{Refuse}
 use Rattle.gathering_feed.specs.declared.Answer.{Answer}
-use Rattle.gathering_feed.specs.declared.Answer.TheVariants.{Taken, HeldAlready, Refused as NotFed}
+use Rattle.gathering_feed.specs.declared.Answer.TheVariants.{Taken, HeldAlready}
 use Rattle.gathering_verdict.proofs.Verdicts.{verdict_impossible, verdict_bad, verdict_good, Decided, old, other, short, begun, spoiled, new, again, clash, decided}
 use Rattle.gathering_hand_out.specs.Handing as handing
 use Rattle.gathering_pack.specs.Packing as packing
-use Rattle.gathering_hand_out.specs.declared.Completeness.{Completeness}
-use Rattle.gathering_hand_out.specs.declared.Completeness.TheVariants.{Complete, Refused as NotComplete}
-use Rattle.gathering_hand_out.specs.declared.Handed.{Handed}
-use Rattle.gathering_hand_out.specs.declared.Handed.TheVariants.{Body, Refused as NotHanded}
 use Rattle.gathering_account.specs.Account.{Account, idle, table, in_order}
 use Rattle.gathering_account.specs.Answering.{present, differs, agreeing, answer_of_table, answer_of_first, answer_of_good, answer_of_read, answer_to}
 use Rattle.gathering_tables.specs.Tables.{same_table, is_newer}
@@ -44,12 +37,10 @@ use Rattle.teaching_questions.specs.Questions.{absent_from}
 use Rattle.teaching_table.specs.Table.{account_in}
 use Rattle.teaching_feed.specs.Feeding.{row_fits, answer_of}
 use Rattle.teaching_hand_out.specs.Asking as teaching
-use Rattle.teaching_hand_out.specs.declared.Headed.TheVariants as headed
 use Rattle.body_formats.specs.Reading.{Reading, found, refused, need}
 use Rattle.body_formats.specs.Format.{Format}
 use Rattle.body_formats.specs.Answers.{step_of}
 use Rattle.body_formats.specs.Body.{reading, measuring, measured, fitting, writing, body_written, body_laid}
-use Rattle.body_formats.specs.declared.Step.TheVariants.{At, Refused as NoStep}
 use Rattle.body_formats.proofs.Places.{Until, ends, stands, then_until, need_until, Placed, step_place, reading_until, read_place, laid_place, measured_place, writing_until, written_place}
 use Rattle.certificate.specs.Certificate.{certificate_kind, certificate}
 use Rattle.certificate.proofs.Places.{certificate_placed}
@@ -57,14 +48,11 @@ use Rattle.index.specs.Index.{index_kind, index}
 use Rattle.index.proofs.Places.{index_placed}
 use Rattle.index_records.specs.Records.{recording, body_recorded}
 use Rattle.content_variant.specs.Variant.{width_of, by_width, opened}
-use Rattle.content_variant.specs.declared.Width.{Width}
-use Rattle.content_variant.specs.declared.Width.TheVariants.{Bytes, Refused as NoWidth}
 use Rattle.content_variant.proofs.Variant.{width_place, opened_place}
 use Rattle.content.specs.Content.{Content, content_kind, content, variant_laid}
 use Rattle.content.proofs.Places.{content_placed}
 use Rattle.content.proofs.Variants.{variant_place}
 use Rattle.content_writer.specs.Written.{written_of, content_written, variant_measured, variant_written}
-use Rattle.content_writer.specs.declared.Written.TheVariants.{Refused as NotWritten}
 use Rattle.configuration.specs.Configuration.{configuration_kind, configuration}
 use Rattle.configuration.proofs.Places.{configuration_placed}
 use Rattle.promises.specs.Places.{PlacesOf, Places}
@@ -77,26 +65,26 @@ absurd_answer z = absurd (omega arith)
 
 -- a writer answers what was measured: a refusal without its place, a length where there is room for it
 module _ {A : Type 0} (F : Format A) (pool tape : List ℕ) (room : ℕ) where
-  refused_alike : (r : Refusal) → measured F pool tape ≡ NoStep r → body_written F pool tape room ≡ NoStep (placeless r)
+  refused_alike : (r : Refusal) → measured F pool tape ≡ Err r → body_written F pool tape room ≡ Err (placeless r)
   unfolding measured body_written writing
   refused_alike r e = go (measuring F pool tape) e
     where
-      go : (x : Reading A) → step_of x ≡ NoStep r → step_of (fitting room x) ≡ NoStep (placeless r)
+      go : (x : Reading A) → step_of x ≡ Err r → step_of (fitting room x) ≡ Err (placeless r)
       go (found a n) e = absurd_answer (cc)
-      go (refused r') e = let same : r' ≡ r = cc in ap (λ (q : Refusal). NoStep (placeless q)) same
+      go (refused r') e = let same : r' ≡ r = cc in ap (λ (q : Refusal). Err (placeless q)) same
 
-  as_measured : (n : ℕ) → measured F pool tape ≡ At n → body_written F pool tape room ≡ (if leb n room then At n else NoStep OutputTooSmall)
+  as_measured : (n : ℕ) → measured F pool tape ≡ Ok n → body_written F pool tape room ≡ (if leb n room then Ok n else Err OutputTooSmall)
   unfolding measured body_written writing
   as_measured n e = go (measuring F pool tape) e
     where
-      chosen : (a : A) (m : ℕ) (b : Bool) → step_of (need b OutputTooSmall (found a m)) ≡ (if b then At m else NoStep OutputTooSmall)
+      chosen : (a : A) (m : ℕ) (b : Bool) → step_of (need b OutputTooSmall (found a m)) ≡ (if b then Ok m else Err OutputTooSmall)
       chosen a m true = refl
       chosen a m false = refl
 
-      go : (x : Reading A) → step_of x ≡ At n → step_of (fitting room x) ≡ (if leb n room then At n else NoStep OutputTooSmall)
+      go : (x : Reading A) → step_of x ≡ Ok n → step_of (fitting room x) ≡ (if leb n room then Ok n else Err OutputTooSmall)
       go (found a m) e =
           let same : m ≡ n = cc in
-          chosen a m (leb m room) ∙ ap (λ (k : ℕ). if leb k room then At k else NoStep OutputTooSmall) same
+          chosen a m (leb m room) ∙ ap (λ (k : ℕ). if leb k room then Ok k else Err OutputTooSmall) same
       go (refused r) e = absurd_answer (cc)
 
 of_table : {A : Type 0} (F : Format A) (own : ℕ) → Placed F → PlacesOf F own
@@ -110,7 +98,7 @@ of_table F own f =
       as_measured = as_measured F;
     }
 
-recorded : (kind : ℕ) (body : List ℕ) (room : ℕ) (r : Refusal) → body_recorded kind body room ≡ NoStep r → refusal_place r ≤ length body
+recorded : (kind : ℕ) (body : List ℕ) (room : ℕ) (r : Refusal) → body_recorded kind body room ≡ Err r → refusal_place r ≤ length body
 unfolding body_recorded recording
 recorded kind body room =
     step_place (recording kind body room)
@@ -119,41 +107,41 @@ recorded kind body room =
 
 -- the content table's calls, by the variant: it is refused at place 0, or its width answers
 module _ (kind v : ℕ) (body : List ℕ) where
-  content_laid : (room : ℕ) (r : Refusal) → variant_laid kind v body room ≡ NoStep r → refusal_place r ≤ length body
+  content_laid : (room : ℕ) (r : Refusal) → variant_laid kind v body room ≡ Err r → refusal_place r ≤ length body
   unfolding variant_laid
   content_laid room r e = go (opened kind v (length body)) refl e
     where
-      go : (x : Width) → opened kind v (length body) ≡ x → by_width x (λ w. body_laid (content w) content_kind kind body room) NoStep ≡ NoStep r
+      go : (x : Result ℕ Refusal) → opened kind v (length body) ≡ x → by_width x (λ w. body_laid (content w) content_kind kind body room) Err ≡ Err r
           → refusal_place r ≤ length body
-      go (Bytes w) k f = laid_place (content w) (content_placed w) content_kind kind body room r f
-      go (NoWidth t) k f =
+      go (Ok w) k f = laid_place (content w) (content_placed w) content_kind kind body room r f
+      go (Err t) k f =
           let same : t ≡ r = cc in
           omega (arith, ap refusal_place same, opened_place kind v (length body) t (sym k))
 
 module _ (v : ℕ) (pool tape : List ℕ) where
-  content_measured : (r : Refusal) → variant_measured v pool tape ≡ NoStep r → refusal_place r ≤ length tape
+  content_measured : (r : Refusal) → variant_measured v pool tape ≡ Err r → refusal_place r ≤ length tape
   unfolding variant_measured
   content_measured r e = go (width_of v) refl e
     where
-      go : (x : Width) → width_of v ≡ x → by_width x (λ w. measured (content w) pool tape) NoStep ≡ NoStep r → refusal_place r ≤ length tape
-      go (Bytes w) k f = measured_place (content w) (content_placed w) pool tape r f
-      go (NoWidth t) k f =
+      go : (x : Result ℕ Refusal) → width_of v ≡ x → by_width x (λ w. measured (content w) pool tape) Err ≡ Err r → refusal_place r ≤ length tape
+      go (Ok w) k f = measured_place (content w) (content_placed w) pool tape r f
+      go (Err t) k f =
           let same : t ≡ r = cc in
           omega (arith, ap refusal_place same, width_place v t (sym k))
 
-  content_written_lem : (room : ℕ) (r : Refusal) → variant_written v pool tape room ≡ NotWritten r → refusal_place r ≡ 0
+  content_written_lem : (room : ℕ) (r : Refusal) → variant_written v pool tape room ≡ Err r → refusal_place r ≡ 0
   unfolding variant_written content_written
   content_written_lem room r e = go (width_of v) refl e
     where
-      refusing : (x : Reading Content) → Until 0 room x → written_of x ≡ NotWritten r → refusal_place r ≡ 0
+      refusing : (x : Reading Content) → Until 0 room x → written_of x ≡ Err r → refusal_place r ≡ 0
       refusing (found t n) h f = absurd_answer (cc)
       refusing (refused r') (stands h) f =
           let same : r' ≡ r = cc in
           omega (arith, subst (λ (q : Refusal). refusal_place q ≤ 0) same h)
 
-      go : (x : Width) → width_of v ≡ x → by_width x (λ w. written_of (writing (content w) pool tape room)) NotWritten ≡ NotWritten r → refusal_place r ≡ 0
-      go (Bytes w) k f = refusing (writing (content w) pool tape room) (writing_until (content w) pool tape room) f
-      go (NoWidth t) k f =
+      go : (x : Result ℕ Refusal) → width_of v ≡ x → by_width x (λ w. written_of (writing (content w) pool tape room)) Err ≡ Err r → refusal_place r ≡ 0
+      go (Ok w) k f = refusing (writing (content w) pool tape room) (writing_until (content w) pool tape room) f
+      go (Err t) k f =
           let same : t ≡ r = cc in
           ap refusal_place (sym same) ∙ width_place v t (sym k)
 
@@ -167,33 +155,33 @@ module _ {X : Type 0} (no : Refusal → X) (same : (r r' : Refusal) → no r ≡
 -- a section is refused for seven reasons
 pub section_refusals : (Q : Refusal → Type 0)
     → Q SectionTooShort → Q OtherKind → Q FixedBitZero → Q SectionLengthOutside → Q OtherLength → Q NumberAboveLast → Q CheckNotZero
-    → (s : List ℕ) (r : Refusal) → read_section s ≡ NotGood r → Q r
+    → (s : List ℕ) (r : Refusal) → read_section s ≡ Err r → Q r
 unfolding read_section
 section_refusals Q q1 q2 q3 q4 q5 q6 q7 s =
-    let next = or_else NotGood (λ r r' (e : NotGood r ≡ NotGood r'). cc) Q in
+    let next = or_else Err (λ r r' e. err_inj e) Q in
     next (ltb (length s) 12) SectionTooShort _ (λ t. q1)
     (next (not (is_kind (get_or s 0 0))) OtherKind _ (λ t. q2)
     (next (not (fixed_bits s)) FixedBitZero _ (λ t. q3)
     (next (not (leb 9 (section_length s) && leb (section_length s) section_length_most)) SectionLengthOutside _ (λ t. q4)
     (next (not (eqb (length s) (section_length s + 3))) OtherLength _ (λ t. q5)
     (next (ltb (get_or s 7 0) (get_or s 6 0)) NumberAboveLast _ (λ t. q6)
-    (next (not (eqb (crc32_of s) 0)) CheckNotZero _ (λ t. q7) (λ r (e : Good (heading_of s) (length s - 12) ≡ NotGood r). absurd_answer (cc))))))))
+    (next (not (eqb (crc32_of s) 0)) CheckNotZero _ (λ t. q7) (λ r (e : Ok (heading_of s, length s - 12) ≡ Err r). absurd_answer (cc))))))))
 
-section_place : (s : List ℕ) (r : Refusal) → read_section s ≡ NotGood r → refusal_place r ≡ 0
+section_place : (s : List ℕ) (r : Refusal) → read_section s ≡ Err r → refusal_place r ≡ 0
 section_place = section_refusals (λ r. refusal_place r ≡ 0) refl refl refl refl refl refl refl
 
 -- ---- feeding
 
 module _ (g : Gathering) (store s : List ℕ) where
   -- a refusal by this verdict stands at 0
-  abbrev Nowhere : Verdict → Type 0
-  Nowhere v = (r : Refusal) → feeding.answer_by v ≡ NotFed r → refusal_place r ≡ 0
+  abbrev Nowhere : Result Verdict Refusal → Type 0
+  Nowhere v = (r : Refusal) → feeding.answer_by v ≡ Err r → refusal_place r ≡ 0
 
-  refuse_nowhere : (r' : Refusal) → refusal_place r' ≡ 0 → Nowhere (Refuse r')
+  refuse_nowhere : (r' : Refusal) → refusal_place r' ≡ 0 → Nowhere (Err r')
   unfolding feeding.answer_by
   refuse_nowhere r' h r e = let same : r' ≡ r = cc in subst (λ (q : Refusal). refusal_place q ≡ 0) same h
 
-  good_nowhere : (h : Heading) {v : Verdict} → Decided g store h (payload_of s) v → Nowhere v
+  good_nowhere : (h : Heading) {v : Result Verdict Refusal} → Decided g store h (payload_of s) v → Nowhere v
   unfolding feeding.answer_by
   good_nowhere h (old c) r e = refuse_nowhere NotCurrent refl r e
   good_nowhere h (other c b a) r e = refuse_nowhere OtherHeading refl r e
@@ -207,10 +195,10 @@ module _ (g : Gathering) (store s : List ℕ) where
   verdict_nowhere : Nowhere (verdict_of g store s)
   verdict_nowhere = go (possible_of g) refl (read_section s) refl
     where
-      go : (b : Bool) → possible_of g ≡ b → (x : Sectioned) → read_section s ≡ x → Nowhere (verdict_of g store s)
+      go : (b : Bool) → possible_of g ≡ b → (x : Result (Heading × ℕ) Refusal) → read_section s ≡ x → Nowhere (verdict_of g store s)
       go false p x e = rw (verdict_impossible g store s p) (refuse_nowhere ImpossibleState refl)
-      go true p (NotGood r) e = rw (verdict_bad g store s p r e) (refuse_nowhere r (section_place s r e))
-      go true p (Good h n) e = rw (verdict_good g store s p h n e) (good_nowhere h (decided g store h (payload_of s)))
+      go true p (Err r) e = rw (verdict_bad g store s p r e) (refuse_nowhere r (section_place s r e))
+      go true p (Ok (h, n)) e = rw (verdict_good g store s p h n e) (good_nowhere h (decided g store h (payload_of s)))
 
 -- ---- the slow gathering
 
@@ -218,59 +206,59 @@ module _ (g : Gathering) (store s : List ℕ) where
 module _ (Q : Refusal → Type 0) (q1 : Q SectionTooShort) (q2 : Q OtherKind) (q3 : Q FixedBitZero) (q4 : Q SectionLengthOutside) (q5 : Q OtherLength)
     (q6 : Q NumberAboveLast) (q7 : Q CheckNotZero) (q8 : Q NotCurrent) (q9 : Q OtherHeading) (q10 : Q StoreTooShort) (q11 : Q Contradiction)
     (room : ℕ → Bool) (s : List ℕ) where
-  good_refusals : (a : Account) (h : Heading) (r : Refusal) → answer_of_good room a h (payload_of s) ≡ NotFed r → Q r
+  good_refusals : (a : Account) (h : Heading) (r : Refusal) → answer_of_good room a h (payload_of s) ≡ Err r → Q r
   unfolding answer_of_good answer_of_first answer_of_table
   good_refusals idle h =
-      or_else NotFed (λ r r' (e : NotFed r ≡ NotFed r'). cc) Q (not (room h.last)) StoreTooShort Taken (λ t. q10)
-      (λ r (e : Taken ≡ NotFed r). absurd_answer (cc))
+      or_else Err (λ r r' e. err_inj e) Q (not (room h.last)) StoreTooShort (Ok Taken) (λ t. q10)
+      (λ r (e : (Ok Taken) ≡ Err r). absurd_answer (cc))
   good_refusals (table t S) h =
       go (is_newer t h) (differs (record { number = h.number; contents = payload_of s }) S || not (agreeing S)) (present h.number S)
     where
-      next : (b : Bool) (r' : Refusal) (x : Answer) → (b ≡ true → Q r') → ((r : Refusal) → x ≡ NotFed r → Q r)
-          → (r : Refusal) → (if b then NotFed r' else x) ≡ NotFed r → Q r
-      next = or_else NotFed (λ r r' (e : NotFed r ≡ NotFed r'). cc) Q
+      next : (b : Bool) (r' : Refusal) (x : Result Answer Refusal) → (b ≡ true → Q r') → ((r : Refusal) → x ≡ Err r → Q r)
+          → (r : Refusal) → (if b then Err r' else x) ≡ Err r → Q r
+      next = or_else Err (λ r r' e. err_inj e) Q
 
-      value : (held : Bool) (r : Refusal) → (if held then HeldAlready else Taken) ≡ NotFed r → Q r
+      value : (held : Bool) (r : Refusal) → (if held then (Ok HeldAlready) else (Ok Taken)) ≡ Err r → Q r
       value true r e = absurd_answer (cc)
       value false r e = absurd_answer (cc)
 
       go : (newer disputed held : Bool) (r : Refusal)
-          → (if newer then (if not (room h.last) then NotFed StoreTooShort else Taken) else
-          if not (same_table t h) then NotFed OtherHeading else
-          if disputed then NotFed Contradiction else
-          if held then HeldAlready else Taken) ≡ NotFed r → Q r
-      go true disputed held = next (not (room h.last)) StoreTooShort Taken (λ t. q10) (λ r (e : Taken ≡ NotFed r). absurd_answer (cc))
+          → (if newer then (if not (room h.last) then Err StoreTooShort else (Ok Taken)) else
+          if not (same_table t h) then Err OtherHeading else
+          if disputed then Err Contradiction else
+          if held then (Ok HeldAlready) else (Ok Taken)) ≡ Err r → Q r
+      go true disputed held = next (not (room h.last)) StoreTooShort (Ok Taken) (λ t. q10) (λ r (e : (Ok Taken) ≡ Err r). absurd_answer (cc))
       go false disputed held = next (not (same_table t h)) OtherHeading _ (λ t. q9) (next disputed Contradiction _ (λ t. q11) (value held))
 
-  pub answer_refusals : (a : Account) (r : Refusal) → answer_to room a s ≡ NotFed r → Q r
+  pub answer_refusals : (a : Account) (r : Refusal) → answer_to room a s ≡ Err r → Q r
   unfolding answer_to answer_of_read
   answer_refusals a r e = go (read_section s) refl e
     where
-      go : (x : Sectioned) → read_section s ≡ x → answer_of_read room a s x ≡ NotFed r → Q r
-      go (NotGood r') f e = let same : r' ≡ r = cc in subst Q same (section_refusals Q q1 q2 q3 q4 q5 q6 q7 s r' f)
-      go (Good h n) f e =
-          or_else NotFed (λ r r' (e : NotFed r ≡ NotFed r'). cc) Q (not h.current) NotCurrent _ (λ t. q8) (good_refusals a h) r e
+      go : (x : Result (Heading × ℕ) Refusal) → read_section s ≡ x → answer_of_read room a s x ≡ Err r → Q r
+      go (Err r') f e = let same : r' ≡ r = cc in subst Q same (section_refusals Q q1 q2 q3 q4 q5 q6 q7 s r' f)
+      go (Ok (h, n)) f e =
+          or_else Err (λ r r' e. err_inj e) Q (not h.current) NotCurrent _ (λ t. q8) (good_refusals a h) r e
 
-taught_place : (buffer : List ℕ) (used store : ℕ) (s : List ℕ) (r : Refusal) → answer_of buffer used store s ≡ NotFed r → refusal_place r ≡ 0
+taught_place : (buffer : List ℕ) (used store : ℕ) (s : List ℕ) (r : Refusal) → answer_of buffer used store s ≡ Err r → refusal_place r ≡ 0
 unfolding answer_of
 taught_place buffer used store s =
-    let next = or_else NotFed (λ r r' (e : NotFed r ≡ NotFed r'). cc) (λ r. refusal_place r ≡ 0) in
+    let next = or_else Err (λ r r' e. err_inj e) (λ r. refusal_place r ≡ 0) in
     next (not (row_fits (length buffer) used (length s))) TeachingBufferFull _ (λ t. refl)
     (next (not (whole_in_use buffer used)) ImpossibleState _ (λ t. refl)
     (answer_refusals (λ r. refusal_place r ≡ 0) refl refl refl refl refl refl refl refl refl refl refl (has_room store) s (account_in store (take used buffer))))
 
 -- the missing number is one of the table's
-taught_handed_place : (buffer : List ℕ) (used store : ℕ) (t : Heading) → teaching.heading_of buffer used store ≡ headed.By t
-    → (out : List ℕ) (r : Refusal) → teaching.handed_of buffer used store out ≡ NotHanded r → refusal_place r ≤ t.last
+taught_handed_place : (buffer : List ℕ) (used store : ℕ) (t : Heading) → teaching.heading_of buffer used store ≡ Ok t
+    → (out : List ℕ) (r : Refusal) → teaching.handed_of buffer used store out ≡ Err r → refusal_place r ≤ t.last
 unfolding teaching.heading_of teaching.headed_to teaching.handed_of teaching.handed_to teaching.handed_table handing.handed_if_room
 taught_handed_place buffer used store t h out = go (whole_in_use buffer used) (account_in store (take used buffer)) h
   where
-    next : (b : Bool) (r' : Refusal) (x : Handed) → (b ≡ true → refusal_place r' ≤ t.last) → ((r : Refusal) → x ≡ NotHanded r → refusal_place r ≤ t.last)
-        → (r : Refusal) → (if b then NotHanded r' else x) ≡ NotHanded r → refusal_place r ≤ t.last
-    next = or_else NotHanded (λ r r' (e : NotHanded r ≡ NotHanded r'). cc) (λ r. refusal_place r ≤ t.last)
+    next : (b : Bool) (r' : Refusal) (x : Result ℕ Refusal) → (b ≡ true → refusal_place r' ≤ t.last) → ((r : Refusal) → x ≡ Err r → refusal_place r ≤ t.last)
+        → (r : Refusal) → (if b then Err r' else x) ≡ Err r → refusal_place r ≤ t.last
+    next = or_else Err (λ r r' e. err_inj e) (λ r. refusal_place r ≤ t.last)
 
-    go : (w : Bool) (a : Account) → (if not w then headed.Refused ImpossibleState else teaching.headed_to a) ≡ headed.By t
-        → (r : Refusal) → (if not w then NotHanded ImpossibleState else teaching.handed_to a (length out)) ≡ NotHanded r → refusal_place r ≤ t.last
+    go : (w : Bool) (a : Account) → (if not w then Err ImpossibleState else teaching.headed_to a) ≡ Ok t
+        → (r : Refusal) → (if not w then Err ImpossibleState else teaching.handed_to a (length out)) ≡ Err r → refusal_place r ≤ t.last
     go false a h = absurd_answer (cc)
     go true idle h = absurd_answer (cc)
     go true (table u S) h =
@@ -278,8 +266,8 @@ taught_handed_place buffer used store t h out = go (whole_in_use buffer used) (a
         let k = absent_from 0 (u.last + 1) S in
         next (not (agreeing S)) Contradiction _ (λ b. zero-le)
         (next (leb k u.last) (Missing k) _ (λ b. omega (arith, leb-true k u.last b, same))
-        (next (ltb (length out) (length (in_order (u.last + 1) S))) OutputTooSmall (Body (length (in_order (u.last + 1) S))) (λ b. zero-le)
-        (λ r (e : Body (length (in_order (u.last + 1) S)) ≡ NotHanded r). absurd_answer (cc))))
+        (next (ltb (length out) (length (in_order (u.last + 1) S))) OutputTooSmall (Ok (length (in_order (u.last + 1) S))) (λ b. zero-le)
+        (λ r (e : Ok (length (in_order (u.last + 1) S)) ≡ Err r). absurd_answer (cc))))
 
 -- ---- the cutter
 
@@ -296,11 +284,11 @@ module _ (body : List ℕ) (kind extension version number : ℕ) where
       (next (ltb room (length (cutter.section_of body kind extension version number))) OutputTooSmall _ (λ t. refl)
       (λ r (e : cutter.writes (cutter.section_of body kind extension version number) ≡ cutter.refuses r). absurd_answer (cc)))))))
 
-  cut_place : (out : List ℕ) (r : Refusal) → cutter.cut_answer body kind extension version number out ≡ NotCut r → refusal_place r ≡ 0
+  cut_place : (out : List ℕ) (r : Refusal) → cutter.cut_answer body kind extension version number out ≡ Err r → refusal_place r ≡ 0
   unfolding cutter.cut_by
   cut_place out r e = go (cutter.cutting body kind extension version number (length out)) (cutting_place (length out)) e
     where
-      go : (v : cutter.Verdict) → ((r : Refusal) → v ≡ cutter.refuses r → refusal_place r ≡ 0) → cutter.cut_by v ≡ NotCut r → refusal_place r ≡ 0
+      go : (v : cutter.Verdict) → ((r : Refusal) → v ≡ cutter.refuses r → refusal_place r ≡ 0) → cutter.cut_by v ≡ Err r → refusal_place r ≡ 0
       go (cutter.refuses r') h e = let same : r' ≡ r = cc in h r (ap cutter.refuses same)
       go (cutter.writes bytes) h e = absurd_answer (cc)
 
@@ -308,46 +296,46 @@ module _ (body : List ℕ) (kind extension version number : ℕ) where
 
 module _ (g : Gathering) where
   -- the missing number is one of the table's
-  missing_place : (r : Refusal) → handing.missing_of (lengths g) ≡ NotComplete r → refusal_place r ≤ g.last
+  missing_place : (r : Refusal) → handing.missing_of (lengths g) ≡ Err r → refusal_place r ≤ g.last
   unfolding handing.missing_of lengths
   missing_place =
-      or_else NotComplete (λ r r' (e : NotComplete r ≡ NotComplete r'). cc) (λ r. refusal_place r ≤ g.last)
-      (ltb (smallest_missing (lengths g)) (length (lengths g))) (Missing (smallest_missing (lengths g))) Complete
+      or_else Err (λ r r' e. err_inj e) (λ r. refusal_place r ≤ g.last)
+      (ltb (smallest_missing (lengths g)) (length (lengths g))) (Missing (smallest_missing (lengths g))) (Ok tt)
       (λ t. let below = simp length-take at (ltb-true (smallest_missing (lengths g)) (length (lengths g)) t) in omega arith)
-      (λ r (e : Complete ≡ NotComplete r). absurd_answer (cc))
+      (λ r (e : ◌≡◌ {A = Result Unit Refusal} (Ok tt) (Err r)). absurd_answer cc)
 
-  complete_place : (bytes : ℕ) (r : Refusal) → handing.complete_of g bytes ≡ NotComplete r → refusal_place r ≤ g.last
+  complete_place : (bytes : ℕ) (r : Refusal) → handing.complete_of g bytes ≡ Err r → refusal_place r ≤ g.last
   unfolding handing.complete_of
   complete_place bytes =
-      let next = or_else NotComplete (λ r r' (e : NotComplete r ≡ NotComplete r'). cc) (λ r. refusal_place r ≤ g.last) in
+      let next = or_else Err (λ r r' e. err_inj e) (λ r. refusal_place r ≤ g.last) in
       next (not (possible_of g)) ImpossibleState _ (λ t. zero-le)
       (next (nothing_begun g) (Missing 0) _ (λ t. zero-le)
       (next (not (has_room bytes g.last)) StoreTooShort _ (λ t. zero-le)
       (next (not (eqb g.spoiled 0)) Contradiction _ (λ t. zero-le) missing_place)))
 
-  fitting_place : (n room : ℕ) (r : Refusal) → handing.handed_if_room n room ≡ NotHanded r → refusal_place r ≤ g.last
+  fitting_place : (n room : ℕ) (r : Refusal) → handing.handed_if_room n room ≡ Err r → refusal_place r ≤ g.last
   unfolding handing.handed_if_room
   fitting_place n room =
-      let next = or_else NotHanded (λ r r' (e : NotHanded r ≡ NotHanded r'). cc) (λ r. refusal_place r ≤ g.last) in
-      next (ltb room n) OutputTooSmall (Body n) (λ t. zero-le) (λ r (e : Body n ≡ NotHanded r). absurd_answer (cc))
+      let next = or_else Err (λ r r' e. err_inj e) (λ r. refusal_place r ≤ g.last) in
+      next (ltb room n) OutputTooSmall (Ok n) (λ t. zero-le) (λ r (e : Ok n ≡ Err r). absurd_answer (cc))
 
-  handed_place : (store out : List ℕ) (r : Refusal) → handing.handed_of g store out ≡ NotHanded r → refusal_place r ≤ g.last
+  handed_place : (store out : List ℕ) (r : Refusal) → handing.handed_of g store out ≡ Err r → refusal_place r ≤ g.last
   unfolding handing.handed_of handing.handed_by
   handed_place store out r e = go (handing.complete_of g (length store)) (complete_place (length store)) e
     where
-      go : (c : Completeness) → ((r : Refusal) → c ≡ NotComplete r → refusal_place r ≤ g.last)
-          → handing.handed_by c (length (handing.body_held g store)) (length out) ≡ NotHanded r → refusal_place r ≤ g.last
-      go (NotComplete r') h e = let same : r' ≡ r = cc in h r (ap NotComplete same)
-      go Complete h e = fitting_place (length (handing.body_held g store)) (length out) r e
+      go : (c : Result Unit Refusal) → ((r : Refusal) → c ≡ Err r → refusal_place r ≤ g.last)
+          → handing.handed_by c (length (handing.body_held g store)) (length out) ≡ Err r → refusal_place r ≤ g.last
+      go (Err r') h e = let same : r' ≡ r = cc in h r (ap Err same)
+      go (Ok tt) h e = fitting_place (length (handing.body_held g store)) (length out) r e
 
-  packed_place : (store : List ℕ) (r : Refusal) → (packing.packing_of g store).answer ≡ NotHanded r → refusal_place r ≤ g.last
+  packed_place : (store : List ℕ) (r : Refusal) → (packing.packing_of g store).answer ≡ Err r → refusal_place r ≤ g.last
   unfolding packing.packing_of packing.packed_of packing.packed_by
   packed_place store r e = go (handing.complete_of g (length store)) (complete_place (length store)) e
     where
-      go : (c : Completeness) → ((r : Refusal) → c ≡ NotComplete r → refusal_place r ≤ g.last)
-          → packing.packed_by c (length (handing.body_held g store)) ≡ NotHanded r → refusal_place r ≤ g.last
-      go (NotComplete r') h e = let same : r' ≡ r = cc in h r (ap NotComplete same)
-      go Complete h e = absurd_answer (cc)
+      go : (c : Result Unit Refusal) → ((r : Refusal) → c ≡ Err r → refusal_place r ≤ g.last)
+          → packing.packed_by c (length (handing.body_held g store)) ≡ Err r → refusal_place r ≤ g.last
+      go (Err r') h e = let same : r' ≡ r = cc in h r (ap Err same)
+      go (Ok tt) h e = absurd_answer (cc)
 
 -- ---- all of them
 

@@ -1,29 +1,26 @@
 -- An identifier's real day: the calendar's test of a date holds exactly if some day of the range has it.
 use Prim.Native.Nat.{ℕ}
+use Rattle.std.specs.Prelude.{Ok}
 use mathlib.Core.Path.{◌≡◌, refl}
 use mathlib.Core.Bool.{Bool, true, false}
 use mathlib.Core.List.{List}
 use native.Mathlib.Omega.{arith}
 use lib.ListN.{length}
-use lib.Dec.{eqb}
 use borrow.Author.Tests.{eq-eqb}
 use Rattle.ground_choices.proofs.Tests.{and_of}
-use Rattle.ground_refusal.specs.declared.Refusal.TheVariants.{ImpossibleDay}
 use Rattle.time_days.specs.Calendar.{day_number, has_day, day_of, date_of}
-use Rattle.time_days.specs.declared.DateAnswer.TheVariants.{On}
 use Rattle.time_days.proofs.Theorems.{date_of_day, day_of_date}
-use Rattle.body_formats.specs.Reading.{unless, is_fine}
 use Rattle.body_formats.specs.Format.{decimal, only, digits}
-use Rattle.body_formats.specs.Identifier.{identifier_year, identifier_month, identifier_day, has_real_day, identifier}
+use Rattle.body_formats.specs.Identifier.{has_real_day, identifier}
 use Rattle.body_formats.proofs.Identifiers.{identifier_digits, identifier_day_lem}
 use Rattle.promises.specs.Demand2.{RealDays}
 
 module _ (y m d : ℕ) where
-  has_date : has_day y m d ≡ true → (n : ℕ) × (date_of n ≡ On (record { year = y; month = m; day = d }))
+  has_date : has_day y m d ≡ true → (n : ℕ) × (date_of n ≡ Ok (record { year = y; month = m; day = d }))
   unfolding day_of
   has_date e = (day_number y m d, date_of_day y m d (day_number y m d) (rw e))
 
-  of_date : (n : ℕ) → date_of n ≡ On (record { year = y; month = m; day = d }) → has_day y m d ≡ true
+  of_date : (n : ℕ) → date_of n ≡ Ok (record { year = y; month = m; day = d }) → has_day y m d ≡ true
   unfolding day_of
   of_date n e = go (has_day y m d) refl
     where

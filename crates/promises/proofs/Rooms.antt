@@ -1,5 +1,6 @@
 -- M-109's promise, by the theorems about two networks over one store.
 use Prim.Native.Nat.{ℕ, ◌≤◌}
+use Rattle.std.specs.Prelude.{Ok}
 use mathlib.Core.List.{List}
 use mathlib.Core.Option.{some}
 use mathlib.Core.Path.{◌≡◌}
@@ -8,7 +9,6 @@ use Rattle.rooms_marks.specs.Rooms.{uses}
 use Rattle.rooms_state.specs.State.{fresh_part, rooms_in, Network, with_mine}
 use Rattle.rooms_state.proofs.Facts.{networks_are}
 use Rattle.rooms_end.specs.Ending.{ended_for, ended_of}
-use Rattle.rooms_end.specs.declared.Ended.TheVariants.{Done}
 use Rattle.rooms_account.specs.Runs.{Box, fresh_box, Asked, ByteCalls}
 use Rattle.rooms_account.proofs.Runs.{run_possible, fresh_possible, from_the_start, agreeing}
 use Rattle.rooms_account.proofs.Refusing.{refused_for_room_lem, takeover_taken, never_ten, refused_leaves, end_refused_leaves}
@@ -29,7 +29,7 @@ once : (store : List ℕ) (asked : List Asked) → ByteCalls asked → (r : ℕ)
 once store asked b = (networks_are (ran_on store asked).state (length store) (rw (long store asked b) at (possible store asked b))).sound.once
 
 ends : (i : Network) (x : Box) → Possible x
-    → ended_of (some i) x.state (length x.store) ≡ record { answer = Done; state = with_mine i x.state fresh_part }
+    → ended_of (some i) x.state (length x.store) ≡ record { answer = (Ok tt); state = with_mine i x.state fresh_part }
 unfolding ended_of ended_for
 ends i x ok = rw ok
 

@@ -1,11 +1,14 @@
 -- None of the useless versions meets the promises: the smallest index table is accepted, and two bodies of one byte come back as they were cut.
 use Prim.Native.Nat.{ℕ, zero, suc, ◌<◌}
+use Rattle.ground_refusal.proofs.Exits.{ok_pair_inj}
+use Rattle.std.specs.Prelude.{Result, Ok, Err}
 use mathlib.Core.Path.{◌≡◌, refl, sym, ap, ◌∙◌}
 use mathlib.Core.Bool.{true}
 use mathlib.Core.List.{List, [], ◌∷◌}
 use native.Mathlib.Omega.{arith}
 use lib.ListN.{length, get_or, replicate}
 use Rattle.ground_numbers.specs.Sizes.{payload_most}
+use Rattle.ground_refusal.specs.declared.Refusal.{Refusal}
 use Rattle.ground_refusal.specs.declared.Refusal.TheVariants.{Missing}
 use Rattle.ground_placing.specs.Placed.{placed}
 use Rattle.crc.specs.Crc.{AreBytes}
@@ -16,12 +19,9 @@ use Rattle.gathering_state.specs.declared.Gathering.{Gathering}
 use Rattle.gathering_state.proofs.State.{fresh_one}
 use Rattle.gathering_feed.specs.Feeding.{fed_of}
 use Rattle.gathering_hand_out.specs.Handing.{complete_of, handed_by, handed_of}
-use Rattle.gathering_hand_out.specs.declared.Handed.TheVariants.{Body, Refused as NotHanded}
 use Rattle.body_formats.specs.Format.{number_at, count, followed, repeat, list_of, rest, exact, view, length_of, counted}
 use Rattle.body_formats.specs.Body.{reading, body_read}
 use Rattle.body_formats.specs.Answers.{number_read}
-use Rattle.body_formats.specs.declared.Step.TheVariants.{At, Refused}
-use Rattle.body_formats.specs.declared.Number.TheVariants.{Is}
 use Rattle.index.specs.Index.{index_kind, index, fields}
 use Rattle.index_fields.specs.Asked.{message_count}
 use Rattle.gathering_account.specs.Gathers.{Box, fresh_box, feed, box_after, HandsOut}
@@ -33,7 +33,7 @@ use Rattle.promises.proofs.Values.{values}
 use Rattle.promises.proofs.Marks.{only_marks}
 
 -- "index body 00 00 00 accepted"
-smallest : body_read index index_kind index_kind (0 ∷ 0 ∷ 0 ∷ []) ≡ At 3
+smallest : body_read index index_kind index_kind (0 ∷ 0 ∷ 0 ∷ []) ≡ Ok 3
 unfolding body_read reading index exact view fields followed list_of count number_at repeat counted length_of rest
 smallest = refl
 
@@ -77,7 +77,7 @@ unfolding box_after feed
 same_state h box [] = refl
 same_state h box (s ∷ fed) = same_state h (feed box s) fed ∙ h box.state box.store s
 
-fresh_hands_nothing : (held out : List ℕ) → handed_of fresh_state held out ≡ NotHanded (Missing 0)
+fresh_hands_nothing : (held out : List ℕ) → handed_of fresh_state held out ≡ Err (Missing 0)
 unfolding handed_of handed_by complete_of possible_of nothing_begun fresh_state
 fresh_hands_nothing held out = rw fresh_one
 
@@ -86,7 +86,7 @@ unfolding fresh_box
 none_taken h =
     let c = comes 0 (omega arith) in
     let box = fed_to store (fed 0 (omega arith)) in
-    let e : Body 1 ≡ NotHanded (Missing 0) =
+    let e : ◌≡◌ {A = Result ℕ Refusal} (Ok 1) (Err (Missing 0)) =
     sym c.answers ∙ ap (λ (g : Gathering). handed_of g box.store (0 ∷ [])) (same_state h (fresh_box store) (fed 0 (omega arith))) ∙ fresh_hands_nothing box.store (0 ∷ []) in
     let z : ◌≡◌ {A = ℕ} 0 1 = cc in
     omega arith
@@ -95,7 +95,7 @@ pub shut_out : ShutOut
 unfolding message_count number_read count number_at
 shut_out =
     record {
-      refuses_all = λ h. let r = h index_kind (0 ∷ 0 ∷ 0 ∷ []) in let e : At 3 ≡ Refused r.0 = sym smallest ∙ r.1 in let z : ◌≡◌ {A = ℕ} 0 1 = cc in omega arith;
+      refuses_all = λ h. let r = h index_kind (0 ∷ 0 ∷ 0 ∷ []) in let e : ◌≡◌ {A = Result ℕ Refusal} (Ok 3) (Err r.0) = sym smallest ∙ r.1 in let z : ◌≡◌ {A = ℕ} 0 1 = cc in omega arith;
       hands_out_nothing = λ h. h _ _ (0 ∷ []) _ (comes 0 (omega arith)).answers;
       same_body = λ body h.
           let a = comes 0 (omega arith) in
@@ -112,8 +112,6 @@ shut_out =
           let z : ◌≡◌ {A = ℕ} 1 2 = cc in
           omega arith;
       same_message_count = λ count after h.
-          let a : Is 0 1 ≡ Is count after = h (0 ∷ []) in
-          let b : Is 1 1 ≡ Is count after = h (1 ∷ []) in
-          let z : ◌≡◌ {A = ℕ} 0 1 = cc in
+          let z : ◌≡◌ {A = ℕ} 0 1 = (ok_pair_inj (h (0 ∷ []) ∙ sym (h (1 ∷ [])))).0 in
           omega arith;
     }

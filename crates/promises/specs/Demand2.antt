@@ -1,27 +1,20 @@
 -- Demand 2, sentence by sentence: tables, sections, times and days are written and read as the standard has them.
-use Rattle.std.specs.Prelude.{ℕ, suc, ◌+◌, ◌≤◌, ◌<◌, ◌≡◌, true, false, List, ◌∷◌, ◌↔◌, length, take}
+use Rattle.std.specs.Prelude.{ℕ, suc, ◌+◌, ◌≤◌, ◌<◌, ◌≡◌, true, false, List, ◌∷◌, ◌↔◌, length, take, Ok, Err}
 use Rattle.ground_refusal.specs.declared.Refusal.TheVariants.{OtherKind, OutsideSet, ImpossibleDay, OtherChecksum}
 use Rattle.ground_placing.specs.Placed.{placed}
 use Rattle.crc_register.specs.Register.{bytes_bits}
 use Rattle.crc.specs.Crc.{AreBytes, crc16_of, crc16_bits}
 use Rattle.time_days.specs.Calendar.{in_range, day_of, date_of, day_after}
 use Rattle.time_days.specs.declared.Date.{Date}
-use Rattle.time_days.specs.declared.DayAnswer.TheVariants.{Day}
-use Rattle.time_days.specs.declared.DateAnswer.TheVariants.{On, Refused as NoDate}
 use Rattle.time_fields.specs.Field.{read_time, write_time}
 use Rattle.time_fields.specs.declared.Moment.{Moment}
-use Rattle.time_fields.specs.declared.Timed.TheVariants as timed
-use Rattle.time_fields.specs.declared.Fielded.TheVariants.{Field}
 use Rattle.section_reader.specs.Section.{IsGood, IsPrinted}
 use Rattle.section_cutter.specs.Cutting.{parts_joined, section_count, part_carried, counted_of, cut_heading, section_of, Allowed, Askable, cut_answer, cut_output}
 use Rattle.section_reader.specs.declared.Heading.{Heading}
-use Rattle.section_cutter.specs.declared.Counted.TheVariants.{Sections}
-use Rattle.section_cutter.specs.declared.Cut.TheVariants.{Written}
 use Rattle.body_formats.specs.Reading.{found, and_then, unless, judged}
 use Rattle.body_formats.specs.Format.{Format, decimal, digits}
 use Rattle.ground_numbers.specs.Sizes.{body_most}
 use Rattle.body_formats.specs.Body.{reading, body_read, measured, writing, body_written, output_written, body_laid, laid_tape}
-use Rattle.body_formats.specs.declared.Step.TheVariants.{At, Refused as NoStep}
 use Rattle.body_formats.specs.Identifier.{identifier_pairs, identifier_year, identifier_month, identifier_day, has_real_day, identifier}
 use Rattle.body_extension.specs.Extension.{identifier_bits, extension_of}
 use Rattle.certificate.specs.Certificate.{Certificates, certificate_kind, certificate}
@@ -29,13 +22,10 @@ use Rattle.certificate_fields.specs.Agreement.{CertificateAsked}
 use Rattle.index.specs.Index.{Index, index_kind, index}
 use Rattle.index_fields.specs.Agreement.{IndexAsked}
 use Rattle.index_records.specs.Agreement.{RecordsAre}
-use Rattle.body_formats.specs.declared.Number.TheVariants.{Refused as NoNumber}
-use Rattle.body_formats.specs.declared.Part.TheVariants.{Refused as NoPart}
 use Rattle.content.specs.Content.{Content, content_kind, content, reading_of, content_read, variant_read, variant_laid, variant_tape}
 use Rattle.content_fields.specs.Asked.{auxiliary_type, auxiliary_part, variant_type, variant_part}
 use Rattle.content_fields.specs.Agreement.{ContentAsked}
 use Rattle.content_writer.specs.Written.{content_written, variant_measured, variant_written, variant_output}
-use Rattle.content_writer.specs.declared.Written.TheVariants.{Of, Refused as NotWritten}
 use Rattle.configuration.specs.Configuration.{Configuration, configuration_kind, configuration}
 use Rattle.configuration_fields.specs.Agreement.{ConfigurationAsked}
 use Rattle.promises.specs.LocalTimes.{LocalTimes}
@@ -64,8 +54,8 @@ pub record WrittenAndRead {A : Type 0} (F : Format A) (own : ℕ) : Type 0 where
   -- a body is read as the table t exactly if it is the bytes of t,
   pub reads_exactly : (kind : ℕ) (body : List ℕ) (t : A) → AreBytes body → (reading F own kind body ≡ found t (length body)) ↔ Holds F own kind body t
   -- it is accepted exactly if it is the bytes of some table, and then read to its end
-  pub accepts_exactly : (kind : ℕ) (body : List ℕ) → AreBytes body → (body_read F own kind body ≡ At (length body)) ↔ ((t : A) × Holds F own kind body t)
-  pub ends : (kind : ℕ) (body : List ℕ) (n : ℕ) → AreBytes body → body_read F own kind body ≡ At n → n ≡ length body
+  pub accepts_exactly : (kind : ℕ) (body : List ℕ) → AreBytes body → (body_read F own kind body ≡ Ok (length body)) ↔ ((t : A) × Holds F own kind body t)
+  pub ends : (kind : ℕ) (body : List ℕ) (n : ℕ) → AreBytes body → body_read F own kind body ≡ Ok n → n ≡ length body
   -- "Each well-formed table reads back as itself": there is a form from which it is written, and what is written from any form reads back
   pub is_written : (t : A) → WellFormed F t → (out : List ℕ) → length (F.print t) ≤ length out
       → writing F (F.print t) (F.tape t 0) (length out) ≡ found t (length (F.print t))
@@ -73,10 +63,10 @@ pub record WrittenAndRead {A : Type 0} (F : Format A) (own : ℕ) : Type 0 where
       → (output_written F pool tape out ≡ placed out 0 (F.print t)) × (n ≡ length (F.print t)) × (reading F own own (F.print t) ≡ found t n)
   -- "each accepted table writes back to its bytes": it is laid onto any tape with room for its entries, and from them it is written
   pub is_laid : (kind : ℕ) (body : List ℕ) (t : A) → reading F own kind body ≡ found t (length body) → (tape : List ℕ) → length (F.tape t 0) ≤ length tape
-      → body_laid F own kind body (length tape) ≡ At (length (F.tape t 0))
-  pub writes_back : (kind : ℕ) (body : List ℕ) → AreBytes body → (tape : List ℕ) (m : ℕ) → body_laid F own kind body (length tape) ≡ At m
+      → body_laid F own kind body (length tape) ≡ Ok (length (F.tape t 0))
+  pub writes_back : (kind : ℕ) (body : List ℕ) → AreBytes body → (tape : List ℕ) (m : ℕ) → body_laid F own kind body (length tape) ≡ Ok m
       → (out : List ℕ) → length body ≤ length out
-      → (body_written F body (take m (laid_tape F own kind body tape)) (length out) ≡ At (length body))
+      → (body_written F body (take m (laid_tape F own kind body tape)) (length out) ≡ Ok (length body))
       × (output_written F body (take m (laid_tape F own kind body tape)) out ≡ placed out 0 body)
 
 -- M-103: "The checksum is over the 140 bits alone, high bit first, from the same start value"
@@ -91,7 +81,7 @@ pub record Checked : Type 0 where
 pub record RealDays : Type 0 where
   -- an identifier can be sent exactly if its 35 digits are decimal and some day of the range has the date that eight of them are
   pub sent_exactly : (ds : List ℕ) → (identifier.writable ds ≡ true) ↔ ((length ds ≡ 35) × (decimal ds ≡ true)
-      × ((n : ℕ) × (date_of n ≡ On (record { year = identifier_year ds; month = identifier_month ds; day = identifier_day ds }))))
+      × ((n : ℕ) × (date_of n ≡ Ok (record { year = identifier_year ds; month = identifier_month ds; day = identifier_day ds }))))
   -- "20 at the identifier's place, after 18": where its digits are found, in a body and in a form, their day decides; what is refused before stays
   pub read_judged : (s : List ℕ) (l p : ℕ)
       → identifier.parse s l p ≡ and_then ((digits identifier_pairs).parse s l p) (λ ds q. judged (unless (has_real_day ds) (ImpossibleDay p)) (found ds q))
@@ -107,18 +97,18 @@ pub record Extended (w : ℕ) : Type 0 where
   pub reads_exactly : (kind extension : ℕ) (body : List ℕ) (t : Content) → AreBytes body
       → (reading_of w kind extension body ≡ found t (length body)) ↔ HoldsContent w kind extension body t
   pub accepts_exactly : (kind extension : ℕ) (body : List ℕ) → AreBytes body
-      → (content_read w kind extension body ≡ At (length body)) ↔ ((t : Content) × HoldsContent w kind extension body t)
+      → (content_read w kind extension body ≡ Ok (length body)) ↔ ((t : Content) × HoldsContent w kind extension body t)
   -- "the content writer also gives the extension": what it wrote reads back with the one that it gave
-  pub written_with : (pool tape out : List ℕ) (n extension : ℕ) → content_written w pool tape (length out) ≡ Of n extension
+  pub written_with : (pool tape out : List ℕ) (n extension : ℕ) → content_written w pool tape (length out) ≡ Ok (n, extension)
       → (t : Content) × (output_written (content w) pool tape out ≡ placed out 0 ((content w).print t)) × (reading_of w content_kind extension ((content w).print t) ≡ found t n)
   -- with the checksum of before M-103, over the 18 bytes, none is accepted: 23
   pub old_refused : (kind : ℕ) (body : List ℕ) (t : Content) → Holds (content w) content_kind kind body t
-      → content_read w kind (crc16_of (take 18 body)) body ≡ NoStep OtherChecksum
+      → content_read w kind (crc16_of (take 18 body)) body ≡ Err OtherChecksum
 
 -- "The smallest body is 33 bytes": no accepted one is shorter, and one has as many
 pub record Smallest (w : ℕ) : Type 0 where
-  pub least : (kind extension : ℕ) (body : List ℕ) (n : ℕ) → AreBytes body → content_read w kind extension body ≡ At n → 33 ≤ length body
-  pub reached : (extension : ℕ) × (body : List ℕ) × AreBytes body × (length body ≡ 33) × (content_read w content_kind extension body ≡ At 33)
+  pub least : (kind extension : ℕ) (body : List ℕ) (n : ℕ) → AreBytes body → content_read w kind extension body ≡ Ok n → 33 ≤ length body
+  pub reached : (extension : ℕ) × (body : List ℕ) × AreBytes body × (length body ≡ 33) × (content_read w content_kind extension body ≡ Ok 33)
 
 -- M-107: "Prove reading and writing once over the width": of content tables whose auxiliary files have lengths of w bytes
 pub record OfWidth (w : ℕ) : Type 0 where
@@ -140,16 +130,16 @@ pub record IsVariant (v w : ℕ) : Type 0 where
 
 -- "Refusals: 19 for any other variant, after 2", before all else, whatever the body or the form, and nothing is written
 pub record NoVariant (v : ℕ) : Type 0 where
-  pub other_kind : (kind extension : ℕ) (body : List ℕ) → (kind ≡ content_kind → ⊥) → variant_read kind v extension body ≡ NoStep OtherKind
-  pub other_kind_laid : (kind : ℕ) (body : List ℕ) (room : ℕ) → (kind ≡ content_kind → ⊥) → variant_laid kind v body room ≡ NoStep OtherKind
-  pub unread : (extension : ℕ) (body : List ℕ) → variant_read content_kind v extension body ≡ NoStep (OutsideSet 0)
-  pub unlaid : (body : List ℕ) (room : ℕ) → variant_laid content_kind v body room ≡ NoStep (OutsideSet 0)
+  pub other_kind : (kind extension : ℕ) (body : List ℕ) → (kind ≡ content_kind → ⊥) → variant_read kind v extension body ≡ Err OtherKind
+  pub other_kind_laid : (kind : ℕ) (body : List ℕ) (room : ℕ) → (kind ≡ content_kind → ⊥) → variant_laid kind v body room ≡ Err OtherKind
+  pub unread : (extension : ℕ) (body : List ℕ) → variant_read content_kind v extension body ≡ Err (OutsideSet 0)
+  pub unlaid : (body : List ℕ) (room : ℕ) → variant_laid content_kind v body room ≡ Err (OutsideSet 0)
   pub tape_stays : (kind : ℕ) (body tape : List ℕ) → variant_tape kind v body tape ≡ tape
-  pub unmeasured : (pool tape : List ℕ) → variant_measured v pool tape ≡ NoStep (OutsideSet 0)
-  pub unwritten : (pool tape : List ℕ) (room : ℕ) → variant_written v pool tape room ≡ NotWritten (OutsideSet 0)
+  pub unmeasured : (pool tape : List ℕ) → variant_measured v pool tape ≡ Err (OutsideSet 0)
+  pub unwritten : (pool tape : List ℕ) (room : ℕ) → variant_written v pool tape room ≡ Err (OutsideSet 0)
   pub output_stays : (pool tape out : List ℕ) → variant_output v pool tape out ≡ out
-  pub no_type : (body : List ℕ) (at n i : ℕ) → variant_type v body at n i ≡ NoNumber (OutsideSet 0)
-  pub no_file : (body : List ℕ) (at n i : ℕ) → variant_part v body at n i ≡ NoPart (OutsideSet 0)
+  pub no_type : (body : List ℕ) (at n i : ℕ) → variant_type v body at n i ≡ Err (OutsideSet 0)
+  pub no_file : (body : List ℕ) (at n i : ℕ) → variant_part v body at n i ≡ Err (OutsideSet 0)
 
 -- "Demand 2 is read per variant; 01's cases are the 24-bit one"
 pub record Variants : Type 0 where
@@ -164,13 +154,13 @@ pub record SectionsRead : Type 0 where
   -- a byte string is good exactly if it is the section printed of its heading and its payload
   pub good_exactly : (s : List ℕ) (h : Heading) (payload : List ℕ) → AreBytes s → IsGood s h payload ↔ IsPrinted s h payload
   -- "A body of L bytes (1 to 1,045,504) makes the ceiling of L ÷ 4,084 sections"
-  pub counted : (n : ℕ) → 0 < n → n ≤ body_most → counted_of n ≡ Sections (section_count n)
+  pub counted : (n : ℕ) → 0 < n → n ≤ body_most → counted_of n ≡ Ok (section_count n)
   -- what the cutter writes is good, with the heading asked for and its part of the body
-  pub cut_reads : (body : List ℕ) (kind extension version number : ℕ) (out : List ℕ) (n : ℕ) → cut_answer body kind extension version number out ≡ Written n
+  pub cut_reads : (body : List ℕ) (kind extension version number : ℕ) (out : List ℕ) (n : ℕ) → cut_answer body kind extension version number out ≡ Ok n
       → IsGood (take n (cut_output body kind extension version number out)) (cut_heading (length body) kind extension version number) (part_carried body number)
   -- it writes each of them, where the output has room
   pub is_cut : (body : List ℕ) (kind extension version number : ℕ) → Askable (length body) kind extension version number
-      → (out : List ℕ) → length (part_carried body number) + 12 ≤ length out → cut_answer body kind extension version number out ≡ Written (length (part_carried body number) + 12)
+      → (out : List ℕ) → length (part_carried body number) + 12 ≤ length out → cut_answer body kind extension version number out ≡ Ok (length (part_carried body number) + 12)
   -- and all of them joined are the body
   pub cut_joined : (body : List ℕ) (kind extension version : ℕ) → Allowed kind extension version → 0 < length body → length body ≤ body_most
       → parts_joined (section_of body kind extension version) (section_count (length body)) ≡ body
@@ -179,19 +169,19 @@ pub record SectionsRead : Type 0 where
 
 -- a time field and the moment that it says, both ways
 pub record Times : Type 0 where
-  pub writes_read : (field at : ℕ) (m : Moment) → read_time field at ≡ timed.At m → write_time m ≡ Field field
-  pub reads_written : (m : Moment) (at field : ℕ) → write_time m ≡ Field field → read_time field at ≡ timed.At m
+  pub writes_read : (field at : ℕ) (m : Moment) → read_time field at ≡ Ok m → write_time m ≡ Ok field
+  pub reads_written : (m : Moment) (at field : ℕ) → write_time m ≡ Ok field → read_time field at ≡ Ok m
 
 -- "days agree with the Gregorian calendar from 1 March 1900 to 22 April 2038"
 pub record Days : Type 0 where
-  pub starts : date_of 15079 ≡ On (record { year = 1900; month = 3; day = 1 })
+  pub starts : date_of 15079 ≡ Ok (record { year = 1900; month = 3; day = 1 })
   -- each day has the date after the last one's, by leap years and the months' lengths
-  pub goes_on : (n : ℕ) (date : Date) → date_of n ≡ On date → n < 65535 → date_of (suc n) ≡ On (day_after date)
-  pub ends : date_of 65535 ≡ On (record { year = 2038; month = 4; day = 22 })
-  pub no_other : (n : ℕ) → in_range n ≡ false → date_of n ≡ NoDate (ImpossibleDay 0)
+  pub goes_on : (n : ℕ) (date : Date) → date_of n ≡ Ok date → n < 65535 → date_of (suc n) ≡ Ok (day_after date)
+  pub ends : date_of 65535 ≡ Ok (record { year = 2038; month = 4; day = 22 })
+  pub no_other : (n : ℕ) → in_range n ≡ false → date_of n ≡ Err (ImpossibleDay 0)
   -- the day of a date and the date of a day are each other's inverse
-  pub date_of_day : (y m d n : ℕ) → day_of y m d ≡ Day n → date_of n ≡ On (record { year = y; month = m; day = d })
-  pub day_of_date : (n : ℕ) (date : Date) → date_of n ≡ On date → day_of date.year date.month date.day ≡ Day n
+  pub date_of_day : (y m d n : ℕ) → day_of y m d ≡ Ok n → date_of n ≡ Ok (record { year = y; month = m; day = d })
+  pub day_of_date : (n : ℕ) (date : Date) → date_of n ≡ Ok date → day_of date.year date.month date.day ≡ Ok n
 
 -- ---- the demand
 

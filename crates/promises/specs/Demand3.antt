@@ -1,12 +1,11 @@
 -- Demand 3: the gathering, over any byte strings that are fed to a fresh state and any store. Its words are defined in `Account`, `Latest` and `Answering`
 -- of `gathering_account`, with no state and no store: `account` is the fixed table with its good, current sections from the latest takeover on,
 -- `Complete` that they "cover every number and no two of one number differ", `body_of` "their contents in number order", and `answer_to` what a feed answers.
-use Rattle.std.specs.Prelude.{ℕ, ◌+◌, ◌≤◌, ◌<◌, ◌≡◌, true, length, get_or}
+use Rattle.std.specs.Prelude.{ℕ, ◌+◌, ◌≤◌, ◌<◌, ◌≡◌, true, length, get_or, Ok}
 use mathlib.Core.List.{List, [], ◌∷◌, ◌++◌, map, flatten}
 use Rattle.section_cutter.specs.Cutting.{parts_joined, section_count, cut_heading, section_of, Allowed}
 use Rattle.section_reader.specs.Section.{payload_of, read_section, WellFormed}
 use Rattle.section_reader.specs.declared.Heading.{Heading}
-use Rattle.section_reader.specs.declared.Sectioned.TheVariants.{Good}
 use Rattle.ground_placing.specs.Placed.{placed}
 use Rattle.gathering_state.specs.State.{fresh_state, possible_of, CountsRight, place, has_room, opened, with_section}
 use Rattle.gathering_state.specs.declared.Gathering.{Gathering}
@@ -15,7 +14,6 @@ use Rattle.gathering_verdict.specs.Deciding.{fixed_heading}
 use Rattle.gathering_feed.specs.Feeding.{fed_of, store_after}
 use Rattle.gathering_feed.specs.declared.Answer.TheVariants.{Taken}
 use Rattle.gathering_hand_out.specs.Handing.{handed_of, out_after}
-use Rattle.gathering_hand_out.specs.declared.Handed.TheVariants.{Body}
 use Rattle.gathering_pack.specs.Packing.{packing_of, store_packed}
 use Rattle.ground_numbers.specs.Sizes.{payload_most, body_most}
 use Rattle.crc.specs.Crc.{AreBytes}
@@ -47,12 +45,12 @@ pub record Demand3 : Type 0 where
   -- a run of feeds alone is such a run, so that what follows is said of runs of feeds
   pub feeds_alone : (store : List ℕ) (fed : List (List ℕ)) → (called_on store (map feeding fed) ≡ fed_to store fed) × (heard_in_calls store (map feeding fed) ≡ heard_by store fed)
   -- "a body is handed out exactly when the good, current sections of the fixed table cover every number and no two of one number differ": only then,
-  pub only_when : (store : List ℕ) (fed : List (List ℕ)) → ByteStrings fed → (out : List ℕ) (n : ℕ) → handing (fed_to store fed) out ≡ Body n → Complete (heard_by store fed)
+  pub only_when : (store : List ℕ) (fed : List (List ℕ)) → ByteStrings fed → (out : List ℕ) (n : ℕ) → handing (fed_to store fed) out ≡ Ok n → Complete (heard_by store fed)
   -- and then, if the output has room;
   pub when : (store : List ℕ) (fed : List (List ℕ)) → ByteStrings fed → (out : List ℕ) → Complete (heard_by store fed) → length (body_of (heard_by store fed)) ≤ length out
       → HandsOut (fed_to store fed) out (body_of (heard_by store fed))
   -- "and it is their contents in number order"
-  pub body_is : (store : List ℕ) (fed : List (List ℕ)) → ByteStrings fed → (out : List ℕ) (n : ℕ) → handing (fed_to store fed) out ≡ Body n
+  pub body_is : (store : List ℕ) (fed : List (List ℕ)) → ByteStrings fed → (out : List ℕ) (n : ℕ) → handing (fed_to store fed) out ≡ Ok n
       → HandsOut (fed_to store fed) out (body_of (heard_by store fed))
   -- every answer, refusals too
   pub answers : (store : List ℕ) (fed : List (List ℕ)) → ByteStrings fed → (out : List ℕ) → Answers (fed_to store fed) out (heard_by store fed)
@@ -67,9 +65,9 @@ pub record Demand3 : Type 0 where
   pub has_room_lem : (store : List ℕ) (fed : List (List ℕ)) (t : Heading) (S : List Section) → heard_by store fed ≡ table t S → has_room (length store) t.last ≡ true
   -- "the gathering shall start over with that section, spoiled or not", whatever possible state C has lent: 'taken', the state of the new table with the
   -- section alone, and of the store only its payload's place is written;
-  pub takes_over : (g : Gathering) (store s : List ℕ) (h : Heading) (n : ℕ) → possible_of g ≡ true → read_section s ≡ Good h n → h.current ≡ true
+  pub takes_over : (g : Gathering) (store s : List ℕ) (h : Heading) (n : ℕ) → possible_of g ≡ true → read_section s ≡ Ok (h, n) → h.current ≡ true
       → is_newer (fixed_heading g) h ≡ true → has_room (length store) h.last ≡ true
-      → (fed_of g store s ≡ record { answer = Taken; state = with_section (opened h) h.number (length (payload_of s)) })
+      → (fed_of g store s ≡ record { answer = (Ok Taken); state = with_section (opened h) h.number (length (payload_of s)) })
       × (store_after g store s ≡ placed store (place h.number) (payload_of s))
   -- "After every operation they equal what counting afresh gives": how many sections are missing and how many bytes are held, as the state keeps them,
   -- from a fresh state on,
@@ -80,14 +78,14 @@ pub record Demand3 : Type 0 where
   pub counts_stay_right : (box : Box) → length box.state.held ≡ 256 → possible_of box.state ≡ true → (fed : List (List ℕ)) → ByteStrings fed
       → CountsRight (box_after box fed).state
   -- what is not 'taken' leaves them: a repeat, a contradiction, by which a gathering is spoiled, and every other refusal;
-  pub counts_stay : (g : Gathering) (store s : List ℕ) → ((fed_of g store s).answer ≡ Taken → ⊥)
+  pub counts_stay : (g : Gathering) (store s : List ℕ) → ((fed_of g store s).answer ≡ (Ok Taken) → ⊥)
       → ((fed_of g store s).state.missing ≡ g.missing) × ((fed_of g store s).state.bytes ≡ g.bytes)
   -- after a takeover they count the new table alone;
-  pub takeover_counts : (g : Gathering) (store s : List ℕ) (h : Heading) (n : ℕ) → possible_of g ≡ true → read_section s ≡ Good h n → h.current ≡ true
+  pub takeover_counts : (g : Gathering) (store s : List ℕ) (h : Heading) (n : ℕ) → possible_of g ≡ true → read_section s ≡ Ok (h, n) → h.current ≡ true
       → is_newer (fixed_heading g) h ≡ true → has_room (length store) h.last ≡ true
       → ((fed_of g store s).state.missing ≡ h.last) × ((fed_of g store s).state.bytes ≡ length (payload_of s))
   -- and of a table that is handed out none is missing, and its bytes are the body's
-  pub whole_counts : (g : Gathering) (store out : List ℕ) (n : ℕ) → length g.held ≡ 256 → g.last ≤ 255 → handed_of g store out ≡ Body n
+  pub whole_counts : (g : Gathering) (store out : List ℕ) (n : ℕ) → length g.held ≡ 256 → g.last ≤ 255 → handed_of g store out ≡ Ok n
       → (g.missing ≡ 0) × (g.bytes ≡ n)
   -- "Demand 3 then reads from the latest takeover": what is fixed is what one section began and those of its heading after it
   pub latest : (store : List ℕ) (fed : List (List ℕ)) → Latest (has_room (length store)) fed (heard_by store fed)
@@ -119,7 +117,7 @@ pub record Demand3 : Type 0 where
   pub packs_as_handing : (g : Gathering) (store : List ℕ) → length g.held ≡ 256
       → ((packing_of g store).answer ≡ handed_of g store store) × (store_packed g store ≡ out_after g store store)
   -- a packed table's state is fresh, "The total of held bytes before equals the body length after";
-  pub packs_counted : (g : Gathering) (store : List ℕ) (n : ℕ) → length g.held ≡ 256 → (packing_of g store).answer ≡ Body n
+  pub packs_counted : (g : Gathering) (store : List ℕ) (n : ℕ) → length g.held ≡ 256 → (packing_of g store).answer ≡ Ok n
       → ((packing_of g store).state ≡ fresh_state) × (g.bytes ≡ n)
   -- a possible state stays possible, with its counts right, and the store is as long as it was
   pub packs_possible : (g : Gathering) (store : List ℕ) → possible_of g ≡ true

@@ -50,11 +50,10 @@ use Rattle.configuration_fields.specs.Asked.{return_address, period, volume, par
 use Rattle.teaching_feed.specs.Feeding.{taught_of, buffer_after}
 use Rattle.teaching_hand_out.specs.Asking as teaching_hand_out
 use Rattle.teaching_hand_out.specs.Asking.{heading_of, lacking_of}
-use Rattle.c_answers.specs.Answers.{day_answer, date_answer, weekday_answer, field_answer, local_answer, showing_answer, printed_answer, times_answer}
-use Rattle.c_answers.specs.Answers.{fields_after, salvaged_answer, section_answer, stated_answer, count_answer, length_answer, pack_answer, unpack_answer}
-use Rattle.c_answers.specs.Answers.{feed_answer, hand_answer, read_answer, number_answer, part_answer, written_answer, local_field_answer, content_answer}
+use Rattle.c_answers.specs.Answers.{value_answer, date_answer, local_answer, showing_answer, times_answer, fields_after, salvaged_answer, section_answer}
+use Rattle.c_answers.specs.Answers.{feed_answer, read_answer, number_answer, part_answer, local_field_answer, content_answer}
 use Rattle.c_answers.specs.Version.{version}
-use Rattle.c_rooms_answers.specs.Answers.{ended_answer, rooms_answer}
+use Rattle.c_rooms_answers.specs.Answers.{ended_answer}
 use Rattle.c_teaching_answers.specs.Answers.{headed_answer, lacking_answer}
 use Rattle.promises.specs.Determined.{Determined, Determined₂, Determined₃}
 
@@ -63,20 +62,20 @@ pub record Offered : Type 0 where
   pub nw_crc32 : (s : List ℕ) → Determined (λ r. r ≡ crc32_of s)
   pub nw_crc16 : (s : List ℕ) → Determined (λ r. r ≡ crc16_of s)
   -- Days, dates and weekdays for C.
-  pub nw_day_of : (year month day : ℕ) → Determined (λ r. r ≡ day_answer (day_of year month day))
+  pub nw_day_of : (year month day : ℕ) → Determined (λ r. r ≡ value_answer (day_of year month day))
   pub nw_date_of : (day : ℕ) → Determined (λ r. r ≡ date_answer (date_of day))
-  pub nw_weekday : (day : ℕ) → Determined (λ r. r ≡ weekday_answer (weekday_of day))
+  pub nw_weekday : (day : ℕ) → Determined (λ r. r ≡ value_answer (weekday_of day))
   -- Time fields, local times and the instant for C.
   pub nw_time_pack : (year month day hour minute second : ℕ) (offset : ℤ) →
-      Determined (λ r. r ≡ field_answer (pack_of (record { year = year; month = month; day = day; hour = hour; minute = minute; second = second }) offset))
-  pub nw_time_read_text : (text : List ℕ) (offset : ℤ) → Determined (λ r. r ≡ field_answer (read_text text offset))
+      Determined (λ r. r ≡ value_answer (pack_of (record { year = year; month = month; day = day; hour = hour; minute = minute; second = second }) offset))
+  pub nw_time_read_text : (text : List ℕ) (offset : ℤ) → Determined (λ r. r ≡ value_answer (read_text text offset))
   pub nw_time_unpack : (field : ℕ) (offset : ℤ) → Determined (λ r. r ≡ local_answer (unpack_of field offset))
   pub nw_time_showing : (start end day second : ℕ) → Determined (λ r. r ≡ showing_answer (showing start end (record { day = day; second = second })))
   -- Times for people, for C: a time field printed day first, or as the word live, and both times of a form typed together.
   pub nw_time_print_start : (field : ℕ) (offset : ℤ) (out : List ℕ) →
-      Determined₂ (λ r out'. (r ≡ printed_answer (printed_of (start_text field offset) out)) × (out' ≡ output_of (start_text field offset) out))
+      Determined₂ (λ r out'. (r ≡ value_answer (printed_of (start_text field offset) out)) × (out' ≡ output_of (start_text field offset) out))
   pub nw_time_print_end : (field : ℕ) (offset : ℤ) (out : List ℕ) →
-      Determined₂ (λ r out'. (r ≡ printed_answer (printed_of (end_text field offset) out)) × (out' ≡ output_of (end_text field offset) out))
+      Determined₂ (λ r out'. (r ≡ value_answer (printed_of (end_text field offset) out)) × (out' ≡ output_of (end_text field offset) out))
   pub nw_times_read_text : (start end : List ℕ) (live : ℕ) (offset : ℤ) (fields : List ℕ) →
       Determined₂ (λ r fields'. (r ≡ times_answer (typed_times start (not (eqb live 0)) end offset)) ×
       (fields' ≡ fields_after (typed_times start (not (eqb live 0)) end offset) fields))
@@ -87,16 +86,16 @@ pub record Offered : Type 0 where
       (runs' ≡ list_after capture out runs))
   -- Sections for C: one read, its length looked up, and a body cut.
   pub nw_section_read : (s : List ℕ) → Determined (λ r. r ≡ section_answer (read_section s))
-  pub nw_section_length : (s : List ℕ) → Determined (λ r. r ≡ stated_answer (stated_length s))
-  pub nw_section_count : (length : ℕ) → Determined (λ r. r ≡ count_answer (counted_of length))
+  pub nw_section_length : (s : List ℕ) → Determined (λ r. r ≡ value_answer (stated_length s))
+  pub nw_section_count : (length : ℕ) → Determined (λ r. r ≡ value_answer (counted_of length))
   pub nw_section_cut : (body : List ℕ) (kind extension version number : ℕ) (out : List ℕ) →
-      Determined₂ (λ r out'. (r ≡ length_answer (cut_answer body kind extension version number out)) ×
+      Determined₂ (λ r out'. (r ≡ value_answer (cut_answer body kind extension version number out)) ×
       (out' ≡ cut_output body kind extension version number out))
   -- Packets for C: a section packed, and one packet unpacked over the state that C lends.
   pub nw_packet_pack : (section : List ℕ) (counter : ℕ) (out : List ℕ) →
-      Determined₂ (λ r out'. (r ≡ pack_answer (packed_of counter section out)) × (out' ≡ packets_over counter section out))
+      Determined₂ (λ r out'. (r ≡ value_answer (packed_of counter section out)) × (out' ≡ packets_over counter section out))
   pub nw_packet_unpack : (state packet out : List ℕ) →
-      Determined₃ (λ r state' out'. (r ≡ unpack_answer (completed_of state packet out)) ×
+      Determined₃ (λ r state' out'. (r ≡ value_answer (completed_of state packet out)) ×
       (state' ≡ state_after state packet out) ×
       (out' ≡ sections_over state packet out))
   -- The gathering as C has it: a pointer to the state, byte strings as pointer and length, and one number for the answer.
@@ -105,9 +104,9 @@ pub record Offered : Type 0 where
       (g' ≡ (gathering_feed.fed_of g store s).state) ×
       (store' ≡ gathering_feed.store_after g store s))
   pub nw_gathering_hand_out : (g : Gathering) (store out : List ℕ) →
-      Determined₂ (λ r out'. (r ≡ hand_answer (gathering_hand_out.handed_of g store out)) × (out' ≡ gathering_hand_out.out_after g store out))
+      Determined₂ (λ r out'. (r ≡ value_answer (gathering_hand_out.handed_of g store out)) × (out' ≡ gathering_hand_out.out_after g store out))
   pub nw_gathering_pack : (g : Gathering) (store : List ℕ) →
-      Determined₃ (λ r g' store'. (r ≡ hand_answer (packing_of g store).answer) × (g' ≡ (packing_of g store).state) × (store' ≡ store_packed g store))
+      Determined₃ (λ r g' store'. (r ≡ value_answer (packing_of g store).answer) × (g' ≡ (packing_of g store).state) × (store' ≡ store_packed g store))
   -- The certificate table for C.
   pub nw_certificate_read : (kind : ℕ) (body : List ℕ) → Determined (λ r. r ≡ read_answer (body_read certificate certificate_kind kind body))
   pub nw_certificate_authorization_count : (body : List ℕ) → Determined (λ r. r ≡ number_answer (authorization_count body))
@@ -115,19 +114,19 @@ pub record Offered : Type 0 where
   pub nw_certificate_certificate_count : (body : List ℕ) → Determined (λ r. r ≡ number_answer (certificate_count body))
   pub nw_certificate_certificate : (body : List ℕ) (i : ℕ) → Determined (λ r. r ≡ part_answer (certificate_part body i))
   pub nw_certificate_signature : (body : List ℕ) → Determined (λ r. r ≡ part_answer (certificate_fields.signature_part body))
-  pub nw_certificate_measure : (pool tape : List ℕ) → Determined (λ r. r ≡ written_answer (measured certificate pool tape))
+  pub nw_certificate_measure : (pool tape : List ℕ) → Determined (λ r. r ≡ value_answer (measured certificate pool tape))
   pub nw_certificate_write : (pool tape out : List ℕ) →
-      Determined₂ (λ r out'. (r ≡ written_answer (body_written certificate pool tape (length out))) × (out' ≡ output_written certificate pool tape out))
+      Determined₂ (λ r out'. (r ≡ value_answer (body_written certificate pool tape (length out))) × (out' ≡ output_written certificate pool tape out))
   pub nw_certificate_lay : (kind : ℕ) (body tape : List ℕ) →
-      Determined₂ (λ r tape'. (r ≡ written_answer (body_laid certificate certificate_kind kind body (length tape))) ×
+      Determined₂ (λ r tape'. (r ≡ value_answer (body_laid certificate certificate_kind kind body (length tape))) ×
       (tape' ≡ laid_tape certificate certificate_kind kind body tape))
   -- The index table for C: read, laid onto a form, written from one.
   pub nw_index_read : (kind : ℕ) (body : List ℕ) → Determined (λ r. r ≡ read_answer (body_read index index_kind kind body))
   pub nw_index_lay : (kind : ℕ) (body tape : List ℕ) →
-      Determined₂ (λ r tape'. (r ≡ written_answer (body_laid index index_kind kind body (length tape))) × (tape' ≡ laid_tape index index_kind kind body tape))
-  pub nw_index_measure : (pool tape : List ℕ) → Determined (λ r. r ≡ written_answer (measured index pool tape))
+      Determined₂ (λ r tape'. (r ≡ value_answer (body_laid index index_kind kind body (length tape))) × (tape' ≡ laid_tape index index_kind kind body tape))
+  pub nw_index_measure : (pool tape : List ℕ) → Determined (λ r. r ≡ value_answer (measured index pool tape))
   pub nw_index_write : (pool tape out : List ℕ) →
-      Determined₂ (λ r out'. (r ≡ written_answer (body_written index pool tape (length out))) × (out' ≡ output_written index pool tape out))
+      Determined₂ (λ r out'. (r ≡ value_answer (body_written index pool tape (length out))) × (out' ≡ output_written index pool tape out))
   -- The fields of a descriptor or a stream for C, asked for one by one, and how many there are.
   pub nw_descriptor_tag : (body : List ℕ) (at length : ℕ) → Determined (λ r. r ≡ number_answer (descriptor_tag body at length))
   pub nw_descriptor_bytes : (body : List ℕ) (at length : ℕ) → Determined (λ r. r ≡ part_answer (descriptor_part body at length))
@@ -163,12 +162,12 @@ pub record Offered : Type 0 where
   pub nw_message_local_end : (body : List ℕ) (at length : ℕ) (offset : ℤ) → Determined (λ r. r ≡ local_field_answer offset (end body at length))
   -- The message records of an index table for C, which lends the list.
   pub nw_index_records : (kind : ℕ) (body : List ℕ) (list : List Record) →
-      Determined₂ (λ r list'. (r ≡ written_answer (body_recorded kind body (length list))) × (list' ≡ recorded kind body list))
+      Determined₂ (λ r list'. (r ≡ value_answer (body_recorded kind body (length list))) × (list' ≡ recorded kind body list))
   -- The content table of either variant for C: read with its extension, laid onto a form, written from one with its extension.
   pub nw_content_read : (kind variant extension : ℕ) (body : List ℕ) → Determined (λ r. r ≡ read_answer (variant_read kind variant extension body))
   pub nw_content_lay : (kind variant : ℕ) (body tape : List ℕ) →
-      Determined₂ (λ r tape'. (r ≡ written_answer (variant_laid kind variant body (length tape))) × (tape' ≡ variant_tape kind variant body tape))
-  pub nw_content_measure : (variant : ℕ) (pool tape : List ℕ) → Determined (λ r. r ≡ written_answer (variant_measured variant pool tape))
+      Determined₂ (λ r tape'. (r ≡ value_answer (variant_laid kind variant body (length tape))) × (tape' ≡ variant_tape kind variant body tape))
+  pub nw_content_measure : (variant : ℕ) (pool tape : List ℕ) → Determined (λ r. r ≡ value_answer (variant_measured variant pool tape))
   pub nw_content_write : (variant : ℕ) (pool tape out : List ℕ) →
       Determined₂ (λ r out'. (r ≡ content_answer (variant_written variant pool tape (length out))) × (out' ≡ variant_output variant pool tape out))
   -- The fields of a content table for C, asked for one by one.
@@ -188,11 +187,11 @@ pub record Offered : Type 0 where
   -- The configuration table for C: read, laid onto a form, written from one.
   pub nw_configuration_read : (kind : ℕ) (body : List ℕ) → Determined (λ r. r ≡ read_answer (body_read configuration configuration_kind kind body))
   pub nw_configuration_lay : (kind : ℕ) (body tape : List ℕ) →
-      Determined₂ (λ r tape'. (r ≡ written_answer (body_laid configuration configuration_kind kind body (length tape))) ×
+      Determined₂ (λ r tape'. (r ≡ value_answer (body_laid configuration configuration_kind kind body (length tape))) ×
       (tape' ≡ laid_tape configuration configuration_kind kind body tape))
-  pub nw_configuration_measure : (pool tape : List ℕ) → Determined (λ r. r ≡ written_answer (measured configuration pool tape))
+  pub nw_configuration_measure : (pool tape : List ℕ) → Determined (λ r. r ≡ value_answer (measured configuration pool tape))
   pub nw_configuration_write : (pool tape out : List ℕ) →
-      Determined₂ (λ r out'. (r ≡ written_answer (body_written configuration pool tape (length out))) × (out' ≡ output_written configuration pool tape out))
+      Determined₂ (λ r out'. (r ≡ value_answer (body_written configuration pool tape (length out))) × (out' ≡ output_written configuration pool tape out))
   -- The fields of a configuration table and of its commands for C, asked for one by one.
   pub nw_configuration_command_count : (body : List ℕ) → Determined (λ r. r ≡ number_answer (command_count body))
   pub nw_configuration_command : (body : List ℕ) (i : ℕ) → Determined (λ r. r ≡ part_answer (command_part body i))
@@ -229,19 +228,20 @@ pub record Offered : Type 0 where
       (x' ≡ (rooms_feed.fed_of (network_of network) x store s).state) ×
       (store' ≡ rooms_feed.store_after (network_of network) x store s))
   pub nw_networks_hand_out : (x : Networks) (network : ℕ) (store out : List ℕ) →
-      Determined₂ (λ r out'. (r ≡ hand_answer (rooms_hand_out.handed_of (network_of network) x store out)) ×
+      Determined₂ (λ r out'. (r ≡ value_answer (rooms_hand_out.handed_of (network_of network) x store out)) ×
       (out' ≡ rooms_hand_out.out_after (network_of network) x store out))
   pub nw_networks_end : (x : Networks) (network bytes : ℕ) →
       Determined₂ (λ r x'. (r ≡ ended_answer (ended_of (network_of network) x bytes).answer) × (x' ≡ (ended_of (network_of network) x bytes).state))
-  pub nw_networks_held_rooms : (x : Networks) (bytes : ℕ) → Determined (λ r. r ≡ rooms_answer (held_of x bytes))
-  pub nw_networks_free_rooms : (x : Networks) (bytes : ℕ) → Determined (λ r. r ≡ rooms_answer (free_of x bytes))
+  pub nw_networks_held_rooms : (x : Networks) (bytes : ℕ) → Determined (λ r. r ≡ value_answer (held_of x bytes))
+  pub nw_networks_free_rooms : (x : Networks) (bytes : ℕ) → Determined (λ r. r ≡ value_answer (free_of x bytes))
   -- What is offered to C for the training room: the slow gathering over the buffer that C lends, and its answers told as all others are.
   pub nw_teaching_feed : (buffer : List ℕ) (used store : ℕ) (s : List ℕ) →
       Determined₃ (λ r buffer' used'. (r ≡ feed_answer (taught_of buffer used store s).answer) ×
       (buffer' ≡ buffer_after buffer used s) ×
       (used' ≡ (taught_of buffer used store s).used))
   pub nw_teaching_hand_out : (buffer : List ℕ) (used store : ℕ) (out : List ℕ) →
-      Determined₂ (λ r out'. (r ≡ hand_answer (teaching_hand_out.handed_of buffer used store out)) × (out' ≡ teaching_hand_out.out_after buffer used store out))
+      Determined₂ (λ r out'. (r ≡ value_answer (teaching_hand_out.handed_of buffer used store out)) ×
+      (out' ≡ teaching_hand_out.out_after buffer used store out))
   pub nw_teaching_heading : (buffer : List ℕ) (used store : ℕ) → Determined (λ r. r ≡ headed_answer (heading_of buffer used store))
   pub nw_teaching_missing : (buffer : List ℕ) (used store : ℕ) → Determined (λ r. r ≡ lacking_answer (lacking_of buffer used store))
   -- What the commands nw-dates, nw-section and nw-salvage call from C: the report, the line and the list of runs that the programs write.

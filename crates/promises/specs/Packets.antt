@@ -1,5 +1,5 @@
 -- M-106's promise, sentence by sentence: what is packed arrives, what is lost is dropped and nothing else, and nothing is mixed.
-use Rattle.std.specs.Prelude.{ℕ, ◌+◌, ◌*◌, ◌/◌, ◌≤◌, true, false, List, [], ◌∷◌, ◌++◌, ◌≡◌, length, drop, replicate}
+use Rattle.std.specs.Prelude.{ℕ, ◌+◌, ◌*◌, ◌/◌, ◌≤◌, true, false, List, [], ◌∷◌, ◌++◌, ◌≡◌, length, drop, replicate, Ok}
 use Rattle.packet.specs.Fields.{starts, pointed_at}
 use Rattle.packet.specs.Judging.{judged}
 use Rattle.packet.specs.declared.Judged.TheVariants.{Damaged, Carrying}
@@ -11,7 +11,6 @@ use Rattle.packet_reader.specs.Unpacking.{gives, fitting, unpacking, unpacking_a
 use Rattle.packet_reader.specs.Answers.{verdict_for, state_after, StateBy}
 use Rattle.packet_writer.specs.Packing.{packed_all}
 use Rattle.packet_writer.specs.Answers.{packed_of}
-use Rattle.packet_writer.specs.declared.Packed.TheVariants as packer
 use Rattle.packet_arrival.specs.Packed.{AllGood, first_packet}
 use Rattle.packet_arrival.specs.Served.{Served}
 use Rattle.packet_arrival.specs.Unmixed.{onward, silence, Unmixed}
@@ -29,9 +28,9 @@ pub record Packets : Type 0 where
       → is_begun m.unfinished ≡ true → is_repeat m (first_packet c s) ≡ false
       → (n : Memory) × (unpacking_all room m (packed_all c (s ∷ ss)) ≡ gives (s ∷ ss) n)
   -- the four drops: the packet is read as if nothing had been unfinished, "reading goes on at the next pointer, a gap packet's own included"
-  pub gap_drops : (room : ℕ) (m : Memory) (p : List ℕ) → judged p ≡ Carrying → is_repeat m p ≡ false → follows m.last p ≡ false
+  pub gap_drops : (room : ℕ) (m : Memory) (p : List ℕ) → judged p ≡ (Ok Carrying) → is_repeat m p ≡ false → follows m.last p ≡ false
       → unpacking room m p ≡ fitting room p (read_on [] p)
-  pub error_drops : (room : ℕ) (m : Memory) (p : List ℕ) → judged p ≡ Damaged → unpacking room m p ≡ gives [] fresh
+  pub error_drops : (room : ℕ) (m : Memory) (p : List ℕ) → judged p ≡ (Ok Damaged) → unpacking room m p ≡ gives [] fresh
   pub length_drops : (u p : List ℕ) → too_long (u ++ onward p) ≡ true → read_on u p ≡ read_on [] p
   pub pointer_drops : (u p : List ℕ) → starts p ≡ true → is_whole (u ++ ahead p) ≡ false → read_on u p ≡ read_on [] p
   pub own_pointer : (p : List ℕ) → starts p ≡ true → read_on [] p ≡ begun (drop (pointed_at p) p)
@@ -40,7 +39,7 @@ pub record Packets : Type 0 where
   -- "A refused packet changes nothing"; else the state's bytes mean what is then remembered
   pub state_means : (s p out : List ℕ) → length s ≡ state_bytes → StateBy (verdict_for s p out) s (state_after s p out)
   -- what the header's sizes name: the bytes of a section's packets, the most of them; the most sections that a packet completes, and their bytes
-  pub packed_bytes : (counter : ℕ) (section out : List ℕ) (n : ℕ) → packed_of counter section out ≡ packer.Packets n
+  pub packed_bytes : (counter : ℕ) (section out : List ℕ) (n : ℕ) → packed_of counter section out ≡ Ok n
       → (n ≡ 188 * (1 + length section / 184)) × (n ≤ 4324)
   pub completed_most : (room : ℕ) (s p : List ℕ) (ss : List (List ℕ)) (m : Memory) → unpacking room (memory_of s) p ≡ gives ss m
       → (length ss ≤ 61) × (length (joined ss) ≤ 4278)

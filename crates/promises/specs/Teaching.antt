@@ -1,7 +1,6 @@
 -- M-112's promise, sentence by sentence: the slow gathering keeps what it is fed, and answers as the quick one does.
-use Rattle.std.specs.Prelude.{ℕ, ◌^◌, ◌*◌, ◌≤◌, ◌<◌, List, ◌≡◌, length, take}
+use Rattle.std.specs.Prelude.{ℕ, ◌^◌, ◌*◌, ◌≤◌, ◌<◌, List, ◌≡◌, length, take, Ok}
 use Rattle.crc.specs.Crc.{AreBytes}
-use Rattle.gathering_hand_out.specs.declared.Handed.TheVariants.{Body}
 use Rattle.gathering_account.specs.Gathers.{ByteStrings}
 use Rattle.teaching_rows.specs.Rows.{length_bytes, rows}
 use Rattle.teaching_hand_out.specs.Asking.{handed_of}
@@ -16,4 +15,4 @@ pub record Teaching : Type 0 where
   pub keeps : (buffer store : List ℕ) → length buffer < 256 ^ length_bytes → (fed : List (List ℕ)) → ByteStrings fed → length (rows fed) ≤ length buffer
       → take (slow_after (fresh_slow buffer) fed).used (slow_after (fresh_slow buffer) fed).buffer ≡ rows fed
   -- what the header's size names: no buffer of bytes hands out more
-  pub body_most_lem : (buffer : List ℕ) (used store : ℕ) → AreBytes buffer → (out : List ℕ) (n : ℕ) → handed_of buffer used store out ≡ Body n → n ≤ 256 * 4084
+  pub body_most_lem : (buffer : List ℕ) (used store : ℕ) → AreBytes buffer → (out : List ℕ) (n : ℕ) → handed_of buffer used store out ≡ Ok n → n ≤ 256 * 4084

@@ -8,12 +8,11 @@ use native.Mathlib.Omega.{arith}
 use borrow.Author.Tests.{not-false}
 use lib.Dec.{eqb}
 use lib.ListN.{length, get_or}
-use Rattle.std.specs.Prelude.{if◌then◌else◌}
+use Rattle.std.specs.Prelude.{if◌then◌else◌, Result, Ok, Err}
 use Rattle.ground_refusal.specs.declared.Refusal.{Refusal}
 use Rattle.ground_refusal.specs.declared.Refusal.TheVariants.{NotCurrent, OtherHeading, StoreTooShort, Contradiction, ImpossibleState}
 use Rattle.ground_equal.specs.Same.{same_bytes}
 use Rattle.section_reader.specs.Section.{heading_of, payload_of, read_section}
-use Rattle.section_reader.specs.declared.Sectioned.TheVariants.{Good, Refused as NotGood}
 use Rattle.gathering_state.specs.State.{possible_of, nothing_begun, has_room, held_payload}
 use Rattle.gathering_state.specs.declared.Gathering.{Gathering}
 use Rattle.gathering_state.proofs.State.{possible_fresh, possible_begun}
@@ -22,14 +21,10 @@ use Rattle.gathering_tables.proofs.Tables.{other_exactly}
 use Rattle.gathering_verdict.specs.Deciding.{fixed_heading, agrees, begins, number_verdict, good_verdict, section_verdict, verdict_of}
 use Rattle.gathering_feed.specs.Feeding.{answer_by, fed_of}
 use Rattle.gathering_verdict.specs.declared.Verdict.{Verdict}
-use Rattle.gathering_verdict.specs.declared.Verdict.TheVariants.{Refuse, Repeat, Contradict, Begin, Take}
+use Rattle.gathering_verdict.specs.declared.Verdict.TheVariants.{Repeat, Contradict, Begin, Take}
 use Rattle.gathering_feed.specs.declared.Answer.{Answer}
-use Rattle.gathering_feed.specs.declared.Answer.TheVariants.{Taken, HeldAlready, Refused as NotFed}
+use Rattle.gathering_feed.specs.declared.Answer.TheVariants.{Taken, HeldAlready}
 use Rattle.gathering_hand_out.specs.Handing.{body_held, missing_of, complete_of, handed_if_room, handed_by, handed_of}
-use Rattle.gathering_hand_out.specs.declared.Completeness.{Completeness}
-use Rattle.gathering_hand_out.specs.declared.Completeness.TheVariants.{Complete, Refused as NotComplete}
-use Rattle.gathering_hand_out.specs.declared.Handed.{Handed}
-use Rattle.gathering_hand_out.specs.declared.Handed.TheVariants.{Body, Refused as NotHanded}
 use Rattle.promises_orders.specs.Order.{Line, ◌when◌, None, AsListed}
 use Rattle.promises_orders.specs.Sections.{section_lines}
 use Rattle.gathering_pack.specs.Packing.{packed_by, packed_of, packing_of}
@@ -57,14 +52,14 @@ module _ (g : Gathering) (store s : List ℕ) where
   abbrev last : Line
   last = Contradiction when (contradicts_held g store s || not (begins g (heading_of s)) && not (eqb g.spoiled 0))
 
-  abbrev value : Answer
+  abbrev value : Result Answer Refusal
   value = fed_value (is_held g s)
 
   -- what feeding decides behind them
-  abbrev behind : Verdict
+  abbrev behind : Result Verdict Refusal
   behind =
-      if begins g (heading_of s) then Begin (heading_of s) else
-      if not (eqb g.spoiled 0) then Refuse Contradiction else
+      if begins g (heading_of s) then Ok (Begin (heading_of s)) else
+      if not (eqb g.spoiled 0) then Err Contradiction else
       number_verdict g store (heading_of s) (payload_of s)
 
   -- 9, of a possible state
@@ -87,24 +82,24 @@ module _ (g : Gathering) (store s : List ℕ) where
       go true newer same = refl
       go false newer same = refl
 
-  section_decides : section_verdict g store s (read_section s) ≡ outcome Refuse (section_lines s) (good_verdict g store (heading_of s) (payload_of s))
+  section_decides : section_verdict g store s (read_section s) ≡ outcome Err (section_lines s) (good_verdict g store (heading_of s) (payload_of s))
   unfolding read_section section_lines section_verdict outcome heading_of
-  section_decides = outcome_told (section_verdict g store s) NotGood Refuse (λ r. refl) (section_lines s) (Good (heading_of s) _)
+  section_decides = outcome_told (section_verdict g store s) Err Err (λ r. refl) (section_lines s) (Ok (heading_of s, _))
 
-  decides_by : verdict_of g store s ≡ outcome Refuse (lines_with (not (begins g (heading_of s) || agrees g (heading_of s)))) behind
+  decides_by : verdict_of g store s ≡ outcome Err (lines_with (not (begins g (heading_of s) || agrees g (heading_of s)))) behind
   unfolding verdict_of good_verdict section_lines outcome
-  decides_by = ap (λ v. if not (possible_of g) then Refuse ImpossibleState else v) section_decides
+  decides_by = ap (λ v. if not (possible_of g) then Err ImpossibleState else v) section_decides
 
-  decides : verdict_of g store s ≡ outcome Refuse before_last behind
+  decides : verdict_of g store s ≡ outcome Err before_last behind
   unfolding outcome
   decides = decides_by ∙ go (possible_of g) refl
     where
       go : (b : Bool) → possible_of g ≡ b
-          → outcome Refuse (lines_with (not (begins g (heading_of s) || agrees g (heading_of s)))) behind ≡ outcome Refuse before_last behind
-      go true p = ap (λ other. outcome Refuse (lines_with other) behind) (other_line p)
+          → outcome Err (lines_with (not (begins g (heading_of s) || agrees g (heading_of s)))) behind ≡ outcome Err before_last behind
+      go true p = ap (λ other. outcome Err (lines_with other) behind) (other_line p)
       go false p = rw p
 
-  last_line : None before_last → answer_by behind ≡ outcome NotFed (last ∷ []) value
+  last_line : None before_last → answer_by behind ≡ outcome Err (last ∷ []) value
   unfolding outcome answer_by number_verdict contradicts_held is_held
   last_line n =
       let p = not-false _ (first_not n) in
@@ -116,12 +111,12 @@ module _ (g : Gathering) (store s : List ℕ) where
     where
       go : (first same calm new equal : Bool) → not (first || same) ≡ false
           → answer_by
-          (if first then Begin (heading_of s) else
-          if not calm then Refuse Contradiction else
-          if new then Take (heading_of s) else
-          if equal then Repeat else Contradict)
-          ≡ (if same && (not first && not new) && not equal || not first && not calm then NotFed Contradiction else
-          if not first && not new then HeldAlready else Taken)
+          (if first then Ok (Begin (heading_of s)) else
+          if not calm then Err Contradiction else
+          if new then Ok (Take (heading_of s)) else
+          if equal then (Ok Repeat) else (Ok Contradict))
+          ≡ (if same && (not first && not new) && not equal || not first && not calm then Err Contradiction else
+          if not first && not new then (Ok HeldAlready) else (Ok Taken))
       go true true calm new equal e = refl
       go true false calm new equal e = refl
       go false false calm new equal e = absurd (true≢false e)
@@ -132,12 +127,12 @@ module _ (g : Gathering) (store s : List ℕ) where
       go false true false false true e = refl
       go false true false false false e = refl
 
-  feeds : (fed_of g store s).answer ≡ outcome NotFed (feeding_lines g store s) value
+  feeds : (fed_of g store s).answer ≡ outcome Err (feeding_lines g store s) value
   unfolding fed_of feeding_lines section_lines outcome answer_by
   feeds =
       ap answer_by decides
-      ∙ outcome_told answer_by Refuse NotFed (λ r. refl) before_last behind
-      ∙ outcome_behind NotFed before_last last_line
+      ∙ outcome_told answer_by Err Err (λ r. refl) before_last behind
+      ∙ outcome_behind Err before_last last_line
 
   pub feeding_as_listed : FedAsListed g store s
   feeding_as_listed =
@@ -149,32 +144,32 @@ module _ (g : Gathering) (store s : List ℕ) where
 
 -- ---- handing out
 
-complete_told : Told NotComplete (λ (a : Completeness). a ≡ Complete)
+complete_told : Told Err (λ (a : Result Unit Refusal). a ≡ Ok tt)
 complete_told = record { same = λ r r' e. cc; apart = λ r e. let z : ◌≡◌ {A = ℕ} 0 1 = cc in omega arith }
 
-pub complete_as_listed : (g : Gathering) (bytes : ℕ) → AsListed NotComplete (λ a. a ≡ Complete) (complete_lines g bytes) (complete_of g bytes)
+pub complete_as_listed : (g : Gathering) (bytes : ℕ) → AsListed Err (λ a. a ≡ Ok tt) (complete_lines g bytes) (complete_of g bytes)
 unfolding complete_of missing_of complete_lines outcome
-complete_as_listed g bytes = by_lines NotComplete _ complete_told (complete_lines g bytes) Complete refl
+complete_as_listed g bytes = by_lines Err _ complete_told (complete_lines g bytes) (Ok tt) refl
 
-handing_told : (n : ℕ) → Told NotHanded (λ (a : Handed). a ≡ Body n)
+handing_told : (n : ℕ) → Told Err (λ (a : Result ℕ Refusal). a ≡ Ok n)
 handing_told n = record { same = λ r r' e. cc; apart = λ r e. let z : ◌≡◌ {A = ℕ} 0 1 = cc in omega arith }
 
 module _ (g : Gathering) (store out : List ℕ) where
-  hands : handed_of g store out ≡ outcome NotHanded (handing_lines g store out) (Body (length (body_held g store)))
+  hands : handed_of g store out ≡ outcome Err (handing_lines g store out) (Ok (length (body_held g store)))
   unfolding handed_of handed_by complete_of missing_of handed_if_room complete_lines handing_lines outcome
   hands =
-      outcome_told (λ c. handed_by c (length (body_held g store)) (length out)) NotComplete NotHanded (λ r. refl)
-      (complete_lines g (length store)) Complete
+      outcome_told (λ c. handed_by c (length (body_held g store)) (length out)) Err Err (λ r. refl)
+      (complete_lines g (length store)) (Ok tt)
 
-  pub handing_as_listed : AsListed NotHanded (λ a. a ≡ Body (length (body_held g store))) (handing_lines g store out) (handed_of g store out)
-  handing_as_listed = rw hands (by_lines NotHanded _ (handing_told _) (handing_lines g store out) _ refl)
+  pub handing_as_listed : AsListed Err (λ a. a ≡ Ok (length (body_held g store))) (handing_lines g store out) (handed_of g store out)
+  handing_as_listed = rw hands (by_lines Err _ (handing_told _) (handing_lines g store out) _ refl)
 
 module _ (g : Gathering) (store : List ℕ) where
-  packs : (packing_of g store).answer ≡ outcome NotHanded (complete_lines g (length store)) (Body (length (body_held g store)))
+  packs : (packing_of g store).answer ≡ outcome Err (complete_lines g (length store)) (Ok (length (body_held g store)))
   unfolding packing_of packed_of packed_by complete_of missing_of complete_lines outcome
   packs =
-      outcome_told (λ c. packed_by c (length (body_held g store))) NotComplete NotHanded (λ r. refl)
-      (complete_lines g (length store)) Complete
+      outcome_told (λ c. packed_by c (length (body_held g store))) Err Err (λ r. refl)
+      (complete_lines g (length store)) (Ok tt)
 
-  pub packing_as_listed : AsListed NotHanded (λ a. a ≡ Body (length (body_held g store))) (complete_lines g (length store)) (packing_of g store).answer
-  packing_as_listed = rw packs (by_lines NotHanded _ (handing_told _) (complete_lines g (length store)) _ refl)
+  pub packing_as_listed : AsListed Err (λ a. a ≡ Ok (length (body_held g store))) (complete_lines g (length store)) (packing_of g store).answer
+  packing_as_listed = rw packs (by_lines Err _ (handing_told _) (complete_lines g (length store)) _ refl)

@@ -1,5 +1,5 @@
 -- What a reader has to believe of a gathering's refusals: 01's orders for feeding, for handing out and for packing, each number with its condition.
-use Rattle.std.specs.Prelude.{ℕ, ◌≡◌, Bool, true, false, not, ◌&&◌, ◌||◌, List, [], ◌∷◌, ◌++◌, ◌↔◌, eqb, ltb, length, get_or}
+use Rattle.std.specs.Prelude.{ℕ, ◌≡◌, Bool, true, false, not, ◌&&◌, ◌||◌, List, [], ◌∷◌, ◌++◌, ◌↔◌, eqb, ltb, length, get_or, Ok, Err}
 use Rattle.ground_refusal.specs.declared.Refusal.{Refusal}
 use Rattle.ground_refusal.specs.declared.Refusal.TheVariants.{NotCurrent, OtherHeading, StoreTooShort, Contradiction, ImpossibleState, Missing, OutputTooSmall}
 use Rattle.ground_equal.specs.Same.{same_bytes}
@@ -10,7 +10,7 @@ use Rattle.gathering_state.specs.declared.Gathering.{Gathering}
 use Rattle.gathering_tables.specs.Tables.{is_other}
 use Rattle.gathering_verdict.specs.Deciding.{fixed_heading, agrees, begins}
 use Rattle.gathering_feed.specs.Feeding.{fed_of}
-use Rattle.gathering_feed.specs.declared.Answer.TheVariants.{Taken, HeldAlready, Refused as NotFed}
+use Rattle.gathering_feed.specs.declared.Answer.TheVariants.{Taken, HeldAlready}
 use Rattle.gathering_hand_out.specs.Handing.{body_held}
 use Rattle.promises_orders.specs.Order.{Line, ◌when◌, Given, None}
 use Rattle.promises_orders.specs.Sections.{section_lines}
@@ -44,9 +44,9 @@ feeding_lines g store s =
 
 -- feeding has two values: "A repeat with the same payload is answered "held already"", any other section is taken
 pub record FedAsListed (g : Gathering) (store s : List ℕ) : Type 0 where
-  pub refused_exactly : (r : Refusal) → ((fed_of g store s).answer ≡ NotFed r) ↔ Given r (feeding_lines g store s)
-  pub taken_exactly : ((fed_of g store s).answer ≡ Taken) ↔ (None (feeding_lines g store s) × (is_held g s ≡ false))
-  pub held_exactly : ((fed_of g store s).answer ≡ HeldAlready) ↔ (None (feeding_lines g store s) × (is_held g s ≡ true))
+  pub refused_exactly : (r : Refusal) → ((fed_of g store s).answer ≡ Err r) ↔ Given r (feeding_lines g store s)
+  pub taken_exactly : ((fed_of g store s).answer ≡ Ok Taken) ↔ (None (feeding_lines g store s) × (is_held g s ≡ false))
+  pub held_exactly : ((fed_of g store s).answer ≡ Ok HeldAlready) ↔ (None (feeding_lines g store s) × (is_held g s ≡ true))
 
 -- ---- handing out, and packing, which has no 21
 

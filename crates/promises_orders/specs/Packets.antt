@@ -1,13 +1,12 @@
 -- What a reader has to believe of the packer's and the unpacker's refusals: M-106's order, each number with its condition.
-use Rattle.std.specs.Prelude.{ℕ, Bool, not, ◌&&◌, List, [], ◌∷◌, ◌++◌, ◌≡◌, eqb, ltb, length}
+use Rattle.std.specs.Prelude.{ℕ, Bool, not, ◌&&◌, List, [], ◌∷◌, ◌++◌, ◌≡◌, eqb, ltb, length, Result, Ok}
+use Rattle.ground_refusal.specs.declared.Refusal.{Refusal}
 use Rattle.ground_refusal.specs.declared.Refusal.TheVariants.{OutsideSet, OutputTooSmall, NotAPacket, NoSyncByte, OtherPid, Scrambled, PastPacket}
 use Rattle.packet.specs.Fields.{byte, has_error, pid, scrambling, control, in_place}
 use Rattle.packet_frames.specs.Framing.{joined}
 use Rattle.packet_plan.specs.Reading.{read_on}
 use Rattle.packet_memory.specs.Memory.{is_repeat, going_on}
 use Rattle.packet_memory.specs.State.{memory_of}
-use Rattle.packet_reader.specs.declared.Completed.{Completed}
-use Rattle.packet_reader.specs.declared.Completed.TheVariants.{Sections}
 use Rattle.packet_writer.specs.Packing.{packed, laid}
 use Rattle.promises_orders.specs.Order.{Line, ◌when◌}
 use Rattle.promises_orders.specs.Sections.{section_lines}
@@ -21,8 +20,8 @@ packer_lines counter section out =
     ∷ []
 
 -- the unpacker tells how many bytes of sections it gives
-abbrev pub IsSections : Completed → Type 0
-IsSections a = (n : ℕ) × (a ≡ Sections n)
+abbrev pub IsSections : Result ℕ Refusal → Type 0
+IsSections a = (n : ℕ) × (a ≡ Ok n)
 
 -- a packet whose error bit is set, or that has no payload, or that repeats the last one, is not read
 unfoldable pub is_read : List ℕ → List ℕ → Bool

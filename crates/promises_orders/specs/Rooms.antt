@@ -1,5 +1,6 @@
 -- What a reader has to believe of the refusals of two networks over one store: M-109's orders, each number with its condition.
-use Rattle.std.specs.Prelude.{ℕ, Bool, not, ◌&&◌, ◌||◌, List, [], ◌∷◌, ◌++◌, eqb, ltb, length, replicate, if◌then◌else◌}
+use Rattle.std.specs.Prelude.{ℕ, Bool, not, ◌&&◌, ◌||◌, List, [], ◌∷◌, ◌++◌, eqb, ltb, length, replicate, if◌then◌else◌, Result, Ok}
+use Rattle.ground_refusal.specs.declared.Refusal.{Refusal}
 use Rattle.std.proofs.Math.Option.{Option, none, some}
 use Rattle.ground_refusal.specs.declared.Refusal.TheVariants.{NotCurrent, OtherHeading, Contradiction, ImpossibleState, Missing, OutsideSet}
 use Rattle.ground_refusal.specs.declared.Refusal.TheVariants.{OutputTooSmall, NoFreeRoom}
@@ -66,8 +67,8 @@ networks_feeding_lines o x store s =
     network_lines o x (length store) ++ part_lines (rooms_in (length store)) (part_for o x) (other_for o x) store s
 
 -- "A repeat with the same payload is answered "held already"", any other section is taken
-unfoldable pub fed_value : Option Network → Networks → List ℕ → Answer
-fed_value o x s = if is_held (part_for o x).gathering s then HeldAlready else Taken
+unfoldable pub fed_value : Option Network → Networks → List ℕ → Result Answer Refusal
+fed_value o x s = if is_held (part_for o x).gathering s then (Ok HeldAlready) else (Ok Taken)
 
 -- handing out: 19; 12; 13 if nothing begun; 11; 13; 21
 unfoldable pub networks_handing_lines : Option Network → Networks → List ℕ → List ℕ → List Line

@@ -1,12 +1,12 @@
 -- What a reader has to believe of the slow gathering's refusals: M-112's, then 01's orders, each number with its condition, by the account of what is kept.
-use Rattle.std.specs.Prelude.{ℕ, ◌+◌, ◌≡◌, Bool, true, false, not, ◌&&◌, ◌||◌, List, [], ◌∷◌, ◌++◌, ◌↔◌, leb, ltb, length, take}
+use Rattle.std.specs.Prelude.{ℕ, ◌+◌, ◌≡◌, Bool, true, false, not, ◌&&◌, ◌||◌, List, [], ◌∷◌, ◌++◌, ◌↔◌, leb, ltb, length, take, Ok, Err}
 use Rattle.ground_refusal.specs.declared.Refusal.{Refusal}
 use Rattle.ground_refusal.specs.declared.Refusal.TheVariants as refusal
 use Rattle.section_reader.specs.Section.{heading_of, payload_of}
 use Rattle.section_reader.specs.declared.Heading.{Heading}
 use Rattle.gathering_state.specs.State.{has_room}
 use Rattle.gathering_tables.specs.Tables.{same_table, is_newer}
-use Rattle.gathering_feed.specs.declared.Answer.TheVariants.{Taken, HeldAlready, Refused as NotFed}
+use Rattle.gathering_feed.specs.declared.Answer.TheVariants.{Taken, HeldAlready}
 use Rattle.gathering_account.specs.Account.{Section, Account, idle, table, in_order}
 use Rattle.gathering_account.specs.Answering.{present, differs, agreeing}
 use Rattle.teaching_rows.specs.Rows.{whole_in_use}
@@ -47,10 +47,10 @@ teaching_lines buffer used store s =
 
 -- feeding has two values: "A repeat with the same payload is answered "held already"", any other section is taken
 pub record TaughtAsListed (buffer : List ℕ) (used store : ℕ) (s : List ℕ) : Type 0 where
-  pub refused_exactly : (r : Refusal) → (answer_of buffer used store s ≡ NotFed r) ↔ Given r (teaching_lines buffer used store s)
-  pub taken_exactly : (answer_of buffer used store s ≡ Taken)
+  pub refused_exactly : (r : Refusal) → (answer_of buffer used store s ≡ Err r) ↔ Given r (teaching_lines buffer used store s)
+  pub taken_exactly : (answer_of buffer used store s ≡ Ok Taken)
       ↔ (None (teaching_lines buffer used store s) × (is_repeated (account_in store (take used buffer)) (heading_of s) ≡ false))
-  pub held_exactly : (answer_of buffer used store s ≡ HeldAlready)
+  pub held_exactly : (answer_of buffer used store s ≡ Ok HeldAlready)
       ↔ (None (teaching_lines buffer used store s) × (is_repeated (account_in store (take used buffer)) (heading_of s) ≡ true))
 
 -- ---- handing out

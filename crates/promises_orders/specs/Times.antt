@@ -1,16 +1,13 @@
 -- What a reader has to believe of the refusals of local times and date text: 01's orders, each number with its condition.
-use Rattle.std.specs.Prelude.{ℕ, ◌^◌, ◌≡◌, Bool, not, ◌&&◌, ◌||◌, List, [], ◌∷◌, leb, ℤ, pos, neg_ℤ}
+use Rattle.std.specs.Prelude.{ℕ, ◌^◌, ◌≡◌, Bool, not, ◌&&◌, ◌||◌, List, [], ◌∷◌, leb, ℤ, pos, neg_ℤ, Result, Ok}
+use Rattle.ground_refusal.specs.declared.Refusal.{Refusal}
 use Rattle.std.specs.Int.Signed.{le_z}
 use Rattle.ground_refusal.specs.declared.Refusal.TheVariants.{DigitAboveNine, OutsideSet, ImpossibleDay, NotOfTheForm}
 use Rattle.time_days.specs.Calendar.{day_number, has_day}
 use Rattle.time_fields.specs.declared.Moment.{Moment}
-use Rattle.time_fields.specs.declared.Fielded.{Fielded}
-use Rattle.time_fields.specs.declared.Fielded.TheVariants.{Field}
 use Rattle.time_fields.specs.Field.{is_decimal, possible, moment_of}
 use Rattle.time_offset.specs.Offset.{is_offset, day_moved}
 use Rattle.time_local.specs.declared.LocalTime.{LocalTime}
-use Rattle.time_local.specs.declared.Unpacked.{Unpacked}
-use Rattle.time_local.specs.declared.Unpacked.TheVariants.{At}
 use Rattle.time_local.specs.Clock.{is_clock, second_of}
 use Rattle.time_local.specs.Text.{form, formed, typed}
 use Rattle.promises_orders.specs.Order.{Line, ◌when◌}
@@ -40,8 +37,8 @@ unfoldable pub impossible : LocalTime → ℤ → Bool
 impossible t offset = not (has_day t.year t.month t.day) || not (is_clock t) || offset_outside (utc_day t offset)
 
 -- what is answered where nothing is refused: a field
-abbrev pub IsField : Fielded → Type 0
-IsField answer = (field : ℕ) × (answer ≡ Field field)
+abbrev pub IsField : Result ℕ Refusal → Type 0
+IsField answer = (field : ℕ) × (answer ≡ Ok field)
 
 -- "an offset of −720 to +840 minutes, east positive (else 19)", then 20
 unfoldable pub packing_lines : LocalTime → ℤ → List Line
@@ -51,8 +48,8 @@ packing_lines t offset =
     ∷ []
 
 -- and a local date and time
-abbrev pub IsLocalTime : Unpacked → Type 0
-IsLocalTime answer = (t : LocalTime) × (answer ≡ At t)
+abbrev pub IsLocalTime : Result LocalTime Refusal → Type 0
+IsLocalTime answer = (t : LocalTime) × (answer ≡ Ok t)
 
 -- "Local from UTC adds it (order 19, 18, 20)"
 unfoldable pub unpacking_lines : ℕ → ℤ → List Line

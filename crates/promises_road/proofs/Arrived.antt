@@ -1,5 +1,7 @@
 -- What is cut, packed, unpacked and fed is handed out: the unpacker gives what was packed, and what is fed of it arrives whole.
 use Prim.Native.Nat.{ℕ}
+use Rattle.std.specs.Prelude.{Result}
+use Rattle.ground_refusal.specs.declared.Refusal.{Refusal}
 use mathlib.Core.List.{List, Memᴰ as In}
 use mathlib.Core.Path.{◌≡◌, refl, sym, ap, ◌∙◌, subst}
 use lib.ListN.{length, take}
@@ -7,7 +9,6 @@ use Rattle.ground_placing.proofs.Placing.{placed_start}
 use Rattle.packet_memory.specs.Memory.{Memory}
 use Rattle.packet_reader.specs.Unpacking.{gives}
 use Rattle.packet_arrival.proofs.Arrival.{arrives}
-use Rattle.gathering_hand_out.specs.declared.Handed.{Handed}
 use Rattle.gathering_account.specs.Gathers.{ByteStrings, handed_output, HandsOut}
 use Rattle.gathering_account.proofs.Cuts.{cut_arrives}
 use Rattle.promises_road.specs.Road.{OverPackets, Road, box_of, bytes_by, handed_bytes}
@@ -29,5 +30,5 @@ module _ {body : List ℕ} {kind extension version : ℕ} (r : Road body kind ex
   pub arrived : handed_bytes r ≡ body
   unfolding bytes_by
   arrived =
-      ap (λ (h : Handed). bytes_by h (handed_output (box_of r) r.out)) handed_out.answers
+      ap (λ (h : Result ℕ Refusal). bytes_by h (handed_output (box_of r) r.out)) handed_out.answers
       ∙ ap (take (length body)) handed_out.writes ∙ placed_start r.out body (length body) refl

@@ -1,5 +1,6 @@
 -- The calls can be made: whatever good sections are sent, the packer writes them, the unpacker gives them, and they are taken out again.
 use Prim.Native.Nat.{ℕ, ◌+◌, ◌/◌, ◌%◌, ◌≤◌}
+use Rattle.ground_refusal.specs.declared.Refusal.{Refusal}
 use mathlib.Core.Bool.{Bool, true, false}
 use mathlib.Core.List.{List, [], ◌∷◌, ◌++◌}
 use mathlib.Core.Path.{◌≡◌, refl, sym, ap, ◌∙◌, subst}
@@ -7,13 +8,13 @@ use native.Mathlib.Omega.{arith}
 use lib.Dec.{ltb}
 use lib.ListN.{length, take, set, replicate, length-append, length-replicate, length-set}
 use lib.Seq.{take_at, drop_at}
-use Rattle.std.specs.Prelude.{if◌then◌else◌}
+use Rattle.std.specs.Prelude.{if◌then◌else◌, Result, Ok, Err}
 use Rattle.ground_placing.proofs.Placing.{placed_length}
 use Rattle.section_reader.proofs.Accepting.{good_states}
 use Rattle.packet.specs.Sizes.{packet_bytes, counter_most}
 use Rattle.packet.specs.Judging.{judged}
 use Rattle.packet.specs.declared.Judged.{Judged}
-use Rattle.packet.specs.declared.Judged.TheVariants.{Refused as NotTaken, Damaged, Skipped, Carrying}
+use Rattle.packet.specs.declared.Judged.TheVariants.{Damaged, Skipped, Carrying}
 use Rattle.packet.proofs.Judging.{carried}
 use Rattle.packet_frames.specs.Framing.{joined}
 use Rattle.packet_frames.proofs.Growing.{begun_short}
@@ -52,7 +53,7 @@ can_pack c (s ∷ ss) l g =
 -- ---- the unpacker's state stays as long as it is
 
 module _ (s p : List ℕ) (room : ℕ) (n : length s ≡ state_bytes) where
-  held_long : judged p ≡ Carrying → length (holding s (read_on (going_on (memory_of s) p) p).unfinished p) ≡ state_bytes
+  held_long : judged p ≡ (Ok Carrying) → length (holding s (read_on (going_on (memory_of s) p) p).unfinished p) ≡ state_bytes
   unfolding holding
   held_long c =
       let u = (read_on (going_on (memory_of s) p) p).unfinished in
@@ -60,7 +61,7 @@ module _ (s p : List ℕ) (room : ℕ) (n : length s ≡ state_bytes) where
       let size = (carried p c).size in
       placed_length s 0 (1 ∷ length u / 256 % 256 ∷ length u % 256 ∷ (p ++ u)) (omega (arith, length-append p u)) ∙ n
 
-  taken_long : judged p ≡ Carrying → length (state_taken s room p) ≡ state_bytes
+  taken_long : judged p ≡ (Ok Carrying) → length (state_taken s room p) ≡ state_bytes
   unfolding state_taken state_read marked
   taken_long c = go (is_repeat (memory_of s) p) (ltb room (length (joined (read_on (going_on (memory_of s) p) p).sections)))
     where
@@ -69,12 +70,12 @@ module _ (s p : List ℕ) (room : ℕ) (n : length s ≡ state_bytes) where
       go false true = n
       go false false = held_long c
 
-  long_on : (j : Judged) → judged p ≡ j → length (state_on j s room p) ≡ state_bytes
+  long_on : (j : Result Judged Refusal) → judged p ≡ j → length (state_on j s room p) ≡ state_bytes
   unfolding state_on marked
-  long_on (NotTaken why) e = n
-  long_on Damaged e = length-set s 0 0 ∙ n
-  long_on Skipped e = n
-  long_on Carrying e = taken_long e
+  long_on (Err why) e = n
+  long_on (Ok Damaged) e = length-set s 0 0 ∙ n
+  long_on (Ok Skipped) e = n
+  long_on (Ok Carrying) e = taken_long e
 
 state_long : (s p out : List ℕ) → length s ≡ state_bytes → length (state_after s p out) ≡ state_bytes
 unfolding state_after

@@ -1,5 +1,7 @@
 -- What the calls do is the way that the definitions name: the packer's bytes are the packets, the unpacker's the sections, and each can be taken out.
 use Prim.Native.Nat.{ℕ, zero, suc, ◌+◌, ◌*◌, ◌/◌, ◌%◌, ◌≤◌}
+use Rattle.ground_refusal.specs.declared.Refusal.{Refusal}
+use Rattle.section_reader.specs.declared.Heading.{Heading}
 use mathlib.Core.Bool.{Bool, true, false}
 use mathlib.Core.List.{List, [], ◌∷◌, ◌++◌, append_assoc}
 use mathlib.Core.Path.{◌≡◌, refl, sym, ap, ap₂, ◌∙◌, subst}
@@ -7,16 +9,12 @@ use native.Mathlib.Omega.{arith}
 use lib.Dec.{ltb}
 use lib.ListN.{length, take, drop, length-append, length-take}
 use lib.Seq.{take_at, drop_at}
-use Rattle.std.specs.Prelude.{if◌then◌else◌}
+use Rattle.std.specs.Prelude.{if◌then◌else◌, Result, Ok, Err}
 use Rattle.ground_placing.proofs.Placing.{placed_start}
 use Rattle.ground_refusal.specs.declared.Refusal.TheVariants.{OutsideSet, OutputTooSmall}
 use Rattle.section_reader.specs.Section.{read_section, stated_length}
-use Rattle.section_reader.specs.declared.Sectioned.{Sectioned}
-use Rattle.section_reader.specs.declared.Sectioned.TheVariants.{Good, Refused as NotGood}
-use Rattle.section_reader.specs.declared.Stated.TheVariants.{Length}
 use Rattle.section_reader.proofs.Accepting.{accepted, good_states}
 use Rattle.section_cutter.specs.Cutting.{section_of, Askable, cut_answer, cut_output}
-use Rattle.section_cutter.specs.declared.Cut.TheVariants.{Written}
 use Rattle.section_cutter.proofs.Cuts.{written_is}
 use Rattle.section_cutter.proofs.Sections.{cut_written}
 use Rattle.packet.specs.Sizes.{packet_bytes, counter_most}
@@ -24,7 +22,6 @@ use Rattle.packet_frames.specs.Framing.{joined}
 use Rattle.packet_writer.specs.Packing.{first_room, next_room, next, continued, packed, after, packed_all}
 use Rattle.packet_writer.specs.Packing.{laid, Verdict, refuses, writes, packing_if_room, packing_of, packing}
 use Rattle.packet_writer.specs.Answers.{packed_by, output_by, packed_of, packets_over}
-use Rattle.packet_writer.specs.declared.Packed.TheVariants.{Packets}
 use Rattle.packet_writer.proofs.Packets.{packet_long, packed_long}
 use Rattle.packet_arrival.specs.Packed.{GoodSection, AllGood}
 use Rattle.packet_arrival.specs.Served.{Served}
@@ -36,7 +33,7 @@ use Rattle.promises_road.specs.Calls.{PackedByCalls, packets_in, packets_of, Tak
 
 -- ---- the cutter
 
-pub cut_by_call : (body : List ℕ) (kind extension version number : ℕ) (out : List ℕ) (n : ℕ) → cut_answer body kind extension version number out ≡ Written n
+pub cut_by_call : (body : List ℕ) (kind extension version number : ℕ) (out : List ℕ) (n : ℕ) → cut_answer body kind extension version number out ≡ Ok n
     → Askable (length body) kind extension version number
     × (take n (cut_output body kind extension version number out) ≡ section_of body kind extension version number)
 cut_by_call body kind extension version number out n e =
@@ -46,27 +43,27 @@ cut_by_call body kind extension version number out n e =
 
 module _ (c : ℕ) (s out : List ℕ) (n : ℕ) where
   -- a call that is answered with a length was for a good section, and wrote its packets
-  one_packed : packed_of c s out ≡ Packets n → GoodSection s × (packing (length out) c s ≡ writes (laid (packed c s)))
+  one_packed : packed_of c s out ≡ Ok n → GoodSection s × (packing (length out) c s ≡ writes (laid (packed c s)))
   unfolding packing packing_of packing_if_room packed_by
   one_packed e = go (read_section s) refl e
     where
       by : (b d : Bool)
-          → packed_by (if b then refuses (OutsideSet 0) else if d then refuses OutputTooSmall else writes (laid (packed c s))) ≡ Packets n
+          → packed_by (if b then refuses (OutsideSet 0) else if d then refuses OutputTooSmall else writes (laid (packed c s))) ≡ Ok n
           → (if b then refuses (OutsideSet 0) else if d then refuses OutputTooSmall else writes (laid (packed c s))) ≡ writes (laid (packed c s))
       by true d x = absurd (let z : ◌≡◌ {A = ℕ} 0 1 = cc in omega arith)
       by false true x = absurd (let z : ◌≡◌ {A = ℕ} 0 1 = cc in omega arith)
       by false false x = refl
 
-      go : (r : Sectioned) → read_section s ≡ r → packed_by (packing_of r (length out) c s) ≡ Packets n
+      go : (r : Result (Heading × ℕ) Refusal) → read_section s ≡ r → packed_by (packing_of r (length out) c s) ≡ Ok n
           → GoodSection s × (packing_of r (length out) c s ≡ writes (laid (packed c s)))
-      go (NotGood why) q x = absurd (let z : ◌≡◌ {A = ℕ} 0 1 = cc in omega arith)
-      go (Good h m) q x = ((h, m, q), by (ltb counter_most c) (ltb (length out) (length (laid (packed c s)))) x)
+      go (Err why) q x = absurd (let z : ◌≡◌ {A = ℕ} 0 1 = cc in omega arith)
+      go (Ok (h, m)) q x = ((h, m, q), by (ltb counter_most c) (ltb (length out) (length (laid (packed c s)))) x)
 
-  one_long : packed_of c s out ≡ Packets n → n ≡ length (laid (packed c s))
+  one_long : packed_of c s out ≡ Ok n → n ≡ length (laid (packed c s))
   unfolding packed_by
   one_long e = let t = sym (ap packed_by (one_packed e).1) ∙ e in cc
 
-  one_bytes : packed_of c s out ≡ Packets n → take n (packets_over c s out) ≡ laid (packed c s)
+  one_bytes : packed_of c s out ≡ Ok n → take n (packets_over c s out) ≡ laid (packed c s)
   unfolding output_by
   one_bytes e = ap (λ (v : Verdict). take n (output_by v out)) (one_packed e).1 ∙ placed_start out (laid (packed c s)) n (one_long e)
 
@@ -85,7 +82,7 @@ after_is zero c l = omega arith
 after_is (suc n) c l = after_is n (next c) (next_low c) ∙ omega arith
 
 -- the counter after the last packet's
-counted : (c : ℕ) (s out : List ℕ) (n : ℕ) → c ≤ counter_most → packed_of c s out ≡ Packets n
+counted : (c : ℕ) (s out : List ℕ) (n : ℕ) → c ≤ counter_most → packed_of c s out ≡ Ok n
     → (c + n / packet_bytes) % 16 ≡ after (length (packed c s)) c
 counted c s out n l e =
     let a = one_long c s out n e in
@@ -155,7 +152,7 @@ stream_packets ps a =
 -- ---- sections taken out
 
 -- no bytes state no length
-none : (n : ℕ) → stated_length [] ≡ Length n → ⊥
+none : (n : ℕ) → stated_length [] ≡ Ok n → ⊥
 unfolding stated_length
 none n e = absurd (let z : ◌≡◌ {A = ℕ} 0 1 = cc in omega arith)
 

@@ -1,11 +1,11 @@
 -- M-113: the road, put together from the writers' round trips, the packets' arrival, the gathering's, and what is typed and printed.
 use mathlib.Core.Path.{◌≡◌, sym, ap, ◌∙◌, subst}
+use Rattle.std.specs.Prelude.{Ok}
 use Prim.Native.Nat.{ℕ, ◌+◌}
 use mathlib.Core.List.{List, Memᴰ as In}
 use lib.IntN.{ℤ}
 use lib.ListN.{length}
 use Rattle.body_extension.specs.Extension.{extension_of}
-use Rattle.body_formats.specs.declared.Number.TheVariants.{Is}
 use Rattle.index.specs.Index.{Message, Index, index_kind}
 use Rattle.index_fields.specs.Agreement.{IndexAsked}
 use Rattle.index_fields.proofs.Asked.{index_asked}
@@ -42,8 +42,8 @@ module _ (offset : ℤ) (times : List FormTimes) (t : Index) (body : List ℕ) (
         part = a.part_follows.is;
         fields = a.fields_asked;
         extension_is =
-            a.fields_asked.extension_is ∙ ap (λ (ds : List ℕ). Is (extension_of ds) (k.1 + 2 + 18)) e
-            ∙ ap (λ (y : ℕ). Is y (k.1 + 2 + 18)) (sym (given_is v w' c given text x));
+            a.fields_asked.extension_is ∙ ap (λ (ds : List ℕ). Ok (extension_of ds, k.1 + 2 + 18)) e
+            ∙ ap (λ (y : ℕ). Ok (y, k.1 + 2 + 18)) (sym (given_is v w' c given text x));
       }
 
 content_shown : (v w : ℕ) (t : Content) (given : ℕ) (body : List ℕ) → ContentWritten v w t given body → ContentShown v w t given body

@@ -7,14 +7,13 @@ use mathlib.Core.Logic.{◌⊎◌, inl, inr}
 use mathlib.Core.Path.{◌≡◌, refl, sym, ap, ◌∙◌, subst}
 use native.Mathlib.Omega.{arith}
 use lib.IntN.{ℤ}
-use Rattle.std.specs.Prelude.{if◌then◌else◌}
-use Rattle.time_fields.specs.declared.Fielded.TheVariants.{Field}
+use Rattle.std.specs.Prelude.{if◌then◌else◌, Ok}
+use Rattle.ground_refusal.proofs.Exits.{ok_inj}
 use Rattle.time_offset.specs.Offset.{is_offset}
 use Rattle.time_local.specs.Text.{read_text}
 use Rattle.time_local.proofs.Forms.{no_offset}
 use Rattle.time_printing.specs.Printing.{live_text, prints, start_text, end_text}
 use Rattle.time_printing.specs.Typing.{end_typed, typed_times}
-use Rattle.time_printing.specs.declared.TypedTimes.TheVariants.{Fields}
 use Rattle.time_printing.proofs.Calls.{end_live}
 use Rattle.time_printing.proofs.Laws.{typed_prints, typed_prints_end, typed_both}
 use Rattle.body_asking.specs.Agreement.{InTurn}
@@ -24,24 +23,21 @@ use Rattle.promises_road.specs.Road.{FormTimes, AllTyped, shown, end_shown, Mess
 
 module _ (offset : ℤ) where
   -- where a text is accepted, the offset is one of the range
-  allowed : (s : List ℕ) (field : ℕ) → read_text s offset ≡ Field field → is_offset offset ≡ true
+  allowed : (s : List ℕ) (field : ℕ) → read_text s offset ≡ Ok field → is_offset offset ≡ true
   allowed s field e = by (is_offset offset) refl
     where
       by : (b : Bool) → is_offset offset ≡ b → is_offset offset ≡ true
       by true o = o
       by false o = absurd (let z : ◌≡◌ {A = ℕ} 0 1 = cc (no_offset s offset o) in omega arith)
 
-  same_field : {a b : ℕ} → Field a ≡ Field b → b ≡ a
-  same_field e = cc
-
-  end_prints : (live : Bool) (s : List ℕ) (field : ℕ) → is_offset offset ≡ true → end_typed live s offset ≡ Field field
+  end_prints : (live : Bool) (s : List ℕ) (field : ℕ) → is_offset offset ≡ true → end_typed live s offset ≡ Ok field
       → end_text field offset ≡ prints (if live then live_text else s)
   unfolding end_typed
-  end_prints true s field o e = end_live field offset o (same_field e)
+  end_prints true s field o e = end_live field offset o (sym (ok_inj e))
   end_prints false s field o e = typed_prints_end offset field s e
 
   module _ (s : List ℕ) where
-    one_shown : (i : ℕ) (x : FormTimes) (m : Message) (p q : ℕ) → typed_times x.start x.live x.end offset ≡ Fields m.start m.end
+    one_shown : (i : ℕ) (x : FormTimes) (m : Message) (p q : ℕ) → typed_times x.start x.live x.end offset ≡ Ok (m.start, m.end)
         → MessageAsked s i m p q → MessageShown s offset i x
     unfolding shown end_shown
     one_shown i x m p q e a =

@@ -1,5 +1,6 @@
 -- The road can be gone: forms from the writers' round trips, texts from printing, and a body's own sections one after the other.
 use Prim.Native.Nat.{ℕ, zero, suc, ◌+◌, ◌<◌, ◌≤◌}
+use Rattle.std.specs.Prelude.{Ok}
 use mathlib.Core.Bool.{Bool, true, false}
 use mathlib.Core.List.Memᴰ
 use mathlib.Core.List.{List, [], ◌∷◌, ◌++◌, append_assoc, Memᴰ as In}
@@ -17,7 +18,6 @@ use Rattle.ground_placing.proofs.Placing.{placed_start}
 use Rattle.time_fields.specs.Field.{live_mark}
 use Rattle.time_printing.specs.Printing.{prints, start_text}
 use Rattle.time_printing.specs.Typing.{with_end, together, typed_times}
-use Rattle.time_printing.specs.declared.TypedTimes.TheVariants.{Fields}
 use Rattle.time_printing.proofs.Laws.{printed_reads, live_typed, text_typed, typed_as}
 use Rattle.section_reader.specs.Section.{WellFormed}
 use Rattle.section_reader.specs.declared.Heading.{Heading}
@@ -46,11 +46,9 @@ use Rattle.body_formats.proofs.RoundTrips.{RoundTrips}
 use Rattle.index.specs.Index.{Index, index_kind, index}
 use Rattle.index.proofs.RoundTrips.{index_trips}
 use Rattle.content_variant.specs.Variant.{width_of}
-use Rattle.content_variant.specs.declared.Width.TheVariants.{Bytes}
 use Rattle.content.specs.Content.{Content, content_kind, content}
 use Rattle.content.proofs.RoundTrips.{content_trips}
 use Rattle.content_writer.specs.Written.{content_written}
-use Rattle.content_writer.specs.declared.Written.TheVariants.{Of}
 use Rattle.content_writer.proofs.Variants.{written_wide, output_wide}
 use Rattle.promises_road.specs.Road.{FormTimes, AllTyped, IndexWritten, ContentWritten, OverPackets, Gathered, Road}
 use Rattle.promises_road.specs.Travelled.{all_sections, Roomy, Travelled}
@@ -78,7 +76,7 @@ index_forms offset times t typed writable small bytes short =
     let o = own_form index index_kind index_trips t writable small bytes short in
     record { typed = typed; pool = index.print t; tape = index.tape t 0; out = index.print t; filled = o.0; body_is = o.1; bytes = bytes }
 
-content_forms : (v w : ℕ) (t : Content) → Bytes w ≡ width_of v
+content_forms : (v w : ℕ) (t : Content) → Ok w ≡ width_of v
     → (content w).writable t ≡ true → (content w).too_large t ≡ false → AreBytes ((content w).print t) → length ((content w).print t) ≤ body_most
     → ContentWritten v w t (extension_of t.identifier) ((content w).print t)
 unfolding content_written
@@ -86,7 +84,7 @@ content_forms v w t variant writable small bytes short =
     let body = (content w).print t in
     let tape = (content w).tape t 0 in
     let o = own_form (content w) content_kind (content_trips w) t writable small bytes short in
-    let answered : content_written w body tape (length body) ≡ Of (length body) (extension_of t.identifier) = rw o.0 in
+    let answered : content_written w body tape (length body) ≡ Ok (length body, extension_of t.identifier) = rw o.0 in
     record {
       variant = variant;
       pool = body;
@@ -99,11 +97,11 @@ content_forms v w t variant writable small bytes short =
     }
 
 module _ (offset : ℤ) (a : ℕ) (s e : List ℕ) (p : start_text a offset ≡ prints s) where
-  typable : (b : ℕ) → start_text b offset ≡ prints e → typed_times s false e offset ≡ Fields a b
+  typable : (b : ℕ) → start_text b offset ≡ prints e → typed_times s false e offset ≡ Ok (a, b)
   unfolding together with_end
   typable b q = typed_as s e false offset _ _ (printed_reads offset a s p) (text_typed false e offset refl ∙ printed_reads offset b e q)
 
-  live_typable : typed_times s true e offset ≡ Fields a live_mark
+  live_typable : typed_times s true e offset ≡ Ok (a, live_mark)
   unfolding together with_end
   live_typable = typed_as s e true offset _ _ (printed_reads offset a s p) (live_typed true e offset refl)
 

@@ -1,8 +1,7 @@
 -- M-113, the promise that the library exists for: the day that a coordinator typed is the day that the screen shows.
-use Rattle.std.specs.Prelude.{ℕ, ◌≡◌, ℤ, length, take}
+use Rattle.std.specs.Prelude.{ℕ, ◌≡◌, ℤ, length, take, Ok}
 use mathlib.Core.List.{List, Memᴰ as In}
 use Rattle.section_cutter.specs.Cutting.{section_of, Askable, cut_answer, cut_output}
-use Rattle.section_cutter.specs.declared.Cut.TheVariants.{Written}
 use Rattle.gathering_account.specs.Gathers.{ByteStrings, HandsOut}
 use Rattle.index.specs.Index.{Message, Index, index_kind}
 use Rattle.content.specs.Content.{Content, content_kind}
@@ -11,7 +10,7 @@ use Rattle.promises_road.specs.Road.{FormTimes, IndexWritten, ContentWritten, Ov
 
 pub record FromFormToScreen : Type 0 where
   -- the calls go this road: what a call of the cutter wrote is that section of the body, which it could be asked for;
-  pub cut_by_call : (body : List ℕ) (kind extension version number : ℕ) (out : List ℕ) (n : ℕ) → cut_answer body kind extension version number out ≡ Written n
+  pub cut_by_call : (body : List ℕ) (kind extension version number : ℕ) (out : List ℕ) (n : ℕ) → cut_answer body kind extension version number out ≡ Ok n
       → Askable (length body) kind extension version number
       × (take n (cut_output body kind extension version number out) ≡ section_of body kind extension version number)
   -- and what is packed call by call, unpacked call by call from a fresh state, and taken out section by section, went over packets

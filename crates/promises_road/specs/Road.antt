@@ -1,35 +1,27 @@
 -- What a reader has to believe of the road from the paper form to the screen: the form, the writers, packets, the gathering, and what is then shown.
-use Rattle.std.specs.Prelude.{ℕ, suc, ◌+◌, ◌≤◌, Bool, ◌≡◌, ℤ, length, take, if◌then◌else◌}
+use Rattle.std.specs.Prelude.{ℕ, suc, ◌+◌, ◌≤◌, Bool, ◌≡◌, ℤ, length, take, if◌then◌else◌, Result, Ok, Err}
+use Rattle.ground_refusal.specs.declared.Refusal.{Refusal}
 use mathlib.Core.List.{List, [], ◌∷◌, Memᴰ as In}
 use Rattle.crc.specs.Crc.{AreBytes}
 use Rattle.time_printing.specs.Printing.{live_text, Verdict, refuses, prints, start_text, end_text}
 use Rattle.time_printing.specs.Typing.{typed_times}
-use Rattle.time_printing.specs.declared.TypedTimes.TheVariants.{Fields}
 use Rattle.section_cutter.specs.Cutting.{cut_heading, section_of, Askable}
 use Rattle.packet_memory.specs.Memory.{Memory, fresh}
 use Rattle.packet_reader.specs.Unpacking.{gives, unpacking_all}
 use Rattle.packet_writer.specs.Packing.{packed_all}
 use Rattle.packet_arrival.specs.Packed.{AllGood}
 use Rattle.gathering_state.specs.State.{has_room}
-use Rattle.gathering_hand_out.specs.declared.Handed.{Handed}
-use Rattle.gathering_hand_out.specs.declared.Handed.TheVariants.{Body, Refused as NotHanded}
 use Rattle.gathering_account.specs.Gathers.{Box, fresh_box, ByteStrings, box_after, handing, handed_output}
 use Rattle.gathering_account.specs.Arrival.{Arrives}
 use Rattle.body_formats.specs.Reading.{found}
 use Rattle.body_formats.specs.Body.{writing, output_written, body_read}
-use Rattle.body_formats.specs.declared.Number.{Number}
-use Rattle.body_formats.specs.declared.Number.TheVariants.{Is, Refused as NoNumber}
-use Rattle.body_formats.specs.declared.Part.TheVariants.{Of}
-use Rattle.body_formats.specs.declared.Step.TheVariants.{At}
 use Rattle.index.specs.Index.{Message, Index, index_kind, index}
 use Rattle.index_fields.specs.Asked.{message_part, start, end, extension}
 use Rattle.index_fields.specs.Agreement.{FieldsAsked, IndexAsked}
 use Rattle.content_variant.specs.Variant.{width_of}
-use Rattle.content_variant.specs.declared.Width.TheVariants.{Bytes}
 use Rattle.content.specs.Content.{Content, content_kind, content, variant_read}
 use Rattle.content_fields.specs.Agreement.{ContentAsked}
 use Rattle.content_writer.specs.Written.{variant_written, variant_output}
-use Rattle.content_writer.specs.declared.Written.TheVariants.{Of as Written}
 
 -- ---- the form
 
@@ -45,7 +37,7 @@ abbrev pub AllTyped : ℤ → List FormTimes → List Message → Type 0
 AllTyped offset [] [] = Unit {0}
 AllTyped offset [] (m ∷ ms) = ⊥
 AllTyped offset (x ∷ xs) [] = ⊥
-AllTyped offset (x ∷ xs) (m ∷ ms) = (typed_times x.start x.live x.end offset ≡ Fields m.start m.end) × AllTyped offset xs ms
+AllTyped offset (x ∷ xs) (m ∷ ms) = (typed_times x.start x.live x.end offset ≡ Ok (m.start, m.end)) × AllTyped offset xs ms
 
 -- "fields that the writers accept": the pool and the tape lay out the table t, with the times as they were typed; the index writer
 -- answers a length, and that many bytes at the start of its output are the body
@@ -60,12 +52,12 @@ pub record IndexWritten (offset : ℤ) (times : List FormTimes) (t : Index) (bod
 
 -- so it is with the content table t in the variant v, whose auxiliary files have lengths of w bytes; its writer also gives the extension
 pub record ContentWritten (v w : ℕ) (t : Content) (given : ℕ) (body : List ℕ) : Type 0 where
-  pub variant : Bytes w ≡ width_of v
+  pub variant : Ok w ≡ width_of v
   pub pool : List ℕ
   pub tape : List ℕ
   pub out : List ℕ
   pub filled : writing (content w) pool tape (length out) ≡ found t (length body)
-  pub answered : variant_written v pool tape (length out) ≡ Written (length body) given
+  pub answered : variant_written v pool tape (length out) ≡ Ok (length body, given)
   pub body_is : body ≡ take (length body) (variant_output v pool tape out)
   pub bytes : AreBytes body
 
@@ -106,9 +98,9 @@ pub record Road (body : List ℕ) (kind extension version : ℕ) : Type 0 where
 abbrev pub box_of : {body : List ℕ} {kind extension version : ℕ} → Road body kind extension version → Box
 box_of r = box_after (fresh_box r.store) r.fed
 
-unfoldable pub bytes_by : Handed → List ℕ → List ℕ
-bytes_by (Body n) left = take n left
-bytes_by (NotHanded r) left = []
+unfoldable pub bytes_by : Result ℕ Refusal → List ℕ → List ℕ
+bytes_by (Ok n) left = take n left
+bytes_by (Err r) left = []
 
 abbrev pub handed_bytes : {body : List ℕ} {kind extension version : ℕ} → Road body kind extension version → List ℕ
 handed_bytes r = bytes_by (handing (box_of r) r.out) (handed_output (box_of r) r.out)
@@ -116,9 +108,9 @@ handed_bytes r = bytes_by (handing (box_of r) r.out) (handed_output (box_of r) r
 -- ---- the screen
 
 -- a time that is asked for of a body, printed
-unfoldable pub shown : (ℕ → ℤ → Verdict) → ℤ → Number → Verdict
-shown text offset (Is field q) = text field offset
-shown text offset (NoNumber r) = refuses r
+unfoldable pub shown : (ℕ → ℤ → Verdict) → ℤ → Result (ℕ × ℕ) Refusal → Verdict
+shown text offset (Ok (field, q)) = text field offset
+shown text offset (Err r) = refuses r
 
 -- "A live end prints as the word live", any other as it was typed
 unfoldable pub end_shown : FormTimes → List ℕ
@@ -128,7 +120,7 @@ end_shown x = if x.live then live_text else x.end
 pub record MessageShown (s : List ℕ) (offset : ℤ) (i : ℕ) (x : FormTimes) : Type 0 where
   pub at : ℕ
   pub size : ℕ
-  pub part : message_part s i ≡ Of at size
+  pub part : message_part s i ≡ Ok (at, size)
   pub start_shown : shown start_text offset (start s at size) ≡ prints x.start
   pub end_shown_lem : shown end_text offset (end s at size) ≡ prints (end_shown x)
 
@@ -139,13 +131,13 @@ AllShown s offset i (x ∷ xs) = MessageShown s offset i x × AllShown s offset 
 
 -- the body s is accepted, its times print as they were typed, "and every other field is the one filled in"
 pub record IndexShown (offset : ℤ) (times : List FormTimes) (t : Index) (s : List ℕ) : Type 0 where
-  pub accepted : body_read index index_kind index_kind s ≡ At (length s)
+  pub accepted : body_read index index_kind index_kind s ≡ Ok (length s)
   pub times_shown : AllShown s offset 0 times
   pub fields_asked : IndexAsked s t
 
 -- the body s of a content table, in the variant v and with this extension
 pub record ContentShown (v w : ℕ) (t : Content) (given : ℕ) (s : List ℕ) : Type 0 where
-  pub accepted : variant_read content_kind v given s ≡ At (length s)
+  pub accepted : variant_read content_kind v given s ≡ Ok (length s)
   pub fields_asked : ContentAsked w s t
 
 -- the message m stands in the body s of an index, and what is asked there for its extension is this one
@@ -153,6 +145,6 @@ pub record FoundBy (s : List ℕ) (m : Message) (given : ℕ) : Type 0 where
   pub number : ℕ
   pub at : ℕ
   pub size : ℕ
-  pub part : message_part s number ≡ Of at size
+  pub part : message_part s number ≡ Ok (at, size)
   pub fields : FieldsAsked s at size m
-  pub extension_is : extension s at size ≡ Is given (at + 18)
+  pub extension_is : extension s at size ≡ Ok (given, at + 18)

@@ -1,13 +1,12 @@
 -- The road can be gone: what is asked for on it is met by every table that can be sent and every time in range, in one stream of two tables, by a
 -- gathering that is fed all of it, and by the drill's form.
-use Rattle.std.specs.Prelude.{ℕ, ◌+◌, ◌≤◌, true, false, ◌≡◌, ℤ, pos, length}
+use Rattle.std.specs.Prelude.{ℕ, ◌+◌, ◌≤◌, true, false, ◌≡◌, ℤ, pos, length, Ok}
 use mathlib.Core.List.{List, [], ◌∷◌, ◌++◌, Memᴰ as In}
 use Rattle.crc.specs.Crc.{AreBytes}
 use Rattle.ground_numbers.specs.Sizes.{body_most}
 use Rattle.time_fields.specs.Field.{live_mark}
 use Rattle.time_printing.specs.Printing.{prints, start_text}
 use Rattle.time_printing.specs.Typing.{typed_times}
-use Rattle.time_printing.specs.declared.TypedTimes.TheVariants.{Fields}
 use Rattle.section_cutter.specs.Cutting.{section_count, cut_heading, section_of, Askable}
 use Rattle.packet_arrival.specs.Packed.{AllGood}
 use Rattle.gathering_state.specs.State.{has_room}
@@ -15,7 +14,6 @@ use Rattle.gathering_account.specs.Arrival.{ArrivesFirst, sections_listed}
 use Rattle.body_extension.specs.Extension.{extension_of}
 use Rattle.index.specs.Index.{Message, Index, index}
 use Rattle.content_variant.specs.Variant.{width_of}
-use Rattle.content_variant.specs.declared.Width.TheVariants.{Bytes}
 use Rattle.content.specs.Content.{Content, content}
 use Rattle.promises_road.specs.Calls.{PacketCalls}
 use Rattle.promises_road.specs.Road.{FormTimes, AllTyped, IndexWritten, ContentWritten, OverPackets, Gathered, Road}
@@ -69,12 +67,12 @@ pub record Travelled : Type 0 where
       → IndexWritten offset times t (index.print t)
   -- as the drill's has; and so has every content table that can be sent, in either variant
   pub drill : IndexWritten (pos 480) drill_times drill_index (index.print drill_index)
-  pub content_forms : (v w : ℕ) (t : Content) → Bytes w ≡ width_of v
+  pub content_forms : (v w : ℕ) (t : Content) → Ok w ≡ width_of v
       → (content w).writable t ≡ true → (content w).too_large t ≡ false → AreBytes ((content w).print t) → length ((content w).print t) ≤ body_most
       → ContentWritten v w t (extension_of t.identifier) ((content w).print t)
   -- every field that can be printed at an offset can be typed there, and a live end asked for
-  pub typable : (offset : ℤ) (a b : ℕ) (s e : List ℕ) → start_text a offset ≡ prints s → start_text b offset ≡ prints e → typed_times s false e offset ≡ Fields a b
-  pub live_typable : (offset : ℤ) (a : ℕ) (s e : List ℕ) → start_text a offset ≡ prints s → typed_times s true e offset ≡ Fields a live_mark
+  pub typable : (offset : ℤ) (a b : ℕ) (s e : List ℕ) → start_text a offset ≡ prints s → start_text b offset ≡ prints e → typed_times s false e offset ≡ Ok (a, b)
+  pub live_typable : (offset : ℤ) (a : ℕ) (s e : List ℕ) → start_text a offset ≡ prints s → typed_times s true e offset ≡ Ok (a, live_mark)
   -- whatever good sections are sent, there are calls by which they go over packets;
   pub calls : (sent : List (List ℕ)) → AllGood sent → PacketCalls sent sent
   -- the sections of two bodies go over one stream of packets, one table's repeated after the other's;

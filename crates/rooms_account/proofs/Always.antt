@@ -5,11 +5,10 @@ use mathlib.Core.Bool.{Bool, true, false}
 use mathlib.Core.List.{List}
 use native.Mathlib.Omega.{arith}
 use borrow.Author.Tests.{le-leb}
-use Rattle.std.specs.Prelude.{if◌then◌else◌}
+use Rattle.std.specs.Prelude.{if◌then◌else◌, Ok}
 use Rattle.crc.specs.Crc.{AreBytes}
 use Rattle.section_reader.specs.Section.{payload_of, read_section}
 use Rattle.section_reader.specs.declared.Heading.{Heading}
-use Rattle.section_reader.specs.declared.Sectioned.TheVariants.{Good}
 use Rattle.section_reader.proofs.RoundTrip.{good_printed}
 use Rattle.gathering_state.specs.State.{has_room}
 use Rattle.gathering_account.specs.Account.{Heard, nothing, good_current, heard_as, heard, Account, idle, table, begun, account_after}
@@ -22,7 +21,7 @@ unfolding has_room
 own_room last l = le-leb ((last + 1) * 4084) 1045504 (omega arith)
 
 -- the last number of a good section is at most 255
-pub good_last : (s : List ℕ) → AreBytes s → (h : Heading) (n : ℕ) → read_section s ≡ Good h n → h.last ≤ 255
+pub good_last : (s : List ℕ) → AreBytes s → (h : Heading) (n : ℕ) → read_section s ≡ Ok (h, n) → h.last ≤ 255
 good_last s b h n e = (good_printed s h n b e).formed.last_high
 
 module _ (h : Heading) (p : List ℕ) (l : h.last ≤ 255) where

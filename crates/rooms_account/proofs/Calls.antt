@@ -1,5 +1,7 @@
 -- One call for a network at a box: a possible box stays possible, its own account goes as alone, and the other network's stays.
 use Prim.Native.Nat.{ℕ}
+use Rattle.std.specs.Prelude.{Result, Ok}
+use Rattle.ground_refusal.specs.declared.Refusal.{Refusal}
 use mathlib.Core.Path.{◌≡◌, refl, sym, ◌∙◌, ap}
 use mathlib.Core.Bool.{Bool, true, false, false≢true}
 use mathlib.Core.List.{List}
@@ -21,7 +23,6 @@ use Rattle.rooms_verdict.specs.Deciding.{verdict_of}
 use Rattle.rooms_feed.specs.Feeding.{room_for, room_verdict, roomed, part_by, store_by, part_fed, part_store, fed_for, store_for, fed_of, store_after}
 use Rattle.rooms_hand_out.specs.Handing.{handed_for, out_for, handed_of, out_after}
 use Rattle.rooms_end.specs.Ending.{ended_for, ended_of}
-use Rattle.rooms_end.specs.declared.Ended.TheVariants.{Done}
 use Rattle.rooms_account.specs.Alone.{Call, feeding, handing_out, ending, fed, handed, ended, tells, after, handed_to, out_to, needs}
 use Rattle.rooms_account.specs.Runs.{Box, told, box_after, same_network, free_for, needs_at}
 use Rattle.rooms_account.proofs.Feeding.{Own, Leaves, leaves_all, needs_is, left_by, goes_by}
@@ -109,7 +110,7 @@ module _ (i : Network) (x : Box) (ok : possible x ≡ true) where
   sound = sound_of i x.state (networks_are x.state (length x.store) ok)
 
   module _ (s : List ℕ) where
-    abbrev v : Verdict
+    abbrev v : Result Verdict Refusal
     v = verdict_of (part i x) x.store s
 
     abbrev room : ℕ
@@ -164,7 +165,7 @@ module _ (i : Network) (x : Box) (ok : possible x ≡ true) where
   unfolding box_after ended_of ended_for
   ended_next = rw ok
 
-  ended_told : told (some i) x ending ≡ ended Done
+  ended_told : told (some i) x ending ≡ ended (Ok tt)
   unfolding told ended_of ended_for
   ended_told = rw ok
 

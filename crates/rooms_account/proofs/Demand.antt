@@ -7,8 +7,7 @@ use mathlib.Core.List.{List, [], ◌∷◌}
 use mathlib.Core.Option.{some}
 use native.Mathlib.Omega.{arith}
 use lib.ListN.{length}
-use Rattle.std.specs.Prelude.{if◌then◌else◌}
-use Rattle.gathering_hand_out.specs.declared.Handed.TheVariants.{Body}
+use Rattle.std.specs.Prelude.{if◌then◌else◌, Ok}
 use Rattle.ground_refusal.specs.declared.Refusal.{Refusal}
 use Rattle.gathering_account.specs.Account.{Account, idle, Complete, Covered, body_of}
 use Rattle.gathering_account.specs.Gathers as G
@@ -62,13 +61,13 @@ module _ (i : Network) (x : Box) (ok : possible x ≡ true) {a : Account} (own :
   unfolding out_after out_for
   out_is = rw ok (shadow_out (part i x) x.store own.shadow own.shadows out)
 
-  no_body : {A : Type 0} {r : Refusal} → Refuses box out r → (n : ℕ) → G.handing box out ≡ Body n → A
+  no_body : {A : Type 0} {r : Refusal} → Refuses box out r → (n : ℕ) → G.handing box out ≡ Ok n → A
   no_body e n f = let z : ◌≡◌ {A = ℕ} 0 1 = cc in absurd (omega arith)
 
   hands : G.HandsOut box out (body_of a) → HandsOut i x out (body_of a)
   hands h = record { answers = handed_is ∙ h.answers; writes = out_is ∙ h.writes }
 
-  only_complete : {d : Account} → Answers box out d → (n : ℕ) → G.handing box out ≡ Body n → Complete d
+  only_complete : {d : Account} → Answers box out d → (n : ℕ) → G.handing box out ≡ Ok n → Complete d
   only_complete (nothing_begun_lem e) n b = no_body e n b
   only_complete (two_differ d e) n b = no_body e n b
   only_complete (one_missing k a m e) n b = no_body e n b
@@ -83,7 +82,7 @@ module _ (i : Network) (x : Box) (ok : possible x ≡ true) {a : Account} (own :
   when_complete (too_small c m e) d l = absurd (omega arith)
   when_complete (handed_out c m e) d l = e
 
-  what_body : {d : Account} → Answers box out d → (n : ℕ) → G.handing box out ≡ Body n → G.HandsOut box out (body_of d)
+  what_body : {d : Account} → Answers box out d → (n : ℕ) → G.handing box out ≡ Ok n → G.HandsOut box out (body_of d)
   what_body (nothing_begun_lem e) n b = no_body e n b
   what_body (two_differ d e) n b = no_body e n b
   what_body (one_missing k a m e) n b = no_body e n b

@@ -1,5 +1,6 @@
 -- One feed for a network: the parts stay sound, its account goes as the machine for one network alone says, and the other network's payloads stay.
 use Prim.Native.Nat.{ℕ, ◌+◌, ◌≤◌}
+use Rattle.ground_refusal.specs.declared.Refusal.{Refusal}
 use mathlib.Core.Path.{◌≡◌, refl, sym, ◌∙◌, ap}
 use mathlib.Core.Bool.{Bool, true, false, not, ◌&&◌}
 use mathlib.Core.List.{List}
@@ -7,23 +8,21 @@ use native.Mathlib.Omega.{arith}
 use borrow.Author.Tests.{eqb-true, eqb-false, lt-ltb, le-ltb}
 use lib.Dec.{eqb, ltb}
 use lib.ListN.{length}
-use Rattle.std.specs.Prelude.{if◌then◌else◌}
+use Rattle.std.specs.Prelude.{if◌then◌else◌, Result, Ok, Err}
 use Rattle.ground_placing.specs.Placed.{placed}
 use Rattle.ground_refusal.specs.declared.Refusal.TheVariants.{NoFreeRoom}
 use Rattle.crc.specs.Crc.{AreBytes}
 use Rattle.section_reader.specs.Section.{payload_of, read_section}
 use Rattle.section_reader.specs.declared.Heading.{Heading}
-use Rattle.section_reader.specs.declared.Sectioned.TheVariants.{Good}
 use Rattle.section_reader.proofs.RoundTrip.{good_printed}
 use Rattle.gathering_state.specs.State.{opened, spoiled_state, held_payload}
 use Rattle.gathering_state.proofs.Lists.{zeros_at}
 use Rattle.gathering_state.proofs.State.{opened_table, spoiled_begun, begun_possible}
 use Rattle.gathering_verdict.specs.Deciding as G
 use Rattle.gathering_verdict.specs.declared.Verdict.{Verdict}
-use Rattle.gathering_verdict.specs.declared.Verdict.TheVariants.{Refuse, Repeat, Contradict, Begin, Take}
+use Rattle.gathering_verdict.specs.declared.Verdict.TheVariants.{Repeat, Contradict, Begin, Take}
 use Rattle.gathering_verdict.proofs.Verdicts.{as_first, as_further}
 use Rattle.gathering_feed.specs.Feeding as F
-use Rattle.gathering_feed.specs.declared.Answer.TheVariants.{Refused}
 use Rattle.gathering_account.specs.Account.{heard, Account, account_after}
 use Rattle.gathering_account.specs.Answering.{answer_to}
 use Rattle.gathering_account.proofs.Hearing.{feed_by}
@@ -88,17 +87,17 @@ module _ (a : Account) (s : List ℕ) where
   unfolding answer_fed account_fed
   fed_so f e = (rw e, rw e)
 
-  pub fed_not : (f : Bool) → refused_for_room a s f ≡ true → (answer_fed a s f ≡ Refused NoFreeRoom) × (account_fed a s f ≡ a)
+  pub fed_not : (f : Bool) → refused_for_room a s f ≡ true → (answer_fed a s f ≡ Err NoFreeRoom) × (account_fed a s f ≡ a)
   unfolding answer_fed account_fed
   fed_not f e = (rw e, rw e)
 
-taken_takes : (v : Verdict) → is_taken (F.answer_by v) ≡ takes v
+taken_takes : (v : Result Verdict Refusal) → is_taken (F.answer_by v) ≡ takes v
 unfolding is_taken takes F.answer_by
-taken_takes (Refuse r) = refl
-taken_takes Repeat = refl
-taken_takes Contradict = refl
-taken_takes (Begin h) = refl
-taken_takes (Take h) = refl
+taken_takes (Err r) = refl
+taken_takes (Ok Repeat) = refl
+taken_takes (Ok Contradict) = refl
+taken_takes (Ok (Begin h)) = refl
+taken_takes (Ok (Take h)) = refl
 
 opened_holds : (h : Heading) → held_rooms (opened_part h).rooms ≡ 0
 unfolding opened_part
@@ -130,7 +129,7 @@ module _ (n : ℕ) (p q : Part) (store : List ℕ) (x : Sound n p q (length stor
     unfolding needs_room
     needs_is = ap is_taken answers_by ∙ taken_takes (verdict_of p store s)
 
-    stands_by : (v : Verdict) → verdict_of p store s ≡ v
+    stands_by : (v : Result Verdict Refusal) → verdict_of p store s ≡ v
         → Stands 1045504 (record { state = F.state_by p.gathering pl v; store = F.store_by own.shadow pl v }) (account_after always a (heard s))
     stands_by v e =
         rw (← always_after a s are_bytes, ← feed_by (record { state = p.gathering; store = own.shadow }) s v (sym same_verdict ∙ e))
@@ -138,10 +137,10 @@ module _ (n : ℕ) (p q : Part) (store : List ℕ) (x : Sound n p q (length stor
 
   -- ---- what is known where it is taken
 
-  pl_short : (h : Heading) (m : ℕ) → read_section s ≡ Good h m → length pl ≤ 4084
+  pl_short : (h : Heading) (m : ℕ) → read_section s ≡ Ok (h, m) → length pl ≤ 4084
   pl_short h m e = (good_printed s h m are_bytes e).short
 
-  first_ready : (h : Heading) (m : ℕ) → read_section s ≡ Good h m → Ready n (opened_part h) h.number
+  first_ready : (h : Heading) (m : ℕ) → read_section s ≡ Ok (h, m) → Ready n (opened_part h) h.number
   unfolding opened_part opened
   first_ready h m e =
       let w = (good_printed s h m are_bytes e).formed in
@@ -163,7 +162,7 @@ module _ (n : ℕ) (p q : Part) (store : List ℕ) (x : Sound n p q (length stor
   unfolding opened_part opened
   first_shadow h u l = record { long = l; same = λ k d. absurd (d (zeros_at 256 k)) }
 
-  further_ready : (h : Heading) (m : ℕ) → read_section s ≡ Good h m → verdict_of p store s ≡ Take h → Ready n p h.number
+  further_ready : (h : Heading) (m : ℕ) → read_section s ≡ Ok (h, m) → verdict_of p store s ≡ Ok (Take h) → Ready n p h.number
   further_ready h m r e =
       let w = (good_printed s h m are_bytes r).formed in
       let f = (take_is p store s x.own.possible h (as_further e)).further e in
@@ -196,7 +195,7 @@ module _ (n : ℕ) (p q : Part) (store : List ℕ) (x : Sound n p q (length stor
             (unused_other n b k ready store store pl few q.rooms room free x.roomy);
       }
 
-  spoilt_leaves : verdict_of p store s ≡ Contradict → Leaves n q store (record { gathering = spoiled_state p.gathering; rooms = p.rooms }) store
+  spoilt_leaves : verdict_of p store s ≡ (Ok Contradict) → Leaves n q store (record { gathering = spoiled_state p.gathering; rooms = p.rooms }) store
   unfolding spoiled_state
   spoilt_leaves e =
       record {
@@ -220,28 +219,28 @@ module _ (n : ℕ) (p q : Part) (store : List ℕ) (x : Sound n p q (length stor
   -- ---- by the verdict v, and the room that it finds
 
   module _ (room : ℕ) where
-    abbrev Left : Verdict → Type 0
+    abbrev Left : Result Verdict Refusal → Type 0
     Left v = Leaves n q store (part_by p pl room (roomed v room)) (store_by store pl room (roomed v room))
 
     free_room_lem : (b : Part) → room ≡ free_room n b.rooms q.rooms → (room ≡ 0 → ⊥) → FreeIs n b.rooms q.rooms room
     free_room_lem b f d = rw f (free_is n b.rooms q.rooms (rw (← f) (omega arith)))
 
-    pub left_by : (v : Verdict) → verdict_of p store s ≡ v → room ≡ room_for n p q.rooms v → Left v
+    pub left_by : (v : Result Verdict Refusal) → verdict_of p store s ≡ v → room ≡ room_for n p q.rooms v → Left v
     unfolding part_by store_by roomed room_for base
-    left_by (Refuse r) e f = leaves_all x
-    left_by Repeat e f = leaves_all x
-    left_by Contradict e f = spoilt_leaves e
-    left_by (Begin h) e f = go (seen (eqb room 0))
+    left_by (Err r) e f = leaves_all x
+    left_by (Ok Repeat) e f = leaves_all x
+    left_by (Ok Contradict) e f = spoilt_leaves e
+    left_by (Ok (Begin h)) e f = go (seen (eqb room 0))
       where
-        go : Seen (eqb room 0) → Left (Begin h)
+        go : Seen (eqb room 0) → Left (Ok (Begin h))
         go (yes_is z) = rw z (leaves_all x)
         go (no_is z) =
             let i = take_is p store s x.own.possible h (as_first e) in
             rw z (took (opened_part h) h.number (first_ready h i.length_of i.reads) (first_once h) (pl_short h i.length_of i.reads) room
             (free_room_lem (opened_part h) f (eqb-false room 0 z)))
-    left_by (Take h) e f = go (seen (eqb room 0))
+    left_by (Ok (Take h)) e f = go (seen (eqb room 0))
       where
-        go : Seen (eqb room 0) → Left (Take h)
+        go : Seen (eqb room 0) → Left (Ok (Take h))
         go (yes_is z) = rw z (leaves_all x)
         go (no_is z) =
             let i = take_is p store s x.own.possible h (as_further e) in
@@ -249,17 +248,17 @@ module _ (n : ℕ) (p q : Part) (store : List ℕ) (x : Sound n p q (length stor
             (free_room_lem p f (eqb-false room 0 z)))
 
     -- the takes and returns so far
-    pub balanced_by : (t : Tally) → held_rooms p.rooms + t.returns ≡ t.takes → (v : Verdict) → verdict_of p store s ≡ v → room ≡ room_for n p q.rooms v
+    pub balanced_by : (t : Tally) → held_rooms p.rooms + t.returns ≡ t.takes → (v : Result Verdict Refusal) → verdict_of p store s ≡ v → room ≡ room_for n p q.rooms v
         → let t' = tally_fed t (held_rooms p.rooms) (roomed v room) in
         held_rooms (part_by p pl room (roomed v room)).rooms + t'.returns ≡ t'.takes
     unfolding part_by roomed room_for base tally_fed
-    balanced_by t b (Refuse r) e f = b
-    balanced_by t b Repeat e f = b
-    balanced_by t b Contradict e f = b
-    balanced_by t b (Begin h) e f = go (seen (eqb room 0))
+    balanced_by t b (Err r) e f = b
+    balanced_by t b (Ok Repeat) e f = b
+    balanced_by t b (Ok Contradict) e f = b
+    balanced_by t b (Ok (Begin h)) e f = go (seen (eqb room 0))
       where
         go : Seen (eqb room 0)
-            → let w = if eqb room 0 then Refuse NoFreeRoom else Begin h in
+            → let w = if eqb room 0 then Err NoFreeRoom else Ok (Begin h) in
             held_rooms (part_by p pl room w).rooms + (tally_fed t (held_rooms p.rooms) w).returns ≡ (tally_fed t (held_rooms p.rooms) w).takes
         go (yes_is z) = rw z b
         go (no_is z) =
@@ -269,10 +268,10 @@ module _ (n : ℕ) (p q : Part) (store : List ℕ) (x : Sound n p q (length stor
             (free_room_lem (opened_part h) f (eqb-false room 0 z)) x.roomy in
             let none = opened_holds h in
             rw z (omega arith)
-    balanced_by t b (Take h) e f = go (seen (eqb room 0))
+    balanced_by t b (Ok (Take h)) e f = go (seen (eqb room 0))
       where
         go : Seen (eqb room 0)
-            → let w = if eqb room 0 then Refuse NoFreeRoom else Take h in
+            → let w = if eqb room 0 then Err NoFreeRoom else Ok (Take h) in
             held_rooms (part_by p pl room w).rooms + (tally_fed t (held_rooms p.rooms) w).returns ≡ (tally_fed t (held_rooms p.rooms) w).takes
         go (yes_is z) = rw z b
         go (no_is z) =
@@ -284,73 +283,73 @@ module _ (n : ℕ) (p q : Part) (store : List ℕ) (x : Sound n p q (length stor
 
     -- the account, and the answer
     module _ {a : Account} (own : Own p store a) where
-      abbrev Goes : Verdict → Type 0
+      abbrev Goes : Result Verdict Refusal → Type 0
       Goes v =
           Own (part_by p pl room (roomed v room)) (store_by store pl room (roomed v room)) (account_fed a s (ltb 0 room))
           × (F.answer_by (roomed v room) ≡ answer_fed a s (ltb 0 room))
 
-      unneeded : (v : Verdict) → verdict_of p store s ≡ v → takes v ≡ false
+      unneeded : (v : Result Verdict Refusal) → verdict_of p store s ≡ v → takes v ≡ false
           → (account_fed a s (ltb 0 room) ≡ account_after always a (heard s)) × (F.answer_by v ≡ answer_fed a s (ltb 0 room))
       unneeded v e t =
           let k = fed_so a s (ltb 0 room) (refused_not a s (needs_is own ∙ ap takes e ∙ t) (ltb 0 room)) in
           (k.1, sym (k.0 ∙ answers_by own ∙ ap F.answer_by e))
 
-      full : (v : Verdict) → verdict_of p store s ≡ v → takes v ≡ true → room ≡ 0
-          → (account_fed a s (ltb 0 room) ≡ a) × (Refused NoFreeRoom ≡ answer_fed a s (ltb 0 room))
+      full : (v : Result Verdict Refusal) → verdict_of p store s ≡ v → takes v ≡ true → room ≡ 0
+          → (account_fed a s (ltb 0 room) ≡ a) × (Err NoFreeRoom ≡ answer_fed a s (ltb 0 room))
       full v e t z =
           let k = fed_not a s (ltb 0 room) (ap (refused_for_room a s) (free_zero room z) ∙ refused_full a s (needs_is own ∙ ap takes e ∙ t)) in
           (k.1, sym k.0)
 
-      roomy : (v : Verdict) → verdict_of p store s ≡ v → (room ≡ 0 → ⊥)
+      roomy : (v : Result Verdict Refusal) → verdict_of p store s ≡ v → (room ≡ 0 → ⊥)
           → (account_fed a s (ltb 0 room) ≡ account_after always a (heard s)) × (F.answer_by v ≡ answer_fed a s (ltb 0 room))
       roomy v e d =
           let k = fed_so a s (ltb 0 room) (ap (refused_for_room a s) (free_some room d) ∙ refused_free a s) in
           (k.1, sym (k.0 ∙ answers_by own ∙ ap F.answer_by e))
 
       -- the state that the single gathering would have, over the store that it would have
-      owned : (p' : Part) (store' : List ℕ) (v : Verdict) → verdict_of p store s ≡ v → p'.gathering ≡ F.state_by p.gathering pl v
+      owned : (p' : Part) (store' : List ℕ) (v : Result Verdict Refusal) → verdict_of p store s ≡ v → p'.gathering ≡ F.state_by p.gathering pl v
           → Shadow p' store' (F.store_by own.shadow pl v) → Own p' store' (account_after always a (heard s))
       owned p' store' v e f sh = record { shadow = F.store_by own.shadow pl v; shadows = sh; stands = rw f (stands_by own v e) }
 
-      pub goes_by : (v : Verdict) → verdict_of p store s ≡ v → room ≡ room_for n p q.rooms v → Goes v
+      pub goes_by : (v : Result Verdict Refusal) → verdict_of p store s ≡ v → room ≡ room_for n p q.rooms v → Goes v
       unfolding part_by store_by roomed room_for base takes F.answer_by F.state_by F.store_by with_room opened_part spoiled_state held_payload room_payload
-      goes_by (Refuse r) e f = let k = unneeded (Refuse r) e refl in (rw k.0 (owned p store (Refuse r) e refl own.shadows), k.1)
-      goes_by Repeat e f = let k = unneeded Repeat e refl in (rw k.0 (owned p store Repeat e refl own.shadows), k.1)
-      goes_by Contradict e f =
-          let k = unneeded Contradict e refl in
+      goes_by (Err r) e f = let k = unneeded (Err r) e refl in (rw k.0 (owned p store (Err r) e refl own.shadows), k.1)
+      goes_by (Ok Repeat) e f = let k = unneeded (Ok Repeat) e refl in (rw k.0 (owned p store (Ok Repeat) e refl own.shadows), k.1)
+      goes_by (Ok Contradict) e f =
+          let k = unneeded (Ok Contradict) e refl in
           let sh = own.shadows in (
-            rw k.0 (owned (record { gathering = spoiled_state p.gathering; rooms = p.rooms }) store Contradict e refl
+            rw k.0 (owned (record { gathering = spoiled_state p.gathering; rooms = p.rooms }) store (Ok Contradict) e refl
                 (record { long = sh.long; same = sh.same })),
             k.1,
           )
-      goes_by (Begin h) e f = go (seen (eqb room 0))
+      goes_by (Ok (Begin h)) e f = go (seen (eqb room 0))
         where
-          go : Seen (eqb room 0) → Goes (Begin h)
-          go (yes_is z) = let k = full (Begin h) e refl (eqb-true room 0 z) in rw z (rw k.0 own, k.1)
+          go : Seen (eqb room 0) → Goes (Ok (Begin h))
+          go (yes_is z) = let k = full (Ok (Begin h)) e refl (eqb-true room 0 z) in rw z (rw k.0 own, k.1)
           go (no_is z) =
               let d = eqb-false room 0 z in
-              let k = roomy (Begin h) e d in
+              let k = roomy (Ok (Begin h)) e d in
               let i = take_is p store s x.own.possible h (as_first e) in
               let few = pl_short h i.length_of i.reads in
               let ready = first_ready h i.length_of i.reads in
               rw z (
-                rw k.0 (owned (with_room (opened_part h) h.number (length pl) room) (placed store (room_place room) pl) (Begin h) e refl
+                rw k.0 (owned (with_room (opened_part h) h.number (length pl) room) (placed store (room_place room) pl) (Ok (Begin h)) e refl
                     (shadow_with n (opened_part h) h.number ready store own.shadow pl few q.rooms room (free_room_lem (opened_part h) f d) x.roomy
                     (first_shadow h own.shadow own.shadows.long))),
                 k.1,
               )
-      goes_by (Take h) e f = go (seen (eqb room 0))
+      goes_by (Ok (Take h)) e f = go (seen (eqb room 0))
         where
-          go : Seen (eqb room 0) → Goes (Take h)
-          go (yes_is z) = let k = full (Take h) e refl (eqb-true room 0 z) in rw z (rw k.0 own, k.1)
+          go : Seen (eqb room 0) → Goes (Ok (Take h))
+          go (yes_is z) = let k = full (Ok (Take h)) e refl (eqb-true room 0 z) in rw z (rw k.0 own, k.1)
           go (no_is z) =
               let d = eqb-false room 0 z in
-              let k = roomy (Take h) e d in
+              let k = roomy (Ok (Take h)) e d in
               let i = take_is p store s x.own.possible h (as_further e) in
               let few = pl_short h i.length_of i.reads in
               let ready = further_ready h i.length_of i.reads e in
               rw z (
-                rw k.0 (owned (with_room p h.number (length pl) room) (placed store (room_place room) pl) (Take h) e refl
+                rw k.0 (owned (with_room p h.number (length pl) room) (placed store (room_place room) pl) (Ok (Take h)) e refl
                     (shadow_with n p h.number ready store own.shadow pl few q.rooms room (free_room_lem p f d) x.roomy own.shadows)),
                 k.1,
               )

@@ -1,5 +1,6 @@
 -- What handing out tells by the account: each answer of the single gathering, as a function of the account alone.
 use Prim.Native.Nat.{ℕ, zero, suc, ◌+◌, ◌≤◌, ◌<◌}
+use Rattle.std.specs.Prelude.{Result, Ok, Err}
 use mathlib.Core.Path.{◌≡◌, refl, sym, ◌∙◌, ap}
 use mathlib.Core.Bool.{true, false}
 use mathlib.Core.List.{List}
@@ -13,8 +14,6 @@ use Rattle.ground_refusal.specs.declared.Refusal.{Refusal}
 use Rattle.ground_refusal.specs.declared.Refusal.TheVariants.{Contradiction, Missing, OutputTooSmall}
 use Rattle.section_reader.specs.declared.Heading.{Heading}
 use Rattle.gathering_hand_out.specs.Handing.{handed_if_room, out_by}
-use Rattle.gathering_hand_out.specs.declared.Handed.{Handed}
-use Rattle.gathering_hand_out.specs.declared.Handed.TheVariants.{Body, Refused}
 use Rattle.gathering_hand_out.proofs.Handing.{fitting_small, fitting_body}
 use Rattle.gathering_account.specs.Account.{Section, Account, idle, table, Present, Covered, Complete, body_of}
 use Rattle.gathering_account.specs.Answering.{present, agreeing}
@@ -72,12 +71,12 @@ absent_smallest S last k m =
 -- ---- what is handed by the account
 
 module _ (h : Heading) (S : List Section) (room : ℕ) where
-  hands_differing : agreeing S ≡ false → handed_to (table h S) room ≡ Refused Contradiction
+  hands_differing : agreeing S ≡ false → handed_to (table h S) room ≡ Err Contradiction
   unfolding handed_to
   hands_differing a = rw a
 
   module _ (a : agreeing S ≡ true) where
-    hands_missing : covering (h.last + 1) S ≡ false → (k : ℕ) → absent_from S 0 (h.last + 1) ≡ k → handed_to (table h S) room ≡ Refused (Missing k)
+    hands_missing : covering (h.last + 1) S ≡ false → (k : ℕ) → absent_from S 0 (h.last + 1) ≡ k → handed_to (table h S) room ≡ Err (Missing k)
     unfolding handed_to
     hands_missing c k e = rw (a, c, e)
 
@@ -90,20 +89,20 @@ unfolding Complete Covered
 complete_tests h S c = (agree_agreeing S c.1, is_covering (h.last + 1) S (λ k l. c.0 k (omega arith)))
 
 -- the answer and the output of one network's handing out
-abbrev Hands : Account → List ℕ → Handed → List ℕ → Type 0
+abbrev Hands : Account → List ℕ → Result ℕ Refusal → List ℕ → Type 0
 Hands a out r out' = (r ≡ handed_to a (length out)) × (out' ≡ out_to a out)
 
-out_by_lem : (a : Account) (out : List ℕ) (r : Handed) → r ≡ handed_to a (length out) → out_by (body_of a) out r ≡ out_to a out
+out_by_lem : (a : Account) (out : List ℕ) (r : Result ℕ Refusal) → r ≡ handed_to a (length out) → out_by (body_of a) out r ≡ out_to a out
 unfolding out_to
 out_by_lem a out r e = ap (out_by (body_of a) out) e
 
-refused_hands : (a : Account) (out : List ℕ) (r : Refusal) → Refused r ≡ handed_to a (length out) → Hands a out (Refused r) out
+refused_hands : (a : Account) (out : List ℕ) (r : Refusal) → Err r ≡ handed_to a (length out) → Hands a out (Err r) out
 unfolding out_by
-refused_hands a out r e = (e, out_by_lem a out (Refused r) e)
+refused_hands a out r e = (e, out_by_lem a out (Err r) e)
 
-body_hands : (a : Account) (out : List ℕ) (m : ℕ) → Body m ≡ handed_to a (length out) → Hands a out (Body m) (placed out 0 (body_of a))
+body_hands : (a : Account) (out : List ℕ) (m : ℕ) → Ok m ≡ handed_to a (length out) → Hands a out (Ok m) (placed out 0 (body_of a))
 unfolding out_by
-body_hands a out m e = (e, out_by_lem a out (Body m) e)
+body_hands a out m e = (e, out_by_lem a out (Ok m) e)
 
 module _ (box : Box) (out : List ℕ) where
   hands_by : {a : Account} → Answers box out a → Hands a out (handing box out) (handed_output box out)

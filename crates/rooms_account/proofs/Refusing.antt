@@ -9,7 +9,7 @@ use native.Mathlib.Omega.{arith}
 use borrow.Author.Tests.{eqb-true, eqb-false, eq-eqb, ne_eqb}
 use lib.Dec.{eqb, ltb}
 use lib.ListN.{length, get_or, replicate}
-use Rattle.std.specs.Prelude.{if◌then◌else◌}
+use Rattle.std.specs.Prelude.{if◌then◌else◌, Result, Ok, Err}
 use Rattle.ground_refusal.specs.declared.Refusal.{Refusal}
 use Rattle.ground_refusal.specs.Numbers.{refusal_number}
 use Rattle.ground_refusal.specs.declared.Refusal.TheVariants.{SectionTooShort, OtherKind, FixedBitZero, SectionLengthOutside, OtherLength}
@@ -17,21 +17,18 @@ use Rattle.ground_refusal.specs.declared.Refusal.TheVariants.{NumberAboveLast, C
 use Rattle.ground_refusal.specs.declared.Refusal.TheVariants.{NoFreeRoom}
 use Rattle.ground_equal.specs.Same.{same_bytes}
 use Rattle.rooms_end.specs.Ending.{ended_for, ended_of}
-use Rattle.rooms_end.specs.declared.Ended.TheVariants.{Refused as NotEnded}
 use Rattle.section_reader.specs.Section.{payload_of, read_section, is_kind, fixed_bits, length_in_range, section_length}
 use Rattle.section_reader.specs.declared.Heading.{Heading}
-use Rattle.section_reader.specs.declared.Sectioned.{Sectioned}
-use Rattle.section_reader.specs.declared.Sectioned.TheVariants.{Good, Refused as NotGood}
 use Rattle.crc.specs.Crc.{crc32_of}
 use Rattle.gathering_state.specs.Lists.{greatest}
 use Rattle.gathering_state.specs.State.{nothing_begun}
 use Rattle.gathering_state.proofs.State.{possible_begun}
 use Rattle.gathering_verdict.specs.Deciding.{begins, agrees}
 use Rattle.gathering_verdict.specs.declared.Verdict.{Verdict}
-use Rattle.gathering_verdict.specs.declared.Verdict.TheVariants.{Refuse, Repeat, Contradict, Begin, Take}
+use Rattle.gathering_verdict.specs.declared.Verdict.TheVariants.{Repeat, Contradict, Begin, Take}
 use Rattle.gathering_feed.specs.Feeding.{answer_by}
 use Rattle.gathering_feed.specs.declared.Answer.{Answer}
-use Rattle.gathering_feed.specs.declared.Answer.TheVariants.{Taken, Refused}
+use Rattle.gathering_feed.specs.declared.Answer.TheVariants.{Taken}
 use Rattle.rooms_marks.specs.Rooms.{uses, free_room}
 use Rattle.rooms_marks.proofs.Counting.{count_zeros}
 use Rattle.rooms_marks.proofs.Free.{free_is, all_held, some_free}
@@ -54,15 +51,15 @@ data Early (n : ℕ) : Type 0 where
   low : n ≤ 9 → Early n
   eleven : n ≡ 11 → Early n
 
-read_first : (b : Bool) (t : Refusal) (a : Sectioned) → refusal_number t ≤ 7 → ((r : Refusal) → a ≡ NotGood r → refusal_number r ≤ 7)
-    → (r : Refusal) → (if b then NotGood t else a) ≡ NotGood r → refusal_number r ≤ 7
+read_first : (b : Bool) (t : Refusal) (a : Result (Heading × ℕ) Refusal) → refusal_number t ≤ 7 → ((r : Refusal) → a ≡ Err r → refusal_number r ≤ 7)
+    → (r : Refusal) → (if b then Err t else a) ≡ Err r → refusal_number r ≤ 7
 read_first true t a l f r e = let q : t ≡ r = cc in rw (← q) l
 read_first false t a l f r e = f r e
 
-good_not : (h : Heading) (n : ℕ) (r : Refusal) → Good h n ≡ NotGood r → refusal_number r ≤ 7
-good_not h n r e = let z : ◌≡◌ {A = ℕ} 0 1 = cc in absurd (omega arith)
+good_not : (h : Heading) (n : ℕ) (r : Refusal) → ◌≡◌ {A = Result (Heading × ℕ) Refusal} (Ok (h, n)) (Err r) → refusal_number r ≤ 7
+good_not h n r e = cc
 
-read_early : (s : List ℕ) (r : Refusal) → read_section s ≡ NotGood r → refusal_number r ≤ 7
+read_early : (s : List ℕ) (r : Refusal) → read_section s ≡ Err r → refusal_number r ≤ 7
 unfolding read_section
 read_early s =
     read_first (ltb (length s) 12) SectionTooShort _ (omega arith)
@@ -73,71 +70,71 @@ read_early s =
     (read_first (ltb (get_or s 7 0) (get_or s 6 0)) NumberAboveLast _ (omega arith)
     (read_first (not (eqb (crc32_of s) 0)) CheckNotZero _ (omega arith) (good_not _ _)))))))
 
-stops : (b : Bool) (t : Refusal) (v : Verdict) → Early (refusal_number t) → ((r : Refusal) → v ≡ Refuse r → Early (refusal_number r))
-    → (r : Refusal) → (if b then Refuse t else v) ≡ Refuse r → Early (refusal_number r)
+stops : (b : Bool) (t : Refusal) (v : Result Verdict Refusal) → Early (refusal_number t) → ((r : Refusal) → v ≡ Err r → Early (refusal_number r))
+    → (r : Refusal) → (if b then Err t else v) ≡ Err r → Early (refusal_number r)
 stops true t v l f r e = let q : t ≡ r = cc in rw (← q) l
 stops false t v l f r e = f r e
 
-passes : (b : Bool) (w v : Verdict) → ((r : Refusal) → w ≡ Refuse r → ⊥) → ((r : Refusal) → v ≡ Refuse r → Early (refusal_number r))
-    → (r : Refusal) → (if b then w else v) ≡ Refuse r → Early (refusal_number r)
+passes : (b : Bool) (w v : Result Verdict Refusal) → ((r : Refusal) → w ≡ Err r → ⊥) → ((r : Refusal) → v ≡ Err r → Early (refusal_number r))
+    → (r : Refusal) → (if b then w else v) ≡ Err r → Early (refusal_number r)
 passes true w v d f r e = absurd (d r e)
 passes false w v d f r e = f r e
 
-good_early : (p : Part) (store : List ℕ) (h : Heading) (pl : List ℕ) (r : Refusal) → good_verdict p store h pl ≡ Refuse r → Early (refusal_number r)
+good_early : (p : Part) (store : List ℕ) (h : Heading) (pl : List ℕ) (r : Refusal) → good_verdict p store h pl ≡ Err r → Early (refusal_number r)
 unfolding good_verdict number_verdict
 good_early p store h pl =
     stops (not h.current) NotCurrent _ (low (omega arith))
     (stops (not (begins p.gathering h || agrees p.gathering h)) OtherHeading _ (low (omega arith))
-    (passes (begins p.gathering h) (Begin h) _ (λ r e. let z : ◌≡◌ {A = ℕ} 0 1 = cc in omega arith)
+    (passes (begins p.gathering h) (Ok (Begin h)) _ (λ r e. let z : ◌≡◌ {A = ℕ} 0 1 = cc in omega arith)
     (stops (not (eqb p.gathering.spoiled 0)) Contradiction _ (eleven refl)
-    (passes (eqb (get_or p.gathering.held h.number 0) 0) (Take h) _ (λ r e. let z : ◌≡◌ {A = ℕ} 0 1 = cc in omega arith)
-    (passes (same_bytes (room_payload p store h.number) pl) Repeat Contradict (λ r e. let z : ◌≡◌ {A = ℕ} 0 1 = cc in omega arith)
+    (passes (eqb (get_or p.gathering.held h.number 0) 0) (Ok (Take h)) _ (λ r e. let z : ◌≡◌ {A = ℕ} 0 1 = cc in omega arith)
+    (passes (same_bytes (room_payload p store h.number) pl) (Ok Repeat) (Ok Contradict) (λ r e. let z : ◌≡◌ {A = ℕ} 0 1 = cc in omega arith)
     (λ r e. let z : ◌≡◌ {A = ℕ} 0 1 = cc in absurd (omega arith)))))))
 
-verdict_early : (p : Part) (store s : List ℕ) (r : Refusal) → verdict_of p store s ≡ Refuse r → Early (refusal_number r)
+verdict_early : (p : Part) (store s : List ℕ) (r : Refusal) → verdict_of p store s ≡ Err r → Early (refusal_number r)
 verdict_early p store s r e = go (read_section s) refl
   where
-    go : (a : Sectioned) → read_section s ≡ a → Early (refusal_number r)
-    go (NotGood t) f =
+    go : (a : Result (Heading × ℕ) Refusal) → read_section s ≡ a → Early (refusal_number r)
+    go (Err t) f =
         let q : t ≡ r = (let w = sym (verdict_bad p store s t f) ∙ e in cc) in
-        let l = read_early s r (f ∙ ap NotGood q) in
+        let l = read_early s r (f ∙ ap Err q) in
         low (omega arith)
-    go (Good h n) f = good_early p store h (payload_of s) r (sym (verdict_good p store s h n f) ∙ e)
+    go (Ok (h, n)) f = good_early p store h (payload_of s) r (sym (verdict_good p store s h n f) ∙ e)
 
 -- so none is 35 or 10
 late : (n : ℕ) → Early n → (9 < n) → (n ≡ 11 → ⊥) → ⊥
 late n (low l) a b = omega arith
 late n (eleven e) a b = b e
 
-verdict_room : (p : Part) (store s : List ℕ) → verdict_of p store s ≡ Refuse NoFreeRoom → ⊥
+verdict_room : (p : Part) (store s : List ℕ) → verdict_of p store s ≡ Err NoFreeRoom → ⊥
 verdict_room p store s e = late 35 (verdict_early p store s NoFreeRoom e) (omega arith) (λ q. omega arith)
 
 -- with it, the verdict is 35 exactly if one is needed and none is found
-roomed_full : (v : Verdict) (room : ℕ) → takes v ≡ true → room ≡ 0 → roomed v room ≡ Refuse NoFreeRoom
+roomed_full : (v : Result Verdict Refusal) (room : ℕ) → takes v ≡ true → room ≡ 0 → roomed v room ≡ Err NoFreeRoom
 unfolding takes roomed
-roomed_full (Refuse r) room t z = let q : ◌≡◌ {A = ℕ} 0 1 = cc in absurd (omega arith)
-roomed_full Repeat room t z = let q : ◌≡◌ {A = ℕ} 0 1 = cc in absurd (omega arith)
-roomed_full Contradict room t z = let q : ◌≡◌ {A = ℕ} 0 1 = cc in absurd (omega arith)
-roomed_full (Begin h) room t z = rw (eq-eqb room 0 z)
-roomed_full (Take h) room t z = rw (eq-eqb room 0 z)
+roomed_full (Err r) room t z = let q : ◌≡◌ {A = ℕ} 0 1 = cc in absurd (omega arith)
+roomed_full (Ok Repeat) room t z = let q : ◌≡◌ {A = ℕ} 0 1 = cc in absurd (omega arith)
+roomed_full (Ok Contradict) room t z = let q : ◌≡◌ {A = ℕ} 0 1 = cc in absurd (omega arith)
+roomed_full (Ok (Begin h)) room t z = rw (eq-eqb room 0 z)
+roomed_full (Ok (Take h)) room t z = rw (eq-eqb room 0 z)
 
-full_roomed : (v : Verdict) (room : ℕ) → (v ≡ Refuse NoFreeRoom → ⊥) → answer_by (roomed v room) ≡ Refused NoFreeRoom → (takes v ≡ true) × (room ≡ 0)
+full_roomed : (v : Result Verdict Refusal) (room : ℕ) → (v ≡ Err NoFreeRoom → ⊥) → answer_by (roomed v room) ≡ Err NoFreeRoom → (takes v ≡ true) × (room ≡ 0)
 unfolding takes roomed answer_by
-full_roomed (Refuse r) room d e = absurd (d (ap Refuse (let q : r ≡ NoFreeRoom = cc in q)))
-full_roomed Repeat room d e = let q : ◌≡◌ {A = ℕ} 0 1 = cc in absurd (omega arith)
-full_roomed Contradict room d e = let q : ◌≡◌ {A = ℕ} 0 1 = cc in absurd (omega arith)
-full_roomed (Begin h) room d e = go (seen (eqb room 0))
+full_roomed (Err r) room d e = absurd (d (ap Err (let q : r ≡ NoFreeRoom = cc in q)))
+full_roomed (Ok Repeat) room d e = let q : ◌≡◌ {A = ℕ} 0 1 = cc in absurd (omega arith)
+full_roomed (Ok Contradict) room d e = let q : ◌≡◌ {A = ℕ} 0 1 = cc in absurd (omega arith)
+full_roomed (Ok (Begin h)) room d e = go (seen (eqb room 0))
   where
-    go : Seen (eqb room 0) → (takes (Begin h) ≡ true) × (room ≡ 0)
+    go : Seen (eqb room 0) → (takes (Ok (Begin h)) ≡ true) × (room ≡ 0)
     go (yes_is z) = (refl, eqb-true room 0 z)
     go (no_is z) = let f = rw z at e in let q : ◌≡◌ {A = ℕ} 0 1 = cc in absurd (omega arith)
-full_roomed (Take h) room d e = go (seen (eqb room 0))
+full_roomed (Ok (Take h)) room d e = go (seen (eqb room 0))
   where
-    go : Seen (eqb room 0) → (takes (Take h) ≡ true) × (room ≡ 0)
+    go : Seen (eqb room 0) → (takes (Ok (Take h)) ≡ true) × (room ≡ 0)
     go (yes_is z) = (refl, eqb-true room 0 z)
     go (no_is z) = let f = rw z at e in let q : ◌≡◌ {A = ℕ} 0 1 = cc in absurd (omega arith)
 
-same_fed : (a b : Answer) → fed a ≡ fed b → a ≡ b
+same_fed : (a b : Result Answer Refusal) → fed a ≡ fed b → a ≡ b
 same_fed a b e = cc
 
 -- ---- the theorem
@@ -146,7 +143,7 @@ module _ (i : Network) (x : Box) (ok : possible x ≡ true) (s : List ℕ) where
   abbrev n : ℕ
   n = rooms_in (length x.store)
 
-  abbrev v : Verdict
+  abbrev v : Result Verdict Refusal
   v = verdict_of (part i x) x.store s
 
   abbrev room : ℕ
@@ -170,31 +167,31 @@ module _ (i : Network) (x : Box) (ok : possible x ≡ true) (s : List ℕ) where
   found_none e = all_held n (base (part i x) v).rooms (theirs i x.state).rooms e
 
   -- "A section that needs a room is refused for room exactly if every room is held; repeats and contradictions need none"
-  pub refused_for_room_lem : (told (some i) x (feeding s) ≡ fed (Refused NoFreeRoom)) ↔ ((needs_at i x (feeding s) ≡ true) × FullFor i x s)
+  pub refused_for_room_lem : (told (some i) x (feeding s) ≡ fed (Err NoFreeRoom)) ↔ ((needs_at i x (feeding s) ≡ true) × FullFor i x s)
   unfolding needs_at answer_by
   refused_for_room_lem = (
     (λ e. let f = full_roomed v room (verdict_room (part i x) x.store s) (same_fed _ _ (sym (fed_told i x ok s) ∙ e)) in (f.0, found_none f.1)),
-    (λ f. fed_told i x ok s ∙ ap (λ (w : Verdict). fed (answer_by w)) (roomed_full v room f.0 (none_found f.1))),
+    (λ f. fed_told i x ok s ∙ ap (λ (w : Result Verdict Refusal). fed (answer_by w)) (roomed_full v room f.0 (none_found f.1))),
   )
 
 -- "10 is not given"
-no_ten : (v : Verdict) (room : ℕ) → (v ≡ Refuse StoreTooShort → ⊥) → answer_by (roomed v room) ≡ Refused StoreTooShort → ⊥
+no_ten : (v : Result Verdict Refusal) (room : ℕ) → (v ≡ Err StoreTooShort → ⊥) → answer_by (roomed v room) ≡ Err StoreTooShort → ⊥
 unfolding roomed answer_by
-no_ten (Refuse r) room d e = d (ap Refuse (let q : r ≡ StoreTooShort = cc in q))
-no_ten Repeat room d e = let q : ◌≡◌ {A = ℕ} 0 1 = cc in omega arith
-no_ten Contradict room d e = let q : ◌≡◌ {A = ℕ} 0 1 = cc in omega arith
-no_ten (Begin h) room d e = go (seen (eqb room 0))
+no_ten (Err r) room d e = d (ap Err (let q : r ≡ StoreTooShort = cc in q))
+no_ten (Ok Repeat) room d e = let q : ◌≡◌ {A = ℕ} 0 1 = cc in omega arith
+no_ten (Ok Contradict) room d e = let q : ◌≡◌ {A = ℕ} 0 1 = cc in omega arith
+no_ten (Ok (Begin h)) room d e = go (seen (eqb room 0))
   where
     go : Seen (eqb room 0) → ⊥
     go (yes_is z) = let f = rw z at e in let q : ◌≡◌ {A = ℕ} 0 1 = cc in omega arith
     go (no_is z) = let f = rw z at e in let q : ◌≡◌ {A = ℕ} 0 1 = cc in omega arith
-no_ten (Take h) room d e = go (seen (eqb room 0))
+no_ten (Ok (Take h)) room d e = go (seen (eqb room 0))
   where
     go : Seen (eqb room 0) → ⊥
     go (yes_is z) = let f = rw z at e in let q : ◌≡◌ {A = ℕ} 0 1 = cc in omega arith
     go (no_is z) = let f = rw z at e in let q : ◌≡◌ {A = ℕ} 0 1 = cc in omega arith
 
-pub never_ten : (i : Network) (x : Box) → possible x ≡ true → (s : List ℕ) → told (some i) x (feeding s) ≡ fed (Refused StoreTooShort) → ⊥
+pub never_ten : (i : Network) (x : Box) → possible x ≡ true → (s : List ℕ) → told (some i) x (feeding s) ≡ fed (Err StoreTooShort) → ⊥
 never_ten i x ok s e =
     no_ten (verdict_of (part i x) x.store s) _ (λ q. late 10 (verdict_early (part i x) x.store s StoreTooShort q) (omega arith) (λ z. omega arith))
     (same_fed _ _ (sym (fed_told i x ok s) ∙ e))
@@ -233,8 +230,8 @@ given_free n bytes p q x b h =
         some_free n (replicate 256 0) q.rooms (get_or p.rooms k 0) c d (omega arith)
 
 -- "a takeover gives its rooms back before it takes one": so it is never refused for room, it is taken
-pub takeover_taken : (i : Network) (x : Box) → possible x ≡ true → (s : List ℕ) (h : Heading) → verdict_of (part i x) x.store s ≡ Begin h
-    → nothing_begun (part i x).gathering ≡ false → told (some i) x (feeding s) ≡ fed Taken
+pub takeover_taken : (i : Network) (x : Box) → possible x ≡ true → (s : List ℕ) (h : Heading) → verdict_of (part i x) x.store s ≡ Ok (Begin h)
+    → nothing_begun (part i x).gathering ≡ false → told (some i) x (feeding s) ≡ fed (Ok Taken)
 unfolding room_for roomed base answer_by
 takeover_taken i x ok s h e b =
     let n = rooms_in (length x.store) in
@@ -245,17 +242,17 @@ takeover_taken i x ok s h e b =
 
 module _ (i : Network) (x : Box) (s : List ℕ) where
   -- by the verdict: a refusal other than 11 changes nothing
-  refused_by : (v : Verdict) (room : ℕ) (r : Refusal) → answer_by v ≡ Refused r → (r ≡ Contradiction → ⊥)
+  refused_by : (v : Result Verdict Refusal) (room : ℕ) (r : Refusal) → answer_by v ≡ Err r → (r ≡ Contradiction → ⊥)
       → (part_by (part i x) (payload_of s) room v ≡ part i x) × (store_by x.store (payload_of s) room v ≡ x.store)
   unfolding answer_by part_by store_by
-  refused_by (Refuse t) room r e d = (refl, refl)
-  refused_by Repeat room r e d = let q : ◌≡◌ {A = ℕ} 0 1 = cc in absurd (omega arith)
-  refused_by Contradict room r e d = absurd (d (let q : r ≡ Contradiction = cc in q))
-  refused_by (Begin h) room r e d = let q : ◌≡◌ {A = ℕ} 0 1 = cc in absurd (omega arith)
-  refused_by (Take h) room r e d = let q : ◌≡◌ {A = ℕ} 0 1 = cc in absurd (omega arith)
+  refused_by (Err t) room r e d = (refl, refl)
+  refused_by (Ok Repeat) room r e d = let q : ◌≡◌ {A = ℕ} 0 1 = cc in absurd (omega arith)
+  refused_by (Ok Contradict) room r e d = absurd (d (let q : r ≡ Contradiction = cc in q))
+  refused_by (Ok (Begin h)) room r e d = let q : ◌≡◌ {A = ℕ} 0 1 = cc in absurd (omega arith)
+  refused_by (Ok (Take h)) room r e d = let q : ◌≡◌ {A = ℕ} 0 1 = cc in absurd (omega arith)
 
 -- an end that is refused leaves all
-pub end_refused_leaves : (o : Option Network) (x : Box) (r : Refusal) → told o x ending ≡ ended (NotEnded r) → box_after o x ending ≡ x
+pub end_refused_leaves : (o : Option Network) (x : Box) (r : Refusal) → told o x ending ≡ ended (Err r) → box_after o x ending ≡ x
 unfolding told box_after ended_of ended_for
 end_refused_leaves none x r e = refl
 end_refused_leaves (some i) x r e = go (seen (possible_of x.state (length x.store)))
@@ -265,7 +262,7 @@ end_refused_leaves (some i) x r e = go (seen (possible_of x.state (length x.stor
     go (no_is bad) = rw bad
 
 -- "Only 11 for a contradiction changes state": a feed that is refused otherwise leaves state and store as they were
-pub refused_leaves : (o : Option Network) (x : Box) (s : List ℕ) (r : Refusal) → told o x (feeding s) ≡ fed (Refused r) → (r ≡ Contradiction → ⊥)
+pub refused_leaves : (o : Option Network) (x : Box) (s : List ℕ) (r : Refusal) → told o x (feeding s) ≡ fed (Err r) → (r ≡ Contradiction → ⊥)
     → box_after o x (feeding s) ≡ x
 unfolding told box_after fed_of store_after fed_for store_for part_fed part_store room_verdict
 refused_leaves none x s r e d = refl
@@ -275,6 +272,6 @@ refused_leaves (some i) x s r e d = go (seen (possible_of x.state (length x.stor
     go (yes_is ok) =
         let v = verdict_of (part i x) x.store s in
         let room = room_for (rooms_in (length x.store)) (part i x) (theirs i x.state).rooms v in
-        let b = refused_by i x s (roomed v room) room r (same_fed (answer_by (roomed v room)) (Refused r) (rw ok at e)) d in
+        let b = refused_by i x s (roomed v room) room r (same_fed (answer_by (roomed v room)) (Err r) (rw ok at e)) d in
         rw (ok, b.0, b.1) (ap (λ (y : Networks). record { state = y; store = x.store }) (sym (same_with i x.state)))
     go (no_is bad) = rw bad

@@ -1,17 +1,14 @@
 -- What a reader has to believe of one network alone: a machine that knows its account, so contents and no rooms and no store. Whether a room is free is handed
 -- in from outside. What is heard, counted and answered is the single gathering's, with room for every table.
-use Rattle.std.specs.Prelude.{ℕ, zero, suc, ◌+◌, Bool, true, false, not, ◌&&◌, List, [], ◌∷◌, length, if◌then◌else◌}
+use Rattle.std.specs.Prelude.{ℕ, zero, suc, ◌+◌, Bool, true, false, not, ◌&&◌, List, [], ◌∷◌, length, if◌then◌else◌, Result, Ok, Err}
+use Rattle.ground_refusal.specs.declared.Refusal.{Refusal}
 use Rattle.ground_refusal.specs.declared.Refusal.TheVariants.{Contradiction, Missing, NoFreeRoom}
 use Rattle.gathering_feed.specs.declared.Answer.{Answer}
-use Rattle.gathering_feed.specs.declared.Answer.TheVariants.{Taken, HeldAlready, Refused as NotFed}
+use Rattle.gathering_feed.specs.declared.Answer.TheVariants.{Taken, HeldAlready}
 use Rattle.gathering_hand_out.specs.Handing.{handed_if_room, out_by}
-use Rattle.gathering_hand_out.specs.declared.Handed.{Handed}
-use Rattle.gathering_hand_out.specs.declared.Handed.TheVariants.{Refused}
 use Rattle.gathering_account.specs.Account.{heard, Section, Account, idle, table, account_after, body_of}
 use Rattle.gathering_account.specs.Answering.{present, agreeing, answer_to}
 use Rattle.gathering_account.specs.Calls.{covering}
-use Rattle.rooms_end.specs.declared.Ended.{Ended}
-use Rattle.rooms_end.specs.declared.Ended.TheVariants.{Done}
 
 -- ---- the calls of one network, and what it is told
 
@@ -22,10 +19,10 @@ pub data Call : Type 0 where
   ending : Call
 
 pub data Told : Type 0 where
-  fed : Answer → Told
+  fed : Result Answer Refusal → Told
   -- the answer, and the output after it
-  handed : Handed → List ℕ → Told
-  ended : Ended → Told
+  handed : Result ℕ Refusal → List ℕ → Told
+  ended : Result Unit Refusal → Told
 
 -- ---- feeding
 
@@ -33,10 +30,10 @@ pub data Told : Type 0 where
 unfoldable pub always : ℕ → Bool
 always last = true
 
-unfoldable pub is_taken : Answer → Bool
-is_taken Taken = true
-is_taken HeldAlready = false
-is_taken (NotFed r) = false
+unfoldable pub is_taken : Result Answer Refusal → Bool
+is_taken (Ok Taken) = true
+is_taken (Ok HeldAlready) = false
+is_taken (Err r) = false
 
 -- a section needs a room if it is taken where one is free; "repeats and contradictions need none"
 unfoldable pub needs_room : Account → List ℕ → Bool
@@ -46,8 +43,8 @@ needs_room a s = is_taken (answer_to always a s)
 unfoldable pub refused_for_room : Account → List ℕ → Bool → Bool
 refused_for_room a s free = needs_room a s && not free
 
-unfoldable pub answer_fed : Account → List ℕ → Bool → Answer
-answer_fed a s free = if refused_for_room a s free then NotFed NoFreeRoom else answer_to always a s
+unfoldable pub answer_fed : Account → List ℕ → Bool → Result Answer Refusal
+answer_fed a s free = if refused_for_room a s free then Err NoFreeRoom else answer_to always a s
 
 -- "a section refused for room counts as not fed"
 unfoldable pub account_fed : Account → List ℕ → Bool → Account
@@ -61,11 +58,11 @@ absent_from S k zero = k
 absent_from S k (suc n) = if present k S then absent_from S (suc k) n else k
 
 -- "13 if nothing begun; 11; 13; 21"
-unfoldable pub handed_to : Account → ℕ → Handed
-handed_to idle room = Refused (Missing 0)
+unfoldable pub handed_to : Account → ℕ → Result ℕ Refusal
+handed_to idle room = Err (Missing 0)
 handed_to (table h S) room =
-    if not (agreeing S) then Refused Contradiction else
-    if not (covering (h.last + 1) S) then Refused (Missing (absent_from S 0 (h.last + 1))) else
+    if not (agreeing S) then Err Contradiction else
+    if not (covering (h.last + 1) S) then Err (Missing (absent_from S 0 (h.last + 1))) else
     handed_if_room (length (body_of (table h S))) room
 
 unfoldable pub out_to : Account → List ℕ → List ℕ
@@ -76,7 +73,7 @@ out_to a out = out_by (body_of a) out (handed_to a (length out))
 unfoldable pub tells : Account → Call → Bool → Told
 tells a (feeding s) free = fed (answer_fed a s free)
 tells a (handing_out out) free = handed (handed_to a (length out)) (out_to a out)
-tells a ending free = ended Done
+tells a ending free = ended (Ok tt)
 
 -- "Handing out returns no rooms"; the end "leaves that network's part fresh"
 unfoldable pub after : Account → Call → Bool → Account

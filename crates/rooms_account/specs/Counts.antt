@@ -1,8 +1,9 @@
 -- What a reader has to believe of takes and returns: how many rooms each network has taken and given back so far.
-use Rattle.std.specs.Prelude.{ℕ, ◌+◌, ◌/◌, min, ◌≡◌, List, [], ◌∷◌, length, if◌then◌else◌}
+use Rattle.std.specs.Prelude.{ℕ, ◌+◌, ◌/◌, min, ◌≡◌, List, [], ◌∷◌, length, if◌then◌else◌, Result, Ok, Err}
+use Rattle.ground_refusal.specs.declared.Refusal.{Refusal}
 use Rattle.ground_numbers.specs.Sizes.{payload_most}
 use Rattle.gathering_verdict.specs.declared.Verdict.{Verdict}
-use Rattle.gathering_verdict.specs.declared.Verdict.TheVariants.{Refuse, Repeat, Contradict, Begin, Take}
+use Rattle.gathering_verdict.specs.declared.Verdict.TheVariants.{Repeat, Contradict, Begin, Take}
 use Rattle.rooms_marks.specs.Rooms.{held_rooms}
 use Rattle.rooms_state.specs.State.{rooms_in, Network, mine, theirs}
 use Rattle.rooms_feed.specs.Feeding.{room_verdict}
@@ -15,12 +16,12 @@ pub record Tally : Type 0 where
   pub returns : ℕ
 
 -- "taken one for each section whose number isn't yet held, and given back when [..] a takeover by M-100 does": what begins gives back all that is held
-unfoldable pub tally_fed : Tally → ℕ → Verdict → Tally
-tally_fed t rooms (Refuse r) = t
-tally_fed t rooms Repeat = t
-tally_fed t rooms Contradict = t
-tally_fed t rooms (Begin h) = record { takes = t.takes + 1; returns = t.returns + rooms }
-tally_fed t rooms (Take h) = record { takes = t.takes + 1; returns = t.returns }
+unfoldable pub tally_fed : Tally → ℕ → Result Verdict Refusal → Tally
+tally_fed t rooms (Err r) = t
+tally_fed t rooms (Ok Repeat) = t
+tally_fed t rooms (Ok Contradict) = t
+tally_fed t rooms (Ok (Begin h)) = record { takes = t.takes + 1; returns = t.returns + rooms }
+tally_fed t rooms (Ok (Take h)) = record { takes = t.takes + 1; returns = t.returns }
 
 -- "given back when a network ends its own gathering"
 unfoldable pub tallied : Network → Box → Call → Tally → Tally

@@ -1,9 +1,8 @@
 -- What a reader has to believe of demand 3 for each of two networks: the account of what it was fed, told by its calls and their answers, and what handing
 -- out has to do with it.
-use Rattle.std.specs.Prelude.{ℕ, ◌≤◌, ◌≡◌, List, [], ◌∷◌, length, if◌then◌else◌}
+use Rattle.std.specs.Prelude.{ℕ, ◌≤◌, ◌≡◌, List, [], ◌∷◌, length, if◌then◌else◌, Ok}
 use Rattle.std.proofs.Math.Option.{some}
 use Rattle.ground_placing.specs.Placed.{placed}
-use Rattle.gathering_hand_out.specs.declared.Handed.TheVariants.{Body}
 use Rattle.gathering_account.specs.Account.{Account, idle, Complete, body_of}
 use Rattle.gathering_account.specs.Gathers.{Fixes}
 use Rattle.rooms_state.specs.State.{Network, mine}
@@ -24,7 +23,7 @@ account_of i x a (c ∷ asked) = account_of i (next x c) (if owns i c then accou
 
 -- this body is handed out, "at the start of the output; bytes after it stay"
 pub record HandsOut (i : Network) (x : Box) (out body : List ℕ) : Type 0 where
-  pub answers : handed_of (some i) x.state x.store out ≡ Body (length body)
+  pub answers : handed_of (some i) x.state x.store out ≡ Ok (length body)
   pub writes : out_after (some i) x.state x.store out ≡ placed out 0 body
 
 -- demand 3, of a network, the account of what it was fed, and any output
@@ -32,8 +31,8 @@ pub record Gathers (i : Network) (a : Account) (x : Box) (out : List ℕ) : Type
   -- the state knows the table that the account has fixed
   pub fixed : Fixes a (mine i x.state).gathering
   -- "a body is handed out exactly when" the account is complete: only then,
-  pub only_when : (n : ℕ) → handed_of (some i) x.state x.store out ≡ Body n → Complete a
+  pub only_when : (n : ℕ) → handed_of (some i) x.state x.store out ≡ Ok n → Complete a
   -- and then, if the output has room for it;
   pub when : Complete a → length (body_of a) ≤ length out → HandsOut i x out (body_of a)
   -- "and it is their contents in number order"
-  pub body_is : (n : ℕ) → handed_of (some i) x.state x.store out ≡ Body n → HandsOut i x out (body_of a)
+  pub body_is : (n : ℕ) → handed_of (some i) x.state x.store out ≡ Ok n → HandsOut i x out (body_of a)

@@ -1,5 +1,6 @@
 -- What a reader has to believe of a run of calls for two networks: each is made for a network by its number, in any interleaving.
-use Rattle.std.specs.Prelude.{ℕ, ◌≤◌, ◌≡◌, Bool, true, false, ltb, length, if◌then◌else◌}
+use Rattle.std.specs.Prelude.{ℕ, ◌≤◌, ◌≡◌, Bool, true, false, ltb, length, if◌then◌else◌, Result, Ok, Err}
+use Rattle.ground_refusal.specs.declared.Refusal.{Refusal}
 use mathlib.Core.List.{List, [], ◌∷◌, Memᴰ as In}
 use Rattle.std.proofs.Math.Option.{Option, none, some}
 use Rattle.crc.specs.Crc.{AreBytes}
@@ -7,7 +8,7 @@ use Rattle.rooms_marks.specs.Rooms.{uses}
 use Rattle.rooms_state.specs.State.{fresh_networks, rooms_in, Network, network1, network2, network_of, mine, theirs}
 use Rattle.rooms_state.specs.declared.Networks.{Networks}
 use Rattle.gathering_verdict.specs.declared.Verdict.{Verdict}
-use Rattle.gathering_verdict.specs.declared.Verdict.TheVariants.{Refuse, Repeat, Contradict, Begin, Take}
+use Rattle.gathering_verdict.specs.declared.Verdict.TheVariants.{Repeat, Contradict, Begin, Take}
 use Rattle.rooms_verdict.specs.Deciding.{verdict_of}
 use Rattle.rooms_feed.specs.Feeding.{base, room_for, fed_of, store_after}
 use Rattle.rooms_hand_out.specs.Handing.{handed_of, out_after}
@@ -93,12 +94,12 @@ answers_of i x [] = []
 answers_of i x (a ∷ asked) = if owns i a then answer x a ∷ answers_of i (next x a) asked else answers_of i (next x a) asked
 
 -- does this call need a room?
-unfoldable pub takes : Verdict → Bool
-takes (Refuse r) = false
-takes Repeat = false
-takes Contradict = false
-takes (Begin h) = true
-takes (Take h) = true
+unfoldable pub takes : Result Verdict Refusal → Bool
+takes (Err r) = false
+takes (Ok Repeat) = false
+takes (Ok Contradict) = false
+takes (Ok (Begin h)) = true
+takes (Ok (Take h)) = true
 
 unfoldable pub needs_at : Network → Box → Call → Bool
 needs_at i x (feeding s) = takes (verdict_of (mine i x.state) x.store s)

@@ -8,17 +8,10 @@ ghost use Rattle.rooms_end.specs.Ending.{ended_of};
 use ground_refusal::Refusal;
 use rooms_state::Networks;
 
-// What the caller is told.
-#[derive(Clone, Copy)]
-pub enum Ended {
-    Done,
-    Refused(Refusal),
-}
-
 // The answer, and the state after it.
 #[derive(Clone, Copy)]
 pub struct EndedState {
-    pub answer: Ended,
+    pub answer: Result<(), Refusal>,
     pub state: Networks,
 }
 
@@ -28,13 +21,13 @@ pub fn end_step(x: Networks, network: u32, bytes: usize) -> EndedState
 {
     if !rooms_state::is_network(network) {
         return EndedState {
-            answer: Ended::Refused(Refusal::OutsideSet(0)),
+            answer: Err(Refusal::OutsideSet(0)),
             state: x,
         };
     }
-    if !rooms_state::possible(x, bytes) {
+    if !rooms_state::possible(&x, bytes) {
         return EndedState {
-            answer: Ended::Refused(Refusal::ImpossibleState),
+            answer: Err(Refusal::ImpossibleState),
             state: x,
         };
     }
@@ -46,7 +39,7 @@ pub fn end_step(x: Networks, network: u32, bytes: usize) -> EndedState
         state.two = part;
     }
     EndedState {
-        answer: Ended::Done,
-        state: state,
+        answer: Ok(()),
+        state,
     }
 }

@@ -1,6 +1,7 @@
 -- A run of calls for two networks over a store of two rooms, computed by the checker: the answers are those of an independent program, tests/second_rooms.py.
 -- Both rooms are held when a takeover comes, which is taken, and when further sections come, which are refused for room until one network ends.
 use Prim.Native.Nat.{ℕ, ◌+◌}
+use Rattle.std.specs.Prelude.{Ok, Err}
 use mathlib.Core.Bool.{xor}
 use mathlib.Core.List.{List, [], ◌∷◌}
 use mathlib.Core.Path.{◌≡◌, refl}
@@ -16,28 +17,26 @@ use Rattle.gathering_state.specs.State.{fresh_state, is_fresh, lengths, is_begun
 use Rattle.gathering_tables.specs.Tables.{steps_ahead, same_table, is_newer}
 use Rattle.gathering_verdict.specs.Deciding.{agrees, begins}
 use Rattle.gathering_feed.specs.Feeding.{answer_by}
-use Rattle.gathering_feed.specs.declared.Answer.TheVariants.{Taken, HeldAlready, Refused as NotFed}
+use Rattle.gathering_feed.specs.declared.Answer.TheVariants.{Taken, HeldAlready}
 use Rattle.gathering_hand_out.specs.Handing.{joined, missing_of, complete_of, handed_if_room, handed_by, out_by}
-use Rattle.gathering_hand_out.specs.declared.Handed.TheVariants.{Body, Refused as NotHanded}
 use Rattle.rooms_marks.specs.Rooms.{count, uses, none_twice, free_from, free_room}
 use Rattle.rooms_state.specs.State as rooms
 use Rattle.rooms_verdict.specs.Deciding as verdicts
 use Rattle.rooms_feed.specs.Feeding as feeding_of
 use Rattle.rooms_hand_out.specs.Handing as handing
 use Rattle.rooms_end.specs.Ending.{ended_for, ended_of}
-use Rattle.rooms_end.specs.declared.Ended.TheVariants.{Done, Refused as NotEnded}
 use Rattle.rooms_account.specs.Alone.{Told, fed, handed, ended, feeding, handing_out, ending}
 use Rattle.rooms_account.specs.Runs.{Box, fresh_box, Asked, told, box_after, answer, next}
 
 -- an answer as a number: 100 taken, 101 held already, 200 and the body's length, 300 ended, or the refusal's number
 abbrev shown : Told → ℕ
-shown (fed Taken) = 100
-shown (fed HeldAlready) = 101
-shown (fed (NotFed r)) = refusal_number r
-shown (handed (Body n) out) = 200 + n
-shown (handed (NotHanded r) out) = refusal_number r
-shown (ended Done) = 300
-shown (ended (NotEnded r)) = refusal_number r
+shown (fed (Ok Taken)) = 100
+shown (fed (Ok HeldAlready)) = 101
+shown (fed (Err r)) = refusal_number r
+shown (handed (Ok n) out) = 200 + n
+shown (handed (Err r) out) = refusal_number r
+shown (ended (Ok tt)) = 300
+shown (ended (Err r)) = refusal_number r
 
 abbrev answered : Box → List Asked → List ℕ
 answered x [] = []

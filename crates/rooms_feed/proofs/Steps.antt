@@ -1,32 +1,30 @@
 -- Laws of feeding one of two networks: a section that is taken fits its room, and what each verdict makes of answer, part and store.
-use Prim.Native.Nat.{ℕ, ◌+◌, ◌-◌, ◌*◌, ◌≤◌}
-use mathlib.Core.Path.{◌≡◌, refl, sym, ◌∙◌, ap}
+use Prim.Native.Nat.{ℕ, ◌*◌, ◌≤◌}
+use Rattle.std.specs.Prelude.{Result, Ok, Err}
+use mathlib.Core.Path.{◌≡◌, refl}
 use mathlib.Core.Bool.{true, false, false≢true}
 use mathlib.Core.List.{List}
 use mathlib.Core.Option.{Option, none, some}
 use native.Mathlib.Omega.{arith}
 use borrow.Author.Tests.{eq-eqb, ne_eqb}
 use lib.Dec.{eqb}
-use lib.ListN.{length, take, drop, length-drop}
-use lib.Seq.{length-take-le}
+use lib.ListN.{length}
 use Rattle.ground_placing.specs.Placed.{placed}
 use Rattle.ground_refusal.specs.declared.Refusal.{Refusal}
 use Rattle.ground_refusal.specs.declared.Refusal.TheVariants.{Contradiction, ImpossibleState, OutsideSet, NoFreeRoom}
 use Rattle.section_reader.specs.Section.{payload_of}
 use Rattle.section_reader.specs.declared.Heading.{Heading}
-use Rattle.gathering_state.specs.State.{numbers_of, opened, spoiled_state}
-use Rattle.gathering_state.specs.declared.Numbers.{Numbers}
-use Rattle.gathering_state.specs.declared.Gathering.{Gathering}
-use Rattle.gathering_state.proofs.State.{parts_make, unheld_counts}
+use Rattle.gathering_state.specs.State.{opened, spoiled_state}
+use Rattle.gathering_state.proofs.State.{unheld_counts}
 use Rattle.gathering_verdict.specs.declared.Verdict.{Verdict}
-use Rattle.gathering_verdict.specs.declared.Verdict.TheVariants.{Refuse, Repeat, Contradict, Begin, Take}
+use Rattle.gathering_verdict.specs.declared.Verdict.TheVariants.{Repeat, Contradict, Begin, Take}
 use Rattle.gathering_verdict.proofs.Verdicts.{sized, TakenBy, as_first, as_further}
 use Rattle.gathering_feed.specs.Feeding.{answer_by}
 use Rattle.gathering_feed.specs.declared.Answer.{Answer}
-use Rattle.gathering_feed.specs.declared.Answer.TheVariants.{Taken, HeldAlready, Refused}
+use Rattle.gathering_feed.specs.declared.Answer.TheVariants.{Taken, HeldAlready}
 use Rattle.rooms_marks.specs.Rooms.{free_room}
 use Rattle.rooms_marks.proofs.Tests.{Seen, yes_is, no_is, seen}
-use Rattle.rooms_state.specs.State.{part_of, rooms_in, room_place, InRooms, part_possible, possible_of, Network, is_some, mine, theirs, with_mine}
+use Rattle.rooms_state.specs.State.{rooms_in, room_place, InRooms, part_possible, possible_of, Network, is_some, mine, theirs, with_mine}
 use Rattle.rooms_state.specs.declared.Part.{Part}
 use Rattle.rooms_state.specs.declared.Networks.{Networks}
 use Rattle.rooms_state.proofs.Facts.{part_is, part_test, networks_are, sound_of, room_fits, in_rooms}
@@ -36,30 +34,7 @@ use Rattle.rooms_feed.specs.Feeding.{opened_part, base, room_for, roomed, room_v
 use Rattle.rooms_feed.specs.Feeding.{store_for, fed_of, store_after, taken_fed, taken_store, Roomy, Fits}
 use Rattle.rooms_feed.specs.declared.FedPart.{FedPart}
 
--- what was decided of a part's numbers, held lengths and rooms was decided of the part
-pub decides : (p : Part) (store s : List ℕ) (m : Numbers) → m ≡ numbers_of p.gathering
-    → (v : Verdict) → v ≡ verdict_of (part_of m p.gathering.held p.rooms) store s → verdict_of p store s ≡ v
-decides p store s m e v f =
-    sym (f ∙ ap (λ (g : Gathering). verdict_of (record { gathering = g; rooms = p.rooms }) store s) (parts_make p.gathering m e))
-
 -- ---- a section that is taken
-
--- the part of the byte string that is copied is its payload
-pub puts : (room : ℕ) (store s : List ℕ) → Fits room store s
-    → (store' : List ℕ) → store' ≡ placed store ((room - 1) * 4084) (take (length s - 4 - 8) (drop 8 s))
-    → ((length s - 4 - 8 ≡ length (payload_of s)) × (length s - 4 - 8 ≤ 4084)) × (store' ≡ placed store (room_place room) (payload_of s))
-unfolding payload_of room_place
-puts room store s fits store' q =
-    let short = fits.short in
-    let l = length-take-le (length s - 12) (drop 8 s) (simp length-drop (omega arith)) in
-    ((sub_twice (length s) ∙ sym l, omega arith), rw (← sub_twice (length s)) q)
-  where
-    sub_twice : (n : ℕ) → n - 4 - 8 ≡ n - 12
-    sub_twice n = omega arith
-
-pub fits_at : (room : ℕ) (store s : List ℕ) → Fits room store s → (room - 1) * 4084 + 4084 ≤ length store
-unfolding room_place
-fits_at room store s f = f.within
 
 pub part_in_rooms : (n : ℕ) (p : Part) (store : List ℕ) → n * 4084 ≤ length store → part_possible n p ≡ true → InRooms p.gathering.held p.rooms store
 part_in_rooms n p store roomy ok = in_rooms n p store (part_is n p ok) roomy
@@ -80,21 +55,22 @@ module _ (n : ℕ) (p : Part) (store s : List ℕ) (few : n ≤ 512) (roomy : n 
         record { long = omega arith; short = omega arith; few = few; within = roomy }
 
     -- it begins its table;
-    pub first_versioned : verdict_of p store s ≡ Begin h → h.version ≤ 31
+    pub first_versioned : verdict_of p store s ≡ Ok (Begin h) → h.version ≤ 31
     first_versioned e = let i = take_is p store s (part_is n p ok).possible h (as_first e) in (sized s h i.length_of i.reads).versioned
 
-    pub first_roomy : verdict_of p store s ≡ Begin h → Roomy n store s
+    pub first_roomy : verdict_of p store s ≡ Ok (Begin h) → Roomy n store s
     first_roomy e = taken_roomy (as_first e)
 
     -- or it is one of those that the gathering's table misses, and there is room to count its bytes
-    pub further_roomy : verdict_of p store s ≡ Take h → Roomy n store s
+    pub further_roomy : verdict_of p store s ≡ Ok (Take h) → Roomy n store s
     further_roomy e = taken_roomy (as_further e)
 
-    pub further_counts : verdict_of p store s ≡ Take h → h.number ≤ 255 → (1 ≤ p.gathering.missing) × (p.gathering.bytes ≤ 1045504)
+    pub further_counts : verdict_of p store s ≡ Ok (Take h) → p.gathering.last ≤ 255 → (1 ≤ p.gathering.missing) × (p.gathering.bytes ≤ 1045504)
     further_counts e low =
         let x = part_is n p ok in
         let f = (take_is p store s x.possible h (as_further e)).further e in
-        unheld_counts p.gathering h.number f.begun.of_table x.held_long low f.within f.new
+        let within = f.within in
+        unheld_counts p.gathering h.number f.begun.of_table x.held_long (omega arith) within f.new
 
 -- a table that is opened has counted nothing
 pub first_counts : (h : Heading) (b : Part) → b ≡ opened_part h → (1 ≤ b.gathering.missing) × (b.gathering.bytes ≤ 1045504)
@@ -104,31 +80,31 @@ first_counts h b o = rw o (omega arith, omega arith)
 -- ---- answer, part and store
 
 module _ (n : ℕ) (p : Part) (others store s : List ℕ) where
-  abbrev Fits-all : Answer → Part → List ℕ → Type 0
+  abbrev Fits-all : Result Answer Refusal → Part → List ℕ → Type 0
   Fits-all answer part store' = (record { answer = answer; part = part } ≡ part_fed n p others store s) × (store' ≡ part_store n p others store s)
 
   -- by the verdict without its room, v, the room, and the verdict with it, w
-  feeds_by : (v w : Verdict) (room : ℕ) → verdict_of p store s ≡ v → room ≡ room_for n p others v → roomed v room ≡ w
+  feeds_by : (v w : Result Verdict Refusal) (room : ℕ) → verdict_of p store s ≡ v → room ≡ room_for n p others v → roomed v room ≡ w
       → Fits-all (answer_by w) (part_by p (payload_of s) room w) (store_by store (payload_of s) room w)
   unfolding part_fed part_store room_verdict
   feeds_by v w room e f g = rw (e, ← f, g) (refl, refl)
 
-  pub feeds_stop : (r : Refusal) → verdict_of p store s ≡ Refuse r → Fits-all (Refused r) p store
+  pub feeds_stop : (r : Refusal) → verdict_of p store s ≡ Err r → Fits-all (Err r) p store
   unfolding answer_by part_by store_by roomed
-  feeds_stop r e = feeds_by (Refuse r) (Refuse r) (room_for n p others (Refuse r)) e refl refl
+  feeds_stop r e = feeds_by (Err r) (Err r) (room_for n p others (Err r)) e refl refl
 
-  pub feeds_repeat : verdict_of p store s ≡ Repeat → Fits-all HeldAlready p store
+  pub feeds_repeat : verdict_of p store s ≡ (Ok Repeat) → Fits-all (Ok HeldAlready) p store
   unfolding answer_by part_by store_by roomed
-  feeds_repeat e = feeds_by Repeat Repeat (room_for n p others Repeat) e refl refl
+  feeds_repeat e = feeds_by (Ok Repeat) (Ok Repeat) (room_for n p others (Ok Repeat)) e refl refl
 
-  pub feeds_clash : verdict_of p store s ≡ Contradict
-      → Fits-all (Refused Contradiction) (record { gathering = spoiled_state p.gathering; rooms = p.rooms }) store
+  pub feeds_clash : verdict_of p store s ≡ Ok Contradict
+      → Fits-all (Err Contradiction) (record { gathering = spoiled_state p.gathering; rooms = p.rooms }) store
   unfolding answer_by part_by store_by roomed
-  feeds_clash e = feeds_by Contradict Contradict (room_for n p others Contradict) e refl refl
+  feeds_clash e = feeds_by (Ok Contradict) (Ok Contradict) (room_for n p others (Ok Contradict)) e refl refl
 
   -- what needs a room is taken into the part that its verdict says, and 35 where none is free
   module _ (h : Heading) (fed : FedPart) (store' : List ℕ) where
-    pub feeds_first : verdict_of p store s ≡ Begin h → (b : Part) → b ≡ opened_part h → fed ≡ taken_fed n p b h.number others s
+    pub feeds_first : verdict_of p store s ≡ Ok (Begin h) → (b : Part) → b ≡ opened_part h → fed ≡ taken_fed n p b h.number others s
         → store' ≡ taken_store n b others store s → (fed ≡ part_fed n p others store s) × (store' ≡ part_store n p others store s)
     unfolding taken_fed taken_store part_fed part_store room_verdict room_for base roomed answer_by part_by store_by
     feeds_first e b o f q = rw (f, q, o) (go (seen (eqb (free_room n (opened_part h).rooms others) 0)))
@@ -139,7 +115,7 @@ module _ (n : ℕ) (p : Part) (others store s : List ℕ) where
         go (yes_is z) = rw (e, z) (refl, refl)
         go (no_is z) = rw (e, z) (refl, refl)
 
-    pub feeds_further : verdict_of p store s ≡ Take h → fed ≡ taken_fed n p p h.number others s → store' ≡ taken_store n p others store s
+    pub feeds_further : verdict_of p store s ≡ Ok (Take h) → fed ≡ taken_fed n p p h.number others s → store' ≡ taken_store n p others store s
         → (fed ≡ part_fed n p others store s) × (store' ≡ part_store n p others store s)
     unfolding taken_fed taken_store part_fed part_store room_verdict room_for base roomed answer_by part_by store_by
     feeds_further e f q = rw (f, q) (go (seen (eqb (free_room n p.rooms others) 0)))
@@ -153,13 +129,13 @@ module _ (n : ℕ) (p : Part) (others store s : List ℕ) where
 
 module _ (n : ℕ) (p b : Part) (k : ℕ) (others store s : List ℕ) (room : ℕ) (e : room ≡ free_room n b.rooms others) where
   pub takes_none : room ≡ 0
-      → (record { answer = Refused NoFreeRoom; part = p } ≡ taken_fed n p b k others s) × (store ≡ taken_store n b others store s)
+      → (record { answer = Err NoFreeRoom; part = p } ≡ taken_fed n p b k others s) × (store ≡ taken_store n b others store s)
   unfolding taken_fed taken_store
   takes_none z = rw (← e, eq-eqb room 0 z) (refl, refl)
 
   pub takes_free : (room ≡ 0 → ⊥) → (part' : Part) → part' ≡ with_room b k (length (payload_of s)) room
       → (store' : List ℕ) → store' ≡ placed store (room_place room) (payload_of s)
-      → (record { answer = Taken; part = part' } ≡ taken_fed n p b k others s) × (store' ≡ taken_store n b others store s)
+      → (record { answer = (Ok Taken); part = part' } ≡ taken_fed n p b k others s) × (store' ≡ taken_store n b others store s)
   unfolding taken_fed taken_store
   takes_free found part' w store' q = rw (w, q, ← e, ne_eqb room 0 found) (refl, refl)
 
@@ -172,12 +148,12 @@ parts_possible i x bytes n e ok = let s = sound_of i x (networks_are x bytes ok)
 
 module _ (x : Networks) (store s : List ℕ) where
   pub fed_nowhere : (o : Option Network) → o ≡ none
-      → (record { answer = Refused (OutsideSet 0); state = x } ≡ fed_of o x store s) × (store ≡ store_after o x store s)
+      → (record { answer = Err (OutsideSet 0); state = x } ≡ fed_of o x store s) × (store ≡ store_after o x store s)
   unfolding fed_of store_after
   fed_nowhere o e = rw e (refl, refl)
 
   pub fed_impossible : (o : Option Network) → is_some o ≡ true → possible_of x (length store) ≡ false
-      → (record { answer = Refused ImpossibleState; state = x } ≡ fed_of o x store s) × (store ≡ store_after o x store s)
+      → (record { answer = Err ImpossibleState; state = x } ≡ fed_of o x store s) × (store ≡ store_after o x store s)
   unfolding fed_of store_after fed_for store_for is_some
   fed_impossible none t f = absurd (false≢true t)
   fed_impossible (some i) t f = rw f (refl, refl)

@@ -10,7 +10,6 @@ ghost use Rattle.rooms_feed.specs.Feeding.{Roomy, Fits, opened_part, with_room, 
 
 use gathering_feed::Answer;
 use gathering_verdict::Verdict;
-use ground_numbers::PAYLOAD_MOST;
 use ground_refusal::Refusal;
 use rooms_state::{Networks, Part};
 use section_reader::Heading;
@@ -18,57 +17,40 @@ use section_reader::Heading;
 // The answer, and the network's part after it.
 #[derive(Clone, Copy)]
 pub struct FedPart {
-    pub answer: Answer,
+    pub answer: Result<Answer, Refusal>,
     pub part: Part,
 }
 
 // The answer, and the state after it.
 #[derive(Clone, Copy)]
 pub struct Fed {
-    pub answer: Answer,
+    pub answer: Result<Answer, Refusal>,
     pub state: Networks,
 }
 
 // A part of the heading's table while nothing of it is held: it has no rooms.
+#[tactic(auto, unfolding(crate::specs::Feeding::opened_part))]
 fn open_part(h: Heading) -> Part
     requires { h.version ≤ version_most }
     ensures { result ≡ opened_part h }
 {
-    let gathering = gathering_state::open_table(h);
     Part {
-        gathering: gathering,
+        gathering: gathering_state::open_table(h),
         rooms: [0u16; 256],
     }
 }
 
-// The section s is taken: its payload goes to its room. How many bytes it has.
-fn put_payload(room: usize, store: &mut [u8], s: &[u8]) -> usize
-    requires { Fits room store.old s.now }
-    ensures counted { (result ≡ length (payload_of s.now)) × (result ≤ payload_most) }
-    ensures stored { store.new ≡ placed store.old (room_place room) (payload_of s.now) }
-{
-    let end = s.len() - 4;
-    let at = (room - 1) * PAYLOAD_MOST;
-    ground_copying::copy_long(&s[8..end], store, at);
-    end - 8
-}
-
-// The section s of number k is taken into a part that misses it.
+// The section s of number k is taken into a part that misses it, and its payload goes to its room.
+#[tactic(auto, unfolding(crate::specs::Feeding::with_room))]
 fn take(p: Part, k: u8, room: usize, store: &mut [u8], s: &[u8]) -> Part
     requires { Fits room store.old s.now × (1 ≤ p.gathering.missing) × (p.gathering.bytes ≤ body_most) }
     ensures { (result ≡ with_room p k (length (payload_of s.now)) room) × (store.new ≡ placed store.old (room_place room) (payload_of s.now)) }
 {
-    let n = put_payload(room, store, s);
-    let mut gathering = p.gathering;
-    gathering.bytes += n as u32;
-    gathering.missing -= 1;
-    gathering.held[k as usize] = n as u16 + 1;
-    let mut rooms = p.rooms;
-    rooms[k as usize] = room as u16;
-    Part {
-        gathering: gathering,
-        rooms: rooms,
-    }
+    let n = gathering_feed::put_payload(rooms_state::room_place(room as u16), store, s);
+    let mut part = p;
+    gathering_state::take_section(&mut part.gathering, k, n);
+    part.rooms[k as usize] = room as u16;
+    part
 }
 
 // A section of number k needs a room: it is taken into the part `base` where one is free, and else part p stays.
@@ -87,14 +69,13 @@ fn take_free(
     let room = rooms_marks::free_room(&base.rooms, others, n);
     if room == 0 {
         return FedPart {
-            answer: Answer::Refused(Refusal::NoFreeRoom),
+            answer: Err(Refusal::NoFreeRoom),
             part: p,
         };
     }
-    let part = take(base, k, room, store, s);
     FedPart {
-        answer: Answer::Taken,
-        part: part,
+        answer: Ok(Answer::Taken),
+        part: take(base, k, room, store, s),
     }
 }
 
@@ -103,35 +84,25 @@ fn feed_part(p: Part, others: &[u16; 256], n: usize, store: &mut [u8], s: &[u8])
     requires { (n ≤ 512) × (n * payload_most ≤ length store.old) × (part_possible n p ≡ true) }
     ensures { (result ≡ part_fed n p others.now store.old s.now) × (store.new ≡ part_store n p others.now store.old s.now) }
 {
-    let g = p.gathering;
-    let numbers = gathering_state::numbers_of(g);
-    match rooms_verdict::decide(numbers, &g.held, &p.rooms, store, s) {
-        Verdict::Refuse(r) => FedPart {
-            answer: Answer::Refused(r),
+    match rooms_verdict::decide(&p, store, s) {
+        Err(r) => FedPart {
+            answer: Err(r),
             part: p,
         },
-        Verdict::Repeat => FedPart {
-            answer: Answer::HeldAlready,
+        Ok(Verdict::Repeat) => FedPart {
+            answer: Ok(Answer::HeldAlready),
             part: p,
         },
-        Verdict::Contradict => {
-            let mut spoiled = g;
-            spoiled.spoiled = 1;
-            let rooms = p.rooms;
-            let part = Part {
-                gathering: spoiled,
-                rooms: rooms,
-            };
+        Ok(Verdict::Contradict) => {
+            let mut part = p;
+            part.gathering.spoiled = 1;
             FedPart {
-                answer: Answer::Refused(Refusal::Contradiction),
-                part: part,
+                answer: Err(Refusal::Contradiction),
+                part,
             }
         }
-        Verdict::Begin(h) => {
-            let opened = open_part(h);
-            take_free(p, opened, h.number, others, n, store, s)
-        }
-        Verdict::Take(h) => take_free(p, p, h.number, others, n, store, s),
+        Ok(Verdict::Begin(h)) => take_free(p, open_part(h), h.number, others, n, store, s),
+        Ok(Verdict::Take(h)) => take_free(p, p, h.number, others, n, store, s),
     }
 }
 
@@ -141,38 +112,32 @@ pub fn feed_step(x: Networks, network: u32, store: &mut [u8], s: &[u8]) -> Fed
 {
     if !rooms_state::is_network(network) {
         return Fed {
-            answer: Answer::Refused(Refusal::OutsideSet(0)),
+            answer: Err(Refusal::OutsideSet(0)),
             state: x,
         };
     }
     let bytes = store.len();
-    if !rooms_state::possible(x, bytes) {
+    if !rooms_state::possible(&x, bytes) {
         return Fed {
-            answer: Answer::Refused(Refusal::ImpossibleState),
+            answer: Err(Refusal::ImpossibleState),
             state: x,
         };
     }
     let n = rooms_state::rooms_in(bytes);
-    let one = x.one;
-    let two = x.two;
     let mut state = x;
     if network == 1 {
-        let fed = feed_part(one, &two.rooms, n, store, s);
-        let part = fed.part;
-        let answer = fed.answer;
-        state.one = part;
+        let fed = feed_part(x.one, &x.two.rooms, n, store, s);
+        state.one = fed.part;
         Fed {
-            answer: answer,
-            state: state,
+            answer: fed.answer,
+            state,
         }
     } else {
-        let fed = feed_part(two, &one.rooms, n, store, s);
-        let part = fed.part;
-        let answer = fed.answer;
-        state.two = part;
+        let fed = feed_part(x.two, &x.one.rooms, n, store, s);
+        state.two = fed.part;
         Fed {
-            answer: answer,
-            state: state,
+            answer: fed.answer,
+            state,
         }
     }
 }

@@ -5,18 +5,6 @@ ghost use Rattle.std.specs.Prelude.{◌≡◌, ◌<◌, ◌≤◌, ◌+◌, min,
 ghost use Rattle.rooms_marks.specs.Rooms.{held_rooms, none_twice, free_room};
 ghost use Rattle.rooms_marks.specs.Marks.{marked, marks_of, free_mark, all_once};
 
-// A mark for each of the 512 rooms, and before them one that is not set.
-#[derive(Clone, Copy)]
-struct Marks {
-    of: [u8; 513],
-}
-
-fn wide(x: u16) -> usize
-    ensures { result ≡ x }
-{
-    x as usize
-}
-
 // A mark, and one more; 2 stands for all above.
 fn raised(m: u8) -> u8
     ensures { result ≡ min 2 (m + 1) }
@@ -28,40 +16,35 @@ fn raised(m: u8) -> u8
 fn mark(marks: &mut [u8], rooms: &[u16])
     ensures { marks.new ≡ marked marks.old rooms.now }
 {
-    let mut k = 0;
-    while k < rooms.len() {
-        let r = wide(rooms[k]);
-        if 0 < r {
-            if r < marks.len() {
-                marks[r] = raised(marks[r]);
-            }
+    for room in rooms {
+        let r = *room as usize;
+        if 0 < r && r < marks.len() {
+            marks[r] = raised(marks[r]);
         }
-        k += 1;
     }
 }
 
-// The marks of both networks' rooms.
-fn marks_of(one: &[u16], two: &[u16]) -> Marks
-    ensures { result.of ≡ marks_of one.now two.now }
+// The marks of both networks' rooms: one for each of the 512, and before them one that is not set.
+#[tactic(auto, unfolding(crate::specs::Marks::marks_of))]
+fn marks_of(one: &[u16], two: &[u16]) -> [u8; 513]
+    ensures { result ≡ marks_of one.now two.now }
 {
-    let mut of = [0u8; 513];
-    mark(&mut of, one);
-    mark(&mut of, two);
-    Marks { of: of }
+    let mut marks = [0u8; 513];
+    mark(&mut marks, one);
+    mark(&mut marks, two);
+    marks
 }
 
-// The first room that is not marked, and one more; 0 where every one of the n is.
+// The first room that is not marked, and one more; 0 where every one of the n is, as `free_room` promises it: no Option.
 #[tactic(auto, using(crate::proofs::Marking::free_stop))]
 fn first_unmarked(marks: &[u8], n: usize) -> usize
     requires { n < length marks.now }
     ensures { result ≡ free_mark marks.now 1 n }
 {
-    let mut r = 1;
-    while r <= n {
+    for r in 1..n + 1 {
         if marks[r] == 0 {
             return r;
         }
-        r += 1;
     }
     0
 }
@@ -71,12 +54,10 @@ fn marked_once(marks: &[u8], n: usize) -> bool
     requires { n < length marks.now }
     ensures { result ≡ all_once marks.now 1 n }
 {
-    let mut r = 1;
-    while r <= n {
+    for r in 1..n + 1 {
         if marks[r] >= 2 {
             return false;
         }
-        r += 1;
     }
     true
 }
@@ -86,8 +67,7 @@ pub fn free_room(one: &[u16], two: &[u16], n: usize) -> usize
     requires { n ≤ 512 }
     ensures { (result ≡ free_room n one.now two.now) × (result ≤ n) }
 {
-    let marks = marks_of(one, two);
-    first_unmarked(&marks.of, n)
+    first_unmarked(&marks_of(one, two), n)
 }
 
 // Is none of the n rooms held twice? For the test of a state.
@@ -95,21 +75,13 @@ pub fn none_twice(one: &[u16], two: &[u16], n: usize) -> bool
     requires { n ≤ 512 }
     ensures { result ≡ none_twice n one.now two.now }
 {
-    let marks = marks_of(one, two);
-    marked_once(&marks.of, n)
+    marked_once(&marks_of(one, two), n)
 }
 
 // How many rooms a list holds. For the counts.
+#[tactic(auto, using(crate::proofs::Counting::held_counted))]
 pub fn held_rooms(rooms: &[u16]) -> usize
     ensures { result ≡ held_rooms rooms.now }
 {
-    let mut held: usize = 0;
-    let mut k = 0;
-    while k < rooms.len() {
-        if rooms[k] != 0 {
-            held += 1;
-        }
-        k += 1;
-    }
-    held
+    rooms.iter().filter(|r| **r != 0).count()
 }

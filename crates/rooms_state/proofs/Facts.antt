@@ -1,14 +1,13 @@
 -- What the test for a possible state says, as facts of each number and of each room; that these facts make it so; and how rooms lie in the store.
 use Prim.Native.Nat.{ℕ, zero, suc, ◌+◌, ◌-◌, ◌*◌, ◌≤◌, ◌<◌}
 use mathlib.Core.Path.{◌≡◌, refl, sym, ◌∙◌}
-use mathlib.Core.Bool.{Bool, true, false, false≢true}
+use mathlib.Core.Bool.{true, false, false≢true}
 use mathlib.Core.List.{List, [], ◌∷◌}
 use mathlib.Core.Option.{Option, none, some}
 use native.Mathlib.Omega.{arith}
 use borrow.Author.Tests.{eq-eqb, ne_eqb, eqb-true, eqb-false, ltb-true, leb-true, lt-ltb, le-leb}
 use lib.Dec.{eqb, leb, ltb}
 use lib.ListN.{length, get_or}
-use Rattle.std.specs.Prelude.{if◌then◌else◌}
 use Rattle.ground_choices.proofs.Tests.{both, and_of}
 use Rattle.gathering_state.specs.State.{fresh_state, possible_of as gathering_possible}
 use Rattle.gathering_state.proofs.State.{possible_short, fresh_possible as fresh_gathering}
@@ -81,17 +80,6 @@ unfolding part_possible
 part_test n p x =
     and_of (and_of (and_of (eq-eqb _ 256 x.held_long) (eq-eqb _ 256 x.rooms_long)) x.possible)
     (all_matched n p.gathering.held p.rooms x.paired)
-
--- the lists have their 256 numbers: the rest decides
-pub part_by : (n : ℕ) (p : Part) → length p.gathering.held ≡ 256 → length p.rooms ≡ 256
-    → gathering_possible p.gathering ≡ true → matched n p.gathering.held p.rooms ≡ part_possible n p
-unfolding part_possible
-part_by n p h r g = rw (eq-eqb _ 256 h, eq-eqb _ 256 r, g)
-
-pub part_not : (n : ℕ) (p : Part) → length p.gathering.held ≡ 256 → length p.rooms ≡ 256
-    → gathering_possible p.gathering ≡ false → false ≡ part_possible n p
-unfolding part_possible
-part_not n p h r g = rw (eq-eqb _ 256 h, eq-eqb _ 256 r, g)
 
 -- lengths are short in every part
 pub short_at : (n : ℕ) (p : Part) → PartIs n p → (k : ℕ) → get_or p.gathering.held k 0 ≤ 4085
@@ -166,26 +154,6 @@ networks_test x bytes b =
     and_of (and_of (and_of (eq-eqb _ _ b.long) (part_test _ x.one s.own)) (part_test _ x.two s.others))
     (none_twice_lem _ x.one.rooms x.two.rooms s.once)
 
--- the tests in their order: the first that fails, and the last one
-module _ (x : Networks) (bytes : ℕ) where
-  pub other_length : (x.bytes ≡ bytes → ⊥) → false ≡ possible_of x bytes
-  unfolding possible_of
-  other_length d = rw (ne_eqb _ _ d)
-
-  module _ (l : x.bytes ≡ bytes) (n : ℕ) (e : n ≡ rooms_in bytes) where
-    pub one_not : part_possible n x.one ≡ false → false ≡ possible_of x bytes
-    unfolding possible_of
-    one_not f = rw (eq-eqb _ _ l, ← e, f)
-
-    module _ (o : part_possible n x.one ≡ true) where
-      pub two_not : part_possible n x.two ≡ false → false ≡ possible_of x bytes
-      unfolding possible_of
-      two_not f = rw (eq-eqb _ _ l, ← e, o, f)
-
-      pub both_are : part_possible n x.two ≡ true → none_twice n x.one.rooms x.two.rooms ≡ possible_of x bytes
-      unfolding possible_of
-      both_are t = rw (eq-eqb _ _ l, ← e, o, t)
-
 -- ---- seen from one network
 
 pub sound_of : (i : Network) (x : Networks) {bytes : ℕ} → NetworksIs x bytes → Sound (rooms_in bytes) (mine i x) (theirs i x) bytes
@@ -252,18 +220,6 @@ module _ (n : ℕ) where
       go : Seen (eqb n 2) → network_of n ≡ some network2
       go (yes_is f) = rw (ne_eqb n 1 d, f)
       go (no_is f) = let z = rw (ne_eqb n 1 d, f) at e in absurd (false≢true z)
-
-  pub network_one : n ≡ 1 → true ≡ is_some (network_of n)
-  unfolding network_of is_some
-  network_one e = rw (eq-eqb n 1 e)
-
-  pub network_two : (n ≡ 1 → ⊥) → eqb n 2 ≡ is_some (network_of n)
-  unfolding network_of is_some
-  network_two d = rw (ne_eqb n 1 d) (go (eqb n 2))
-    where
-      go : (b : Bool) → b ≡ is_some (if b then some network2 else none)
-      go true = refl
-      go false = refl
 
   pub no_network : is_some (network_of n) ≡ false → network_of n ≡ none
   unfolding is_some

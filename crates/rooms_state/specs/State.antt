@@ -3,17 +3,10 @@ use Rattle.std.specs.Prelude.{ℕ, ◌+◌, ◌-◌, ◌*◌, ◌/◌, ◌≤◌
 use Rattle.std.proofs.Math.Option.{Option, none, some}
 use Rattle.ground_numbers.specs.Sizes.{payload_most}
 use Rattle.gathering_state.specs.Lists.{part}
-use Rattle.gathering_state.specs.State.{state_of, fresh_state, possible_of as gathering_possible}
-use Rattle.gathering_state.specs.declared.Numbers.{Numbers}
+use Rattle.gathering_state.specs.State.{fresh_state, possible_of as gathering_possible}
 use Rattle.rooms_marks.specs.Rooms.{none_twice}
 use Rattle.rooms_state.specs.declared.Part.{Part}
 use Rattle.rooms_state.specs.declared.Networks.{Networks}
-
--- ---- a part and its fields
-
--- the part of these numbers, held lengths and rooms
-abbrev pub part_of : Numbers → List ℕ → List ℕ → Part
-part_of m held rooms = record { gathering = state_of m held; rooms = rooms }
 
 -- ---- the fresh ones
 

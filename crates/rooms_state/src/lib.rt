@@ -25,6 +25,7 @@ pub struct Networks {
 }
 
 // How many rooms a store of so many bytes has: "the smaller of 512 and the whole rooms in the store's length". For feeding too.
+#[tactic(auto, unfolding(crate::specs::State::rooms_in))]
 pub fn rooms_in(bytes: usize) -> usize
     ensures { (result ≡ rooms_in bytes) × (result ≤ 512) }
 {
@@ -32,20 +33,20 @@ pub fn rooms_in(bytes: usize) -> usize
 }
 
 // Where a room begins in the store; the room is told as its number and one more. For feeding and handing out.
+#[tactic(auto, unfolding(crate::specs::State::room_place))]
 pub fn room_place(room: u16) -> usize
     ensures { result ≡ room_place room }
 {
     ground_numbers::less(room as usize, 1) * PAYLOAD_MOST
 }
 
-// Is it 1 or 2? For every call.
+// Is it 1 or 2? For every call. The network stays a number, as C and the contracts tell it (`network_of`): an enum would be a second `Network`
+// beside that of specs/.
+#[tactic(auto, unfolding(crate::specs::State::is_some, crate::specs::State::network_of))]
 pub fn is_network(network: u32) -> bool
     ensures { result ≡ is_some (network_of network) }
 {
-    if network == 1 {
-        return true;
-    }
-    network == 2
+    network == 1 || network == 2
 }
 
 // ---- possible states
@@ -58,10 +59,7 @@ fn is_paired(h: u16, r: u16, n: usize) -> bool
     if h == 0 {
         r == 0
     } else {
-        if r == 0 {
-            return false;
-        }
-        (r as usize) <= n
+        0 < r && r as usize <= n
     }
 }
 
@@ -70,69 +68,55 @@ fn all_paired(held: &[u16], rooms: &[u16], n: usize) -> bool
     requires { length held.now ≡ length rooms.now }
     ensures { result ≡ matched n held.now rooms.now }
 {
-    let mut i = 0;
-    while i < held.len() {
+    for i in 0..held.len() {
         if !is_paired(held[i], rooms[i], n) {
             return false;
         }
-        i += 1;
     }
     true
 }
 
 // A network's own part, where there are n rooms.
-fn part_possible(p: Part, n: usize) -> bool
-    ensures { result ≡ part_possible n p }
+#[tactic(auto, unfolding(crate::specs::State::part_possible))]
+fn part_possible(p: &Part, n: usize) -> bool
+    ensures { result ≡ part_possible n p.now }
 {
-    let g = p.gathering;
-    let numbers = gathering_state::numbers_of(g);
-    if !gathering_state::possible(numbers, &g.held) {
-        return false;
-    }
-    all_paired(&g.held, &p.rooms, n)
+    gathering_state::possible(&p.gathering) && all_paired(&p.gathering.held, &p.rooms, n)
 }
 
 // Is it a state that two networks over a store of so many bytes can be in? For every call.
-pub fn possible(x: Networks, bytes: usize) -> bool
-    ensures { result ≡ possible_of x bytes }
+#[tactic(auto, unfolding(crate::specs::State::possible_of))]
+pub fn possible(x: &Networks, bytes: usize) -> bool
+    ensures { result ≡ possible_of x.now bytes }
 {
-    if x.bytes != bytes {
-        return false;
-    }
     let n = rooms_in(bytes);
-    let one = x.one;
-    if !part_possible(one, n) {
-        return false;
-    }
-    let two = x.two;
-    if !part_possible(two, n) {
-        return false;
-    }
-    rooms_marks::none_twice(&one.rooms, &two.rooms, n)
+    x.bytes == bytes
+        && part_possible(&x.one, n)
+        && part_possible(&x.two, n)
+        && rooms_marks::none_twice(&x.one.rooms, &x.two.rooms, n)
 }
 
 // ---- fresh ones
 
 // "A fresh state holds nothing", and has no rooms. For the end of a gathering.
+#[tactic(auto, unfolding(crate::specs::State::fresh_part))]
 pub fn fresh_part() -> Part
     ensures { result ≡ fresh_part }
 {
-    let gathering = gathering_state::fresh();
     Part {
-        gathering: gathering,
+        gathering: gathering_state::fresh(),
         rooms: [0u16; 256],
     }
 }
 
 // The state at the start, over a store of so many bytes.
+#[tactic(auto, unfolding(crate::specs::State::fresh_networks))]
 pub fn fresh_networks(bytes: usize) -> Networks
     ensures { result ≡ fresh_networks bytes }
 {
-    let one = fresh_part();
-    let two = fresh_part();
     Networks {
-        bytes: bytes,
-        one: one,
-        two: two,
+        bytes,
+        one: fresh_part(),
+        two: fresh_part(),
     }
 }

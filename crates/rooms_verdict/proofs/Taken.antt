@@ -1,5 +1,6 @@
 -- The ways that a verdict can go, and what is known of a section that is taken or that contradicts.
 use Prim.Native.Nat.{ℕ}
+use Rattle.std.specs.Prelude.{Result, Ok, Err}
 use mathlib.Core.Path.{◌≡◌, refl, sym, ◌∙◌}
 use mathlib.Core.Bool.{Bool, true, false}
 use mathlib.Core.List.{List}
@@ -12,13 +13,11 @@ use Rattle.ground_refusal.specs.declared.Refusal.TheVariants.{NotCurrent, OtherH
 use Rattle.ground_equal.specs.Same.{same_bytes}
 use Rattle.section_reader.specs.Section.{payload_of, read_section}
 use Rattle.section_reader.specs.declared.Heading.{Heading}
-use Rattle.section_reader.specs.declared.Sectioned.{Sectioned}
-use Rattle.section_reader.specs.declared.Sectioned.TheVariants.{Good, Refused as NotGood}
 use Rattle.gathering_state.specs.State.{possible_of}
 use Rattle.gathering_state.proofs.State.{Begun, possible_begun}
 use Rattle.gathering_verdict.specs.Deciding.{agrees, begins}
 use Rattle.gathering_verdict.specs.declared.Verdict.{Verdict}
-use Rattle.gathering_verdict.specs.declared.Verdict.TheVariants.{Refuse, Repeat, Contradict, Begin, Take}
+use Rattle.gathering_verdict.specs.declared.Verdict.TheVariants.{Repeat, Contradict, Begin, Take}
 use Rattle.gathering_verdict.proofs.Verdicts.{agrees_is, further_begun, Further, sized, TakenBy, as_first, as_further}
 use Rattle.rooms_state.specs.State.{room_payload}
 use Rattle.rooms_state.specs.declared.Part.{Part}
@@ -32,12 +31,12 @@ pub record Heard (p : Part) (h : Heading) : Type 0 where
   pub agreed : agrees p.gathering h ≡ true
 
 -- the ways out for a good section
-pub data Decided (p : Part) (h : Heading) : Verdict → Type 0 where
-  stopped : (r : Refusal) → Decided p h (Refuse r)
-  begun : Decided p h (Begin h)
-  new : Heard p h → get_or p.gathering.held h.number 0 ≡ 0 → Decided p h (Take h)
-  again : Decided p h Repeat
-  clash : Heard p h → Decided p h Contradict
+pub data Decided (p : Part) (h : Heading) : Result Verdict Refusal → Type 0 where
+  stopped : (r : Refusal) → Decided p h (Err r)
+  begun : Decided p h (Ok (Begin h))
+  new : Heard p h → get_or p.gathering.held h.number 0 ≡ 0 → Decided p h (Ok (Take h))
+  again : Decided p h (Ok Repeat)
+  clash : Heard p h → Decided p h (Ok Contradict)
 
 module _ (p : Part) (store : List ℕ) (h : Heading) (payload : List ℕ) where
   decided_number : Heard p h → (n : Bool) → eqb (get_or p.gathering.held h.number 0) 0 ≡ n
@@ -61,28 +60,28 @@ module _ (p : Part) (store : List ℕ) (h : Heading) (payload : List ℕ) where
   decided = decided_by h.current refl (begins p.gathering h) refl (agrees p.gathering h) refl (eqb p.gathering.spoiled 0) refl
 
 -- what is known of a section that is taken
-pub record TakeIs (p : Part) (s : List ℕ) (h : Heading) (v : Verdict) : Type 0 where
+pub record TakeIs (p : Part) (s : List ℕ) (h : Heading) (v : Result Verdict Refusal) : Type 0 where
   pub length_of : ℕ
-  pub reads : read_section s ≡ Good h length_of
-  pub further : v ≡ Take h → Further p.gathering h
+  pub reads : read_section s ≡ Ok (h, length_of)
+  pub further : v ≡ Ok (Take h) → Further p.gathering h
 
 module _ (p : Part) (store s : List ℕ) (ok : possible_of p.gathering ≡ true) where
   heard_begun : (i : Heading) → Heard p i → Begun p.gathering
   heard_begun i d = possible_begun p.gathering ok (further_begun p.gathering i d.further)
 
   module _ (h : Heading) where
-    not_refused : {A : Type 0} (r : Refusal) → TakenBy h (Refuse r) → A
+    not_refused : {A : Type 0} (r : Refusal) → TakenBy h (Err r) → A
     not_refused r (as_first e) = let z : ◌≡◌ {A = ℕ} 0 1 = cc in absurd (omega arith)
     not_refused r (as_further e) = let z : ◌≡◌ {A = ℕ} 0 1 = cc in absurd (omega arith)
 
-    heard_further : (i : Heading) (n : ℕ) → read_section s ≡ Good i n → Heard p i → get_or p.gathering.held i.number 0 ≡ 0 → Further p.gathering i
+    heard_further : (i : Heading) (n : ℕ) → read_section s ≡ Ok (i, n) → Heard p i → get_or p.gathering.held i.number 0 ≡ 0 → Further p.gathering i
     heard_further i n r d z =
         let q = sized s i n r in
         let a = agrees_is p.gathering i d.agreed in
         let last = a.last in
         record { begun = heard_begun i d; within = omega arith; new = z }
 
-    take_good : (i : Heading) (n : ℕ) → read_section s ≡ Good i n → {v : Verdict} → Decided p i v → TakenBy h v → TakeIs p s h v
+    take_good : (i : Heading) (n : ℕ) → read_section s ≡ Ok (i, n) → {v : Result Verdict Refusal} → Decided p i v → TakenBy h v → TakeIs p s h v
     take_good i n r begun (as_first e) =
         let same : i ≡ h = cc in
         rw (← same) (record { length_of = n; reads = r; further = λ t. let z : ◌≡◌ {A = ℕ} 0 1 = cc in absurd (omega arith) })
@@ -100,21 +99,21 @@ module _ (p : Part) (store s : List ℕ) (ok : possible_of p.gathering ≡ true)
     pub take_is : TakenBy h (verdict_of p store s) → TakeIs p s h (verdict_of p store s)
     take_is t = go (read_section s) refl
       where
-        go : (a : Sectioned) → read_section s ≡ a → TakeIs p s h (verdict_of p store s)
-        go (NotGood r) f = not_refused r (rw (verdict_bad p store s r f) at t)
-        go (Good i n) f = rw (verdict_good p store s i n f) (take_good i n f (decided p store i (payload_of s)) (rw (verdict_good p store s i n f) at t))
+        go : (a : Result (Heading × ℕ) Refusal) → read_section s ≡ a → TakeIs p s h (verdict_of p store s)
+        go (Err r) f = not_refused r (rw (verdict_bad p store s r f) at t)
+        go (Ok (i, n)) f = rw (verdict_good p store s i n f) (take_good i n f (decided p store i (payload_of s)) (rw (verdict_good p store s i n f) at t))
 
   -- only a section of a begun table contradicts
-  clash_good : (i : Heading) {v : Verdict} → Decided p i v → v ≡ Contradict → Begun p.gathering
+  clash_good : (i : Heading) {v : Result Verdict Refusal} → Decided p i v → v ≡ (Ok Contradict) → Begun p.gathering
   clash_good i (clash d) e = heard_begun i d
   clash_good i (stopped r) e = let z : ◌≡◌ {A = ℕ} 0 1 = cc in absurd (omega arith)
   clash_good i begun e = let z : ◌≡◌ {A = ℕ} 0 1 = cc in absurd (omega arith)
   clash_good i (new d q) e = let z : ◌≡◌ {A = ℕ} 0 1 = cc in absurd (omega arith)
   clash_good i again e = let z : ◌≡◌ {A = ℕ} 0 1 = cc in absurd (omega arith)
 
-  pub clash_begun : verdict_of p store s ≡ Contradict → Begun p.gathering
+  pub clash_begun : verdict_of p store s ≡ (Ok Contradict) → Begun p.gathering
   clash_begun e = go (read_section s) refl
     where
-      go : (a : Sectioned) → read_section s ≡ a → Begun p.gathering
-      go (NotGood r) f = let q = sym (verdict_bad p store s r f) ∙ e in let z : ◌≡◌ {A = ℕ} 0 1 = cc in absurd (omega arith)
-      go (Good i n) f = clash_good i (decided p store i (payload_of s)) (sym (verdict_good p store s i n f) ∙ e)
+      go : (a : Result (Heading × ℕ) Refusal) → read_section s ≡ a → Begun p.gathering
+      go (Err r) f = let q = sym (verdict_bad p store s r f) ∙ e in let z : ◌≡◌ {A = ℕ} 0 1 = cc in absurd (omega arith)
+      go (Ok (i, n)) f = clash_good i (decided p store i (payload_of s)) (sym (verdict_good p store s i n f) ∙ e)

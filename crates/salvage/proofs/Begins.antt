@@ -7,31 +7,28 @@ use native.Mathlib.Omega.{arith}
 use lib.Dec.{ltb}
 use lib.ListN.{length, get_or, take, drop, length-take, length-drop, take-append-drop, get_or-append}
 use lib.Seq.{take_at, take_all, length-take-le}
-use Rattle.std.specs.Prelude.{if◌then◌else◌}
+use Rattle.std.specs.Prelude.{if◌then◌else◌, Result, Ok, Err}
 use Rattle.ground_choices.proofs.Tests.{past, refuted}
 use Rattle.ground_refusal.specs.declared.Refusal.{Refusal}
 use Rattle.section_reader.specs.Section.{section_length, length_in_range, read_section, stated_length}
 use Rattle.section_reader.specs.declared.Heading.{Heading}
-use Rattle.section_reader.specs.declared.Sectioned.{Sectioned}
-use Rattle.section_reader.specs.declared.Sectioned.TheVariants.{Good, Refused}
-use Rattle.section_reader.specs.declared.Stated.TheVariants as stated
 use Rattle.section_reader.proofs.Accepting.{accepted, framed_long, good_states}
 use Rattle.salvage.specs.Reading.{is_good, stated, begins, good_length}
 
 -- a good judgement has a heading
-heading_of_lem : (x : Sectioned) → is_good x ≡ true → (h : Heading) × ((n : ℕ) × (x ≡ Good h n))
-heading_of_lem (Good h n) e = (h, (n, refl))
-heading_of_lem (Refused r) e = absurd (let z : ◌≡◌ {A = ℕ} 0 1 = cc in omega arith)
+heading_of_lem : (x : Result (Heading × ℕ) Refusal) → is_good x ≡ true → (h : Heading) × ((n : ℕ) × (x ≡ Ok (h, n)))
+heading_of_lem (Ok (h, n)) e = (h, (n, refl))
+heading_of_lem (Err r) e = absurd (let z : ◌≡◌ {A = ℕ} 0 1 = cc in omega arith)
 
 pub good_long : (s : List ℕ) → is_good (read_section s) ≡ true → (12 ≤ length s) × (length s ≤ 4096)
 good_long s e = let g = heading_of_lem (read_section s) e in framed_long s (accepted s g.0 g.1.0 g.1.1).framed
 
 -- a good section states its length, whatever stands after it
-pub good_stated : (s t : List ℕ) → is_good (read_section s) ≡ true → stated_length (s ++ t) ≡ stated.Length (length s)
+pub good_stated : (s t : List ℕ) → is_good (read_section s) ≡ true → stated_length (s ++ t) ≡ Ok (length s)
 good_stated s t e = let g = heading_of_lem (read_section s) e in good_states s t g.0 g.1.0 g.1.1
 
 -- a stated length is section_length, and the three bytes up to its end
-pub length_stated : (s : List ℕ) (n : ℕ) → stated_length s ≡ stated.Length n → n ≡ section_length s + 3
+pub length_stated : (s : List ℕ) (n : ℕ) → stated_length s ≡ Ok n → n ≡ section_length s + 3
 unfolding stated_length
 length_stated s n e =
     let a = past (ltb (length s) 3) _ _ _ never e in
@@ -39,7 +36,7 @@ length_stated s n e =
     let l = b.1 in
     cc
   where
-    never : {r : Refusal} → stated.Refused r ≡ stated.Length n → ⊥
+    never : {r : Refusal} → Err r ≡ Ok n → ⊥
     never e = let z : ◌≡◌ {A = ℕ} 0 1 = cc in omega arith
 
 -- ---- the section that begins a byte string
@@ -48,7 +45,7 @@ own_is : (s : List ℕ) → stated s ≡ take (section_length s + 3) s
 unfolding stated
 own_is s = refl
 
-pub stated_take : (s : List ℕ) (n : ℕ) → stated_length s ≡ stated.Length n → stated s ≡ take n s
+pub stated_take : (s : List ℕ) (n : ℕ) → stated_length s ≡ Ok n → stated s ≡ take n s
 stated_take s n e = rw (length_stated s n e) (own_is s)
 
 pub begins_is : (s : List ℕ) → begins s ≡ is_good (read_section (stated s))
@@ -68,7 +65,7 @@ stated_then : (s : List ℕ) → stated s ++ drop (section_length s + 3) s ≡ s
 stated_then s = rw (own_is s) (take-append-drop (section_length s + 3) s)
 
 -- its length is the one that is stated
-pub begins_states : (s : List ℕ) → begins s ≡ true → stated_length s ≡ stated.Length (length (stated s))
+pub begins_states : (s : List ℕ) → begins s ≡ true → stated_length s ≡ Ok (length (stated s))
 begins_states s e =
     ap stated_length (sym (stated_then s)) ∙ good_stated (stated s) (drop (section_length s + 3) s) (sym (begins_is s) ∙ e)
 
@@ -101,17 +98,17 @@ unfolding good_length
 length_none s e = rw e
 
 -- no section begins where no length is stated, or more than there is
-pub none_said : (s : List ℕ) (r : Refusal) → stated_length s ≡ stated.Refused r → begins s ≡ false
+pub none_said : (s : List ℕ) (r : Refusal) → stated_length s ≡ Err r → begins s ≡ false
 none_said s r e = sym (refuted (begins s) (λ k. let l = begins_states s k in let z : ◌≡◌ {A = ℕ} 0 1 = cc in omega arith))
 
-pub none_past : (s : List ℕ) (n : ℕ) → stated_length s ≡ stated.Length n → length s < n → begins s ≡ false
+pub none_past : (s : List ℕ) (n : ℕ) → stated_length s ≡ Ok n → length s < n → begins s ≡ false
 none_past s n e h =
     sym
     (refuted (begins s)
     (λ k. let l = begins_states s k in let z : n ≡ length (stated s) = cc in omega (arith, begins_long s k)))
 
 -- a byte string is looked at as far as it states
-pub length_as_judged : (s : List ℕ) (n : ℕ) → n ≤ length s → stated_length s ≡ stated.Length n → (t : Bool) → t ≡ is_good (read_section (take n s))
+pub length_as_judged : (s : List ℕ) (n : ℕ) → n ≤ length s → stated_length s ≡ Ok n → (t : Bool) → t ≡ is_good (read_section (take n s))
     → (t ≡ true → n ≡ good_length s) × (t ≡ false → 0 ≡ good_length s)
 length_as_judged s n within e t judged = (some, none)
   where

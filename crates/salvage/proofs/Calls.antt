@@ -7,14 +7,14 @@ use native.Mathlib.Omega.{arith}
 use borrow.Author.Tests.{leb-true, leb-false, ltb-false, lt-ltb, le-ltb}
 use lib.Dec.{leb, ltb}
 use lib.ListN.{length}
-use Rattle.std.specs.Prelude.{if◌then◌else◌}
+use Rattle.std.specs.Prelude.{if◌then◌else◌, Ok, Err}
 use Rattle.ground_choices.proofs.Tests.{both}
+use Rattle.ground_refusal.proofs.Exits.{ok_pair_inj}
 use Rattle.ground_refusal.specs.Numbers.{refusal_place}
 use Rattle.ground_refusal.specs.declared.Refusal.{Refusal}
 use Rattle.ground_refusal.specs.declared.Refusal.TheVariants.{OutputTooSmall, CaptureTooLong}
 use Rattle.salvage.specs.Runs.{runs_of}
 use Rattle.salvage.specs.Salvage.{capture_most, sections, numbers, Verdict, refuses, writes, salvaging, answer_by, laid_by, salvage_of, output_after, list_after}
-use Rattle.salvage.specs.declared.Salvaged.TheVariants.{Of, Refused}
 
 -- ---- the verdict
 
@@ -54,11 +54,11 @@ module _ (s out list : List ℕ) where
   by_verdict v e = (rw e, (rw e, rw e))
 
   -- "a refused call writes nothing"
-  pub writes_nothing : (r : Refusal) → salvage_of s (length out) (length list) ≡ Refused r → (output_after s out list ≡ out) × (list_after s out list ≡ list)
+  pub writes_nothing : (r : Refusal) → salvage_of s (length out) (length list) ≡ Err r → (output_after s out list ≡ out) × (list_after s out list ≡ list)
   unfolding salvage_of output_after list_after
   writes_nothing r = by (salvaging s (length out) (length list))
     where
-      by : (v : Verdict) → answer_by v s ≡ Refused r → (laid_by v (sections s) out ≡ out) × (laid_by v (numbers s) list ≡ list)
+      by : (v : Verdict) → answer_by v s ≡ Err r → (laid_by v (sections s) out ≡ out) × (laid_by v (numbers s) list ≡ list)
       by (refuses w) e = (refl, refl)
       by writes e = absurd (let z : ◌≡◌ {A = ℕ} 0 1 = cc in omega arith)
 
@@ -82,26 +82,25 @@ module _ (s : List ℕ) (room entries : ℕ) where
   abbrev chosen : Bool → Bool → Verdict
   chosen x y = if x then refuses CaptureTooLong else if y then refuses OutputTooSmall else writes
 
-  answered_by : (x y : Bool) → ltb capture_most (length s) ≡ x → small_room ≡ y → (bytes runs : ℕ) → answer_by (chosen x y) s ≡ Of bytes runs
+  answered_by : (x y : Bool) → ltb capture_most (length s) ≡ x → small_room ≡ y → (bytes runs : ℕ) → answer_by (chosen x y) s ≡ Ok (bytes, runs)
       → Answered s room entries bytes runs
   answered_by true y k m bytes runs e = absurd (let z : ◌≡◌ {A = ℕ} 0 1 = cc in omega arith)
   answered_by false true k m bytes runs e = absurd (let z : ◌≡◌ {A = ℕ} 0 1 = cc in omega arith)
   answered_by false false k m bytes runs e =
-      let b : bytes ≡ length (sections s) = cc in
-      let n : runs ≡ length (runs_of s) = cc in
+      let p = ok_pair_inj e in
       let r = ltb-false room (length (sections s)) (neither _ _ m).0 in
-      record { bytes_are = b; runs_are = n; short = ltb-false capture_most (length s) k; fits = omega arith }
+      record { bytes_are = sym p.0; runs_are = sym p.1; short = ltb-false capture_most (length s) k; fits = omega (arith, p.0) }
 
-  pub answered : (bytes runs : ℕ) → salvage_of s room entries ≡ Of bytes runs → Answered s room entries bytes runs
+  pub answered : (bytes runs : ℕ) → salvage_of s room entries ≡ Ok (bytes, runs) → Answered s room entries bytes runs
   unfolding salvage_of salvaging
   answered = answered_by (ltb capture_most (length s)) small_room refl refl
 
-  refused_by : (x y : Bool) (r : Refusal) → answer_by (chosen x y) s ≡ Refused r → refusal_place r ≡ 0
+  refused_by : (x y : Bool) (r : Refusal) → answer_by (chosen x y) s ≡ Err r → refusal_place r ≡ 0
   refused_by true y r e = let z : CaptureTooLong ≡ r = cc in ap refusal_place (sym z)
   refused_by false true r e = let z : OutputTooSmall ≡ r = cc in ap refusal_place (sym z)
   refused_by false false r e = absurd (let z : ◌≡◌ {A = ℕ} 0 1 = cc in omega arith)
 
   -- no refusal has a place
-  pub refused_place : (r : Refusal) → salvage_of s room entries ≡ Refused r → refusal_place r ≡ 0
+  pub refused_place : (r : Refusal) → salvage_of s room entries ≡ Err r → refusal_place r ≡ 0
   unfolding salvage_of salvaging
   refused_place = refused_by (ltb capture_most (length s)) small_room

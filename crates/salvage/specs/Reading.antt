@@ -1,15 +1,15 @@
 -- What a reader has to believe of a capture read for its good sections: where one begins, and the pieces that the capture falls into.
-use Rattle.std.specs.Prelude.{ℕ, zero, suc, ◌+◌, ◌-◌, ◌≤◌, Bool, true, false, List, [], ◌∷◌, ◌++◌, ◌≡◌, length, take, drop, if◌then◌else◌}
+use Rattle.std.specs.Prelude.{ℕ, zero, suc, ◌+◌, ◌-◌, ◌≤◌, Bool, true, false, List, [], ◌∷◌, ◌++◌, ◌≡◌, length, take, drop, if◌then◌else◌, Result, Ok, Err}
+use Rattle.ground_refusal.specs.declared.Refusal.{Refusal}
+use Rattle.section_reader.specs.declared.Heading.{Heading}
 use Rattle.section_reader.specs.Section.{section_length, read_section}
-use Rattle.section_reader.specs.declared.Sectioned.{Sectioned}
-use Rattle.section_reader.specs.declared.Sectioned.TheVariants.{Good, Refused}
 
 -- ---- where a good section begins
 
 -- refusals 1 to 7 do not apply: a section that is not current is good
-abbrev pub is_good : Sectioned → Bool
-is_good (Good heading length) = true
-is_good (Refused r) = false
+abbrev pub is_good : Result (Heading × ℕ) Refusal → Bool
+is_good (Ok (heading, length)) = true
+is_good (Err r) = false
 
 -- of the bytes from a place on, as many as a section that begins there states: section_length, and the three bytes up to its end
 unfoldable pub stated : List ℕ → List ℕ

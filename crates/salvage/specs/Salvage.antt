@@ -1,12 +1,10 @@
 -- What a reader has to believe of a call that salvages a capture: its refusals in their order, its answer, its output and its list.
-use Rattle.std.specs.Prelude.{ℕ, ◌||◌, List, ltb, length, if◌then◌else◌}
+use Rattle.std.specs.Prelude.{ℕ, ◌||◌, List, ltb, length, if◌then◌else◌, Result, Ok, Err}
 use Rattle.ground_placing.specs.Placed.{placed}
 use Rattle.ground_refusal.specs.declared.Refusal.{Refusal}
 use Rattle.ground_refusal.specs.declared.Refusal.TheVariants.{OutputTooSmall, CaptureTooLong}
 use Rattle.salvage.specs.Reading.{pieces, sections_of}
 use Rattle.salvage.specs.Runs.{runs_of, numbers_of}
-use Rattle.salvage.specs.declared.Salvaged.{Salvaged}
-use Rattle.salvage.specs.declared.Salvaged.TheVariants.{Of, Refused}
 
 -- "a capture of at most 64 KiB"
 abbrev pub capture_most : ℕ
@@ -32,16 +30,16 @@ salvaging capture room entries =
     writes
 
 -- the answer: how many bytes and how many runs are written, or the refusal
-abbrev pub answer_by : Verdict → List ℕ → Salvaged
-answer_by (refuses r) capture = Refused r
-answer_by writes capture = Of (length (sections capture)) (length (runs_of capture))
+abbrev pub answer_by : Verdict → List ℕ → Result (ℕ × ℕ) Refusal
+answer_by (refuses r) capture = Err r
+answer_by writes capture = Ok (length (sections capture), length (runs_of capture))
 
 -- a refused call writes nothing; what stands after the bytes or numbers written stays
 abbrev pub laid_by : Verdict → List ℕ → List ℕ → List ℕ
 laid_by (refuses r) written old = old
 laid_by writes written old = placed old 0 written
 
-unfoldable pub salvage_of : List ℕ → ℕ → ℕ → Salvaged
+unfoldable pub salvage_of : List ℕ → ℕ → ℕ → Result (ℕ × ℕ) Refusal
 salvage_of capture room entries = answer_by (salvaging capture room entries) capture
 
 unfoldable pub output_after : List ℕ → List ℕ → List ℕ → List ℕ

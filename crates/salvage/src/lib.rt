@@ -4,14 +4,12 @@
 ghost use Rattle.std.specs.Prelude.{true, ◌&&◌, ◌≡◌, ◌+◌, ◌*◌, ◌≤◌, leb, length};
 ghost use Rattle.ground_placing.specs.Placed.{placed};
 ghost use Rattle.ground_placing.specs.Put.{Put};
-ghost use Rattle.crc.specs.Crc.{digit};
 ghost use Rattle.section_reader.specs.Section.{read_section};
 ghost use Rattle.salvage.specs.Reading.{is_good, good_length, Next};
 ghost use Rattle.salvage.specs.Runs.{run_at, runs_of, numbers_of};
 ghost use Rattle.salvage.specs.Salvage.{capture_most, sections, numbers, salvage_of, output_after, list_after};
 
 use ground_refusal::Refusal;
-use section_reader::{Sectioned, Stated};
 
 // The most bytes of a capture: 64 KiB.
 pub const CAPTURE_MOST: usize = 65_536;
@@ -19,7 +17,7 @@ pub const CAPTURE_MOST: usize = 65_536;
 // The numbers of a run in the list.
 const RUN: usize = 3;
 
-// A good section: where it begins, and its length, which is 0 where none begins any more.
+// A good section: where it begins, and its length, which is 0 where none begins any more. No Option: `next_good` promises `Next` of both numbers, also there.
 #[derive(Clone, Copy)]
 pub struct Found {
     pub at: usize,
@@ -33,23 +31,14 @@ pub struct Tally {
     pub runs: usize,
 }
 
-// What salvaging answers: the bytes and the runs that are written; or why nothing is.
-#[derive(Clone, Copy)]
-pub enum Salvaged {
-    Of(usize, usize),
-    Refused(Refusal),
-}
-
 // ---- reading
 
 // Is the whole byte string a good section?
+#[tactic(auto, unfolding(crate::specs::Reading::is_good))]
 fn is_good(s: &[u8]) -> bool
     ensures { result ≡ is_good (read_section s.now) }
 {
-    match section_reader::read_section(s) {
-        Sectioned::Good(_heading, _length) => true,
-        Sectioned::Refused(_why) => false,
-    }
+    section_reader::read_section(s).is_ok()
 }
 
 // The length of the good section that begins a byte string, and 0 where none does.
@@ -57,13 +46,8 @@ fn good_length(s: &[u8]) -> usize
     ensures { result ≡ good_length s.now }
 {
     match section_reader::stated_length(s) {
-        Stated::Refused(_why) => 0,
-        Stated::Length(length) => {
-            if s.len() < length {
-                return 0;
-            }
-            if is_good(&s[..length]) { length } else { 0 }
-        }
+        Ok(length) if length <= s.len() && is_good(&s[..length]) => length,
+        _ => 0,
     }
 }
 
@@ -72,29 +56,29 @@ pub fn next_good(s: &[u8], from: usize) -> Found
     requires { from ≤ length s.now }
     ensures { Next s.now from result.at result.length }
 {
-    let mut at = from;
-    while at < s.len() {
+    for at in from..s.len() {
         let length = good_length(&s[at..]);
         if length != 0 {
-            return Found {
-                at: at,
-                length: length,
-            };
+            return Found { at, length };
         }
-        at += 1;
     }
-    Found { at: at, length: 0 }
+    Found {
+        at: s.len(),
+        length: 0,
+    }
 }
 
 // ---- measuring
 
 // The runs of so many bytes: one, or none where there are no bytes.
+#[tactic(auto, unfolding(crate::specs::Runs::run_at))]
 fn run_count(size: usize) -> usize
     ensures { (result ≡ length (run_at true 0 size)) × (result ≤ size) }
 {
-    if size == 0 { 0 } else { 1 }
+    usize::from(size != 0)
 }
 
+// `write_runs` walks alike, but they share no more than `next_good` and the step behind what it finds: a closure for the rest of a turn is longer than that.
 fn measure(s: &[u8]) -> Tally
     requires { length s.now ≤ capture_most }
     ensures { (result.bytes ≡ length (sections s.now)) × (result.runs ≡ length (runs_of s.now)) }
@@ -108,20 +92,10 @@ fn measure(s: &[u8]) -> Tally
         bytes += next.length;
         from = next.at + next.length;
     }
-    Tally {
-        bytes: bytes,
-        runs: runs,
-    }
+    Tally { bytes, runs }
 }
 
 // ---- writing
-
-// The number that tells a kept run from a skipped one.
-fn mark(kept: bool) -> u32
-    ensures { result ≡ digit kept }
-{
-    if kept { 1 } else { 0 }
-}
 
 // Puts the numbers of a run of so many bytes, if there are any, at a place of the list, and answers the place after them.
 fn put_run(list: &mut [u32], at: usize, kept: bool, first: usize, size: usize) -> usize
@@ -131,10 +105,10 @@ fn put_run(list: &mut [u32], at: usize, kept: bool, first: usize, size: usize) -
     if size == 0 {
         return at;
     }
-    list[at] = mark(kept);
-    list[at + 1] = first as u32;
-    list[at + 2] = size as u32;
-    at + RUN
+    let end = at + RUN;
+    let numbers: [u32; 3] = [u32::from(kept), first as u32, size as u32];
+    list[at..end].copy_from_slice(&numbers);
+    end
 }
 
 // Writes the sections at the start of out and the numbers of the runs at the start of list; both have room.
@@ -158,7 +132,7 @@ fn write_runs(s: &[u8], out: &mut [u8], list: &mut [u32]) -> Tally
         from = end;
     }
     Tally {
-        bytes: bytes,
+        bytes,
         runs: entries / RUN,
     }
 }
@@ -170,10 +144,7 @@ fn fits(bytes: usize, runs: usize, room: usize, entries: usize) -> bool
     requires { runs ≤ capture_most }
     ensures { result ≡ (leb bytes room && leb (runs * 3) entries) }
 {
-    if room < bytes {
-        return false;
-    }
-    runs * RUN <= entries
+    bytes <= room && runs * RUN <= entries
 }
 
 // Is there room for the sections and for the numbers of the runs? Room for every capture of that length is told without reading it.
@@ -190,17 +161,18 @@ fn has_room(s: &[u8], room: usize, entries: usize) -> bool
 
 // Writes the good sections of a capture back to back at the start of out, and the numbers of its runs at the start of list. Bytes and
 // numbers after them stay. Refusals 36, 21, in this order, with nothing written.
-pub fn salvage(capture: &[u8], out: &mut [u8], list: &mut [u32]) -> Salvaged
+#[tactic(auto, unfolding(crate::specs::Salvage::salvaging, crate::specs::Salvage::salvage_of, crate::specs::Salvage::output_after, crate::specs::Salvage::list_after))]
+pub fn salvage(capture: &[u8], out: &mut [u8], list: &mut [u32]) -> Result<(usize, usize), Refusal>
     ensures value { result ≡ salvage_of capture.now (length out.old) (length list.old) }
     ensures out_after { out.new ≡ output_after capture.now out.old list.old }
     ensures list_after { list.new ≡ list_after capture.now out.old list.old }
 {
     if CAPTURE_MOST < capture.len() {
-        return Salvaged::Refused(Refusal::CaptureTooLong);
+        return Err(Refusal::CaptureTooLong);
     }
     if !has_room(capture, out.len(), list.len()) {
-        return Salvaged::Refused(Refusal::OutputTooSmall);
+        return Err(Refusal::OutputTooSmall);
     }
     let written = write_runs(capture, out, list);
-    Salvaged::Of(written.bytes, written.runs)
+    Ok((written.bytes, written.runs))
 }

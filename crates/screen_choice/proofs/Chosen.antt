@@ -1,12 +1,14 @@
 -- The choice of an accepted body: by the library's promises its table's messages stand in it one after the other, so the walk answers as is defined.
 use Prim.Native.Nat.{ℕ}
-use mathlib.Core.Path.{◌≡◌, refl, sym, ap, ◌∙◌, subst}
-use mathlib.Core.Bool.{Bool, true, false, cond}
+use Rattle.std.specs.Prelude.{Result, Ok, Err, Option}
+use Rattle.screen_order.specs.declared.Candidate.{Candidate}
+use mathlib.Core.Path.{◌≡◌, sym, ap, ◌∙◌}
+use mathlib.Core.Bool.{true, false}
 use mathlib.Core.List.{List}
 use native.Mathlib.Omega.{arith}
 use lib.ListN.{length}
 use Rattle.ground_refusal.specs.declared.Refusal.{Refusal}
-use Rattle.ground_refusal.specs.declared.Refusal.TheVariants.{DigitAboveNine, ImpossibleDay, LeftOver}
+use Rattle.ground_refusal.specs.declared.Refusal.TheVariants.{DigitAboveNine, ImpossibleDay}
 use Rattle.crc.specs.Crc.{AreBytes}
 use Rattle.time_fields.specs.Field.{is_instant}
 use Rattle.time_fields.specs.declared.Moment.{Moment}
@@ -15,34 +17,30 @@ use Rattle.body_formats.specs.Format.{◌▷◌, count, followed, list_of, opaqu
 use Rattle.body_formats.specs.Answers.{step_of}
 use Rattle.body_formats.specs.Body.{reading, body_read}
 use Rattle.body_formats.specs.Resource.{resource}
-use Rattle.body_formats.specs.declared.Step.TheVariants.{At, Refused as NoStep}
-use Rattle.index.specs.Index.{Message, message, Index, fields, index, index_kind}
+use Rattle.index.specs.Index.{message, Index, fields, index, index_kind}
 use Rattle.index_fields.specs.Asked.{message_count}
 use Rattle.promises.specs.Demand2.{Holds}
 use Rattle.promises.proofs.Demand2.{demand2}
-use Rattle.screen_order.specs.declared.Best.{Best}
 use Rattle.screen_code.specs.Code.{is_code}
 use Rattle.screen_code.proofs.Same.{both}
 use Rattle.screen_choice.specs.Choice.{nobody, leader, choice_of}
-use Rattle.screen_choice.specs.Walk.{worth_of, choice_told, Standing, Table, Tabled, Walked}
-use Rattle.screen_choice.specs.declared.Choice.{Choice}
-use Rattle.screen_choice.specs.declared.Choice.TheVariants.{Refused}
+use Rattle.screen_choice.specs.Walk.{worth_of, choice_told, Standing, Table, Walked}
 use Rattle.screen_choice.proofs.Leading.{told_answer}
 use Rattle.screen_choice.proofs.Messages.{neither}
 
 -- ---- an accepted body
 
-step_found : {A : Type 0} (x : Reading A) (n : ℕ) → step_of x ≡ At n → (a : A) × (x ≡ found a n)
+step_found : {A : Type 0} (x : Reading A) (n : ℕ) → step_of x ≡ Ok n → (a : A) × (x ≡ found a n)
 step_found (found a q) n e = let z : q ≡ n = cc in (a, ap (found a) z)
 step_found (refused r) n e = absurd (let z : ◌≡◌ {A = ℕ} 0 1 = cc in omega arith)
 
-step_refused : {A : Type 0} (x : Reading A) (r : Refusal) → step_of x ≡ NoStep r → x ≡ refused r
+step_refused : {A : Type 0} (x : Reading A) (r : Refusal) → step_of x ≡ Err r → x ≡ refused r
 step_refused (found a q) r e = absurd (let z : ◌≡◌ {A = ℕ} 0 1 = cc in omega arith)
 step_refused (refused t) r e = let z : t ≡ r = cc in ap refused z
 
 module _ (kind : ℕ) (s : List ℕ) (b : AreBytes s) where
   -- it is the bytes of a table
-  pub holds : (q : ℕ) → At q ≡ body_read index index_kind kind s
+  pub holds : (q : ℕ) → Ok q ≡ body_read index index_kind kind s
       → (t : Index) × (reading index index_kind kind s ≡ found t (length s)) × Holds index index_kind kind s t
   unfolding body_read
   holds q e =
@@ -78,22 +76,22 @@ module _ (kind : ℕ) (s : List ℕ) (b : AreBytes s) where
 -- ---- each way out
 
 module _ (kind : ℕ) (s code : List ℕ) (present : Moment) where
-  pub choice_no_code : is_code code ≡ false → Refused (DigitAboveNine 0) ≡ choice_of kind s code present
+  pub choice_no_code : is_code code ≡ false → Err (DigitAboveNine 0) ≡ choice_of kind s code present
   unfolding choice_of
   choice_no_code e = rw e
 
   module _ (c : is_code code ≡ true) where
-    pub choice_no_instant : is_instant present ≡ false → Refused (ImpossibleDay 0) ≡ choice_of kind s code present
+    pub choice_no_instant : is_instant present ≡ false → Err (ImpossibleDay 0) ≡ choice_of kind s code present
     unfolding choice_of
     choice_no_instant e = rw (c, e)
 
     module _ (i : is_instant present ≡ true) where
-      pub choice_refused : (r : Refusal) → NoStep r ≡ body_read index index_kind kind s → Refused r ≡ choice_of kind s code present
+      pub choice_refused : (r : Refusal) → Err r ≡ body_read index index_kind kind s → Err r ≡ choice_of kind s code present
       unfolding choice_of body_read
       choice_refused r e = rw (c, i, step_refused (reading index index_kind kind s) r (sym e))
 
-      pub choice_walked : AreBytes s → (q : ℕ) → At q ≡ body_read index index_kind kind s → (own : List ℕ) (n : ℕ) → own ≡ resource.print code
-          → n ≡ worth_of (message_count s) → (best : Best) → Walked s n own present best → (r : Choice) → r ≡ choice_told best → r ≡ choice_of kind s code present
+      pub choice_walked : AreBytes s → (q : ℕ) → Ok q ≡ body_read index index_kind kind s → (own : List ℕ) (n : ℕ) → own ≡ resource.print code
+          → n ≡ worth_of (message_count s) → (best : Option Candidate) → Walked s n own present best → (r : Result (Option (ℕ × ℕ × ℕ)) Refusal) → r ≡ choice_told best → r ≡ choice_of kind s code present
       unfolding choice_of
       choice_walked b q e own n o f best w r g =
           let h = holds kind s b q e in

@@ -1,34 +1,29 @@
 -- Laws of one message: its resource codes compared where they stand, its times, and what is kept of it.
 use Prim.Native.Nat.{ℕ, zero, suc, ◌+◌, ◌*◌, ◌^◌, ◌≤◌, ◌<◌}
-use mathlib.Core.Path.{◌≡◌, refl, sym, ap, ap₂, ◌∙◌, subst}
+use Rattle.std.specs.Prelude.{Result, Ok, Err}
+use mathlib.Core.Path.{◌≡◌, refl, sym, ap, ap₂, ◌∙◌}
 use mathlib.Core.Bool.{Bool, true, false, not, cond, false≢true}
 use mathlib.Core.List.{List, [], ◌∷◌}
 use native.Mathlib.Omega.{arith}
 use lib.Dec.{leb}
 use lib.ListN.{length, get_or, take, drop, length-take, length-drop}
 use Rattle.ground_refusal.specs.declared.Refusal.{Refusal}
+use Rattle.promises.proofs.Exits.{ok_pair_inj}
 use Rattle.ground_refusal.specs.declared.Refusal.TheVariants.{OutsideSet, DigitAboveNine, ImpossibleDay}
-use Rattle.time_fields.specs.Field.{read_time, read_end, is_instant, moment_of, is_decimal, possible}
+use Rattle.time_fields.specs.Field.{read_time, is_instant, moment_of, is_decimal, possible}
 use Rattle.time_fields.specs.Showing.{showing, shown_from}
 use Rattle.time_fields.specs.declared.Moment.{Moment}
 use Rattle.time_fields.specs.declared.Showing.{Showing}
-use Rattle.time_fields.specs.declared.Showing.TheVariants.{Refused as NotShown}
-use Rattle.time_fields.specs.declared.Timed.{Timed}
-use Rattle.time_fields.specs.declared.Timed.TheVariants.{At, Refused as NoTime}
 use Rattle.body_formats.specs.Format.{every}
 use Rattle.body_formats.specs.Resource.{resource_bytes, resource}
-use Rattle.body_formats.specs.declared.Number.{Number}
-use Rattle.body_formats.specs.declared.Number.TheVariants.{Is, Refused as NoNumber}
-use Rattle.body_formats.specs.declared.Part.TheVariants.{Of}
 use Rattle.index.specs.Index.{Message}
 use Rattle.index.specs.Places.{resources_place}
 use Rattle.index_fields.specs.Asked.{resource_count, message_part, start, end, level}
 use Rattle.index_fields.specs.Agreement.{FieldsAsked}
-use Rattle.screen_code.specs.Code.{is_code, has, InBody, listed}
+use Rattle.screen_code.specs.Code.{InBody, listed}
 use Rattle.screen_code.proofs.Same.{both}
 use Rattle.screen_code.proofs.Printed.{print_long}
 use Rattle.screen_code.proofs.Listed.{writable_code, listed_has}
-use Rattle.screen_order.specs.declared.Candidate.{Candidate}
 use Rattle.screen_choice.specs.Choice.{concerns, is_on}
 use Rattle.screen_choice.specs.Walk.{worth_of, moment_said, Stands, candidate_of, Keeps}
 
@@ -48,15 +43,15 @@ module _ (s : List ℕ) (at n : ℕ) (own code : List ℕ) (m : Message) (st : S
   pub own_long : length own ≡ resource_bytes
   own_long = ap length st.own_is ∙ print_long code st.is_code_lem
 
-  module _ (count p : ℕ) (e : Is count p ≡ resource_count s at n) where
-    answer : Is count p ≡ Is (length m.resources) (at + resources_place)
+  module _ (count p : ℕ) (e : ◌≡◌ {A = Result (ℕ × ℕ) Refusal} (Ok (count, p)) (resource_count s at n)) where
+    answer : ◌≡◌ {A = Result (ℕ × ℕ) Refusal} (Ok (count, p)) (Ok (length m.resources, at + resources_place))
     answer = e ∙ st.asked.resources_counted
 
     many : count ≡ length m.resources
-    many = let a = answer in cc
+    many = (ok_pair_inj answer).0
 
     place : p ≡ at + resources_place
-    place = let a = answer in cc
+    place = (ok_pair_inj answer).1
 
     pub codes_in_body : InBody s p count
     codes_in_body k h =
@@ -73,39 +68,34 @@ module _ (s : List ℕ) (at n : ℕ) (own code : List ℕ) (m : Message) (st : S
         ∙ ap (λ (k : ℕ). listed s k (length m.resources) (resource.print code)) place
         ∙ listed_has s code st.is_code_lem m.resources (at + resources_place) st.codes st.asked.resource_bytes_lem
 
-  pub codes_counted : (why : Refusal) → NoNumber why ≡ resource_count s at n → ⊥
-  codes_counted why e =
-      let a : NoNumber why ≡ Is (length m.resources) (at + resources_place) = e ∙ st.asked.resources_counted in
-      let z : ◌≡◌ {A = ℕ} 0 1 = cc in omega arith
-
 -- ---- times
 
 -- "on" at an instant, by the fields asked for
-pub timely : (s : List ℕ) (at n : ℕ) (present : Moment) (a b : ℕ) (x : Showing) (r : Bool) → a ≡ worth_of (start s at n) → b ≡ worth_of (end s at n)
+pub timely : (s : List ℕ) (at n : ℕ) (present : Moment) (a b : ℕ) (x : Result Showing Refusal) (r : Bool) → a ≡ worth_of (start s at n) → b ≡ worth_of (end s at n)
     → x ≡ showing a b present → r ≡ is_on x → (m : Message) → FieldsAsked s at n m → r ≡ is_on (showing m.start m.end present)
 timely s at n present a b x r e f g h m asked =
     h ∙ ap is_on g
     ∙ ap₂ (λ (a b : ℕ). is_on (showing a b present)) (e ∙ ap worth_of asked.start_is) (f ∙ ap worth_of asked.end_is)
 
 -- a start that is read is the moment of its field
-read_is : (f : ℕ) → ((r : Refusal) → read_time f 0 ≡ NoTime r → ⊥) → read_time f 0 ≡ At (moment_of f)
+read_is : (f : ℕ) → ((r : Refusal) → read_time f 0 ≡ Err r → ⊥) → read_time f 0 ≡ Ok (moment_of f)
 unfolding read_time
 read_is f h = go (OutsideSet 0) (DigitAboveNine 0) (ImpossibleDay 0) (leb (2 ^ 40) f) (not (is_decimal f)) (not (possible f)) h
   where
     go : (r₀ r₁ r₂ : Refusal) (a b c : Bool)
-        → ((r : Refusal) → cond a (NoTime r₀) (cond b (NoTime r₁) (cond c (NoTime r₂) (At (moment_of f)))) ≡ NoTime r → ⊥)
-        → cond a (NoTime r₀) (cond b (NoTime r₁) (cond c (NoTime r₂) (At (moment_of f)))) ≡ At (moment_of f)
+        → ((r : Refusal) → cond a (Err r₀) (cond b (Err r₁) (cond c (Err r₂) (Ok (moment_of f)))) ≡ Err r → ⊥)
+        → cond a (Err r₀) (cond b (Err r₁) (cond c (Err r₂) (Ok (moment_of f)))) ≡ Ok (moment_of f)
     go r₀ r₁ r₂ true b c h = absurd (h r₀ refl)
     go r₀ r₁ r₂ false true c h = absurd (h r₁ refl)
     go r₀ r₁ r₂ false false true h = absurd (h r₂ refl)
     go r₀ r₁ r₂ false false false h = refl
 
 -- what is on has a start that is a time
-pub on_read : (f g : ℕ) (present : Moment) → is_on (showing f g present) ≡ true → read_time f 0 ≡ At (moment_of f)
+pub on_read : (f g : ℕ) (present : Moment) → is_on (showing f g present) ≡ true → read_time f 0 ≡ Ok (moment_of f)
 unfolding showing shown_from
 on_read f g present e = read_is f (λ r h. go (is_instant present) r (rw h at e))
   where
-    go : (b : Bool) (r : Refusal) → is_on (cond b (NotShown r) (NotShown (ImpossibleDay 0))) ≡ true → ⊥
+    go : (b : Bool) (r : Refusal) → is_on (cond b (Err r) (Err (ImpossibleDay 0))) ≡ true → ⊥
     go true r e = false≢true e
     go false r e = false≢true e
 
@@ -117,7 +107,7 @@ unfolding candidate_of
 candidate_is s at n i l f x e g h = rw (h, g, e)
 
 pub keeps : (s : List ℕ) (at n i : ℕ) (m : Message) (present : Moment) → FieldsAsked s at n m → is_on (showing m.start m.end present) ≡ true
-    → message_part s i ≡ Of at n → Keeps s (candidate_of s at n i) i m
+    → message_part s i ≡ Ok (at, n) → Keeps s (candidate_of s at n i) i m
 unfolding candidate_of
 keeps s at n i m present asked on part =
     let f = ap worth_of asked.start_is in

@@ -1,5 +1,7 @@
 -- Laws of the messages of an accepted body: they stand one after the other, each with its EBM_length before it.
-use Prim.Native.Nat.{ℕ, zero, suc, ◌+◌, ◌*◌, ◌/◌, ◌%◌, ◌^◌, ◌≤◌, ◌<◌}
+use Prim.Native.Nat.{ℕ, suc, ◌+◌, ◌*◌, ◌/◌, ◌%◌, ◌^◌, ◌≤◌, ◌<◌}
+use Rattle.std.specs.Prelude.{Ok, Option, None}
+use Rattle.screen_order.specs.declared.Candidate.{Candidate}
 use mathlib.Core.Path.{◌≡◌, refl, sym, ap, ap₂, ◌∙◌, subst}
 use mathlib.Core.Bool.{Bool, true, false, not, ◌||◌, cond}
 use mathlib.Core.List.{List, [], ◌∷◌, ◌++◌}
@@ -13,14 +15,11 @@ use lib.Seq.{get_or-take, get_or-drop}
 use Rattle.time_fields.specs.declared.Moment.{Moment}
 use Rattle.body_formats.specs.Format.{Format, ◌▷◌, count, bytes_of, followed, list_of, view, exact, counted, length_of, every, some}
 use Rattle.body_formats.specs.Resource.{resource, resources}
-use Rattle.body_formats.specs.declared.Part.TheVariants.{Of}
-use Rattle.body_asking.specs.Agreement.{FollowsLength, InTurn}
+use Rattle.body_asking.specs.Agreement.{InTurn}
 use Rattle.ground_refusal.specs.declared.Refusal.TheVariants.{PastPart}
 use Rattle.index.specs.Index.{Message, named, unnamed, head, flagged, message_fields, message}
 use Rattle.index_fields.specs.Asked.{message_part}
-use Rattle.index_fields.specs.Agreement.{FieldsAsked, MessageAsked}
-use Rattle.screen_order.specs.declared.Best.{Best}
-use Rattle.screen_order.specs.declared.Best.TheVariants.{Nobody}
+use Rattle.index_fields.specs.Agreement.{MessageAsked}
 use Rattle.screen_code.specs.Code.{is_code}
 use Rattle.screen_code.proofs.Same.{both}
 use Rattle.screen_choice.specs.Choice.{eligible, Leader, nobody, passed_by, leader}
@@ -124,7 +123,7 @@ module _ (s : List ℕ) (i : ℕ) (ms : List Message) (p : ℕ) (t : Turn s i ms
           is_code_lem = is_code_lem;
         }
 
-    pub part_is : message_part s i ≡ Of (p + 2) n
+    pub part_is : message_part s i ≡ Ok (p + 2, n)
     part_is = rw (length_is n l) t.asked.part_follows.is
 
     pub ends : p + 2 + n ≡ t.next
@@ -133,7 +132,7 @@ module _ (s : List ℕ) (i : ℕ) (ms : List Message) (p : ℕ) (t : Turn s i ms
 -- ---- all of them, one after the other
 
 -- the messages from number i on are left, and what is kept is the one to show of those before
-pub record Underway (s : List ℕ) (count : ℕ) (code : List ℕ) (present : Moment) (ms : List Message) (best : Best) (p i : ℕ) : Type 0 where
+pub record Underway (s : List ℕ) (count : ℕ) (code : List ℕ) (present : Moment) (ms : List Message) (best : Option Candidate) (p i : ℕ) : Type 0 where
   pub left : List Message
   pub standing : Standing s i left p
   pub so_far : Leader
@@ -142,11 +141,11 @@ pub record Underway (s : List ℕ) (count : ℕ) (code : List ℕ) (present : Mo
   pub many : i + length left ≡ count
 
 pub underway : (s : List ℕ) (count : ℕ) (own code : List ℕ) (present : Moment) (ms : List Message) → Table s count own code ms
-    → Underway s count code present ms Nobody 1 0
+    → Underway s count code present ms None 1 0
 underway s count own code present ms t =
     record { left = ms; standing = t.standing; so_far = nobody; told = tt; same = refl; many = omega (arith, t.counted) }
 
-module _ (s : List ℕ) (count : ℕ) (own code : List ℕ) (present : Moment) (ms : List Message) (best : Best) (p i : ℕ)
+module _ (s : List ℕ) (count : ℕ) (own code : List ℕ) (present : Moment) (ms : List Message) (best : Option Candidate) (p i : ℕ)
     (t : Table s count own code ms) (u : Underway s count code present ms best p i) where
   pub walked : count ≤ i → Told s best (leader code present nobody 0 ms)
   unfolding leader
@@ -160,7 +159,7 @@ module _ (s : List ℕ) (count : ℕ) (own code : List ℕ) (present : Moment) (
     pub here : Turn s i u.left p
     here = turn s i u.left p u.standing (omega (arith, u.many))
 
-    pub on : (n : ℕ) → Lengthed s p n → (r : Best) → Considered s (p + 2) n i own present best r → Underway s count code present ms r (p + 2 + n) (i + 1)
+    pub on : (n : ℕ) → Lengthed s p n → (r : Option Candidate) → Considered s (p + 2) n i own present best r → Underway s count code present ms r (p + 2 + n) (i + 1)
     unfolding leader
     on n l r c =
         let m = here.first in

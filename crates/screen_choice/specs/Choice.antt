@@ -1,21 +1,18 @@
 -- What a reader has to believe of what a box shows: which messages concern it, which are on, which of these comes first, and the answer for every input.
-use Rattle.std.specs.Prelude.{ℕ, zero, suc, ◌≡◌, Bool, true, false, ◌&&◌, cond, List, [], ◌∷◌}
+use Rattle.std.specs.Prelude.{ℕ, zero, suc, ◌≡◌, Bool, true, false, ◌&&◌, cond, List, [], ◌∷◌, Result, Ok, Err, Option, Some, None}
+use Rattle.ground_refusal.specs.declared.Refusal.{Refusal}
 use Rattle.ground_refusal.specs.declared.Refusal.TheVariants.{DigitAboveNine, ImpossibleDay}
 use Rattle.time_fields.specs.Field.{is_instant, moment_of}
 use Rattle.time_fields.specs.Showing.{showing}
 use Rattle.time_fields.specs.declared.Moment.{Moment}
 use Rattle.time_fields.specs.declared.Showing.{Showing}
-use Rattle.time_fields.specs.declared.Showing.TheVariants.{Before, On, Ended, Refused as NotShown}
+use Rattle.time_fields.specs.declared.Showing.TheVariants.{Before, On, Ended}
 use Rattle.body_formats.specs.Reading.{Reading, found, refused}
 use Rattle.body_formats.specs.Body.{reading}
-use Rattle.body_formats.specs.declared.Part.{Part}
-use Rattle.body_formats.specs.declared.Part.TheVariants.{Of, Refused as NoPart}
 use Rattle.index.specs.Index.{Message, Index, index, index_kind}
 use Rattle.index_fields.specs.Asked.{message_part}
 use Rattle.screen_order.specs.Order.{comes_first, rank_by}
 use Rattle.screen_code.specs.Code.{is_code, has}
-use Rattle.screen_choice.specs.declared.Choice.{Choice}
-use Rattle.screen_choice.specs.declared.Choice.TheVariants.{Shows, Nothing, Refused}
 
 -- ---- a message
 
@@ -24,11 +21,11 @@ unfoldable pub concerns : List ℕ → Message → Bool
 concerns code m = has code m.resources
 
 -- 01: "on" at an instant
-abbrev pub is_on : Showing → Bool
-is_on On = true
-is_on Before = false
-is_on Ended = false
-is_on (NotShown r) = false
+abbrev pub is_on : Result Showing Refusal → Bool
+is_on (Ok On) = true
+is_on (Ok Before) = false
+is_on (Ok Ended) = false
+is_on (Err r) = false
 
 -- it may be shown: it concerns the box and is on
 unfoldable pub eligible : List ℕ → Moment → Message → Bool
@@ -74,21 +71,21 @@ leader code present so_far i (m ∷ ms) = leader code present (cond (eligible co
 -- ---- the answer
 
 -- the message's number and the part of the body that it fills
-abbrev pub shown_as : ℕ → Part → Choice
-shown_as i (Of at n) = Shows i at n
-shown_as i (NoPart r) = Refused r
+abbrev pub shown_as : ℕ → Result (ℕ × ℕ) Refusal → Result (Option (ℕ × ℕ × ℕ)) Refusal
+shown_as i (Ok (at, n)) = Ok (Some (i, at, n))
+shown_as i (Err r) = Err r
 
-abbrev pub answer_of : List ℕ → Leader → Choice
-answer_of s nobody = Nothing
+abbrev pub answer_of : List ℕ → Leader → Result (Option (ℕ × ℕ × ℕ)) Refusal
+answer_of s nobody = Ok None
 answer_of s (leads i m) = shown_as i (message_part s i)
 
-abbrev pub chosen_in : List ℕ → List ℕ → Moment → Reading Index → Choice
-chosen_in code s present (refused r) = Refused r
+abbrev pub chosen_in : List ℕ → List ℕ → Moment → Reading Index → Result (Option (ℕ × ℕ × ℕ)) Refusal
+chosen_in code s present (refused r) = Err r
 chosen_in code s present (found t q) = answer_of s (leader code present nobody 0 t.messages)
 
 -- "18 for an own code not of 23 bytes or with a byte above 9, 20 for the instant, then the index reader's"
-unfoldable pub choice_of : ℕ → List ℕ → List ℕ → Moment → Choice
+unfoldable pub choice_of : ℕ → List ℕ → List ℕ → Moment → Result (Option (ℕ × ℕ × ℕ)) Refusal
 choice_of kind s code present =
     cond (is_code code)
-    (cond (is_instant present) (chosen_in code s present (reading index index_kind kind s)) (Refused (ImpossibleDay 0)))
-    (Refused (DigitAboveNine 0))
+    (cond (is_instant present) (chosen_in code s present (reading index index_kind kind s)) (Err (ImpossibleDay 0)))
+    (Err (DigitAboveNine 0))

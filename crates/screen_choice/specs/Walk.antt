@@ -1,40 +1,32 @@
 -- What the steps of the choice say to each other: what is known of a message that stands in an accepted body, and what each step tells of it.
-use Rattle.std.specs.Prelude.{ℕ, zero, suc, ◌+◌, ◌*◌, ◌≤◌, ◌≡◌, Bool, true, false, cond, List, length, get_or}
+use Rattle.std.specs.Prelude.{ℕ, ◌+◌, ◌*◌, ◌≤◌, ◌≡◌, Bool, true, false, cond, List, length, get_or, Result, Ok, Err, Option, Some, None}
+use Rattle.ground_refusal.specs.declared.Refusal.{Refusal}
 use Rattle.time_fields.specs.Field.{read_time, moment_of}
 use Rattle.time_fields.specs.Showing.{showing}
 use Rattle.time_fields.specs.declared.Moment.{Moment}
-use Rattle.time_fields.specs.declared.Timed.{Timed}
-use Rattle.time_fields.specs.declared.Timed.TheVariants.{At, Refused as NoTime}
 use Rattle.body_formats.specs.Format.{every, some}
 use Rattle.body_formats.specs.Resource.{resource}
-use Rattle.body_formats.specs.declared.Number.{Number}
-use Rattle.body_formats.specs.declared.Number.TheVariants.{Is, Refused as NoNumber}
-use Rattle.body_formats.specs.declared.Part.TheVariants.{Of}
 use Rattle.body_asking.specs.Agreement.{InTurn}
 use Rattle.index.specs.Index.{Message, message}
 use Rattle.index_fields.specs.Asked.{message_part, start, level}
 use Rattle.index_fields.specs.Agreement.{FieldsAsked, MessageAsked}
 use Rattle.screen_order.specs.declared.Candidate.{Candidate}
-use Rattle.screen_order.specs.declared.Best.{Best}
-use Rattle.screen_order.specs.declared.Best.TheVariants.{Nobody, Message as Held}
 use Rattle.screen_code.specs.Code.{is_code}
 use Rattle.screen_choice.specs.Choice.{concerns, is_on, eligible, Leader, nobody, leads, passed_by, leader}
-use Rattle.screen_choice.specs.declared.Choice.{Choice}
-use Rattle.screen_choice.specs.declared.Choice.TheVariants.{Shows, Nothing}
 
 -- ---- answers taken apart
 
-abbrev pub worth_of : Number → ℕ
-worth_of (Is x after) = x
-worth_of (NoNumber r) = 0
+abbrev pub worth_of : Result (ℕ × ℕ) Refusal → ℕ
+worth_of (Ok (x, after)) = x
+worth_of (Err r) = 0
 
-abbrev pub moment_said : Timed → Moment
-moment_said (At m) = m
-moment_said (NoTime r) = record { day = 0; second = 0 }
+abbrev pub moment_said : Result Moment Refusal → Moment
+moment_said (Ok m) = m
+moment_said (Err r) = record { day = 0; second = 0 }
 
-abbrev pub choice_told : Best → Choice
-choice_told Nobody = Nothing
-choice_told (Held c) = Shows c.number c.at c.length
+abbrev pub choice_told : Option Candidate → Result (Option (ℕ × ℕ × ℕ)) Refusal
+choice_told None = Ok None
+choice_told (Some c) = Ok (Some (c.number, c.at, c.length))
 
 -- ---- one message
 
@@ -76,20 +68,20 @@ candidate_of s at n i =
 -- c is what is kept of message number i, which is m
 pub record Keeps (s : List ℕ) (c : Candidate) (i : ℕ) (m : Message) : Type 0 where
   pub number_is : c.number ≡ i
-  pub part_is : message_part s i ≡ Of c.at c.length
+  pub part_is : message_part s i ≡ Ok (c.at, c.length)
   pub level_is : c.level ≡ m.level
   pub day_is : c.day ≡ (moment_of m.start).day
   pub second_is : c.second ≡ (moment_of m.start).second
 
-abbrev pub Told : List ℕ → Best → Leader → Type 0
-Told s Nobody nobody = Unit
-Told s Nobody (leads i m) = ⊥
-Told s (Held c) nobody = ⊥
-Told s (Held c) (leads i m) = Keeps s c i m
+abbrev pub Told : List ℕ → Option Candidate → Leader → Type 0
+Told s None nobody = Unit
+Told s None (leads i m) = ⊥
+Told s (Some c) nobody = ⊥
+Told s (Some c) (leads i m) = Keeps s c i m
 
-abbrev pub Considered : List ℕ → ℕ → ℕ → ℕ → List ℕ → Moment → Best → Best → Type 0
+abbrev pub Considered : List ℕ → ℕ → ℕ → ℕ → List ℕ → Moment → Option Candidate → Option Candidate → Type 0
 Considered s at n i own present best r =
-    (code : List ℕ) (m : Message) (so_far : Leader) → Stands s at n own code m → message_part s i ≡ Of at n → Told s best so_far
+    (code : List ℕ) (m : Message) (so_far : Leader) → Stands s at n own code m → message_part s i ≡ Ok (at, n) → Told s best so_far
     → Told s r (cond (eligible code present m) (passed_by so_far i m) so_far)
 
 -- ---- all messages
@@ -111,6 +103,6 @@ pub record Table (s : List ℕ) (count : ℕ) (own code : List ℕ) (ms : List M
 abbrev pub Tabled : List ℕ → ℕ → List ℕ → Type 0
 Tabled s count own = (code : List ℕ) × (ms : List Message) × Table s count own code ms
 
-abbrev pub Walked : List ℕ → ℕ → List ℕ → Moment → Best → Type 0
+abbrev pub Walked : List ℕ → ℕ → List ℕ → Moment → Option Candidate → Type 0
 Walked s count own present r =
     (code : List ℕ) (ms : List Message) → Table s count own code ms → Told s r (leader code present nobody 0 ms)

@@ -1,9 +1,8 @@
 -- Laws of the codes that a message lists: the loop over them, and that the own code's bytes are among theirs exactly if it is one of them.
-use Prim.Native.Nat.{ℕ, zero, suc, ◌+◌, ◌-◌, ◌*◌, ◌≤◌, ◌<◌}
+use Prim.Native.Nat.{ℕ, suc, ◌+◌, ◌-◌, ◌*◌, ◌≤◌, ◌<◌}
 use mathlib.Core.Path.{◌≡◌, refl, sym, ap, ap₂, ◌∙◌}
 use mathlib.Core.Bool.{Bool, true, false, ◌||◌}
 use mathlib.Core.List.{List, [], ◌∷◌}
-use native.Mathlib.Nat.{add-zero}
 use native.Mathlib.Omega.{arith}
 use lib.ListN.{length, get_or, take, drop}
 use Rattle.body_formats.specs.Format.{every, digits}
@@ -12,28 +11,24 @@ use Rattle.screen_code.specs.Code.{is_code, same, has, same_at, listed}
 use Rattle.screen_code.proofs.Same.{both}
 use Rattle.screen_code.proofs.Printed.{same_printed}
 
--- ---- the loop: what is left from here on
+-- ---- the loop: what is left from here on, k of n passed
 
-module _ (s : List ℕ) (at left : ℕ) (own : List ℕ) (d : Bool) (so_far : d ≡ listed s at left own) where
-  pub listed_here : 0 < left → same_at s at own ≡ true → true ≡ d
-  unfolding listed
-  listed_here h e = go left h so_far
-    where
-      go : (n : ℕ) → 0 < n → d ≡ listed s at n own → true ≡ d
-      go zero h f = absurd (omega arith)
-      go (suc n) h f = sym (f ∙ rw e)
+module _ (s : List ℕ) (at n k : ℕ) (own : List ℕ) (d : Bool) (so_far : d ≡ listed s at (n - k) own) where
+  module _ (h : k < n) where
+    more : n - k ≡ suc (n - (k + 1))
+    more = omega arith
 
-  pub listed_on : 0 < left → same_at s at own ≡ false → d ≡ listed s (at + resource_bytes) (left - 1) own
-  unfolding listed
-  listed_on h e = go left h so_far
-    where
-      go : (n : ℕ) → 0 < n → d ≡ listed s at n own → d ≡ listed s (at + resource_bytes) (n - 1) own
-      go zero h f = absurd (omega arith)
-      go (suc n) h f = let z : n ≡ suc n - 1 = omega arith in f ∙ rw e (ap (λ (k : ℕ). listed s (at + resource_bytes) k own) z)
+    pub listed_here : same_at s at own ≡ true → true ≡ d
+    unfolding listed
+    listed_here e = sym (so_far ∙ ap (λ (m : ℕ). listed s at m own) more ∙ rw e)
 
-  pub listed_none : left ≤ 0 → false ≡ d
+    pub listed_on : same_at s at own ≡ false → d ≡ listed s (at + resource_bytes) (n - (k + 1)) own
+    unfolding listed
+    listed_on e = so_far ∙ ap (λ (m : ℕ). listed s at m own) more ∙ rw e
+
+  pub listed_none : n ≤ k → false ≡ d
   unfolding listed
-  listed_none h = let z : left ≡ 0 = omega arith in sym (so_far ∙ rw z)
+  listed_none h = let z : n - k ≡ 0 = omega arith in sym (so_far ∙ rw z)
 
 -- ---- what is listed
 

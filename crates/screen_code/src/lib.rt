@@ -3,7 +3,7 @@
 
 ghost use Rattle.std.specs.Prelude.{◌≡◌, true, ◌+◌, ◌*◌, ◌%◌, ◌≤◌, length};
 ghost use Rattle.body_formats.specs.Resource.{resource_bytes, resource};
-ghost use Rattle.screen_code.specs.Code.{is_code, same_at, InBody, listed};
+ghost use Rattle.screen_code.specs.Code.{is_code, InBody, listed};
 
 // The digits of a code, and the bytes that hold them.
 const DIGITS: usize = 23;
@@ -11,21 +11,13 @@ const DIGITS: usize = 23;
 const BYTES: usize = 12;
 
 // Whether these are 23 bytes of one digit each.
-#[tactic(auto, using(crate::proofs::Same::code_stop))]
 pub fn is_code(code: &[u8]) -> bool
     ensures { result ≡ is_code code.now }
 {
     if code.len() != DIGITS {
         return false;
     }
-    let mut i = 0;
-    while i < DIGITS {
-        if 9 < code[i] {
-            return false;
-        }
-        i += 1;
-    }
-    true
+    code.iter().all(|digit| *digit < 10)
 }
 
 // Two digits in one byte.
@@ -40,29 +32,12 @@ pub fn pack(code: &[u8]) -> [u8; 12]
     requires { is_code code.now ≡ true }
     ensures { result ≡ resource.print code.now }
 {
-    let mut own = [0; 12];
+    let mut own = [0; BYTES];
     own[0] = pair(15, code[0]);
-    let mut i = 1;
-    while i < BYTES {
+    for i in 1..BYTES {
         own[i] = pair(code[2 * i - 1], code[2 * i]);
-        i += 1;
     }
     own
-}
-
-// Whether the code stands at p.
-fn same_at(s: &[u8], p: usize, own: &[u8; 12]) -> bool
-    requires { (p + resource_bytes ≤ length s.now) × (length own.now ≡ resource_bytes) }
-    ensures { result ≡ same_at s.now p own.now }
-{
-    let mut k = 0;
-    while k < BYTES {
-        if s[p + k] != own[k] {
-            return false;
-        }
-        k += 1;
-    }
-    true
 }
 
 // Whether the code is one of n that stand one after the other, the first at p.
@@ -71,13 +46,11 @@ pub fn is_listed(s: &[u8], p: usize, n: u64, own: &[u8; 12]) -> bool
     ensures { result ≡ listed s.now p n own.now }
 {
     let mut at = p;
-    let mut left = n;
-    while 0 < left {
-        if same_at(s, at, own) {
+    for _k in 0..n {
+        if &s[at..at + BYTES] == own.as_slice() {
             return true;
         }
         at += BYTES;
-        left -= 1;
     }
     false
 }

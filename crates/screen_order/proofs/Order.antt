@@ -1,5 +1,8 @@
 -- Laws of the order: how rows are compared from their first number on, and that of rows of one length one comes first, and only one.
 use Prim.Native.Nat.{ℕ, suc, ◌<◌}
+use Rattle.std.specs.Prelude.{Option, Some, None}
+use Rattle.std.proofs.Common.{Ordering, Less, Equal, Greater}
+use Rattle.std.specs.Ordering.{is_lt, is_some_and, nat_cmp, partial_ordering_then}
 use mathlib.Core.Path.{◌≡◌, refl, sym, ap, ◌∙◌}
 use mathlib.Core.Bool.{Bool, true, false, cond, false≢true}
 use mathlib.Core.List.{List, [], ◌∷◌}
@@ -8,8 +11,6 @@ use borrow.Author.Tests.{eq-eqb, ne_eqb, eqb-true, eqb-false, ltb-true, ltb-fals
 use lib.Dec.{ltb, eqb}
 use lib.ListN.{length}
 use Rattle.screen_order.specs.declared.Candidate.{Candidate}
-use Rattle.screen_order.specs.declared.Best.{Best}
-use Rattle.screen_order.specs.declared.Best.TheVariants.{Nobody, Message}
 use Rattle.screen_order.specs.Order.{comes_first, rank_by, rank_of, better_of}
 
 -- ---- from the first number on
@@ -89,38 +90,60 @@ either_way (x ∷ xs) (y ∷ ys) l n e = go (either_way xs ys) (eqb x y) refl e
         less : (x y : ℕ) → Prim.Native.Nat.◌≤◌ y x → (x ≡ y → ⊥) → y < x
         less x y w z = omega arith
 
--- ---- two candidates, number by number
+-- ---- two candidates, as std compares numbers in a row
 
-module _ (l l' d d' s s' n n' : ℕ) where
-  pub by_level : (l ≡ l' → ⊥) → ltb l l' ≡ comes_first (rank_by l d s n) (rank_by l' d' s' n')
-  unfolding rank_by
-  by_level h = differs _ _ _ _ h
+then_later : (o p q : Option Ordering) → partial_ordering_then (partial_ordering_then o p) q ≡ partial_ordering_then o (partial_ordering_then p q)
+then_later None p q = refl
+then_later (Some Less) p q = refl
+then_later (Some Equal) p q = refl
+then_later (Some Greater) p q = refl
 
-  module _ (level : l ≡ l') where
-    pub by_day : (d ≡ d' → ⊥) → ltb d d' ≡ comes_first (rank_by l d s n) (rank_by l' d' s' n')
-    unfolding rank_by
-    by_day h = differs _ _ _ _ h ∙ agrees _ _ _ _ level
+abbrev before : Option Ordering → Bool
+before o = is_some_and is_lt o
 
-    module _ (day : d ≡ d') where
-      pub by_second : (s ≡ s' → ⊥) → ltb s s' ≡ comes_first (rank_by l d s n) (rank_by l' d' s' n')
-      unfolding rank_by
-      by_second h = differs _ _ _ _ h ∙ agrees _ _ _ _ day ∙ agrees _ _ _ _ level
+-- one number before others
+one_more : (x y : ℕ) (xs ys : List ℕ) (o : Option Ordering) → before o ≡ comes_first xs ys
+    → before (partial_ordering_then (Some (nat_cmp x y)) o) ≡ comes_first (x ∷ xs) (y ∷ ys)
+unfolding comes_first
+one_more x y xs ys o h = go (ltb x y) refl (eqb x y) refl
+  where
+    go : (l : Bool) → ltb x y ≡ l → (e : Bool) → eqb x y ≡ e
+        → before (partial_ordering_then (Some (cond l Less (cond e Equal Greater))) o) ≡ cond e (comes_first xs ys) l
+    go true p true q = let g = ltb-true x y p in let e = eqb-true x y q in absurd (omega arith)
+    go true p false q = refl
+    go false p true q = h
+    go false p false q = refl
 
-      pub by_number : s ≡ s' → ltb n n' ≡ comes_first (rank_by l d s n) (rank_by l' d' s' n')
-      unfolding rank_by
-      by_number e = last _ _ ∙ agrees _ _ _ _ e ∙ agrees _ _ _ _ day ∙ agrees _ _ _ _ level
+-- the last number
+one_only : (x y : ℕ) → before (Some (nat_cmp x y)) ≡ comes_first (x ∷ []) (y ∷ [])
+one_only x y = go (ltb x y) refl (eqb x y) ∙ last x y
+  where
+    go : (l : Bool) → ltb x y ≡ l → (e : Bool) → is_lt (cond l Less (cond e Equal Greater)) ≡ ltb x y
+    go true p e = sym p
+    go false p true = sym p
+    go false p false = sym p
+
+pub by_rank : (l l' d d' s s' n n' : ℕ)
+    → before (partial_ordering_then (partial_ordering_then (partial_ordering_then (Some (nat_cmp l l')) (Some (nat_cmp d d'))) (Some (nat_cmp s s'))) (Some (nat_cmp n n')))
+    ≡ comes_first (rank_by l d s n) (rank_by l' d' s' n')
+unfolding rank_by
+by_rank l l' d d' s s' n n' =
+    ap before
+    (then_later (partial_ordering_then (Some (nat_cmp l l')) (Some (nat_cmp d d'))) (Some (nat_cmp s s')) (Some (nat_cmp n n'))
+    ∙ then_later (Some (nat_cmp l l')) (Some (nat_cmp d d')) (partial_ordering_then (Some (nat_cmp s s')) (Some (nat_cmp n n'))))
+    ∙ one_more l l' _ _ _ (one_more d d' _ _ _ (one_more s s' _ _ _ (one_only n n')))
 
 -- ---- the better one
 
-pub better_first : (best : Best) (next : Candidate) → best ≡ Nobody → Message next ≡ better_of best next
+pub better_first : (best : Option Candidate) (next : Candidate) → best ≡ None → Some next ≡ better_of best next
 unfolding better_of
 better_first best next e = rw e
 
-module _ (best : Best) (held next : Candidate) (e : best ≡ Message held) where
-  pub better_next : comes_first (rank_of next) (rank_of held) ≡ true → Message next ≡ better_of best next
+module _ (best : Option Candidate) (held next : Candidate) (e : best ≡ Some held) where
+  pub better_next : comes_first (rank_of next) (rank_of held) ≡ true → Some next ≡ better_of best next
   unfolding better_of
   better_next f = rw (e, f)
 
-  pub better_held : comes_first (rank_of next) (rank_of held) ≡ false → Message held ≡ better_of best next
+  pub better_held : comes_first (rank_of next) (rank_of held) ≡ false → Some held ≡ better_of best next
   unfolding better_of
   better_held f = rw (e, f)

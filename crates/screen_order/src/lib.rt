@@ -15,40 +15,20 @@ pub struct Candidate {
     pub second: u32,
 }
 
-// The one to show of those met so far.
-#[derive(Clone, Copy)]
-pub enum Best {
-    Nobody,
-    Message(Candidate),
-}
-
-// Is a shown rather than b?
+// Is a shown rather than b? The first number that differs decides.
 fn comes_first(a: Candidate, b: Candidate) -> bool
     ensures { result ≡ comes_first (rank_of a) (rank_of b) }
 {
-    if a.level != b.level {
-        return a.level < b.level;
-    }
-    if a.day != b.day {
-        return a.day < b.day;
-    }
-    if a.second != b.second {
-        return a.second < b.second;
-    }
-    a.number < b.number
+    (a.level, a.day, a.second, a.number) < (b.level, b.day, b.second, b.number)
 }
 
 // The one to show, after one more was met.
-pub fn better(best: Best, next: Candidate) -> Best
+#[tactic(auto, unfolding(crate::specs::Order::better_of))]
+pub fn better(best: Option<Candidate>, next: Candidate) -> Option<Candidate>
     ensures { result ≡ better_of best next }
 {
     match best {
-        Best::Nobody => Best::Message(next),
-        Best::Message(held) => {
-            if comes_first(next, held) {
-                return Best::Message(next);
-            }
-            Best::Message(held)
-        }
+        Some(held) if !comes_first(next, held) => best,
+        _ => Some(next),
     }
 }

@@ -1,21 +1,20 @@
 -- Which refusals the index reader gives: 2 for the kind and 22 for the length, and then a field's, 14 to 20. A law for each way of making a format that
 -- the index table has.
 use Prim.Native.Nat.{ℕ, zero, suc, ◌+◌, ◌-◌, ◌/◌, ◌%◌, ◌^◌}
+use Rattle.time_fields.specs.declared.Moment.{Moment}
 use mathlib.Core.Path.{◌≡◌, refl, sym, ap, ◌∙◌}
 use mathlib.Core.List.{List, [], ◌∷◌}
 use mathlib.Core.Bool.{Bool, true, false, not, ◌&&◌, ◌||◌, cond}
 use native.Mathlib.Omega.{arith}
 use lib.ListN.{length, get_or, take, drop}
 use lib.Dec.{ltb, leb, eqb}
-use Rattle.std.specs.Prelude.{if◌then◌else◌}
+use Rattle.std.specs.Prelude.{if◌then◌else◌, Result, Ok, Err, None}
 use Rattle.ground_refusal.specs.Numbers.{refusal_number}
 use Rattle.ground_refusal.specs.declared.Refusal.{Refusal}
+use Rattle.promises.proofs.Exits.{err_inj}
 use Rattle.ground_refusal.specs.declared.Refusal.TheVariants.{OtherKind, PastBody, PastPart, LeftOver, ReservedBitZero, DigitAboveNine, OutsideSet, ImpossibleDay, TooLarge}
 use Rattle.ground_numbers.specs.Sizes.{body_most}
 use Rattle.time_fields.specs.Field.{read_time, read_end, is_decimal, possible, moment_of, live_mark, as_end}
-use Rattle.time_fields.specs.declared.Timed.{Timed}
-use Rattle.time_fields.specs.declared.Timed.TheVariants.{At, Refused}
-use Rattle.time_fields.specs.declared.EndTimed.TheVariants.{Live}
 use Rattle.body_formats.specs.Reading.{Reading, found, refused, and_then, need, Fault, fine, faulty, unless, judged, within}
 use Rattle.body_formats.specs.Format.{Format, count, only, outside, number, nibbles, nibbles_among, reserved_first, reserved, bytes, halves, tail, decimal, digits, followed, nothing, under, view, repeat, every, bytes_among, list_of, rest, exact, parse_many, many, Length, length_of, length12, counted, opaque}
 use Rattle.body_formats.specs.Time.{time_fault, end_fault, time, end_time}
@@ -23,7 +22,6 @@ use Rattle.body_formats.specs.Resource.{resource_pairs, resource, resources}
 use Rattle.body_formats.specs.Identifier.{identifier_pairs, has_real_day, unreal_day, identifier}
 use Rattle.body_formats.specs.Answers.{step_of}
 use Rattle.body_formats.specs.Body.{reading, body_read}
-use Rattle.body_formats.specs.declared.Step.TheVariants.{Refused as NoStep}
 use Rattle.index.specs.Index.{Index, descriptor, descriptors, stream_fields, stream, streams, channel_fields, channel, flagged, head, message_fields, message, fields, index, index_kind}
 use Rattle.screen_promises.specs.Promise.{is_given}
 
@@ -179,7 +177,7 @@ opaque_by w = length_by rest (record { read = λ s l p. finds }) w
 
 -- ---- times, identifiers and resources
 
-refused_by : (t : Bool) (r : Refusal) (x : Timed) → is_of_field r ≡ true → FaultByField (time_fault x) → FaultByField (time_fault (cond t (Refused r) x))
+refused_by : (t : Bool) (r : Refusal) (x : Result Moment Refusal) → is_of_field r ≡ true → FaultByField (time_fault x) → FaultByField (time_fault (cond t (Err r) x))
 refused_by true r x h g = refuses h
 refused_by false r x h g = g
 
@@ -188,16 +186,16 @@ unfolding read_time
 time_fault_lem f at =
     refused_by (leb (2 ^ 40) f) (OutsideSet at) _ refl
     (refused_by (not (is_decimal f)) (DigitAboveNine at) _ refl
-    (refused_by (not (possible f)) (ImpossibleDay at) (At (moment_of f)) refl none))
+    (refused_by (not (possible f)) (ImpossibleDay at) (Ok (moment_of f)) refl none))
 
 end_fault_lem : (f at : ℕ) → FaultByField (end_fault (read_end f at))
 unfolding read_end
 end_fault_lem f at = go (eqb f live_mark) (read_time f at) (time_fault_lem f at)
   where
-    go : (t : Bool) (x : Timed) → FaultByField (time_fault x) → FaultByField (end_fault (cond t Live (as_end x)))
+    go : (t : Bool) (x : Result Moment Refusal) → FaultByField (time_fault x) → FaultByField (end_fault (cond t (Ok None) (as_end x)))
     go true x h = none
-    go false (At m) h = none
-    go false (Refused r) h = h
+    go false (Ok m) h = none
+    go false (Err r) h = h
 
 time_by : ReadByField time
 unfolding time
@@ -258,14 +256,14 @@ of_field true b e = refl
 of_field false b e = e
 
 module _ (kind : ℕ) (s : List ℕ) where
-  pub read_given : (r : Refusal) → body_read index index_kind kind s ≡ NoStep r → is_given (refusal_number r) ≡ true
+  pub read_given : (r : Refusal) → body_read index index_kind kind s ≡ Err r → is_given (refusal_number r) ≡ true
   unfolding body_read reading
   read_given r e = go (eqb kind index_kind) (leb (length s) body_most) (index.parse s (length s) 0) (index_by.read s (length s) 0) e
     where
-      same : (q : Refusal) → NoStep q ≡ NoStep r → is_given (refusal_number q) ≡ true → is_given (refusal_number r) ≡ true
-      same q f h = let z : q ≡ r = cc in sym (ap (λ (x : Refusal). is_given (refusal_number x)) z) ∙ h
+      same : (q : Refusal) → ◌≡◌ {A = Result ℕ Refusal} (Err q) (Err r) → is_given (refusal_number q) ≡ true → is_given (refusal_number r) ≡ true
+      same q f h = sym (ap (λ (x : Refusal). is_given (refusal_number x)) (err_inj f)) ∙ h
 
-      go : (a b : Bool) (x : Reading Index) → ByField x → step_of (need a OtherKind (need b TooLarge x)) ≡ NoStep r → is_given (refusal_number r) ≡ true
+      go : (a b : Bool) (x : Reading Index) → ByField x → step_of (need a OtherKind (need b TooLarge x)) ≡ Err r → is_given (refusal_number r) ≡ true
       go false b x h f = same OtherKind f refl
       go true false x h f = same TooLarge f refl
       go true true (found t q) h f = absurd (let z : ◌≡◌ {A = ℕ} 0 1 = cc in omega arith)

@@ -1,5 +1,6 @@
 -- A message of an accepted body has a part that lies in it, shorter than EBM_length can say, and a number of one byte.
 use Prim.Native.Nat.{ℕ, zero, suc, ◌+◌, ◌*◌, ◌≤◌, ◌<◌}
+use Rattle.std.specs.Prelude.{Ok}
 use mathlib.Core.Path.{◌≡◌, refl, sym, subst}
 use mathlib.Core.Bool.{Bool, true, false, not}
 use mathlib.Core.List.{List, [], ◌∷◌}
@@ -9,7 +10,6 @@ use borrow.Author.Tests.{ltb-true}
 use lib.ListN.{length, get_or}
 use Rattle.crc.specs.Crc.{AreBytes}
 use Rattle.body_formats.specs.Format.{count, followed, list_of, opaque, view, exact, some}
-use Rattle.body_formats.specs.declared.Part.TheVariants.{Of}
 use Rattle.index.specs.Index.{Message, Index, message, fields, index, index_kind}
 use Rattle.index_fields.specs.Asked.{message_part}
 use Rattle.promises.specs.Demand2.{Holds}
@@ -21,7 +21,7 @@ use Rattle.screen_choice.proofs.Messages.{neither, Turn, turn, room, length_is}
 pub record Parted (s : List ℕ) (i : ℕ) : Type 0 where
   pub at : ℕ
   pub size : ℕ
-  pub is : message_part s i ≡ Of at size
+  pub is : message_part s i ≡ Ok (at, size)
   pub in_body_lem : at + size ≤ length s
   pub short : size < 65536
 

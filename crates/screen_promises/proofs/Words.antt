@@ -1,5 +1,7 @@
 -- The words of the request: what it is to concern a box, to be on, and to come first.
 use Prim.Native.Nat.{ℕ, zero, suc, ◌<◌}
+use Rattle.std.specs.Prelude.{Result, Ok, Err}
+use Rattle.ground_refusal.specs.declared.Refusal.{Refusal}
 use mathlib.Core.Path.{◌≡◌, refl, sym, ap, ◌∙◌}
 use mathlib.Core.Bool.{Bool, true, false, ◌&&◌, ◌||◌, cond, false≢true}
 use mathlib.Core.List.{List, [], ◌∷◌}
@@ -11,7 +13,7 @@ use Rattle.time_fields.specs.Field.{moment_of}
 use Rattle.time_fields.specs.Showing.{earlier, showing}
 use Rattle.time_fields.specs.declared.Moment.{Moment}
 use Rattle.time_fields.specs.declared.Showing.{Showing}
-use Rattle.time_fields.specs.declared.Showing.TheVariants.{Before, On, Ended, Refused as NotShown}
+use Rattle.time_fields.specs.declared.Showing.TheVariants.{Before, On, Ended}
 use Rattle.index.specs.Index.{Message}
 use Rattle.screen_order.specs.Order.{comes_first, rank_by}
 use Rattle.screen_order.proofs.Order as order
@@ -44,11 +46,11 @@ one_has code (r ∷ rs) (suc k) h e = go (same r code) (one_has code rs k (omega
 
 -- ---- to be on
 
-on_is : (x : Showing) → is_on x ≡ true → x ≡ On
-on_is On e = refl
-on_is Before e = absurd (false≢true e)
-on_is Ended e = absurd (false≢true e)
-on_is (NotShown r) e = absurd (false≢true e)
+on_is : (x : Result Showing Refusal) → is_on x ≡ true → x ≡ Ok On
+on_is (Ok On) e = refl
+on_is (Ok Before) e = absurd (false≢true e)
+on_is (Ok Ended) e = absurd (false≢true e)
+on_is (Err r) e = absurd (false≢true e)
 
 -- ---- to come first
 

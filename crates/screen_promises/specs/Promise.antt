@@ -1,5 +1,5 @@
 -- What is promised of the choice, of an index body that is read: which message is shown, when there is none, and what is refused.
-use Rattle.std.specs.Prelude.{ℕ, ◌+◌, ◌≤◌, ◌<◌, ◌≡◌, Bool, true, false, ◌&&◌, ◌||◌, List, [], ◌↔◌, leb, eqb, length, get_or}
+use Rattle.std.specs.Prelude.{ℕ, ◌+◌, ◌≤◌, ◌<◌, ◌≡◌, Bool, true, false, ◌&&◌, ◌||◌, List, [], ◌↔◌, leb, eqb, length, get_or, Result, Ok, Err, Option, Some, None}
 use Rattle.ground_refusal.specs.Numbers.{refusal_number}
 use Rattle.ground_refusal.specs.declared.Refusal.{Refusal}
 use Rattle.ground_refusal.specs.declared.Refusal.TheVariants.{DigitAboveNine, ImpossibleDay, OutputTooSmall}
@@ -10,8 +10,6 @@ use Rattle.time_fields.specs.Showing.{earlier, showing}
 use Rattle.time_fields.specs.declared.Moment.{Moment}
 use Rattle.time_fields.specs.declared.Showing.TheVariants.{On}
 use Rattle.body_formats.specs.Body.{body_read}
-use Rattle.body_formats.specs.declared.Part.TheVariants.{Of}
-use Rattle.body_formats.specs.declared.Step.TheVariants.{Refused as NoStep}
 use Rattle.index.specs.Index.{Message, Index, index, index_kind}
 use Rattle.index_fields.specs.Asked.{message_part}
 use Rattle.promises.specs.Demand2.{Holds}
@@ -19,8 +17,6 @@ use Rattle.promises.specs.Determined.{Determined}
 use Rattle.screen_order.specs.Order.{comes_first}
 use Rattle.screen_code.specs.Code.{is_code}
 use Rattle.screen_choice.specs.Choice.{concerns, eligible, rank, Numbered, Shown, choice_of}
-use Rattle.screen_choice.specs.declared.Choice.{Choice}
-use Rattle.screen_choice.specs.declared.Choice.TheVariants.{Shows, Nothing, Refused}
 
 -- ---- what the words mean
 
@@ -30,7 +26,7 @@ pub record Words : Type 0 where
       → (concerns code m ≡ true) ↔ ((k : ℕ) × (k < length m.resources) × (get_or m.resources k [] ≡ code))
   -- those that are "on"
   pub eligible_exactly : (code : List ℕ) (present : Moment) (m : Message)
-      → (eligible code present m ≡ true) ↔ ((concerns code m ≡ true) × (showing m.start m.end present ≡ On))
+      → (eligible code present m ≡ true) ↔ ((concerns code m ≡ true) × (showing m.start m.end present ≡ Ok On))
   -- "the smallest level number,
   pub smallest_level : (i j : ℕ) (a b : Message) → a.level < b.level → comes_first (rank i a) (rank j b) ≡ true
   -- then the earliest start,
@@ -46,20 +42,20 @@ pub record Words : Type 0 where
 
 -- the answers that the request's words allow: a message that is the one to show, with the part of the body that it fills; that there is none, if none
 -- concerns the box and is on
-abbrev pub Allowed : List ℕ → List ℕ → Moment → Index → Choice → Type 0
-Allowed s code present t (Shows i at n) = Shown code present t.messages i × (message_part s i ≡ Of at n)
-Allowed s code present t Nothing = (i : ℕ) (m : Message) → Numbered t.messages i m → eligible code present m ≡ true → ⊥
-Allowed s code present t (Refused r) = ⊥
+abbrev pub Allowed : List ℕ → List ℕ → Moment → Index → Result (Option (ℕ × ℕ × ℕ)) Refusal → Type 0
+Allowed s code present t (Ok (Some (i, at, n))) = Shown code present t.messages i × (message_part s i ≡ Ok (at, n))
+Allowed s code present t (Ok None) = (i : ℕ) (m : Message) → Numbered t.messages i m → eligible code present m ≡ true → ⊥
+Allowed s code present t (Err r) = ⊥
 
 pub record Chooses (kind : ℕ) (s code : List ℕ) (present : Moment) (t : Index) : Type 0 where
   -- message i is answered exactly if it is the one to show, with the part of the body that it fills
-  pub shows_exactly : (i at n : ℕ) → (choice_of kind s code present ≡ Shows i at n) ↔ Allowed s code present t (Shows i at n)
+  pub shows_exactly : (i at n : ℕ) → (choice_of kind s code present ≡ Ok (Some (i, at, n))) ↔ Allowed s code present t (Ok (Some (i, at, n)))
   -- which each message has
-  pub has_part : (i : ℕ) (m : Message) → Numbered t.messages i m → (at : ℕ) × (n : ℕ) × (message_part s i ≡ Of at n)
+  pub has_part : (i : ℕ) (m : Message) → Numbered t.messages i m → (at : ℕ) × (n : ℕ) × (message_part s i ≡ Ok (at, n))
   -- "or say that there is none, exactly if there is none"
-  pub none_exactly : (choice_of kind s code present ≡ Nothing) ↔ Allowed s code present t Nothing
+  pub none_exactly : (choice_of kind s code present ≡ Ok None) ↔ Allowed s code present t (Ok None)
   -- nothing is refused
-  pub accepted : (r : Refusal) → choice_of kind s code present ≡ Refused r → ⊥
+  pub accepted : (r : Refusal) → choice_of kind s code present ≡ Err r → ⊥
   -- two choices that the words allow are equal
   pub determined : Determined (Allowed s code present t)
 
@@ -84,16 +80,16 @@ pub record Promise : Type 0 where
   pub words : Words
   pub chooses : (kind : ℕ) (s code : List ℕ) (present : Moment) (t : Index) → AreBytes s → is_code code ≡ true → is_instant present ≡ true
       → Holds index index_kind kind s t → Chooses kind s code present t
-  pub within : (kind : ℕ) (s code : List ℕ) (present : Moment) → AreBytes s → (i at n : ℕ) → choice_of kind s code present ≡ Shows i at n → Within s i at n
+  pub within : (kind : ℕ) (s code : List ℕ) (present : Moment) → AreBytes s → (i at n : ℕ) → choice_of kind s code present ≡ Ok (Some (i, at, n)) → Within s i at n
   -- no two messages of a table are the one to show
   pub only_one : (code : List ℕ) (present : Moment) (ms : List Message) (i j : ℕ) → Shown code present ms i → Shown code present ms j → i ≡ j
   -- "Refusals: 18 for an own code not of 23 bytes or with a byte above 9, 20 for the instant, then the index reader's"
-  pub no_code : (kind : ℕ) (s code : List ℕ) (present : Moment) → is_code code ≡ false → choice_of kind s code present ≡ Refused (DigitAboveNine 0)
+  pub no_code : (kind : ℕ) (s code : List ℕ) (present : Moment) → is_code code ≡ false → choice_of kind s code present ≡ Err (DigitAboveNine 0)
   pub no_instant : (kind : ℕ) (s code : List ℕ) (present : Moment) → is_code code ≡ true → is_instant present ≡ false
-      → choice_of kind s code present ≡ Refused (ImpossibleDay 0)
+      → choice_of kind s code present ≡ Err (ImpossibleDay 0)
   pub as_the_reader : (kind : ℕ) (s code : List ℕ) (present : Moment) → AreBytes s → is_code code ≡ true → is_instant present ≡ true → (r : Refusal)
-      → (choice_of kind s code present ≡ Refused r) ↔ (body_read index index_kind kind s ≡ NoStep r)
-  pub given : (kind : ℕ) (s code : List ℕ) (present : Moment) → AreBytes s → (r : Refusal) → choice_of kind s code present ≡ Refused r
+      → (choice_of kind s code present ≡ Err r) ↔ (body_read index index_kind kind s ≡ Err r)
+  pub given : (kind : ℕ) (s code : List ℕ) (present : Moment) → AreBytes s → (r : Refusal) → choice_of kind s code present ≡ Err r
       → is_given (refusal_number r) ≡ true
   -- never 21: nothing is written
-  pub never_21 : (kind : ℕ) (s code : List ℕ) (present : Moment) → AreBytes s → choice_of kind s code present ≡ Refused OutputTooSmall → ⊥
+  pub never_21 : (kind : ℕ) (s code : List ℕ) (present : Moment) → AreBytes s → choice_of kind s code present ≡ Err OutputTooSmall → ⊥

@@ -1,19 +1,18 @@
 -- Laws of the sections of a body: how many they are, where each part begins, and how long it is.
-use Prim.Native.Nat.{ℕ, suc, ◌+◌, ◌-◌, ◌*◌, ◌/◌, ◌≤◌, ◌<◌, min}
+use Prim.Native.Nat.{ℕ, suc, ◌+◌, ◌-◌, ◌*◌, ◌≤◌, ◌<◌, min}
 use mathlib.Core.Bool.{Bool, true, false}
 use mathlib.Core.List.{List}
 use mathlib.Core.Path.{◌≡◌, refl, sym, ap, ◌∙◌}
 use native.Mathlib.Nat.{min-eq_left}
 use native.Mathlib.Omega.{arith}
-use borrow.Author.Tests.{lt-ltb, le-ltb, eq-eqb, ne_eqb, eqb-false, ltb-false, leb-true, leb-false}
+use borrow.Author.Tests.{le-ltb, ne_eqb, eqb-false, ltb-false, leb-true, leb-false}
 use lib.Dec.{eqb, leb, ltb}
 use lib.ListN.{length, take, drop, length-take, length-drop}
 use lib.Seq.{take_all}
 use Rattle.ground_numbers.specs.Sizes.{payload_most, body_most}
 use Rattle.ground_refusal.specs.declared.Refusal.TheVariants.{PastBody, TooLarge}
 use Rattle.section_cutter.specs.Cutting.{part_start, section_count, part_carried, counted_of}
-use Rattle.std.specs.Prelude.{if◌then◌else◌}
-use Rattle.section_cutter.specs.declared.Counted.TheVariants.{Sections, Refused as NotCounted}
+use Rattle.std.specs.Prelude.{if◌then◌else◌, Ok, Err}
 
 -- ---- places, 4,084 bytes apart
 
@@ -25,40 +24,19 @@ pub place_suc : (k : ℕ) → part_start (suc k) ≡ part_start k + payload_most
 unfolding part_start
 place_suc k = omega arith
 
--- numbers apart are places apart
-pub place_apart : (j k : ℕ) → j < k → part_start j + payload_most ≤ part_start k
-unfolding part_start
-place_apart j k h = omega arith
-
-pub place_within : (k n : ℕ) → part_start k ≤ n → k * payload_most ≤ n
-unfolding part_start
-place_within k n h = h
-
 -- ---- the count
 
-pub count_none : (n : ℕ) → n ≡ 0 → counted_of n ≡ NotCounted (PastBody 0)
-unfolding counted_of
-count_none n h = rw (eq-eqb n 0 h)
-
-pub count_large : (n : ℕ) → body_most < n → counted_of n ≡ NotCounted TooLarge
-unfolding counted_of
-count_large n h = rw (ne_eqb n 0 (omega arith), lt-ltb body_most n h)
-
-pub counted_is : (n : ℕ) → 0 < n → n ≤ body_most → counted_of n ≡ Sections (section_count n)
+pub counted_is : (n : ℕ) → 0 < n → n ≤ body_most → counted_of n ≡ Ok (section_count n)
 unfolding counted_of
 counted_is n h h' = rw (ne_eqb n 0 (omega arith), le-ltb body_most n h')
 
-pub ceiling : (n : ℕ) → (n + (payload_most - 1)) / payload_most ≡ section_count n
-unfolding section_count
-ceiling n = refl
-
 -- what an answer of the count shows
-pub counted_some : (n k : ℕ) → counted_of n ≡ Sections k → (k ≡ section_count n) × (0 < n) × (n ≤ body_most)
+pub counted_some : (n k : ℕ) → counted_of n ≡ Ok k → (k ≡ section_count n) × (0 < n) × (n ≤ body_most)
 unfolding counted_of
 counted_some n k e = go (eqb n 0) (ltb body_most n) refl refl e
   where
     go : (a b : Bool) → eqb n 0 ≡ a → ltb body_most n ≡ b
-        → (if a then NotCounted (PastBody 0) else if b then NotCounted TooLarge else Sections (section_count n)) ≡ Sections k
+        → (if a then Err (PastBody 0) else if b then Err TooLarge else Ok (section_count n)) ≡ Ok k
         → (k ≡ section_count n) × (0 < n) × (n ≤ body_most)
     go true b p q e = let z : ◌≡◌ {A = ℕ} 0 1 = cc in absurd (omega arith)
     go false true p q e = let z : ◌≡◌ {A = ℕ} 0 1 = cc in absurd (omega arith)

@@ -11,9 +11,8 @@ use lib.Seq.{take-add, take_all}
 use Rattle.ground_numbers.specs.Sizes.{payload_most, body_most}
 use Rattle.ground_refusal.specs.declared.Refusal.{Refusal}
 use Rattle.section_cutter.specs.Cutting.{part_start, section_count, part_carried, parts_joined, cut_heading, section_of, Verdict, refuses, writes, cut_if_room, cutting, cut_answer, cut_output, Allowed, Askable}
-use Rattle.std.specs.Prelude.{if◌then◌else◌}
+use Rattle.std.specs.Prelude.{if◌then◌else◌, Ok}
 use Rattle.section_reader.specs.Section.{is_kind, payload_of, printed, WellFormed, IsGood}
-use Rattle.section_cutter.specs.declared.Cut.TheVariants.{Written}
 use Rattle.section_cutter.proofs.Counting.{place_zero, place_suc, ends_within, count_most, counted_is, part_length}
 use Rattle.section_cutter.proofs.Cuts.{cut_fitting, written_is}
 use Rattle.section_reader.proofs.Printing.{printed_length}
@@ -86,7 +85,7 @@ module _ (body : List ℕ) (kind extension version number : ℕ) where
       ∙ rw (le-ltb room (length (printed (cut_heading (length body) kind extension version number) (part_carried body number))) (rw printed_length h))
 
   -- what the cutter's promise leaves at the start of the output is good, reads back to the heading asked for, and carries its part of the body
-  pub cut_reads : (out left : List ℕ) (n : ℕ) → Written n ≡ cut_answer body kind extension version number out → left ≡ cut_output body kind extension version number out
+  pub cut_reads : (out left : List ℕ) (n : ℕ) → Ok n ≡ cut_answer body kind extension version number out → left ≡ cut_output body kind extension version number out
       → IsGood (take n left) (cut_heading (length body) kind extension version number) (part_carried body number)
   cut_reads out left n a o =
       let w = cut_written (length out) (take n left) (written_is _ out left n (a, o)) in

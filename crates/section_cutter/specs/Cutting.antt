@@ -1,14 +1,10 @@
 -- What a reader has to believe of the cutter: how many sections a body makes, what each carries, and the cutter's refusals in their order.
-use Rattle.std.specs.Prelude.{ℕ, zero, suc, ◌+◌, ◌-◌, ◌*◌, ◌/◌, ◌≤◌, ◌<◌, true, not, ◌&&◌, List, [], ◌++◌, ◌≡◌, eqb, leb, ltb, length, take, drop, if◌then◌else◌}
+use Rattle.std.specs.Prelude.{ℕ, zero, suc, ◌+◌, ◌-◌, ◌*◌, ◌/◌, ◌≤◌, ◌<◌, true, not, ◌&&◌, List, [], ◌++◌, ◌≡◌, eqb, leb, ltb, length, take, drop, if◌then◌else◌, Result, Ok, Err}
 use Rattle.ground_numbers.specs.Sizes.{payload_most, body_most, version_most}
 use Rattle.ground_placing.specs.Placed.{placed}
 use Rattle.ground_refusal.specs.declared.Refusal.{Refusal}
 use Rattle.ground_refusal.specs.declared.Refusal.TheVariants.{OtherKind, NumberAboveLast, PastBody, OutsideSet, OutputTooSmall, TooLarge}
 use Rattle.section_reader.specs.Section.{is_kind, payload_of, printed}
-use Rattle.section_cutter.specs.declared.Counted.{Counted}
-use Rattle.section_cutter.specs.declared.Counted.TheVariants.{Sections, Refused as NotCounted}
-use Rattle.section_cutter.specs.declared.Cut.{Cut}
-use Rattle.section_cutter.specs.declared.Cut.TheVariants.{Written, Refused as NotCut}
 use Rattle.section_reader.specs.declared.Heading.{Heading}
 
 -- ---- sections of a body
@@ -31,11 +27,11 @@ parts_joined sections zero = []
 parts_joined sections (suc n) = parts_joined sections n ++ payload_of (sections n)
 
 -- a body has 1 to 1,045,504 bytes: else 14, 22
-unfoldable pub counted_of : ℕ → Counted
+unfoldable pub counted_of : ℕ → Result ℕ Refusal
 counted_of length =
-    if eqb length 0 then NotCounted (PastBody 0) else
-    if ltb body_most length then NotCounted TooLarge else
-    Sections (section_count length)
+    if eqb length 0 then Err (PastBody 0) else
+    if ltb body_most length then Err TooLarge else
+    Ok (section_count length)
 
 -- ---- cutting
 
@@ -75,9 +71,9 @@ cutting body kind extension version number room =
     cut_if_room room (section_of body kind extension version number)
 
 -- the answer: the length written, or the refusal
-unfoldable pub cut_by : Verdict → Cut
-cut_by (refuses r) = NotCut r
-cut_by (writes bytes) = Written (length bytes)
+unfoldable pub cut_by : Verdict → Result ℕ Refusal
+cut_by (refuses r) = Err r
+cut_by (writes bytes) = Ok (length bytes)
 
 -- "Cutter and writers leave the output's bytes after theirs"; a refusal "writes no byte"
 unfoldable pub output_by : Verdict → List ℕ → List ℕ
@@ -85,7 +81,7 @@ output_by (refuses r) out = out
 output_by (writes bytes) out = placed out 0 bytes
 
 -- the cutter's answer, and the output as it leaves it, for section `number` of a body
-abbrev pub cut_answer : List ℕ → ℕ → ℕ → ℕ → ℕ → List ℕ → Cut
+abbrev pub cut_answer : List ℕ → ℕ → ℕ → ℕ → ℕ → List ℕ → Result ℕ Refusal
 cut_answer body kind extension version number out = cut_by (cutting body kind extension version number (length out))
 
 abbrev pub cut_output : List ℕ → ℕ → ℕ → ℕ → ℕ → List ℕ → List ℕ

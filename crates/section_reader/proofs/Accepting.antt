@@ -10,14 +10,12 @@ use lib.ListN.{length, get_or, drop, length-drop, length-append, get_or-append}
 use lib.Seq.{length-take-le}
 use Rattle.crc.specs.Crc.{crc32_of}
 use Rattle.ground_refusal.specs.declared.Refusal.{Refusal}
-use Rattle.std.specs.Prelude.{if◌then◌else◌}
+use Rattle.std.specs.Prelude.{if◌then◌else◌, Result, Ok, Err}
 use Rattle.section_reader.specs.Section.{is_kind, word, fixed_bits, section_length, length_in_range, heading_of, payload_of, read_section, stated_length}
 use Rattle.section_reader.specs.declared.Heading.{Heading}
-use Rattle.section_reader.specs.declared.Sectioned.{Sectioned}
-use Rattle.section_reader.specs.declared.Sectioned.TheVariants.{Good, Refused}
-use Rattle.section_reader.specs.declared.Stated.TheVariants.{Length}
 use Rattle.ground_numbers.specs.Sizes.{section_length_most, payload_most}
 use Rattle.ground_numbers.proofs.Ranges.{within_known}
+use Rattle.ground_refusal.proofs.Exits.{ok_pair_inj}
 use Rattle.section_reader.proofs.Reading.{Framed, good, states}
 
 -- none of refusals 1 to 7 applies
@@ -29,14 +27,11 @@ pub record Accepted (s : List ℕ) (h : Heading) (n : ℕ) : Type 0 where
   pub size : n ≡ length s - 12
 
 -- where a refusal comes first, a good answer came past it
-past : (b : Bool) (r : Refusal) (x : Sectioned) (h : Heading) (n : ℕ) → (if b then Refused r else x) ≡ Good h n → (b ≡ false) × (x ≡ Good h n)
+past : (b : Bool) (r : Refusal) (x : Result (Heading × ℕ) Refusal) (h : Heading) (n : ℕ) → (if b then Err r else x) ≡ Ok (h, n) → (b ≡ false) × (x ≡ Ok (h, n))
 past true r x h n e = absurd (let z : ◌≡◌ {A = ℕ} 0 1 = cc in omega arith)
 past false r x h n e = (refl, e)
 
-good_parts : (h h' : Heading) (n n' : ℕ) → Good h n ≡ Good h' n' → (h ≡ h') × (n ≡ n')
-good_parts h h' n n' e = (cc, cc)
-
-pub accepted : (s : List ℕ) (h : Heading) (n : ℕ) → read_section s ≡ Good h n → Accepted s h n
+pub accepted : (s : List ℕ) (h : Heading) (n : ℕ) → read_section s ≡ Ok (h, n) → Accepted s h n
 unfolding read_section
 accepted s h n e =
     let a = past (ltb (length s) 12) _ _ h n e in
@@ -46,7 +41,7 @@ accepted s h n e =
     let f = past (not (eqb (length s) (section_length s + 3))) _ _ h n d.1 in
     let g = past (ltb (get_or s 7 0) (get_or s 6 0)) _ _ h n f.1 in
     let i = past (not (eqb (crc32_of s) 0)) _ _ h n g.1 in
-    let j = good_parts (heading_of s) h (length s - 12) n i.1 in
+    let j = ok_pair_inj i.1 in
     record {
       framed =
           record {
@@ -62,7 +57,7 @@ accepted s h n e =
       size = sym j.1;
     }
 
-pub accepts : (s : List ℕ) (h : Heading) (n : ℕ) → Accepted s h n → read_section s ≡ Good h n
+pub accepts : (s : List ℕ) (h : Heading) (n : ℕ) → Accepted s h n → read_section s ≡ Ok (h, n)
 accepts s h n a = rw a.size (good s a.framed a.ordered h a.heading a.check)
 
 -- ---- lengths
@@ -86,11 +81,11 @@ module _ (s : List ℕ) (h : Heading) (n : ℕ) (a : Accepted s h n) where
 -- ---- the stated length
 
 -- a good section states its length, whatever stands after it
-pub good_states : (s t : List ℕ) (h : Heading) (n : ℕ) → read_section s ≡ Good h n → stated_length (s ++ t) ≡ Length (length s)
+pub good_states : (s t : List ℕ) (h : Heading) (n : ℕ) → read_section s ≡ Ok (h, n) → stated_length (s ++ t) ≡ Ok (length s)
 unfolding section_length word
 good_states s t h n e =
     let f = (accepted s h n e).framed in
     let byte : (i : ℕ) → i < 12 → get_or (s ++ t) i 0 ≡ get_or s i 0 = λ i k. get_or-append s t 0 i (omega (arith, f.long)) in
     let same : section_length (s ++ t) ≡ section_length s = rw (byte 1 (omega arith), byte 2 (omega arith)) in
     states (s ++ t) (rw (length-append s t) (omega (arith, f.long))) (ap length_in_range same ∙ f.counted)
-    ∙ ap Length (ap (λ (k : ℕ). k + 3) same ∙ sym f.whole)
+    ∙ ap Ok (ap (λ (k : ℕ). k + 3) same ∙ sym f.whole)

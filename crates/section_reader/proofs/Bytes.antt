@@ -1,13 +1,15 @@
--- Numbers in two and in four bytes, as they are stored.
-use Prim.Native.Nat.{ℕ, ◌+◌, ◌/◌, ◌%◌, ◌≤◌}
-use mathlib.Core.List.{List, [], ◌∷◌}
-use mathlib.Core.Path.{◌≡◌, ap}
+-- Numbers in two and in four bytes, a bool in one, and bytes stored in one piece.
+use Prim.Native.Nat.{ℕ, ◌/◌, ◌%◌}
+use borrow.Rule.Slice.PartMut.{put_mid}
+use mathlib.Core.List.{List, [], ◌∷◌, append_assoc}
+use mathlib.Core.Bool.{Bool, true, false}
+use mathlib.Core.Path.{◌≡◌, refl, ap}
 use native.Mathlib.Nat.{div-one}
-use native.Mathlib.Numerals.{towards_suc}
-use lib.ListN.{length, set}
-use Rattle.crc.specs.Crc.{big_endian}
+use lib.ListN.{length}
+use lib.Seq.{drop-drop}
+use Rattle.std.specs.Int.{from_bool}
+use Rattle.crc.specs.Crc.{big_endian, digit}
 use Rattle.ground_placing.specs.Placed.{placed}
-use Rattle.ground_placing.proofs.Placing.{stored}
 
 last_byte : (n : ℕ) → big_endian 1 n ≡ n % 256 ∷ []
 unfolding big_endian
@@ -21,6 +23,13 @@ pub four_bytes : (n : ℕ) → big_endian 4 n ≡ n / 16777216 % 256 ∷ n / 655
 unfolding big_endian
 four_bytes n = ap (λ (l : List ℕ). n / 16777216 % 256 ∷ n / 65536 % 256 ∷ n / 256 % 256 ∷ l) (last_byte n)
 
-pub stored_four : (d : List ℕ) (at n : ℕ) → at + 4 ≤ length d
-    → set (set (set (set d at (n / 16777216 % 256)) (at + 1) (n / 65536 % 256)) (at + 2) (n / 256 % 256)) (at + 3) (n % 256) ≡ placed d at (big_endian 4 n)
-stored_four d at n h = rw four_bytes (simp towards_suc (stored d at _ h))
+-- a piece of d with other bytes in it is d with those bytes at their place
+pub placed_part : (d : List ℕ) (at k : ℕ) {t : List ℕ} (s : List ℕ) → t ≡ s → k ≡ length s → put_mid at k d t ≡ placed d at s
+unfolding placed
+placed_part d at k s e f = rw (e, f) (simp (append_assoc, drop-drop))
+
+-- a bool as a number is its digit
+pub digit_is : (b : Bool) → from_bool b ≡ digit b
+unfolding digit
+digit_is true = refl
+digit_is false = refl

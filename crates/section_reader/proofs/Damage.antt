@@ -1,5 +1,6 @@
 -- A changed bit in a good section is refused, and a changed fixed bit by its own number.
 use Prim.Native.Nat.{ℕ, zero, suc, ◌+◌, ◌-◌, ◌*◌, ◌/◌, ◌%◌, ◌^◌, ◌≤◌, ◌<◌}
+use Rattle.std.specs.Prelude.{Result, Ok, Err}
 use mathlib.Core.Bool.{true}
 use mathlib.Core.List.{List}
 use mathlib.Core.Path.{◌≡◌, refl, sym, ap, ◌∙◌}
@@ -15,19 +16,17 @@ use Rattle.ground_refusal.specs.declared.Refusal.{Refusal}
 use Rattle.ground_refusal.specs.declared.Refusal.TheVariants.{FixedBitZero}
 use Rattle.section_reader.specs.Section.{is_kind, fixed_bits, read_section, FixedBit, before_length, before_version}
 use Rattle.section_reader.specs.declared.Heading.{Heading}
-use Rattle.section_reader.specs.declared.Sectioned.{Sectioned}
-use Rattle.section_reader.specs.declared.Sectioned.TheVariants.{Good, Refused}
 use Rattle.section_reader.proofs.Accepting.{accepted}
 use Rattle.section_reader.proofs.Reading.{fixed_bit_zero, fixed_known, fixed_not}
 
 -- one changed bit anywhere in a good section is refused
-pub bit_refused : (s : List ℕ) (h : Heading) (n i k : ℕ) → read_section s ≡ Good h n → i < length s → k < 8
-    → (r : Refusal) × (read_section (bit_changed s i k) ≡ Refused r)
+pub bit_refused : (s : List ℕ) (h : Heading) (n i k : ℕ) → read_section s ≡ Ok (h, n) → i < length s → k < 8
+    → (r : Refusal) × (read_section (bit_changed s i k) ≡ Err r)
 bit_refused s h n i k e within small = go (read_section (bit_changed s i k)) refl
   where
-    go : (x : Sectioned) → read_section (bit_changed s i k) ≡ x → (r : Refusal) × (read_section (bit_changed s i k) ≡ Refused r)
-    go (Good h' n') e' = absurd (crc32_one_bit s i k within small ((accepted (bit_changed s i k) h' n' e').check ∙ sym (accepted s h n e).check))
-    go (Refused r) e' = (r, e')
+    go : (x : Result (Heading × ℕ) Refusal) → read_section (bit_changed s i k) ≡ x → (r : Refusal) × (read_section (bit_changed s i k) ≡ Err r)
+    go (Ok (h', n')) e' = absurd (crc32_one_bit s i k within small ((accepted (bit_changed s i k) h' n' e').check ∙ sym (accepted s h n e).check))
+    go (Err r) e' = (r, e')
 
 -- ---- a changed bit is changed
 
@@ -66,7 +65,7 @@ changed_other s i j k h = get_or-set_other s i j (bit_xor (get_or s i 0) (2 ^ k)
 
 -- a fixed bit is refused as such where nothing earlier is
 pub fixed_bit_refused : (s : List ℕ) (i k : ℕ) → 12 ≤ length s → is_kind (get_or s 0 0) ≡ true → fixed_bits s ≡ true → FixedBit i k
-    → read_section (bit_changed s i k) ≡ Refused FixedBitZero
+    → read_section (bit_changed s i k) ≡ Err FixedBitZero
 fixed_bit_refused s i k long kind fixed (before_length j h) =
     fixed_bit_zero (bit_changed s 1 (4 + j)) (rw changed_length long) (rw (changed_other s 1 0 (4 + j) (omega arith)) kind)
     (fixed_not (bit_changed s 1 (4 + j)) (λ x. changed_above s 1 4 j (omega arith) (x.0 ∙ sym (fixed_known s fixed).0)))

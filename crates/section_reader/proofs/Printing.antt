@@ -4,12 +4,11 @@ use mathlib.Core.List.{List, [], ◌∷◌, ◌++◌}
 use mathlib.Core.Path.{◌≡◌, sym, ◌∙◌}
 use native.Mathlib.Omega.{arith}
 use lib.ListN.{length, take, length-append}
-use lib.Seq.{sets}
 use Rattle.crc.specs.Crc.{big_endian, crc32_of, digit}
 use Rattle.ground_placing.specs.Placed.{placed}
 use Rattle.section_reader.specs.Section.{heading_bytes, checked, printed}
 use Rattle.section_reader.specs.declared.Heading.{Heading}
-use Rattle.ground_placing.proofs.Placing.{stored, placed_next, placed_start, placed_length}
+use Rattle.ground_placing.proofs.Placing.{placed_next, placed_start, placed_length}
 use Rattle.section_reader.proofs.Bytes.{two_bytes, four_bytes}
 
 -- the heading byte by byte, b the bit of current
@@ -30,10 +29,6 @@ unfolding printed checked
 printed_length h payload = simp (length-append, heading_length, four_bytes) (omega arith)
 
 -- ---- laid part by part
-
-pub stored_heading : (h : Heading) (n b : ℕ) (out : List ℕ) → b ≡ digit h.current → 8 ≤ length out
-    → sets out 0 (eight_bytes h n b) ≡ placed out 0 (heading_bytes h n)
-stored_heading h n b out e room = rw (e, heading_is h n) (stored out 0 _ room)
 
 module _ (h : Heading) (payload out : List ℕ) (room : length payload + 12 ≤ length out) where
   module _ (a b : List ℕ) (e : a ≡ placed out 0 (heading_bytes h (length payload))) (f : b ≡ placed a 8 payload) where

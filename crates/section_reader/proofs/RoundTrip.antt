@@ -1,5 +1,6 @@
 -- Reading and printing undo each other: a byte string is a good section exactly if it is printed from a well-formed heading and a payload of at most 4,084 bytes.
 use Prim.Native.Nat.{ℕ, ◌+◌, ◌-◌, ◌*◌, ◌/◌, ◌%◌, ◌≤◌}
+use Rattle.std.specs.Prelude.{Ok}
 use mathlib.Core.Bool.{Bool, true, false}
 use mathlib.Core.List.{List, [], ◌∷◌, ◌++◌, append_assoc}
 use mathlib.Core.Logic.{◌↔◌}
@@ -14,7 +15,6 @@ use Rattle.crc.proofs.Laws.{crc32_closed}
 use Rattle.crc.specs.Crc.{AreBytes, big_endian, crc32_of, digit}
 use Rattle.section_reader.specs.Section.{is_kind, word, section_length, fixed_bits, heading_of, payload_of, read_section, heading_bytes, checked, printed, WellFormed, IsGood, IsPrinted}
 use Rattle.section_reader.specs.declared.Heading.{Heading}
-use Rattle.section_reader.specs.declared.Sectioned.TheVariants.{Good}
 use Rattle.section_reader.proofs.Accepting.{Accepted, accepted, accepts, accepted_length, accepted_short, payload_length}
 use Rattle.section_reader.proofs.Printing.{eight_bytes, heading_is, printed_length}
 use Rattle.ground_numbers.specs.Sizes.{configuration_kind, content_kind, section_length_most, payload_most}
@@ -91,7 +91,7 @@ bytes_drop : (k : ℕ) (s : List ℕ) → AreBytes s → AreBytes (drop k s)
 bytes_drop k s b = record { byte = λ i. rw (get_or-drop k s i 0) (b.byte (k + i)) }
 
 -- a good section is the one printed of its heading and its payload
-pub good_printed : (s : List ℕ) (h : Heading) (n : ℕ) → AreBytes s → read_section s ≡ Good h n → IsPrinted s h (payload_of s)
+pub good_printed : (s : List ℕ) (h : Heading) (n : ℕ) → AreBytes s → read_section s ≡ Ok (h, n) → IsPrinted s h (payload_of s)
 unfolding printed checked
 good_printed s h n bytes e =
     record {

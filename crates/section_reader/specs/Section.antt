@@ -1,13 +1,10 @@
 -- What a reader has to believe of a section: document 01's table 'A section on the wire', refusals 1 to 7 in their order, and the good section printed.
-use Rattle.std.specs.Prelude.{ℕ, ◌+◌, ◌-◌, ◌*◌, ◌/◌, ◌%◌, ◌≤◌, ◌<◌, Bool, not, ◌&&◌, List, [], ◌∷◌, ◌++◌, ◌≡◌, eqb, leb, ltb, length, get_or, take, drop, if◌then◌else◌}
+use Rattle.std.specs.Prelude.{ℕ, ◌+◌, ◌-◌, ◌*◌, ◌/◌, ◌%◌, ◌≤◌, ◌<◌, Bool, not, ◌&&◌, List, [], ◌∷◌, ◌++◌, ◌≡◌, eqb, leb, ltb, length, get_or, take, drop, if◌then◌else◌, Result, Ok, Err}
+use Rattle.ground_refusal.specs.declared.Refusal.{Refusal}
 use Rattle.crc.specs.Crc.{big_endian, crc32_of, digit}
 use Rattle.ground_numbers.specs.Sizes.{configuration_kind, content_kind, section_length_most, payload_most, version_most}
 use Rattle.ground_refusal.specs.declared.Refusal.TheVariants.{SectionTooShort, OtherKind, FixedBitZero, SectionLengthOutside, OtherLength, NumberAboveLast, CheckNotZero}
 use Rattle.section_reader.specs.declared.Heading.{Heading}
-use Rattle.section_reader.specs.declared.Sectioned.{Sectioned}
-use Rattle.section_reader.specs.declared.Sectioned.TheVariants.{Good, Refused}
-use Rattle.section_reader.specs.declared.Stated.{Stated}
-use Rattle.section_reader.specs.declared.Stated.TheVariants as stated
 
 -- ---- the fields of a byte string
 
@@ -50,23 +47,23 @@ payload_of s = take (length s - 12) (drop 8 s)
 -- ---- reading
 
 -- "Order. Section: 1 to 7 as numbered": a good section is told by its heading and the length of its payload
-unfoldable pub read_section : List ℕ → Sectioned
+unfoldable pub read_section : List ℕ → Result (Heading × ℕ) Refusal
 read_section s =
-    if ltb (length s) 12 then Refused SectionTooShort else
-    if not (is_kind (get_or s 0 0)) then Refused OtherKind else
-    if not (fixed_bits s) then Refused FixedBitZero else
-    if not (length_in_range (section_length s)) then Refused SectionLengthOutside else
-    if not (eqb (length s) (section_length s + 3)) then Refused OtherLength else
-    if ltb (get_or s 7 0) (get_or s 6 0) then Refused NumberAboveLast else
-    if not (eqb (crc32_of s) 0) then Refused CheckNotZero else
-    Good (heading_of s) (length s - 12)
+    if ltb (length s) 12 then Err SectionTooShort else
+    if not (is_kind (get_or s 0 0)) then Err OtherKind else
+    if not (fixed_bits s) then Err FixedBitZero else
+    if not (length_in_range (section_length s)) then Err SectionLengthOutside else
+    if not (eqb (length s) (section_length s + 3)) then Err OtherLength else
+    if ltb (get_or s 7 0) (get_or s 6 0) then Err NumberAboveLast else
+    if not (eqb (crc32_of s) 0) then Err CheckNotZero else
+    Ok (heading_of s, length s - 12)
 
 -- how many bytes a section that begins the byte string has, by its first three: 1 where section_length is cut off, 4 where it is outside its range
-unfoldable pub stated_length : List ℕ → Stated
+unfoldable pub stated_length : List ℕ → Result ℕ Refusal
 stated_length s =
-    if ltb (length s) 3 then stated.Refused SectionTooShort else
-    if not (length_in_range (section_length s)) then stated.Refused SectionLengthOutside else
-    stated.Length (section_length s + 3)
+    if ltb (length s) 3 then Err SectionTooShort else
+    if not (length_in_range (section_length s)) then Err SectionLengthOutside else
+    Ok (section_length s + 3)
 
 -- ---- the good section printed
 
@@ -98,7 +95,7 @@ pub record WellFormed (h : Heading) : Type 0 where
 
 -- s is a good section with this heading and this payload
 pub record IsGood (s : List ℕ) (h : Heading) (payload : List ℕ) : Type 0 where
-  pub reads : read_section s ≡ Good h (length payload)
+  pub reads : read_section s ≡ Ok (h, length payload)
   pub carries : payload_of s ≡ payload
 
 -- s is the section printed of a heading that a section can have and of a payload of at most 4,084 bytes

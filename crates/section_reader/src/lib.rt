@@ -4,7 +4,7 @@
 ghost use Rattle.std.specs.Prelude.{◌≡◌, ◌+◌, ◌*◌, ◌≤◌, length};
 ghost use Rattle.section_reader.specs.Section.{is_kind, fixed_bits, section_length, length_in_range, heading_of, read_section, stated_length};
 
-use ground_numbers::{CONFIGURATION_KIND, CONTENT_KIND, SECTION_LENGTH_MOST, wide, within};
+use ground_numbers::{CONFIGURATION_KIND, CONTENT_KIND, SECTION_LENGTH_MOST, within};
 use ground_refusal::Refusal;
 
 // What a section says before its payload.
@@ -19,28 +19,15 @@ pub struct Heading {
     pub last: u8,
 }
 
-// A byte string judged: a good section's heading and the length of its payload, which begins at byte 8; or the first rule that it breaks.
-#[derive(Clone, Copy)]
-pub enum Sectioned {
-    Good(Heading, usize),
-    Refused(Refusal),
-}
-
-// The length that a section states, all its bytes together; or why none is stated.
-#[derive(Clone, Copy)]
-pub enum Stated {
-    Length(usize),
-    Refused(Refusal),
-}
-
 // The 16 bits of two bytes.
-fn word_of(high: u8, low: u8) -> u64
-    ensures { (result ≡ high * 256 + low) × (result ≤ 0xFFFF) }
+fn word_of(high: u8, low: u8) -> u16
+    ensures { result ≡ high * 256 + low }
 {
-    wide(high) * 256 + wide(low)
+    u16::from_be_bytes([high, low])
 }
 
 // Is it the table_id of one of the four tables? For later crates too.
+#[tactic(auto, unfolding(crate::specs::Section::is_kind))]
 pub fn is_kind(kind: u32) -> bool
     ensures { result ≡ is_kind kind }
 {
@@ -48,14 +35,12 @@ pub fn is_kind(kind: u32) -> bool
 }
 
 // Are the six fixed bits ones?
+#[tactic(auto, unfolding(crate::specs::Section::fixed_bits))]
 fn fixed_bits(s: &[u8]) -> bool
     requires { 12 ≤ length s.now }
     ensures { result ≡ fixed_bits s.now }
 {
-    if s[1] / 16 != 15 {
-        return false;
-    }
-    s[5] / 64 == 3
+    s[1] / 16 == 15 && s[5] / 64 == 3
 }
 
 // Is it a section_length that a section may have?
@@ -66,22 +51,24 @@ fn length_in_range(length: u64) -> bool
 }
 
 // The field section_length.
+#[tactic(auto, unfolding(crate::specs::Section::section_length, crate::specs::Section::word))]
 fn section_length(s: &[u8]) -> u64
     requires { 3 ≤ length s.now }
     ensures { result ≡ section_length s.now }
 {
-    word_of(s[1], s[2]) % 4096
+    u64::from(word_of(s[1], s[2]) % 4096)
 }
 
 // The fields of the first eight bytes.
+#[tactic(auto, unfolding(crate::specs::Section::heading_of, crate::specs::Section::word))]
 fn heading_of(s: &[u8]) -> Heading
     requires { 12 ≤ length s.now }
     ensures { result ≡ heading_of s.now }
 {
     Heading {
         kind: s[0],
-        extension: word_of(s[3], s[4]) as u16,
-        version: (s[5] / 2 % 32) as u16,
+        extension: word_of(s[3], s[4]),
+        version: u16::from(s[5] / 2 % 32),
         current: s[5] % 2 == 1,
         number: s[6],
         last: s[7],
@@ -89,45 +76,46 @@ fn heading_of(s: &[u8]) -> Heading
 }
 
 // The judgement of any byte string: refusals 1 to 7, in this order.
-pub fn read_section(s: &[u8]) -> Sectioned
+#[tactic(auto, unfolding(crate::specs::Section::read_section), using(ground_numbers::proofs::Ranges::within_known))]
+pub fn read_section(s: &[u8]) -> Result<(Heading, usize), Refusal>
     ensures { result ≡ read_section s.now }
 {
     if s.len() < 12 {
-        return Sectioned::Refused(Refusal::SectionTooShort);
+        return Err(Refusal::SectionTooShort);
     }
-    if !is_kind(wide(s[0]) as u32) {
-        return Sectioned::Refused(Refusal::OtherKind);
+    if !is_kind(u32::from(s[0])) {
+        return Err(Refusal::OtherKind);
     }
     if !fixed_bits(s) {
-        return Sectioned::Refused(Refusal::FixedBitZero);
+        return Err(Refusal::FixedBitZero);
     }
     let length = section_length(s);
     if !length_in_range(length) {
-        return Sectioned::Refused(Refusal::SectionLengthOutside);
+        return Err(Refusal::SectionLengthOutside);
     }
     if s.len() != length as usize + 3 {
-        return Sectioned::Refused(Refusal::OtherLength);
+        return Err(Refusal::OtherLength);
     }
     if s[7] < s[6] {
-        return Sectioned::Refused(Refusal::NumberAboveLast);
+        return Err(Refusal::NumberAboveLast);
     }
-    let check = crc::crc32(s);
-    if check != 0 {
-        return Sectioned::Refused(Refusal::CheckNotZero);
+    if crc::crc32(s) != 0 {
+        return Err(Refusal::CheckNotZero);
     }
-    Sectioned::Good(heading_of(s), s.len() - 12)
+    Ok((heading_of(s), s.len() - 12))
 }
 
 // The length of the section that begins a byte string, which may be cut off or go on after it; nothing else of it is judged.
-pub fn stated_length(s: &[u8]) -> Stated
+#[tactic(auto, unfolding(crate::specs::Section::stated_length), using(ground_numbers::proofs::Ranges::within_known))]
+pub fn stated_length(s: &[u8]) -> Result<usize, Refusal>
     ensures { result ≡ stated_length s.now }
 {
     if s.len() < 3 {
-        return Stated::Refused(Refusal::SectionTooShort);
+        return Err(Refusal::SectionTooShort);
     }
     let length = section_length(s);
     if !length_in_range(length) {
-        return Stated::Refused(Refusal::SectionLengthOutside);
+        return Err(Refusal::SectionLengthOutside);
     }
-    Stated::Length(length as usize + 3)
+    Ok(length as usize + 3)
 }

@@ -7,14 +7,14 @@ use mathlib.Core.List.{List, [], ◌∷◌, ◌++◌, Memᴰ as In}
 use mathlib.Core.Logic.{◌⊎◌, inl, inr}
 use native.Mathlib.Omega.{arith}
 use lib.ListN.{length, take, drop, replicate, length-replicate}
-use Rattle.std.specs.Prelude.{if◌then◌else◌}
+use Rattle.ground_refusal.proofs.Exits.{ok_pair_inj}
+use Rattle.std.specs.Prelude.{if◌then◌else◌, Ok, Err}
 use Rattle.ground_refusal.specs.declared.Refusal.TheVariants.{ImpossibleState}
 use Rattle.crc.specs.Crc.{AreBytes}
 use Rattle.section_reader.specs.Section.{WellFormed}
 use Rattle.section_reader.specs.declared.Heading.{Heading}
 use Rattle.section_reader.proofs.RoundTrip.{good_printed}
 use Rattle.gathering_state.specs.State.{has_room}
-use Rattle.gathering_hand_out.specs.declared.Handed.TheVariants as handed
 use Rattle.gathering_hand_out.proofs.Handing.{handed_whole, body_most_lem}
 use Rattle.gathering_account.specs.Account.{good_current, heard, Section, Account, idle, table, account}
 use Rattle.gathering_account.specs.Latest.{Latest, none_begun, begun_with}
@@ -30,8 +30,6 @@ use Rattle.teaching_questions.specs.Questions.{said, absent_count}
 use Rattle.teaching_questions.proofs.Saying.{said_section}
 use Rattle.teaching_table.specs.Table.{account_in}
 use Rattle.teaching_hand_out.specs.Asking.{headed_to, lacking_table, lacking_to, handed_to, heading_of, lacking_of, handed_of}
-use Rattle.teaching_hand_out.specs.declared.Headed.TheVariants as headed
-use Rattle.teaching_hand_out.specs.declared.Lacking.TheVariants as lacking
 use Rattle.teaching_account.proofs.Handing.{answers_told}
 
 -- no answer both refuses and does not
@@ -84,11 +82,11 @@ module _ (buffer : List ℕ) (used store : ℕ) (are_bytes : AreBytes buffer) wh
           let inside : In s (strings_in b) = rw is (Memᴰ.append_right before (Memᴰ.head refl)) in
           rw same at (section_formed s h p f (strings s inside))
 
-  pub heading_formed : (t : Heading) → heading_of buffer used store ≡ headed.By t → WellFormed t
+  pub heading_formed : (t : Heading) → heading_of buffer used store ≡ Ok t → WellFormed t
   unfolding heading_of headed_to
   heading_formed t e = go (whole_in_use buffer used) (account_in store b) refl e
     where
-      go : (w : Bool) (x : Account) → account_in store b ≡ x → (if not w then headed.Refused ImpossibleState else headed_to x) ≡ headed.By t → WellFormed t
+      go : (w : Bool) (x : Account) → account_in store b ≡ x → (if not w then Err ImpossibleState else headed_to x) ≡ Ok t → WellFormed t
       go false x q e = neither (cc)
       go true idle q e = neither (cc)
       go true (table h S) q e = let same : h ≡ t = cc in rw same at (table_formed h S q)
@@ -104,16 +102,16 @@ module _ (buffer : List ℕ) (used store : ℕ) (are_bytes : AreBytes buffer) wh
       go true h = omega arith
       go false h = omega arith
 
-  pub missing_most : (n k : ℕ) → lacking_of buffer used store ≡ lacking.Of n k → n ≤ 256
+  pub missing_most : (n k : ℕ) → lacking_of buffer used store ≡ Ok (n, k) → n ≤ 256
   unfolding lacking_of lacking_to lacking_table
   missing_most n k e = go (whole_in_use buffer used) (account_in store b) refl e
     where
-      go : (w : Bool) (x : Account) → account_in store b ≡ x → (if not w then lacking.Refused ImpossibleState else lacking_to x) ≡ lacking.Of n k → n ≤ 256
+      go : (w : Bool) (x : Account) → account_in store b ≡ x → (if not w then Err ImpossibleState else lacking_to x) ≡ Ok (n, k) → n ≤ 256
       go false x q e = neither (cc)
       go true idle q e = neither (cc)
       go true (table t S) q e =
-          let same : absent_count (t.last + 1) (undisputed S) ≡ n = cc in
-          omega (arith, same, count_most (t.last + 1) (undisputed S), (table_formed t S q).last_high)
+          let same = ok_pair_inj e in
+          omega (arith, same.0, count_most (t.last + 1) (undisputed S), (table_formed t S q).last_high)
 
   -- ---- the body: it is the one of a quick gathering that was fed what is kept
 
@@ -126,11 +124,11 @@ module _ (buffer : List ℕ) (used store : ℕ) (are_bytes : AreBytes buffer) wh
       ap (λ n. handed_to (account (has_room n) idle (strings_in b)) (length out)) (sym (length-replicate store 0))
       ∙ (answers_told (handing_answers (replicate store 0) (strings_in b) strings out)).0
 
-  pub taught_most : (out : List ℕ) (n : ℕ) → handed_of buffer used store out ≡ handed.Body n → n ≤ 256 * 4084
+  pub taught_most : (out : List ℕ) (n : ℕ) → handed_of buffer used store out ≡ Ok n → n ≤ 256 * 4084
   unfolding handed_of
   taught_most out n e = go (whole_in_use buffer used) e
     where
-      go : (w : Bool) → (if not w then handed.Refused ImpossibleState else handed_to (account_in store b) (length out)) ≡ handed.Body n → n ≤ 256 * 4084
+      go : (w : Bool) → (if not w then Err ImpossibleState else handed_to (account_in store b) (length out)) ≡ Ok n → n ≤ 256 * 4084
       go false e = neither (cc)
       go true e =
           let whole = handed_whole quick.state quick.store out n (sym (hands_out out) ∙ e) in

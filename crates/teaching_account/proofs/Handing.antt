@@ -8,12 +8,11 @@ use native.Mathlib.Nat.{eq-or-lt_of_le}
 use native.Mathlib.Omega.{arith}
 use borrow.Author.Tests.{le-leb, lt-leb, lt-ltb, le-ltb}
 use lib.ListN.{length}
-use Rattle.std.specs.Prelude.{if◌then◌else◌}
+use Rattle.std.specs.Prelude.{if◌then◌else◌, Ok, Err}
 use Rattle.ground_choices.proofs.Tests.{refuted}
 use Rattle.ground_refusal.specs.declared.Refusal.TheVariants.{OutputTooSmall}
 use Rattle.section_reader.specs.declared.Heading.{Heading}
 use Rattle.gathering_hand_out.specs.Handing.{handed_if_room, out_by}
-use Rattle.gathering_hand_out.specs.declared.Handed.TheVariants.{Body, Refused}
 use Rattle.gathering_account.specs.Account.{Section, Account, idle, table, Agree, Present, Covered, Complete, in_order, body_of}
 use Rattle.gathering_account.specs.Answering.{present, agreeing}
 use Rattle.gathering_account.specs.Gathers.{Box, handing, handed_output, SmallestMissing, Answers, nothing_begun_lem, two_differ, one_missing, too_small, handed_out}
@@ -62,11 +61,11 @@ module _ (t : Heading) (S : List Section) (room : ℕ) where
     table_whole c = rw (agree_agreeing S a, whole c, lt-leb (t.last + 1) t.last (omega arith))
 
   -- 21, or the body
-  small : room < length (in_order (t.last + 1) S) → handed_if_room (length (in_order (t.last + 1) S)) room ≡ Refused OutputTooSmall
+  small : room < length (in_order (t.last + 1) S) → handed_if_room (length (in_order (t.last + 1) S)) room ≡ Err OutputTooSmall
   unfolding handed_if_room
   small l = rw (lt-ltb room (length (in_order (t.last + 1) S)) l)
 
-  roomy : length (in_order (t.last + 1) S) ≤ room → handed_if_room (length (in_order (t.last + 1) S)) room ≡ Body (length (in_order (t.last + 1) S))
+  roomy : length (in_order (t.last + 1) S) ≤ room → handed_if_room (length (in_order (t.last + 1) S)) room ≡ Ok (length (in_order (t.last + 1) S))
   unfolding handed_if_room
   roomy l = rw (le-ltb room (length (in_order (t.last + 1) S)) l)
 

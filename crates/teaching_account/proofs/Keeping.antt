@@ -1,5 +1,6 @@
 -- What the slow gathering keeps over a run of feeds that fits: the rows of what was fed, and nothing else.
 use Prim.Native.Nat.{ℕ, ◌+◌, ◌^◌, ◌≤◌, ◌<◌}
+use Rattle.std.specs.Prelude.{Err}
 use mathlib.Core.Path.{◌≡◌, refl, sym, ap, ap₂, ◌∙◌}
 use mathlib.Core.Bool.{Bool, true, false}
 use mathlib.Core.List.Memᴰ
@@ -12,7 +13,6 @@ use Rattle.ground_placing.specs.Placed.{placed}
 use Rattle.ground_placing.proofs.Placing.{placed_front, placed_length}
 use Rattle.ground_refusal.specs.declared.Refusal.TheVariants.{TeachingBufferFull}
 use Rattle.gathering_state.specs.State.{has_room}
-use Rattle.gathering_feed.specs.declared.Answer.TheVariants.{Refused}
 use Rattle.gathering_account.specs.Account.{heard, Account, idle, account_after, account}
 use Rattle.gathering_account.specs.Answering.{answer_to, answers_to}
 use Rattle.gathering_account.proofs.Growing.{account_append}
@@ -69,7 +69,7 @@ module _ (n : ℕ) (few : n < 256 ^ length_bytes) (slow : Slow) (kept : List (Li
     unfolding row_fits
     overfull h = lt-leb (slow.used + (length_bytes + length s)) (length slow.buffer) (omega (arith, rows_longer kept s, k.used, k.long))
 
-    pub full_answer : (store : ℕ) → n < length (rows (kept ++ s ∷ [])) → slow_answer store slow s ≡ Refused TeachingBufferFull
+    pub full_answer : (store : ℕ) → n < length (rows (kept ++ s ∷ [])) → slow_answer store slow s ≡ Err TeachingBufferFull
     unfolding answer_of
     full_answer store h = rw (overfull h)
 

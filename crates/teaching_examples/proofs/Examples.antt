@@ -2,6 +2,8 @@
 -- tests/second_teaching.py. Each rule comes once: repeats and refused strings are kept, a newer version takes over, another payload contradicts, the last
 -- feed finds the buffer full.
 use Prim.Native.Nat.{ℕ, ◌+◌, ◌*◌}
+use Rattle.std.specs.Prelude.{Result, Ok, Err}
+use Rattle.section_reader.specs.declared.Heading.{Heading}
 use mathlib.Core.Bool.{xor}
 use mathlib.Core.List.{List, [], ◌∷◌}
 use mathlib.Core.Path.{◌≡◌, refl}
@@ -16,10 +18,8 @@ use Rattle.section_reader.specs.Section.{is_kind, word, section_length, fixed_bi
 use Rattle.gathering_state.specs.State.{has_room}
 use Rattle.gathering_tables.specs.Tables.{steps_ahead, same_table, is_newer}
 use Rattle.gathering_feed.specs.declared.Answer.{Answer}
-use Rattle.gathering_feed.specs.declared.Answer.TheVariants.{Taken, HeldAlready, Refused as NotFed}
+use Rattle.gathering_feed.specs.declared.Answer.TheVariants.{Taken, HeldAlready}
 use Rattle.gathering_hand_out.specs.Handing.{handed_if_room}
-use Rattle.gathering_hand_out.specs.declared.Handed.{Handed}
-use Rattle.gathering_hand_out.specs.declared.Handed.TheVariants.{Body, Refused as NotHanded}
 use Rattle.gathering_account.specs.Account.{heard_as, heard, begun, account_after, account, contents_of, in_order}
 use Rattle.gathering_account.specs.Answering.{present, contradicts, differs, agreeing, calm_from, undisputed}
 use Rattle.gathering_account.specs.Answering.{answer_of_table, answer_of_first, answer_of_good, answer_of_read, answer_to}
@@ -29,10 +29,6 @@ use Rattle.teaching_questions.specs.Questions.{absent_from, absent_count}
 use Rattle.teaching_table.specs.Table.{account_in}
 use Rattle.teaching_feed.specs.Feeding.{row_fits, answer_of, keeps, used_after, buffer_after}
 use Rattle.teaching_hand_out.specs.Asking as asking
-use Rattle.teaching_hand_out.specs.declared.Headed.{Headed}
-use Rattle.teaching_hand_out.specs.declared.Headed.TheVariants as headed
-use Rattle.teaching_hand_out.specs.declared.Lacking.{Lacking}
-use Rattle.teaching_hand_out.specs.declared.Lacking.TheVariants as lacking
 use Rattle.teaching_account.specs.Lockstep.{Slow, fresh_slow, slow_answer, slow_feed}
 
 -- ---- answers as numbers: a refusal as 1,000 and its number, its place a hundredfold
@@ -41,24 +37,24 @@ abbrev refused : Refusal → ℕ
 refused r = 1000 + refusal_number r + 100 * refusal_place r
 
 -- 0 taken, 1 held already
-abbrev fed : Answer → ℕ
-fed Taken = 0
-fed HeldAlready = 1
-fed (NotFed r) = refused r
+abbrev fed : Result Answer Refusal → ℕ
+fed (Ok Taken) = 0
+fed (Ok HeldAlready) = 1
+fed (Err r) = refused r
 
 -- the version
-abbrev version : Headed → ℕ
-version (headed.By t) = t.version
-version (headed.Refused r) = refused r
+abbrev version : Result Heading Refusal → ℕ
+version (Ok t) = t.version
+version (Err r) = refused r
 
-abbrev missing : Lacking → ℕ
-missing (lacking.Of n k) = n
-missing (lacking.Refused r) = refused r
+abbrev missing : Result (ℕ × ℕ) Refusal → ℕ
+missing (Ok (n, k)) = n
+missing (Err r) = refused r
 
 -- the body's length
-abbrev handed : Handed → ℕ
-handed (Body n) = n
-handed (NotHanded r) = refused r
+abbrev handed : Result ℕ Refusal → ℕ
+handed (Ok n) = n
+handed (Err r) = refused r
 
 -- two sections fit the quick one's store
 abbrev store : ℕ

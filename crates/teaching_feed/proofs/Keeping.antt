@@ -1,5 +1,7 @@
 -- Any other feed keeps the string, whatever the answer.
 use Prim.Native.Nat.{ℕ, ◌+◌}
+use Rattle.std.specs.Prelude.{Result}
+use Rattle.ground_refusal.specs.declared.Refusal.{Refusal}
 use mathlib.Core.Path.{◌≡◌}
 use mathlib.Core.Bool.{true}
 use mathlib.Core.List.{List}
@@ -14,7 +16,7 @@ use Rattle.teaching_feed.specs.Feeding.{row_fits, answer_of, keeps, used_after, 
 use Rattle.teaching_feed.proofs.Fitting.{Fed}
 
 pub fed_kept : (buffer : List ℕ) (used store : ℕ) (s : List ℕ) → row_fits (length buffer) used (length s) ≡ true → whole_in_use buffer used ≡ true
-    → (r : Answer) → r ≡ answer_to (has_room store) (account_in store (take used buffer)) s
+    → (r : Result Answer Refusal) → r ≡ answer_to (has_room store) (account_in store (take used buffer)) s
     → (n : ℕ) → n ≡ used + (length_bytes + length s) → (after : List ℕ) → after ≡ placed buffer used (row s)
     → Fed buffer used store s (record { answer = r; used = n }) after
 unfolding taught_of answer_of used_after buffer_after keeps

@@ -1,10 +1,10 @@
 -- What a reader has to believe of feeding the slow gathering: the answer, told by the account of what is kept, and that the string is kept.
-use Rattle.std.specs.Prelude.{ℕ, ◌+◌, Bool, not, ◌&&◌, List, leb, length, take, if◌then◌else◌}
+use Rattle.std.specs.Prelude.{ℕ, ◌+◌, Bool, not, ◌&&◌, List, leb, length, take, if◌then◌else◌, Result, Err}
+use Rattle.ground_refusal.specs.declared.Refusal.{Refusal}
 use Rattle.ground_placing.specs.Placed.{placed}
 use Rattle.ground_refusal.specs.declared.Refusal.TheVariants.{ImpossibleState, TeachingBufferFull}
 use Rattle.gathering_state.specs.State.{has_room}
 use Rattle.gathering_feed.specs.declared.Answer.{Answer}
-use Rattle.gathering_feed.specs.declared.Answer.TheVariants.{Refused}
 use Rattle.gathering_account.specs.Answering.{answer_to}
 use Rattle.teaching_rows.specs.Rows.{length_bytes, row, whole_in_use}
 use Rattle.teaching_table.specs.Table.{account_in}
@@ -16,10 +16,10 @@ row_fits room used n = leb (used + (length_bytes + n)) room
 
 -- "37 teaching buffer full, before all others"; "Else, if they are no whole row of length and string: 12, before 1 to 7"; else the answer of the account of
 -- what is kept, "told the quick one's store length"
-unfoldable pub answer_of : List ℕ → ℕ → ℕ → List ℕ → Answer
+unfoldable pub answer_of : List ℕ → ℕ → ℕ → List ℕ → Result Answer Refusal
 answer_of buffer used store s =
-    if not (row_fits (length buffer) used (length s)) then Refused TeachingBufferFull else
-    if not (whole_in_use buffer used) then Refused ImpossibleState else
+    if not (row_fits (length buffer) used (length s)) then Err TeachingBufferFull else
+    if not (whole_in_use buffer used) then Err ImpossibleState else
     answer_to (has_room store) (account_in store (take used buffer)) s
 
 -- "Every fed string that fits is kept in the teaching buffer, [..] refused ones and repeats too; one answered 37 is not kept", nor is one answered 12

@@ -13,79 +13,72 @@ ghost use Rattle.teaching_feed.specs.Feeding.{row_fits, taught_of, buffer_after}
 
 use gathering_feed::Answer;
 use ground_refusal::Refusal;
-use section_reader::{Heading, Sectioned};
+use section_reader::Heading;
 use teaching_rows::LENGTH_BYTES;
-use teaching_table::Fixed;
 
 // The answer, and how many bytes are in use after it.
 #[derive(Clone, Copy)]
 pub struct Taught {
-    pub answer: Answer,
+    pub answer: Result<Answer, Refusal>,
     pub used: usize,
 }
 
 // ---- the answer: `rows` are the strings kept before
 
 // A section that begins its table: 10, or it is taken.
-fn answer_of_first(store: usize, h: Heading) -> Answer
+fn answer_of_first(store: usize, h: Heading) -> Result<Answer, Refusal>
     ensures { result ≡ answer_of_first (has_room store) h }
 {
     if !gathering_state::has_room(store, h.last) {
-        return Answer::Refused(Refusal::StoreTooShort);
+        return Err(Refusal::StoreTooShort);
     }
-    Answer::Taken
+    Ok(Answer::Taken)
 }
 
 // A section of the fixed table t, whose strings are `rows`: 11, held already, or taken.
-fn answer_of_table(rows: &[u8], t: Heading, k: u8, s: &[u8]) -> Answer
+fn answer_of_table(rows: &[u8], t: Heading, k: u8, s: &[u8]) -> Result<Answer, Refusal>
     requires { 12 ≤ length s.now }
     ensures { result ≡ answer_of_table (sections_of_table t (strings_in rows.now)) (section k (payload_of s.now)) }
 {
     let end = s.len() - 4;
     if teaching_questions::differs_from_one(rows, t, k, &s[8..end]) {
-        return Answer::Refused(Refusal::Contradiction);
+        return Err(Refusal::Contradiction);
     }
     if !teaching_questions::agree(rows, t) {
-        return Answer::Refused(Refusal::Contradiction);
+        return Err(Refusal::Contradiction);
     }
     if teaching_questions::has_come(rows, t, k) {
-        return Answer::HeldAlready;
+        return Ok(Answer::HeldAlready);
     }
-    Answer::Taken
+    Ok(Answer::Taken)
 }
 
 // A good, current section: 9, 10, 11, in this order.
-fn answer_of_good(rows: &[u8], store: usize, h: Heading, s: &[u8]) -> Answer
+fn answer_of_good(rows: &[u8], store: usize, h: Heading, s: &[u8]) -> Result<Answer, Refusal>
     requires { (h.version < 256) × (12 ≤ length s.now) }
     ensures { result ≡ answer_of_good (has_room store) (account_in store rows.now) h (payload_of s.now) }
 {
-    match teaching_table::fixed_table(rows, store) {
-        Fixed::Nothing => answer_of_first(store, h),
-        Fixed::Table(t, from) => {
-            if gathering_tables::is_newer(t, h) {
-                return answer_of_first(store, h);
-            }
-            if !gathering_tables::same_table(t, h) {
-                return Answer::Refused(Refusal::OtherHeading);
-            }
-            answer_of_table(&rows[from..], t, h.number, s)
-        }
+    let Some((t, from)) = teaching_table::fixed_table(rows, store) else {
+        return answer_of_first(store, h);
+    };
+    if gathering_tables::is_newer(t, h) {
+        return answer_of_first(store, h);
     }
+    if !gathering_tables::same_table(t, h) {
+        return Err(Refusal::OtherHeading);
+    }
+    answer_of_table(&rows[from..], t, h.number, s)
 }
 
 // Any byte string: 1 to 7, then 8, then the rest.
-fn answer_to(rows: &[u8], store: usize, s: &[u8]) -> Answer
+fn answer_to(rows: &[u8], store: usize, s: &[u8]) -> Result<Answer, Refusal>
     ensures { result ≡ answer_to (has_room store) (account_in store rows.now) s.now }
 {
-    match section_reader::read_section(s) {
-        Sectioned::Refused(r) => Answer::Refused(r),
-        Sectioned::Good(h, _length) => {
-            if !h.current {
-                return Answer::Refused(Refusal::NotCurrent);
-            }
-            answer_of_good(rows, store, h, s)
-        }
+    let (h, _length) = section_reader::read_section(s)?;
+    if !h.current {
+        return Err(Refusal::NotCurrent);
     }
+    answer_of_good(rows, store, h, s)
 }
 
 // ---- keeping
@@ -94,14 +87,8 @@ fn answer_to(rows: &[u8], store: usize, s: &[u8]) -> Answer
 fn row_fits(room: usize, used: usize, n: usize) -> bool
     ensures { result ≡ row_fits room used n }
 {
-    if room < used {
-        return false;
-    }
-    let left = room - used;
-    if left < LENGTH_BYTES {
-        return false;
-    }
-    n <= left - LENGTH_BYTES
+    let left = room.saturating_sub(used);
+    LENGTH_BYTES <= left && n <= left - LENGTH_BYTES
 }
 
 // One byte string is fed. Its row stands after the bytes in use, whatever the answer, but after 37 and 12, which change nothing.
@@ -111,20 +98,20 @@ pub fn feed(buffer: &mut [u8], used: usize, store: usize, s: &[u8]) -> Taught
 {
     if !row_fits(buffer.len(), used, s.len()) {
         return Taught {
-            answer: Answer::Refused(Refusal::TeachingBufferFull),
-            used: used,
+            answer: Err(Refusal::TeachingBufferFull),
+            used,
         };
     }
     if !teaching_rows::in_use(buffer, used) {
         return Taught {
-            answer: Answer::Refused(Refusal::ImpossibleState),
-            used: used,
+            answer: Err(Refusal::ImpossibleState),
+            used,
         };
     }
     let answer = answer_to(&buffer[..used], store, s);
     teaching_rows::put_row(buffer, used, s);
     Taught {
-        answer: answer,
+        answer,
         used: used + LENGTH_BYTES + s.len(),
     }
 }

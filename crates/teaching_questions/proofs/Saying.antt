@@ -1,60 +1,56 @@
 -- Laws of one byte string: what is said of it tells what was heard, and what it is to a table.
-use Prim.Native.Nat.{ℕ, ◌+◌, ◌-◌, ◌≤◌, ◌<◌}
-use mathlib.Core.Bool.{Bool, true, false, not, ◌||◌, false≢true}
+use Prim.Native.Nat.{ℕ, ◌-◌, ◌≤◌, ◌<◌}
+use Rattle.std.specs.Prelude.{Result, Ok, Err, Option, Some, None, is_some}
+use Rattle.std.specs.Result.{result_ok}
+use mathlib.Core.Bool.{Bool, true, false, false≢true}
 use mathlib.Core.List.{List, [], ◌∷◌}
 use mathlib.Core.Path.{◌≡◌, refl, sym, ap, ◌∙◌}
 use native.Mathlib.Omega.{arith}
-use borrow.Author.Tests.{eq-eqb, eqb-true, ne_eqb}
-use lib.Dec.{eqb}
-use lib.ListN.{length, take, drop}
-use Rattle.ground_choices.proofs.Tests.{met, unmet}
+use lib.ListN.{length, take, drop, length-drop}
+use lib.Seq.{length-take-le}
 use Rattle.ground_refusal.specs.declared.Refusal.{Refusal}
-use Rattle.ground_equal.specs.Same.{same_bytes}
+use Rattle.ground_numbers.specs.Sizes.{payload_most}
 use Rattle.section_reader.specs.Section.{payload_of, read_section, heading_of}
 use Rattle.section_reader.specs.declared.Heading.{Heading}
-use Rattle.section_reader.specs.declared.Sectioned.TheVariants.{Good, Refused}
 use Rattle.section_reader.proofs.Accepting.{accepted, framed_long}
 use Rattle.gathering_tables.specs.Tables.{same_table}
-use Rattle.gathering_account.specs.Account.{Heard, nothing, good_current, heard, Section as Carried}
+use Rattle.gathering_account.specs.Account.{Heard, nothing, good_current, heard}
 use Rattle.gathering_account.specs.Latest.{section_of_table}
-use Rattle.gathering_account.specs.Answering.{present, contradicts, differs}
 use Rattle.gathering_account.proofs.Hearing.{ReadAs, as_good, as_bad, read_as, heard_bad, heard_old, heard_good}
 use Rattle.teaching_questions.specs.Questions.{said, section}
-use Rattle.teaching_questions.specs.declared.Said.{Said}
-use Rattle.teaching_questions.specs.declared.Said.TheVariants.{Nothing, Section}
 
 -- ---- said and heard
 
 module _ (s : List ℕ) where
-  pub say_bad : (r : Refusal) → read_section s ≡ Refused r → Nothing ≡ said (heard s)
+  pub say_bad : (r : Refusal) → read_section s ≡ Err r → None ≡ said (heard s)
   unfolding said
   say_bad r e = sym (ap said (heard_bad s r e))
 
-  module _ (h : Heading) (n : ℕ) (e : read_section s ≡ Good h n) where
-    pub say_old : h.current ≡ false → Nothing ≡ said (heard s)
+  module _ (h : Heading) (n : ℕ) (e : read_section s ≡ Ok (h, n)) where
+    pub say_old : h.current ≡ false → None ≡ said (heard s)
     unfolding said
     say_old c = sym (ap said (heard_old s h n e c))
 
-    pub say_good : h.current ≡ true → Section h ≡ said (heard s)
+    pub say_good : h.current ≡ true → Some h ≡ said (heard s)
     unfolding said
     say_good c = sym (ap said (heard_good s h n e c))
 
 -- a good, current section: how it was read, and what is known of it
 pub record Current (s : List ℕ) (h : Heading) : Type 0 where
-  pub reads : read_section s ≡ Good h (length s - 12)
+  pub reads : read_section s ≡ Ok (h, length s - 12)
   pub current : h.current ≡ true
   pub is : heard s ≡ good_current h (payload_of s)
   pub long : 12 ≤ length s
   pub short : length s ≤ 4096
   pub versioned : h.version < 256
 
-current_good : (s : List ℕ) (h : Heading) (n : ℕ) → read_section s ≡ Good h n → h.current ≡ true → Current s h
+current_good : (s : List ℕ) (h : Heading) (n : ℕ) → read_section s ≡ Ok (h, n) → h.current ≡ true → Current s h
 unfolding heading_of
 current_good s h n e c =
     let a = accepted s h n e in
     let l = framed_long s a.framed in
     record {
-      reads = e ∙ ap (Good h) a.size;
+      reads = e ∙ ap (λ b. Ok (h, b)) a.size;
       current = c;
       is = heard_good s h n e c;
       long = l.0;
@@ -62,34 +58,51 @@ current_good s h n e c =
       versioned = rw a.heading (omega arith);
     }
 
-none_said : {A : Type 0} (h : Heading) → Nothing ≡ Section h → A
-none_said h e = let z : ◌≡◌ {A = ℕ} 0 1 = cc in absurd (omega arith)
+none_said : {A B : Type 0} {x : B} → None ≡ Some x → A
+none_said e = absurd (false≢true (ap is_some e))
+
+abbrev held_or : {A : Type 0} → A → Option A → A
+held_or x None = x
+held_or x (Some y) = y
+
+some_inj : {A : Type 0} {x y : A} → ◌≡◌ {A = Option A} (Some x) (Some y) → x ≡ y
+some_inj {x = x} e = ap (held_or x) e
+
+-- what was read, where only a good answer is kept
+module _ (s : List ℕ) where
+  pub read_nothing : (r : Result (Heading × ℕ) Refusal) → r ≡ read_section s → None ≡ result_ok r → None ≡ said (heard s)
+  read_nothing (Err why) e q = say_bad s why (sym e)
+  read_nothing (Ok x) e q = none_said q
+
+  pub read_good : (r : Result (Heading × ℕ) Refusal) → r ≡ read_section s → (x : Heading × ℕ) → Some x ≡ result_ok r → read_section s ≡ Ok x
+  read_good (Err why) e x q = none_said (sym q)
+  read_good (Ok y) e x q = sym e ∙ ap Ok (sym (some_inj q))
 
 module _ (s : List ℕ) where
-  pub said_section : (h : Heading) → said (heard s) ≡ Section h → Current s h
+  pub said_section : (h : Heading) → said (heard s) ≡ Some h → Current s h
   unfolding said
   said_section h q = go (read_as s)
     where
       go : ReadAs s → Current s h
-      go (as_bad r e) = none_said h (say_bad s r e ∙ q)
+      go (as_bad r e) = none_said (say_bad s r e ∙ q)
       go (as_good h' n e) = by h'.current refl
         where
           by : (c : Bool) → h'.current ≡ c → Current s h
-          by false c = none_said h (say_old s h' n e c ∙ q)
+          by false c = none_said (say_old s h' n e c ∙ q)
           by true c = let same : h' ≡ h = let f = say_good s h' n e c ∙ q in cc in rw same at (current_good s h' n e c)
 
-  pub said_nothing : said (heard s) ≡ Nothing → heard s ≡ nothing
+  pub said_nothing : said (heard s) ≡ None → heard s ≡ nothing
   unfolding said
   said_nothing q = go (heard s) refl q
     where
-      go : (x : Heard) → heard s ≡ x → said x ≡ Nothing → heard s ≡ nothing
+      go : (x : Heard) → heard s ≡ x → said x ≡ None → heard s ≡ nothing
       go nothing e f = e
-      go (good_current h p) e f = none_said h (sym f)
+      go (good_current h p) e f = none_said (sym f)
 
 -- ---- what it is to a table
 
 module _ (t : Heading) (s : List ℕ) where
-  pub nothing_section : said (heard s) ≡ Nothing → section_of_table t (heard s) ≡ []
+  pub nothing_section : said (heard s) ≡ None → section_of_table t (heard s) ≡ []
   unfolding section_of_table
   nothing_section q = ap (section_of_table t) (said_nothing s q)
 
@@ -102,63 +115,13 @@ module _ (t : Heading) (s : List ℕ) where
     unfolding section_of_table
     own_section e = ap (section_of_table t) c.is ∙ rw e
 
--- ---- one section, by its number
+-- ---- its payload
 
-pub present_none : (k : ℕ) (X : List Carried) → X ≡ [] → false ≡ present k X
-unfolding present
-present_none k X e = rw e
-
-or_false : (b : Bool) → b ≡ b || false
-or_false true = refl
-or_false false = refl
-
-pub present_one : (k n : ℕ) (p : List ℕ) (X : List Carried) → X ≡ section n p ∷ [] → eqb n k ≡ present k X
-unfolding present
-present_one k n p X e = rw e (or_false (eqb n k))
-
--- the section of number k that a string is to a table
-pub record Numbered (t : Heading) (s : List ℕ) (k : ℕ) : Type 0 where
-  pub is : section_of_table t (heard s) ≡ section k (payload_of s) ∷ []
-  pub long : 12 ≤ length s
-  pub short : length s ≤ 4096
-
-module _ (t : Heading) (s : List ℕ) (k : ℕ) (e : present k (section_of_table t (heard s)) ≡ true) where
-  absent : {A : Type 0} → section_of_table t (heard s) ≡ [] → A
-  absent q = absurd (false≢true (present_none k _ q ∙ e))
-
-  pub numbered : Numbered t s k
-  numbered = go (said (heard s)) refl
-    where
-      go : (x : Said) → said (heard s) ≡ x → Numbered t s k
-      go Nothing q = absent (nothing_section t s q)
-      go (Section h) q = by (same_table t h) refl (said_section s h q)
-        where
-          by : (b : Bool) → same_table t h ≡ b → Current s h → Numbered t s k
-          by false b c = absent (other_section t s h c b)
-          by true b c =
-              let own = own_section t s h c b in
-              let n : h.number ≡ k = eqb-true _ _ (present_one k h.number (payload_of s) _ own ∙ e) in
-              record { is = own ∙ ap (λ m. section m (payload_of s) ∷ []) n; long = c.long; short = c.short }
-
--- ---- one section, against another
-
-eqb_swap : (a b : ℕ) → eqb a b ≡ false → eqb b a ≡ false
-eqb_swap a b e = ne_eqb b a (λ q. false≢true (sym e ∙ eq-eqb a b (sym q)))
-
-neither : (a b : Bool) → a || b ≡ false → (a ≡ false) × (b ≡ false)
-neither true b e = (e, absurd (false≢true (sym e)))
-neither false b e = (refl, e)
-
-pub differs_absent : (k : ℕ) (p : List ℕ) (S : List Carried) → present k S ≡ false → false ≡ differs (section k p) S
-unfolding present differs contradicts
-differs_absent k p [] e = refl
-differs_absent k p (x ∷ S) e = let n = neither (eqb x.number k) (present k S) e in rw (eqb_swap x.number k n.0) (differs_absent k p S n.1)
-
-pub differs_one : (k : ℕ) (p q : List ℕ) (X : List Carried) → X ≡ section k q ∷ [] → not (same_bytes p q) ≡ differs (section k p) X
-unfolding differs contradicts
-differs_one k p q X e = rw (e, eq-eqb k k refl) (or_false (not (same_bytes p q)))
-
--- the payload, as the code cuts it out
+-- as the code cuts it out
 pub payload_part : (s : List ℕ) → take (length s - 4 - 8) (drop 8 s) ≡ payload_of s
 unfolding payload_of
 payload_part s = let e : length s - 4 - 8 ≡ length s - 12 = omega arith in rw e
+
+pub payload_short : (s : List ℕ) → 12 ≤ length s → length s ≤ 4096 → length (payload_of s) ≤ payload_most
+unfolding payload_of
+payload_short s l h = omega (arith, length-take-le (length s - 12) (drop 8 s) (omega (arith, length-drop 8 s)))

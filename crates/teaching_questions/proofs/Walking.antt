@@ -1,78 +1,123 @@
--- Laws of a walk along rows: what a question tells of the sections still to come is what it tells of all.
-use Prim.Native.Nat.{ℕ, ◌+◌, ◌-◌, ◌≤◌, ◌<◌}
-use mathlib.Core.Bool.{Bool, true, false, not, ◌||◌, ◌&&◌}
+-- Laws of a walk along rows: the sections of a table among them, one string at a time, and what is told of them all.
+use Prim.Native.Nat.{ℕ, ◌-◌, ◌≤◌}
+use mathlib.Core.Bool.{Bool, true, false, not, ◌&&◌, cond}
 use mathlib.Core.List.{List, [], ◌∷◌, ◌++◌, append-nil}
 use mathlib.Core.Path.{◌≡◌, refl, sym, ap, ◌∙◌}
 use native.Mathlib.Omega.{arith}
 use lib.Dec.{eqb}
-use lib.ListN.{drop}
+use lib.ListN.{length, take, drop, length-drop}
+use lib.Seq.{take_all}
+use Rattle.std.specs.Prelude.{Option, Some, None, if◌then◌else◌}
+use Rattle.std.specs.List.{list_any, find}
+use Rattle.ground_numbers.specs.Sizes.{payload_most}
+use Rattle.section_reader.specs.Section.{payload_of}
 use Rattle.section_reader.specs.declared.Heading.{Heading}
-use Rattle.gathering_account.specs.Account.{heard, Section as Carried}
+use Rattle.gathering_tables.specs.Tables.{same_table}
+use Rattle.gathering_account.specs.Account.{heard, Section as Carried, contents_of}
 use Rattle.gathering_account.specs.Latest.{section_of_table, sections_of_table}
-use Rattle.gathering_account.specs.Answering.{present, contradicts, differs}
+use Rattle.gathering_account.specs.Answering.{present, contradicts, differs, agreeing}
 use Rattle.gathering_account.proofs.Latest.{sections_append}
-use Rattle.teaching_rows.specs.Rows.{row_begins, strings_in, RowEnd}
-use Rattle.teaching_rows.proofs.Rows.{string_at, row_strings, strings_none}
+use Rattle.teaching_rows.specs.Rows.{row_begins, strings_in, FirstRow}
+use Rattle.teaching_rows.proofs.Rows.{row_strings, strings_none}
+use Rattle.teaching_questions.specs.Questions.{said}
+use Rattle.teaching_questions.proofs.Saying.{Current, said_section, nothing_section, other_section, own_section, payload_short}
 
--- the sections of t's table among the rows from a place on
-abbrev pub sections_at : Heading → List ℕ → ℕ → List Carried
-sections_at t b at = sections_of_table t (strings_in (drop at b))
+-- ---- one row
 
-module _ (t : Heading) (b : List ℕ) (at : ℕ) where
-  pub sections_here : row_begins (drop at b) ≡ true → (end : ℕ) → RowEnd b at end
-      → sections_at t b at ≡ section_of_table t (heard (string_at b at end)) ++ sections_at t b end
+abbrev pub sections_in : Heading → List ℕ → List Carried
+sections_in t b = sections_of_table t (strings_in b)
+
+module _ (t : Heading) {b s after : List ℕ} (r : FirstRow b s after) where
+  pub sections_here : sections_in t b ≡ section_of_table t (heard s) ++ sections_in t after
   unfolding sections_of_table
-  sections_here e end r = ap (sections_of_table t) (row_strings b at e end r)
+  sections_here = ap (sections_of_table t) (row_strings r)
 
-  pub sections_end : row_begins (drop at b) ≡ false → sections_at t b at ≡ []
-  unfolding sections_of_table
-  sections_end e = ap (sections_of_table t) (strings_none (drop at b) e)
+  pub sections_past : section_of_table t (heard s) ≡ [] → sections_in t after ≡ sections_in t b
+  sections_past e = sym (sections_here ∙ ap (λ X. X ++ sections_in t after) e)
 
--- ---- sections of more strings
+  pub sections_next : (x : Carried) → section_of_table t (heard s) ≡ x ∷ [] → sections_in t b ≡ x ∷ sections_in t after
+  sections_next x e = sections_here ∙ ap (λ X. X ++ sections_in t after) e
+
+pub sections_end : (t : Heading) (b : List ℕ) → row_begins b ≡ false → sections_in t b ≡ []
+unfolding sections_of_table
+sections_end t b e = ap (sections_of_table t) (strings_none b e)
 
 pub sections_more : (t : Heading) (xs : List (List ℕ)) (s : List ℕ) → sections_of_table t (xs ++ s ∷ []) ≡ sections_of_table t xs ++ section_of_table t (heard s)
 unfolding sections_of_table
 sections_more t xs s = sections_append t xs (s ∷ []) ∙ ap (λ S. sections_of_table t xs ++ S) (append-nil (section_of_table t (heard s)))
 
--- ---- a question whether some section has a property
+-- the rest of the bytes, as the code cuts it off
+pub to_end : (b : List ℕ) (at : ℕ) → take (length b - at) (drop at b) ≡ drop at b
+to_end b at = take_all (length b - at) (drop at b) (omega (arith, length-drop at b))
 
--- what holds of some of two lists together holds of some of the first, or of the second
-pub record Some (P : List Carried → Bool) : Type 0 where
-  pub none : P [] ≡ false
-  pub either : (X S : List Carried) → P (X ++ S) ≡ P X || P S
+-- ---- questions of all sections, as std asks them
 
-module _ {P : List Carried → Bool} (some : Some P) (t : Heading) (b : List ℕ) (at : ℕ) (inv : P (sections_at t b at) ≡ P (sections_at t b 0)) where
-  pub some_end : row_begins (drop at b) ≡ false → false ≡ P (sections_at t b 0)
-  some_end e = sym some.none ∙ ap P (sym (sections_end t b at e)) ∙ inv
-
-  module _ (e : row_begins (drop at b) ≡ true) (end : ℕ) (r : RowEnd b at end) (x : Bool) (q : x ≡ P (section_of_table t (heard (string_at b at end)))) where
-    here : P (sections_at t b at) ≡ x || P (sections_at t b end)
-    here = ap P (sections_here t b at e end r) ∙ some.either _ (sections_at t b end) ∙ ap (λ y. y || P (sections_at t b end)) (sym q)
-
-    pub some_found : x ≡ true → true ≡ P (sections_at t b 0)
-    some_found f = ap (λ y. y || P (sections_at t b end)) (sym f) ∙ sym here ∙ inv
-
-    pub some_on : x ≡ false → P (sections_at t b end) ≡ P (sections_at t b 0)
-    some_on f = ap (λ y. y || P (sections_at t b end)) (sym f) ∙ sym here ∙ inv
-
-or_assoc : (a b c : Bool) → a || (b || c) ≡ a || b || c
-or_assoc true b c = refl
-or_assoc false b c = refl
-
-present_either : (k : ℕ) (X S : List Carried) → present k (X ++ S) ≡ present k X || present k S
+pub present_any : (k : ℕ) (S : List Carried) → list_any (λ x. eqb x.number k) S ≡ present k S
 unfolding present
-present_either k [] S = refl
-present_either k (x ∷ X) S = rw (present_either k X S) (or_assoc (eqb x.number k) (present k X) (present k S))
+present_any k [] = refl
+present_any k (x ∷ S) = rw (present_any k S)
 
-pub some_present : (k : ℕ) → Some (present k)
-unfolding present
-some_present k = record { none = refl; either = present_either k }
-
-differs_either : (x : Carried) (X S : List Carried) → differs x (X ++ S) ≡ differs x X || differs x S
+pub differs_any : (x : Carried) (S : List Carried) → list_any (contradicts x) S ≡ differs x S
 unfolding differs
-differs_either x [] S = refl
-differs_either x (y ∷ X) S = rw (differs_either x X S) (or_assoc (contradicts x y) (differs x X) (differs x S))
+differs_any x [] = refl
+differs_any x (y ∷ S) = rw (differs_any x S)
 
-pub some_differs : (x : Carried) → Some (differs x)
-unfolding differs
-some_differs x = record { none = refl; either = differs_either x }
+abbrev pub contents_held : Option Carried → List ℕ
+contents_held None = []
+contents_held (Some x) = x.contents
+
+pub contents_find : (k : ℕ) (S : List Carried) → contents_held (find (λ x. eqb x.number k) S) ≡ contents_of k S
+unfolding contents_of
+contents_find k [] = refl
+contents_find k (x ∷ S) = go (eqb x.number k) (contents_find k S)
+  where
+    go : (b : Bool) → contents_held (find (λ y. eqb y.number k) S) ≡ contents_of k S
+        → contents_held (cond b (Some x) (find (λ y. eqb y.number k) S)) ≡ (if b then x.contents else contents_of k S)
+    go true e = refl
+    go false e = e
+
+-- ---- contents are short
+
+module _ (t : Heading) (k : ℕ) where
+  short_one : (s : List ℕ) (S : List Carried) → length (contents_of k S) ≤ payload_most
+      → length (contents_of k (section_of_table t (heard s) ++ S)) ≤ payload_most
+  unfolding contents_of
+  short_one s S h = go (said (heard s)) refl
+    where
+      none : section_of_table t (heard s) ≡ [] → length (contents_of k (section_of_table t (heard s) ++ S)) ≤ payload_most
+      none e = rw e h
+
+      go : (x : Option Heading) → said (heard s) ≡ x → length (contents_of k (section_of_table t (heard s) ++ S)) ≤ payload_most
+      go None q = none (nothing_section t s q)
+      go (Some u) q = by (same_table t u) refl (said_section s u q)
+        where
+          by : (b : Bool) → same_table t u ≡ b → Current s u → length (contents_of k (section_of_table t (heard s) ++ S)) ≤ payload_most
+          by false b c = none (other_section t s u c b)
+          by true b c = rw (own_section t s u c b) (pick (eqb u.number k) (payload_short s c.long c.short))
+            where
+              pick : (y : Bool) → length (payload_of s) ≤ payload_most → length (if y then payload_of s else contents_of k S) ≤ payload_most
+              pick true l = l
+              pick false l = h
+
+  pub contents_short : (kept : List (List ℕ)) → length (contents_of k (sections_of_table t kept)) ≤ payload_most
+  unfolding contents_of sections_of_table
+  contents_short [] = omega arith
+  contents_short (s ∷ kept) = short_one s (sections_of_table t kept) (contents_short kept)
+
+-- ---- whether no two of one number differ
+
+-- by the first of them, and whether it differs from one of the others
+module _ (x : Carried) (S T : List Carried) (d a : Bool) (e : T ≡ x ∷ S) (q : d ≡ differs x S) (inv : agreeing T ≡ a) where
+  here : not d && agreeing S ≡ a
+  unfolding agreeing
+  here = ap (λ y. not y && agreeing S) q ∙ sym (ap agreeing e) ∙ inv
+
+  pub agree_clash : d ≡ true → false ≡ a
+  agree_clash f = ap (λ y. not y && agreeing S) (sym f) ∙ here
+
+  pub agree_on : d ≡ false → agreeing S ≡ a
+  agree_on f = ap (λ y. not y && agreeing S) (sym f) ∙ here
+
+pub agree_end : (S : List Carried) (a : Bool) → S ≡ [] → agreeing S ≡ a → true ≡ a
+unfolding agreeing
+agree_end S a e inv = sym (ap agreeing e) ∙ inv

@@ -1,173 +1,137 @@
 // The questions of the slow gathering, a function for each: every one is answered by reading the kept strings from the beginning.
 #![tactic(auto)]
 
-ghost use Rattle.std.specs.Prelude.{◌≡◌, ◌+◌};
+ghost use Rattle.std.specs.Prelude.{[], ◌∷◌, ◌≡◌, ◌+◌, ◌≤◌, length, MatchOption};
+ghost use Rattle.std.specs.Iterator.{YieldsFirstBy, item_count};
+ghost use Rattle.ground_numbers.specs.Sizes.{payload_most};
 ghost use Rattle.teaching_rows.specs.Rows.{strings_in};
-ghost use Rattle.gathering_account.specs.Account.{heard};
+ghost use Rattle.gathering_account.specs.Account.{heard, contents_of};
 ghost use Rattle.gathering_account.specs.Latest.{section_of_table, sections_of_table};
 ghost use Rattle.gathering_account.specs.Answering.{present, differs, agreeing};
-ghost use Rattle.teaching_questions.specs.Questions.{said, section, clashes, Undisputed, absent_from, absent_count, Contents};
+ghost use Rattle.teaching_questions.specs.Questions.{said, section, clashes, Undisputed, absent_from, absent_count, carried, sections_left};
 
-use section_reader::{Heading, Sectioned};
-use teaching_rows::LENGTH_BYTES;
+use section_reader::Heading;
 
-// What is heard of a byte string: a good, current section with its heading, or nothing.
+// A section of a table, as it stands among the kept strings.
 #[derive(Clone, Copy)]
-pub enum Said {
-    Nothing,
-    Section(Heading),
-}
-
-// Where the contents of a section stand among the rows.
-#[derive(Clone, Copy)]
-pub struct Place {
-    pub start: usize,
-    pub end: usize,
+struct Section<'a> {
+    number: u8,
+    payload: &'a [u8],
 }
 
 // ---- one byte string
 
 // "A section is good if none of 1 to 7 applies, and current if 8 doesn't": what is heard of it?
-pub fn hear(s: &[u8]) -> Said
+pub fn hear(s: &[u8]) -> Option<Heading>
     ensures { result ≡ said (heard s.now) }
 {
-    match section_reader::read_section(s) {
-        Sectioned::Refused(_why) => Said::Nothing,
-        Sectioned::Good(h, _length) => {
-            if h.current {
-                Said::Section(h)
-            } else {
-                Said::Nothing
-            }
-        }
-    }
+    let (h, _length) = section_reader::read_section(s).ok()?;
+    if h.current { Some(h) } else { None }
 }
 
-// Is it the section of number k of the table t?
-fn is_number(t: Heading, s: &[u8], k: u8) -> bool
-    ensures { result ≡ present k (section_of_table t (heard s.now)) }
+// Which section of the table t is it, if it is one?
+fn section_of(t: Heading, s: &[u8]) -> Option<Section>
+    ensures { MatchOption result (section_of_table t (heard s.now) ≡ []) (λ x. section_of_table t (heard s.now) ≡ carried x ∷ []) }
 {
-    match hear(s) {
-        Said::Nothing => false,
-        Said::Section(h) => {
-            if !gathering_tables::same_table(t, h) {
-                return false;
-            }
-            h.number == k
-        }
-    }
-}
-
-// "same heading and number, other payload": is it a section of the table t with this number and another payload?
-fn contradicts(t: Heading, s: &[u8], k: u8, payload: &[u8]) -> bool
-    ensures { result ≡ differs (section k payload.now) (section_of_table t (heard s.now)) }
-{
-    if !is_number(t, s, k) {
-        return false;
+    let h = hear(s)?;
+    if !gathering_tables::same_table(t, h) {
+        return None;
     }
     let end = s.len() - 4;
-    !ground_equal::same_bytes(payload, &s[8..end])
+    Some(Section {
+        number: h.number,
+        payload: &s[8..end],
+    })
 }
 
 // ---- the sections of a table: `rows` are the kept strings from the one on that began it
+
+// Those still to come.
+#[derive(Clone, Copy)]
+struct Sections<'a> {
+    table: Heading,
+    rows: &'a [u8],
+}
+
+impl<'a> Iterator for Sections<'a> {
+    type Item = Section<'a>;
+
+    ghost next_gives = { YieldsFirstBy carried sections_left };
+
+    ghost remaining = { item_count sections_left };
+
+    fn next(&mut self) -> Option<Section<'a>> {
+        while let Some((s, after)) = teaching_rows::split_row(self.rows) {
+            self.rows = after;
+            if let Some(x) = section_of(self.table, s) {
+                return Some(x);
+            }
+        }
+        None
+    }
+}
 
 // Has the section of number k come?
 pub fn has_come(rows: &[u8], t: Heading, k: u8) -> bool
     ensures { result ≡ present k (sections_of_table t (strings_in rows.now)) }
 {
-    let mut at: usize = 0;
-    while teaching_rows::row_begins(rows, at) {
-        let end = teaching_rows::row_end(rows, at);
-        let start = at + LENGTH_BYTES;
-        if is_number(t, &rows[start..end], k) {
-            return true;
-        }
-        at = end;
-    }
-    false
+    Sections { table: t, rows }.any(|x| x.number == k)
 }
 
-// Has one of number k come with another payload?
+// "same heading and number, other payload": has one of number k come with another payload?
 pub fn differs_from_one(rows: &[u8], t: Heading, k: u8, payload: &[u8]) -> bool
     ensures { result ≡ differs (section k payload.now) (sections_of_table t (strings_in rows.now)) }
 {
-    let mut at: usize = 0;
-    while teaching_rows::row_begins(rows, at) {
-        let end = teaching_rows::row_end(rows, at);
-        let start = at + LENGTH_BYTES;
-        if contradicts(t, &rows[start..end], k, payload) {
-            return true;
-        }
-        at = end;
-    }
-    false
-}
-
-// Does the string contradict one of the others?
-fn contradicts_one(t: Heading, s: &[u8], others: &[u8]) -> bool
-    ensures { result ≡ clashes t s.now (strings_in others.now) }
-{
-    match hear(s) {
-        Said::Nothing => false,
-        Said::Section(h) => {
-            if !gathering_tables::same_table(t, h) {
-                return false;
-            }
-            let end = s.len() - 4;
-            differs_from_one(others, t, h.number, &s[8..end])
-        }
-    }
+    Sections { table: t, rows }.any(|x| k == x.number
+        && !ground_equal::same_bytes(payload, x.payload))
 }
 
 // "no two of one number differ": is it so?
 pub fn agree(rows: &[u8], t: Heading) -> bool
     ensures { result ≡ agreeing (sections_of_table t (strings_in rows.now)) }
 {
-    let mut at: usize = 0;
-    while teaching_rows::row_begins(rows, at) {
-        let end = teaching_rows::row_end(rows, at);
-        let start = at + LENGTH_BYTES;
-        if contradicts_one(t, &rows[start..end], &rows[end..]) {
+    let mut left = Sections { table: t, rows };
+    while let Some(x) = left.next() {
+        if differs_from_one(left.rows, left.table, x.number, x.payload) {
             return false;
         }
-        at = end;
     }
     true
+}
+
+// Does the string contradict one of the others?
+fn contradicts_one(t: Heading, s: &[u8], others: &[u8]) -> bool
+    ensures { result ≡ clashes t s.now (strings_in others.now) }
+{
+    let Some(x) = section_of(t, s) else {
+        return false;
+    };
+    differs_from_one(others, t, x.number, x.payload)
 }
 
 // Where does the first string stand that contradicts one of those before it? Where the rows end, if none does.
 pub fn first_contradiction(rows: &[u8], t: Heading) -> usize
     ensures { Undisputed rows.now t result }
 {
-    let mut at: usize = 0;
-    while teaching_rows::row_begins(rows, at) {
-        let end = teaching_rows::row_end(rows, at);
-        let start = at + LENGTH_BYTES;
-        if contradicts_one(t, &rows[start..end], &rows[..at]) {
-            return at;
+    let mut rest = rows;
+    while let Some((s, after)) = teaching_rows::split_row(rest) {
+        let passed = rows.len() - rest.len();
+        if contradicts_one(t, s, &rows[..passed]) {
+            return passed;
         }
-        at = end;
+        rest = after;
     }
-    at
+    rows.len() - rest.len()
 }
 
-// Where do the contents of number k stand? Nowhere, and they are empty, if it has not come.
-pub fn contents_of(rows: &[u8], t: Heading, k: u8) -> Place
-    ensures { Contents rows.now k (sections_of_table t (strings_in rows.now)) result.start result.end }
+// The contents of number k: empty, if it has not come.
+pub fn contents_of(rows: &[u8], t: Heading, k: u8) -> &[u8]
+    ensures { (result.now ≡ contents_of k (sections_of_table t (strings_in rows.now))) × (length result.now ≤ payload_most) }
 {
-    let mut at: usize = 0;
-    while teaching_rows::row_begins(rows, at) {
-        let end = teaching_rows::row_end(rows, at);
-        let start = at + LENGTH_BYTES;
-        if is_number(t, &rows[start..end], k) {
-            return Place {
-                start: start + 8,
-                end: end - 4,
-            };
-        }
-        at = end;
-    }
-    Place { start: 0, end: 0 }
+    let Some(x) = Sections { table: t, rows }.find(|x| x.number == k) else {
+        return &rows[..0];
+    };
+    x.payload
 }
 
 // ---- missing numbers
@@ -178,14 +142,12 @@ pub fn smallest_missing(rows: &[u8], t: Heading) -> usize
     ensures { result ≡ absent_from 0 (t.last + 1) (sections_of_table t (strings_in rows.now)) }
 {
     let count = t.last as usize + 1;
-    let mut k: usize = 0;
-    while k < count {
+    for k in 0..count {
         if !has_come(rows, t, k as u8) {
-            break;
+            return k;
         }
-        k += 1;
     }
-    k
+    count
 }
 
 // How many numbers have not come?
@@ -193,13 +155,11 @@ pub fn missing_count(rows: &[u8], t: Heading) -> usize
     ensures { result ≡ absent_count (t.last + 1) (sections_of_table t (strings_in rows.now)) }
 {
     let count = t.last as usize + 1;
-    let mut missing: usize = 0;
-    let mut k: usize = 0;
-    while k < count {
+    let mut missing = 0;
+    for k in 0..count {
         if !has_come(rows, t, k as u8) {
             missing += 1;
         }
-        k += 1;
     }
     missing
 }

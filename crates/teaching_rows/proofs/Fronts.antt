@@ -6,9 +6,9 @@ use mathlib.Core.Path.{◌≡◌, sym, ap, ◌∙◌}
 use native.Mathlib.Omega.{arith}
 use lib.ListN.{length, take, drop, length-drop}
 use lib.Seq.{take-add, take-take, drop_at, length-take-le}
-use Rattle.teaching_rows.specs.Rows.{length_bytes, length_in, row_begins, strings_in, RowEnd}
+use Rattle.teaching_rows.specs.Rows.{length_bytes, length_in, row_begins, strings_in}
 use Rattle.teaching_rows.proofs.Lengths.{length_here, number_take}
-use Rattle.teaching_rows.proofs.Rows.{string_at, begins_fits, begins_past, strings_none, row_strings}
+use Rattle.teaching_rows.proofs.Rows.{string_at, RowEnd, begins_fits, begins_past, strings_none, row_strings_at}
 
 -- a part of a part
 pub part_of_part : (m a n : ℕ) (d : List ℕ) → m + a ≤ n → n ≤ length d → take a (drop m (take n d)) ≡ take a (drop m d)
@@ -35,7 +35,7 @@ module _ (b : List ℕ) (at : ℕ) (e : row_begins (drop at b) ≡ true) (end : 
 
   strings_within : strings_in (drop at (take upto b)) ≡ string_at b at end ∷ strings_in (drop end (take upto b))
   strings_within =
-      row_strings (take upto b) at begins_within end ends_within
+      row_strings_at (take upto b) at begins_within end ends_within
       ∙ ap (λ s. s ∷ strings_in (drop end (take upto b)))
       (part_of_part (at + length_bytes) (end - (at + length_bytes)) upto b (omega (arith, r.is)) l)
 

@@ -1,15 +1,13 @@
--- Laws of the eight bytes of a length: read and written a byte a turn, at any place.
-use Prim.Native.Nat.{ℕ, zero, suc, ◌+◌, ◌-◌, ◌*◌, ◌/◌, ◌%◌, ◌^◌, ◌≤◌, ◌<◌}
+-- Laws of the eight bytes of a length: a number of eight bytes, high byte first, as std reads and writes it.
+use Prim.Native.Nat.{ℕ, zero, suc, ◌+◌, ◌*◌, ◌≤◌}
 use mathlib.Core.List.{List}
 use mathlib.Core.Path.{◌≡◌, refl, sym, ap, ap₂, ◌∙◌}
 use native.Mathlib.Omega.{arith}
-use native.Mathlib.Nat.{add_assoc, zero-add, add-zero, pow-le-pow_right, lt_of_lt_of_le}
-use lib.ListN.{length, get_or, set, take, drop}
+use native.Mathlib.Nat.{add_assoc, add-zero, div-div-eq-div-mul}
+use lib.ListN.{get_or, take, drop}
 use lib.Seq.{get_or-take, get_or-drop}
-use Rattle.ground_placing.specs.Placed.{placed}
-use Rattle.ground_placing.proofs.Placing.{placed_none, placed_last}
+use Rattle.std.specs.Int.{w64, from_be_bytes, to_be_bytes}
 use Rattle.body_formats.specs.Format.{number_at, bytes_of}
-use Rattle.body_formats.proofs.Leaves.{length_bytes_lem}
 use Rattle.teaching_rows.specs.Rows.{length_bytes, length_in}
 
 -- ---- read
@@ -32,22 +30,17 @@ pub length_here : (s : List ℕ) (at : ℕ) → number_at s at length_bytes ≡ 
 unfolding length_in
 length_here s at = sym (number_drop s at 0 length_bytes ∙ ap (λ p. number_at s p length_bytes) (add-zero at))
 
--- one byte more than seven still fits
-pub seven_bytes : (i v : ℕ) → i ≤ 7 → v < 256 ^ i → v < 256 ^ 7
-seven_bytes i v h l = lt_of_lt_of_le l (pow-le-pow_right (omega arith) h)
+be_number : (bytes : List ℕ) → from_be_bytes w64 bytes ≡ number_at bytes 0 length_bytes
+unfolding number_at
+be_number bytes = omega arith
 
--- ---- written, the last byte first
+-- the length that begins some bytes, read from the first eight
+pub length_read : (b : List ℕ) → from_be_bytes w64 (take length_bytes b) ≡ length_in b
+unfolding length_in
+length_read b = be_number (take length_bytes b) ∙ number_take b length_bytes 0 length_bytes (omega arith)
 
-pub number_turn : (d : List ℕ) (at k v : ℕ) → 0 < k → at + k ≤ length d
-    → placed (set d (at + (k - 1)) (v % 256)) at (bytes_of (k - 1) (v / 256)) ≡ placed d at (bytes_of k v)
+-- ---- written
+
+pub length_written : (n : ℕ) → to_be_bytes w64 n ≡ bytes_of length_bytes n
 unfolding bytes_of
-number_turn d at zero v h r = absurd (omega arith)
-number_turn d at (suc k) v h r =
-    let d1 : suc k - 1 ≡ k = omega arith in
-    rw d1
-    (sym (placed_last d at (bytes_of k (v / 256)) (v % 256) (omega (arith, length_bytes_lem k (v / 256)))
-    ∙ ap (λ n. placed (set d (at + n) (v % 256)) at (bytes_of k (v / 256))) (length_bytes_lem k (v / 256))))
-
-pub number_done : (d : List ℕ) (at k v : ℕ) → k ≡ 0 → d ≡ placed d at (bytes_of k v)
-unfolding bytes_of
-number_done d at k v z = rw z (sym (placed_none d at))
+length_written n = simp div-div-eq-div-mul

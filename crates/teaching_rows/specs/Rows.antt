@@ -1,5 +1,5 @@
 -- What a reader has to believe of a teaching buffer's rows: how fed byte strings are kept back to back, and which strings some bytes keep.
-use Rattle.std.specs.Prelude.{ℕ, zero, suc, ◌+◌, ◌^◌, ◌≤◌, ◌<◌, ◌≡◌, Bool, ◌&&◌, eqb, leb, length, take, drop, if◌then◌else◌}
+use Rattle.std.specs.Prelude.{ℕ, zero, suc, ◌+◌, ◌^◌, ◌<◌, ◌≡◌, Bool, true, ◌&&◌, eqb, leb, length, take, drop, if◌then◌else◌}
 use mathlib.Core.List.{List, [], ◌∷◌, ◌++◌, Memᴰ as In}
 use Rattle.body_formats.specs.Format.{number_at, bytes_of}
 
@@ -46,11 +46,12 @@ whole_rows bytes = eqb (length (rows (strings_in bytes))) (length bytes)
 unfoldable pub whole_in_use : List ℕ → ℕ → Bool
 whole_in_use buffer used = leb used (length buffer) && whole_rows (take used buffer)
 
--- ---- where a row ends that begins at a place
+-- ---- the row that begins some bytes: its string, and the bytes after it
 
-pub record RowEnd (bytes : List ℕ) (at end : ℕ) : Type 0 where
-  pub is : end ≡ at + (length_bytes + length_in (drop at bytes))
-  pub within : end ≤ length bytes
+pub record FirstRow (bytes string after : List ℕ) : Type 0 where
+  pub begins : row_begins bytes ≡ true
+  pub string_is : string ≡ take (length_in bytes) (drop length_bytes bytes)
+  pub after_is : after ≡ drop (length_bytes + length_in bytes) bytes
 
 -- ---- strings that rows can keep: their lengths have eight bytes
 

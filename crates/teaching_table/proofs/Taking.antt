@@ -1,37 +1,34 @@
 -- Laws of one string more: what it makes of the fixed table, by the code's tests.
 use Prim.Native.Nat.{ℕ, ◌<◌}
-use mathlib.Core.Path.{◌≡◌, refl, sym, ap, ◌∙◌}
-use mathlib.Core.Bool.{Bool, true, false, ◌&&◌}
+use Rattle.std.specs.Prelude.{Option, Some, None}
+use mathlib.Core.Path.{◌≡◌}
+use mathlib.Core.Bool.{Bool, true, false}
 use mathlib.Core.List.{List}
-use Rattle.section_reader.specs.Section.{payload_of}
 use Rattle.section_reader.specs.declared.Heading.{Heading}
 use Rattle.gathering_tables.specs.Tables.{is_newer}
-use Rattle.gathering_account.specs.Account.{nothing, good_current, heard}
+use Rattle.gathering_account.specs.Account.{heard}
 use Rattle.teaching_questions.specs.Questions.{said}
-use Rattle.teaching_questions.specs.declared.Said.TheVariants as saying
-use Rattle.teaching_questions.proofs.Saying.{Current, said_section, said_nothing}
+use Rattle.teaching_questions.proofs.Saying.{Current, said_nothing}
 use Rattle.teaching_table.specs.Table.{begins_in, fixed_after, Versioned}
-use Rattle.teaching_table.specs.declared.Fixed.{Fixed}
-use Rattle.teaching_table.specs.declared.Fixed.TheVariants.{Nothing, Table}
 
 -- ---- beginning
 
-pub begins_first : (f : Fixed) (h : Heading) → f ≡ Nothing → true ≡ begins_in f h
+pub begins_first : (f : Option (Heading × ℕ)) (h : Heading) → f ≡ None → true ≡ begins_in f h
 unfolding begins_in
 begins_first f h e = rw e
 
-pub begins_newer : (f : Fixed) (h t : Heading) (from : ℕ) → f ≡ Table t from → (x : Bool) → x ≡ is_newer t h → x ≡ begins_in f h
+pub begins_newer : (f : Option (Heading × ℕ)) (h t : Heading) (from : ℕ) → f ≡ Some (t, from) → (x : Bool) → x ≡ is_newer t h → x ≡ begins_in f h
 unfolding begins_in
 begins_newer f h t from e x q = rw e q
 
-pub table_versioned : (f : Fixed) (t : Heading) (from : ℕ) → f ≡ Table t from → Versioned f → t.version < 256
+pub table_versioned : (f : Option (Heading × ℕ)) (t : Heading) (from : ℕ) → f ≡ Some (t, from) → Versioned f → t.version < 256
 unfolding Versioned
 table_versioned f t from e v = rw e at v
 
 -- ---- after one string more
 
-module _ (room : ℕ → Bool) (f : Fixed) (at : ℕ) (s : List ℕ) where
-  pub after_nothing : said (heard s) ≡ saying.Nothing → f ≡ fixed_after room f at (heard s)
+module _ (room : ℕ → Bool) (f : Option (Heading × ℕ)) (at : ℕ) (s : List ℕ) where
+  pub after_nothing : said (heard s) ≡ None → f ≡ fixed_after room f at (heard s)
   unfolding fixed_after
   after_nothing e = rw (said_nothing s e)
 
@@ -44,6 +41,6 @@ module _ (room : ℕ → Bool) (f : Fixed) (at : ℕ) (s : List ℕ) where
     unfolding fixed_after
     after_short b r = rw (c.is, b, r)
 
-    pub after_begun : begins_in f h ≡ true → room h.last ≡ true → Table h at ≡ fixed_after room f at (heard s)
+    pub after_begun : begins_in f h ≡ true → room h.last ≡ true → Some (h, at) ≡ fixed_after room f at (heard s)
     unfolding fixed_after
     after_begun b r = rw (c.is, b, r)

@@ -1,24 +1,19 @@
 -- The dates of the range by their months and days: before April 2038 each date of the calendar from March 1900 on, in that month the first 22.
 use Prim.Native.Nat.{ℕ, suc, ◌+◌, ◌-◌, ◌*◌, ◌≤◌, ◌<◌}
 use mathlib.Core.Path.{◌≡◌, refl, sym, ap, ◌∙◌}
-use mathlib.Core.Bool.{Bool, true, false, ◌||◌, cond}
+use mathlib.Core.Bool.{Bool, true, false, ◌||◌}
 use native.Mathlib.Decide.{ℕ_discrete}
 use native.Mathlib.Omega.{arith}
 use lib.Dec.{eqb, leb}
-use borrow.Author.Tests.{leb-true, leb-false, le-leb, eq-eqb, ne_eqb}
+use borrow.Author.Tests.{leb-true, leb-false, le-leb, ne_eqb}
 use Rattle.ground_choices.proofs.Tests.{refuted}
-use Rattle.time_days.specs.Calendar.{leap, month_length, months_from, month_start, day_number, has_day, day_of}
-use Rattle.time_days.specs.declared.DayAnswer.TheVariants.{Day}
+use Rattle.time_days.specs.Calendar.{month_length, months_from, month_start, day_number, has_day, day_of}
 use Rattle.time_days.proofs.Months.{length_within, days_of_lem, start_first, start_next, start_last, start_le}
-use Rattle.time_days.proofs.Answers.{IsDay, day_given, day_accepted, day_month_until}
+use Rattle.time_days.proofs.Answers.{IsDay, day_given, day_accepted}
 
 -- ---- a month's length, by the tests of its number
 
 module _ (y m : ℕ) where
-  pub february : m ≡ 2 → (t : Bool) → leap y ≡ t → cond t 29 28 ≡ month_length y m
-  unfolding month_length
-  february h t e = rw (eq-eqb m 2 h, e)
-
   module _ (h : m ≡ 2 → ⊥) where
     pub thirty : (eqb m 4 || eqb m 6 || eqb m 9 || eqb m 11) ≡ true → 30 ≡ month_length y m
     unfolding month_length

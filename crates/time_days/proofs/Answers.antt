@@ -1,5 +1,6 @@
 -- The laws of the three answers that code and callers cite: which input is accepted, with what answer, and that every other is refused with 20.
 use mathlib.Core.Path.{◌≡◌, refl, sym, ap, ◌∙◌}
+use Rattle.std.specs.Prelude.{Ok, Err}
 use mathlib.Core.Bool.{true, false}
 use Prim.Native.Nat.{ℕ, zero, suc, ◌+◌, ◌-◌, ◌*◌, ◌%◌, ◌≤◌, ◌<◌}
 use native.Mathlib.Decide.{dec_lt}
@@ -8,9 +9,6 @@ use lib.Dec.{T, leb, leb→le}
 use borrow.Author.Tests.{lt-ltb, le-ltb, le-leb}
 use Rattle.ground_refusal.specs.declared.Refusal.TheVariants.{ImpossibleDay}
 use Rattle.time_days.specs.declared.Date.{Date}
-use Rattle.time_days.specs.declared.DayAnswer.TheVariants as day_answer
-use Rattle.time_days.specs.declared.DateAnswer.TheVariants as date_answer
-use Rattle.time_days.specs.declared.WeekdayAnswer.TheVariants as weekday_answer
 use Rattle.time_days.specs.Calendar.{month_length, is_date, months_from, year_of, month_of, days_of, month_start, day_number, in_range, has_day, day_of, date_at, date_from, date_of, weekday_of}
 use Rattle.ground_choices.proofs.Tests.{both_hold, all_hold, fails, picked}
 use Rattle.time_days.proofs.Months.{within, months_of, days_of_lem, start_first, start_next, start_end, start_le, InMonth, one_month, in_table}
@@ -62,7 +60,7 @@ module _ (y m d : ℕ) where
         until = r.1;
       }
 
-  pub day_given : (n : ℕ) → IsDay n y m d → day_of y m d ≡ day_answer.Day n
+  pub day_given : (n : ℕ) → IsDay n y m d → day_of y m d ≡ Ok n
   unfolding day_of has_day is_date
   day_given n v =
       simp (
@@ -75,18 +73,14 @@ module _ (y m d : ℕ) where
         in_range_lem n v.from v.until,
       )
 
-  pub day_refused : ((n : ℕ) → IsDay n y m d → ⊥) → day_of y m d ≡ day_answer.Refused (ImpossibleDay 0)
+  pub day_refused : ((n : ℕ) → IsDay n y m d → ⊥) → day_of y m d ≡ Err (ImpossibleDay 0)
   unfolding day_of
   day_refused h = fails (has_day y m d) _ _ (λ t. h (day_number y m d) (accepts t))
 
-  -- a date without a day
-  pub no_day : d < 1 → day_answer.Refused (ImpossibleDay 0) ≡ day_of y m d
-  no_day h = sym (day_refused (λ n v. omega arith))
-
-  pub day_accepted : (n : ℕ) → day_of y m d ≡ day_answer.Day n → IsDay n y m d
+  pub day_accepted : (n : ℕ) → day_of y m d ≡ Ok n → IsDay n y m d
   unfolding day_of
   day_accepted n e =
-      let p = picked (has_day y m d) (day_answer.Day (day_number y m d)) (day_answer.Refused (ImpossibleDay 0)) (day_answer.Day n) e (λ q. let z : ◌≡◌ {A = ℕ} 0 1 = cc in omega arith) in
+      let p = picked (has_day y m d) (Ok (day_number y m d)) (Err (ImpossibleDay 0)) (Ok n) e (λ q. let z : ◌≡◌ {A = ℕ} 0 1 = cc in omega arith) in
       let g : day_number y m d ≡ n = cc in
       rw g at (accepts p.0)
 
@@ -103,7 +97,7 @@ unfolding months_from
 day_month_until n y m d v = omega (arith, in_table n (months_from y m) (day_in_month n y m d v) v.until)
 
 -- day d of month k, by where the month ends and where the range does
-pub day_in_given : (k d : ℕ) → 1 ≤ d → month_start k + d ≤ month_start (suc k) → month_start k + d ≤ 65536 → day_of (year_of k) (month_of k) d ≡ day_answer.Day (month_start k + (d - 1))
+pub day_in_given : (k d : ℕ) → 1 ≤ d → month_start k + d ≤ month_start (suc k) → month_start k + d ≤ 65536 → day_of (year_of k) (month_of k) d ≡ Ok (month_start k + (d - 1))
 unfolding days_of day_number
 day_in_given k d p h g =
     let w = within k in
@@ -118,7 +112,7 @@ day_in_given k d p h g =
       until = omega arith;
     })
 
-pub day_in_refused : (k d : ℕ) → (month_start k + d ≤ month_start (suc k) → month_start k + d ≤ 65536 → ⊥) → day_of (year_of k) (month_of k) d ≡ day_answer.Refused (ImpossibleDay 0)
+pub day_in_refused : (k d : ℕ) → (month_start k + d ≤ month_start (suc k) → month_start k + d ≤ 65536 → ⊥) → day_of (year_of k) (month_of k) d ≡ Err (ImpossibleDay 0)
 unfolding day_number
 day_in_refused k d h =
     day_refused (year_of k) (month_of k) d (λ n v.
@@ -159,19 +153,19 @@ found (suc months) i left n e h =
 date_found : (n : ℕ) → 15079 ≤ n → n ≤ 65535 → Found n (date_from 1657 0 (n - 15079))
 date_found n h g = found 1657 0 (n - 15079) n (omega (arith, start_first)) (omega (arith, start_end))
 
-date_on : (n : ℕ) → 15079 ≤ n → n ≤ 65535 → date_of n ≡ date_answer.On (date_from 1657 0 (n - 15079))
+date_on : (n : ℕ) → 15079 ≤ n → n ≤ 65535 → date_of n ≡ Ok (date_from 1657 0 (n - 15079))
 unfolding date_of
 date_on n h g = rw (in_range_lem n h g)
 
-pub date_refused : (n : ℕ) → (15079 ≤ n → n ≤ 65535 → ⊥) → date_of n ≡ date_answer.Refused (ImpossibleDay 0)
+pub date_refused : (n : ℕ) → (15079 ≤ n → n ≤ 65535 → ⊥) → date_of n ≡ Err (ImpossibleDay 0)
 unfolding date_of
 date_refused n h = fails (in_range n) _ _ (λ t. let r = range n t in h r.0 r.1)
 
 -- the date of a day of the range, by its month
-pub date_given : (n k : ℕ) → 15079 ≤ n → n ≤ 65535 → InMonth n k → date_of n ≡ date_answer.On (date_in k n)
+pub date_given : (n k : ℕ) → 15079 ≤ n → n ≤ 65535 → InMonth n k → date_of n ≡ Ok (date_in k n)
 date_given n k h g p =
     let f = date_found n h g in
-    date_on n h g ∙ ap date_answer.On (f.date ∙ ap (λ (i : ℕ). date_in i n) (one_month n f.month k f.inside p))
+    date_on n h g ∙ ap Ok (f.date ∙ ap (λ (i : ℕ). date_in i n) (one_month n f.month k f.inside p))
 
 -- what an accepted day and its date are
 pub record IsDateOf (n : ℕ) (a : Date) : Type 0 where
@@ -179,27 +173,23 @@ pub record IsDateOf (n : ℕ) (a : Date) : Type 0 where
   pub until : n ≤ 65535
   pub in_month : Found n a
 
-pub date_accepted : (n : ℕ) (a : Date) → date_of n ≡ date_answer.On a → IsDateOf n a
+pub date_accepted : (n : ℕ) (a : Date) → date_of n ≡ Ok a → IsDateOf n a
 unfolding date_of
 date_accepted n a e =
-    let p = picked (in_range n) (date_answer.On (date_from 1657 0 (n - 15079))) (date_answer.Refused (ImpossibleDay 0)) (date_answer.On a) e (λ q. let z : ◌≡◌ {A = ℕ} 0 1 = cc in omega arith) in
+    let p = picked (in_range n) (Ok (date_from 1657 0 (n - 15079))) (Err (ImpossibleDay 0)) (Ok a) e (λ q. let z : ◌≡◌ {A = ℕ} 0 1 = cc in omega arith) in
     let r = range n p.0 in
     let g : date_from 1657 0 (n - 15079) ≡ a = cc in
     record { from = r.0; until = r.1; in_month = rw g at (date_found n r.0 r.1) }
 
 -- ---- the weekday of a day
 
-pub weekday_given : (n : ℕ) → 15079 ≤ n → n ≤ 65535 → weekday_of n ≡ weekday_answer.Weekday ((n + 2) % 7 + 1)
+pub weekday_given : (n : ℕ) → 15079 ≤ n → n ≤ 65535 → weekday_of n ≡ Ok ((n + 2) % 7 + 1)
 unfolding weekday_of
 weekday_given n h g = rw (in_range_lem n h g)
 
-pub weekday_refused : (n : ℕ) → (15079 ≤ n → n ≤ 65535 → ⊥) → weekday_of n ≡ weekday_answer.Refused (ImpossibleDay 0)
-unfolding weekday_of
-weekday_refused n h = fails (in_range n) _ _ (λ t. let r = range n t in h r.0 r.1)
-
-pub weekday_accepted : (n w : ℕ) → weekday_of n ≡ weekday_answer.Weekday w → (15079 ≤ n) × (n ≤ 65535) × (w ≡ (n + 2) % 7 + 1)
+pub weekday_accepted : (n w : ℕ) → weekday_of n ≡ Ok w → (15079 ≤ n) × (n ≤ 65535) × (w ≡ (n + 2) % 7 + 1)
 unfolding weekday_of
 weekday_accepted n w e =
-    let p = picked (in_range n) (weekday_answer.Weekday ((n + 2) % 7 + 1)) (weekday_answer.Refused (ImpossibleDay 0)) (weekday_answer.Weekday w) e (λ q. let z : ◌≡◌ {A = ℕ} 0 1 = cc in omega arith) in
+    let p = picked (in_range n) (Ok ((n + 2) % 7 + 1)) (Err (ImpossibleDay 0)) (Ok w) e (λ q. let z : ◌≡◌ {A = ℕ} 0 1 = cc in omega arith) in
     let r = range n p.0 in
     (r.0, r.1, cc)

@@ -1,13 +1,8 @@
 -- What a reader has to believe of days: the Gregorian calendar, and the day number (MJD) of its dates from March 1900 to April 2038.
-use Rattle.std.specs.Prelude.{◌≡◌, Bool, not, ◌&&◌, ◌||◌, cond, List, ℕ, zero, suc, ◌+◌, ◌-◌, ◌*◌, ◌/◌, ◌%◌, ◌<◌, eqb, leb, ltb, get_or}
+use Rattle.std.specs.Prelude.{◌≡◌, Bool, not, ◌&&◌, ◌||◌, cond, List, ℕ, zero, suc, ◌+◌, ◌-◌, ◌*◌, ◌/◌, ◌%◌, ◌<◌, eqb, leb, ltb, get_or, Result, Ok, Err}
+use Rattle.ground_refusal.specs.declared.Refusal.{Refusal}
 use Rattle.ground_refusal.specs.declared.Refusal.TheVariants.{ImpossibleDay}
 use Rattle.time_days.specs.declared.Date.{Date}
-use Rattle.time_days.specs.declared.DayAnswer.{DayAnswer}
-use Rattle.time_days.specs.declared.DayAnswer.TheVariants as day_answer
-use Rattle.time_days.specs.declared.DateAnswer.{DateAnswer}
-use Rattle.time_days.specs.declared.DateAnswer.TheVariants as date_answer
-use Rattle.time_days.specs.declared.WeekdayAnswer.{WeekdayAnswer}
-use Rattle.time_days.specs.declared.WeekdayAnswer.TheVariants as weekday_answer
 
 -- ---- the calendar
 
@@ -58,11 +53,11 @@ unfoldable pub has_day : ℕ → ℕ → ℕ → Bool
 has_day y m d = is_date y m d && leb (1900 * 12 + 3) (y * 12 + m) && in_range (day_number y m d)
 
 -- "20: impossible day or time, or a day outside 15079 to 65535"
-unfoldable pub day_of : ℕ → ℕ → ℕ → DayAnswer
+unfoldable pub day_of : ℕ → ℕ → ℕ → Result ℕ Refusal
 day_of y m d =
     cond (has_day y m d)
-    (day_answer.Day (day_number y m d))
-    (day_answer.Refused (ImpossibleDay 0))
+    (Ok (day_number y m d))
+    (Err (ImpossibleDay 0))
 
 -- ---- the date of a day
 
@@ -78,11 +73,11 @@ date_from (suc months) k left =
     cond (ltb left (days_of k)) (date_at k (left + 1)) later
 
 -- "month starts from March 1900 to April 2038": 1,658 months
-unfoldable pub date_of : ℕ → DateAnswer
+unfoldable pub date_of : ℕ → Result Date Refusal
 date_of n =
     cond (in_range n)
-    (date_answer.On (date_from 1657 0 (n - 15079)))
-    (date_answer.Refused (ImpossibleDay 0))
+    (Ok (date_from 1657 0 (n - 15079)))
+    (Err (ImpossibleDay 0))
 
 -- the day after a date, by the months' lengths
 unfoldable pub day_after : Date → Date
@@ -96,11 +91,11 @@ day_after a =
 -- ---- the weekday of a day
 
 -- "Weekday is (MJD + 2) mod 7 + 1, Monday 1"
-unfoldable pub weekday_of : ℕ → WeekdayAnswer
+unfoldable pub weekday_of : ℕ → Result ℕ Refusal
 weekday_of n =
     cond (in_range n)
-    (weekday_answer.Weekday ((n + 2) % 7 + 1))
-    (weekday_answer.Refused (ImpossibleDay 0))
+    (Ok ((n + 2) % 7 + 1))
+    (Err (ImpossibleDay 0))
 
 -- ---- the table
 

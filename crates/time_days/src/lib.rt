@@ -16,25 +16,6 @@ pub struct Date {
     pub day: u32,
 }
 
-#[derive(Clone, Copy)]
-pub enum DayAnswer {
-    Day(u32),
-    Refused(Refusal),
-}
-
-#[derive(Clone, Copy)]
-pub enum DateAnswer {
-    On(Date),
-    Refused(Refusal),
-}
-
-// Monday is 1.
-#[derive(Clone, Copy)]
-pub enum WeekdayAnswer {
-    Weekday(u32),
-    Refused(Refusal),
-}
-
 const FIRST_DAY: u64 = 15079;
 
 const LAST_DAY: u64 = 65535;
@@ -47,6 +28,7 @@ const FIRST_MONTH: u64 = 1900 * 12 + 3;
 const LAST_MONTH: u64 = 2038 * 12 + 4;
 
 // Whether a day is one of 15079 to 65535.
+#[tactic(auto, unfolding(crate::specs::Calendar::in_range))]
 pub fn in_range(day: u64) -> bool
     ensures { result ≡ in_range day }
 {
@@ -61,35 +43,25 @@ fn start_of(starts: &[u16; MONTHS], k: usize) -> u32
     starts[k] as u32
 }
 
-// The month that a day lies in, counted from March 1900: the interval is halved.
+// The month that a day lies in, counted from March 1900: the last one that starts no later.
 fn month_of(starts: &[u16; MONTHS], day: u32) -> usize
     requires { IsMonths starts.now × (15079 ≤ day) × (day ≤ 65535) }
     ensures { (result < 1658) × (month_start result ≤ day) × (day < month_start (suc result)) }
 {
-    let mut low = 0;
-    let mut high = MONTHS;
-    while low + 1 < high {
-        let middle = (low + high) / 2;
-        if start_of(starts, middle) <= day {
-            low = middle;
-        } else {
-            high = middle;
-        }
-    }
-    low
+    starts.partition_point(|start| *start as u32 <= day) - 1
 }
 
 // The date of a day.
-pub fn date_of(day: u32) -> DateAnswer
+pub fn date_of(day: u32) -> Result<Date, Refusal>
     ensures { result ≡ date_of day }
 {
     if !in_range(day as u64) {
-        return DateAnswer::Refused(Refusal::ImpossibleDay(0));
+        return Err(Refusal::ImpossibleDay(0));
     }
     let starts = starts::month_starts();
     let k = month_of(&starts, day);
     let start = start_of(&starts, k);
-    DateAnswer::On(Date {
+    Ok(Date {
         year: (1900 + (k + 2) / 12) as u32,
         month: ((k + 2) % 12 + 1) as u32,
         day: day - start + 1,
@@ -109,49 +81,37 @@ fn month_end(starts: &[u16; MONTHS], k: usize) -> u32
 }
 
 // The day of a date in a month of the table.
-fn day_in(starts: &[u16; MONTHS], k: usize, day: u32) -> DayAnswer
+fn day_in(starts: &[u16; MONTHS], k: usize, day: u32) -> Result<u32, Refusal>
     requires { IsMonths starts.now × (k < 1658) × (1 ≤ day) }
     ensures { result ≡ day_of (year_of k) (month_of k) day }
 {
     let start = start_of(starts, k);
     let past = day - 1;
     if month_end(starts, k) - start <= past {
-        return DayAnswer::Refused(Refusal::ImpossibleDay(0));
+        return Err(Refusal::ImpossibleDay(0));
     }
-    DayAnswer::Day(start + past)
+    Ok(start + past)
 }
 
 // The day of a date.
-#[tactic(auto, using(crate::proofs::Answers::no_day))]
-pub fn day_of(year: u32, month: u32, day: u32) -> DayAnswer
+pub fn day_of(year: u32, month: u32, day: u32) -> Result<u32, Refusal>
     ensures { result ≡ day_of year month day }
 {
-    if month < 1 {
-        return DayAnswer::Refused(Refusal::ImpossibleDay(0));
-    }
-    if 12 < month {
-        return DayAnswer::Refused(Refusal::ImpossibleDay(0));
-    }
-    if day < 1 {
-        return DayAnswer::Refused(Refusal::ImpossibleDay(0));
-    }
     let months = (year as u64) * 12 + (month as u64);
-    if months < FIRST_MONTH {
-        return DayAnswer::Refused(Refusal::ImpossibleDay(0));
-    }
-    if LAST_MONTH < months {
-        return DayAnswer::Refused(Refusal::ImpossibleDay(0));
+    if month < 1 || 12 < month || day < 1 || months < FIRST_MONTH || LAST_MONTH < months {
+        return Err(Refusal::ImpossibleDay(0));
     }
     let starts = starts::month_starts();
     day_in(&starts, (months - FIRST_MONTH) as usize, day)
 }
 
 // The weekday of a day.
-pub fn weekday(day: u32) -> WeekdayAnswer
+#[tactic(auto, unfolding(crate::specs::Calendar::weekday_of, crate::specs::Calendar::in_range))]
+pub fn weekday(day: u32) -> Result<u32, Refusal>
     ensures { result ≡ weekday_of day }
 {
     if !in_range(day as u64) {
-        return WeekdayAnswer::Refused(Refusal::ImpossibleDay(0));
+        return Err(Refusal::ImpossibleDay(0));
     }
-    WeekdayAnswer::Weekday((day + 2) % 7 + 1)
+    Ok((day + 2) % 7 + 1)
 }

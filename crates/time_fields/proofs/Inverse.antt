@@ -1,5 +1,6 @@
 -- Reading and writing a time are exact inverses: each accepted field comes back from its moment, and each instant from its field.
 use mathlib.Core.Path.{◌≡◌, refl, ap, ◌∙◌}
+use Rattle.std.specs.Prelude.{Ok, Err}
 use mathlib.Core.Bool.{Bool, true, false, ◌&&◌, cond}
 use Prim.Native.Nat.{ℕ, ◌/◌, ◌%◌, ◌^◌, ◌≤◌, ◌<◌}
 use native.Mathlib.Omega.{arith}
@@ -7,8 +8,6 @@ use lib.Dec.{leb}
 use borrow.Author.Tests.{le-leb, leb-true}
 use Rattle.ground_refusal.specs.declared.Refusal.TheVariants.{ImpossibleDay}
 use Rattle.time_fields.specs.declared.Moment.{Moment}
-use Rattle.time_fields.specs.declared.Timed.TheVariants.{At}
-use Rattle.time_fields.specs.declared.Fielded.TheVariants.{Field, Refused as NotFielded}
 use Rattle.time_days.specs.Calendar.{in_range}
 use Rattle.time_fields.specs.Field.{two_digits, worth, day_part, hour_part, minute_part, second_part, is_decimal, possible, moment_of, read_time, is_instant, field_of, write_time}
 use Rattle.ground_choices.proofs.Tests.{both, and_of}
@@ -65,7 +64,7 @@ module _ (m : Moment) (i : Instant m) where
         is = simp (p.day, p.hour.value, p.minute.value, p.second.value, clock_together);
       }
 
-  pub reads_field : (at : ℕ) → read_time (field_of m) at ≡ At m
+  pub reads_field : (at : ℕ) → read_time (field_of m) at ≡ Ok m
   reads_field at = accepted at accepts_field
 
 -- what a possible field keeps to
@@ -117,18 +116,18 @@ module _ (f : ℕ) (m : Moment) (a : Accepted f m) where
         together f,
       ))
 
-  pub writes_accepted : write_time m ≡ Field f
+  pub writes_accepted : write_time m ≡ Ok f
   unfolding write_time
   writes_accepted = simp (is_instant_lem m accepted_instant, field_of_accepted)
 
 -- what is written of what was read is the field, and what is read of what was written is the moment
-pub writes_read : (f at : ℕ) {m : Moment} → read_time f at ≡ At m → write_time m ≡ Field f
+pub writes_read : (f at : ℕ) {m : Moment} → read_time f at ≡ Ok m → write_time m ≡ Ok f
 writes_read f at e = writes_accepted f _ (accepted_only f at e)
 
-pub reads_written : (m : Moment) (at : ℕ) {f : ℕ} → write_time m ≡ Field f → read_time f at ≡ At m
+pub reads_written : (m : Moment) (at : ℕ) {f : ℕ} → write_time m ≡ Ok f → read_time f at ≡ Ok m
 unfolding write_time
 reads_written m at {f} e = by_test (is_instant m) refl e
   where
-    by_test : (t : Bool) → is_instant m ≡ t → cond t (Field (field_of m)) (NotFielded (ImpossibleDay 0)) ≡ Field f → read_time f at ≡ At m
+    by_test : (t : Bool) → is_instant m ≡ t → cond t (Ok (field_of m)) (Err (ImpossibleDay 0)) ≡ Ok f → read_time f at ≡ Ok m
     by_test true i e = ap (λ (g : ℕ). read_time g at) (cc) ∙ reads_field m (instant m i) at
     by_test false i e = cc

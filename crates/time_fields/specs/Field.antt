@@ -1,14 +1,9 @@
 -- What a reader has to believe of time fields: which numbers of 40 bits are a time, which time each is, and the field of a time.
-use Rattle.std.specs.Prelude.{Bool, not, ◌&&◌, cond, List, [], ◌∷◌, ℕ, ◌+◌, ◌-◌, ◌*◌, ◌/◌, ◌%◌, ◌^◌, leb, eqb, get_or}
+use Rattle.std.specs.Prelude.{Bool, not, ◌&&◌, cond, List, [], ◌∷◌, ℕ, ◌+◌, ◌-◌, ◌*◌, ◌/◌, ◌%◌, ◌^◌, leb, eqb, get_or, Result, Ok, Err, Option, Some, None}
+use Rattle.ground_refusal.specs.declared.Refusal.{Refusal}
 use Rattle.time_days.specs.Calendar.{in_range}
 use Rattle.ground_refusal.specs.declared.Refusal.TheVariants.{DigitAboveNine, OutsideSet, ImpossibleDay}
 use Rattle.time_fields.specs.declared.Moment.{Moment}
-use Rattle.time_fields.specs.declared.Timed.{Timed}
-use Rattle.time_fields.specs.declared.Timed.TheVariants.{At, Refused}
-use Rattle.time_fields.specs.declared.EndTimed.{EndTimed}
-use Rattle.time_fields.specs.declared.EndTimed.TheVariants.{At as EndAt, Live, Refused as EndRefused}
-use Rattle.time_fields.specs.declared.Fielded.{Fielded}
-use Rattle.time_fields.specs.declared.Fielded.TheVariants.{Field, Refused as NotFielded}
 
 -- two decimal digits as they stand in a byte, and what they are worth
 unfoldable pub two_digits : ℕ → ℕ
@@ -52,25 +47,25 @@ moment_of f =
     record { day = day_part f; second = worth (hour_part f) * 3600 + worth (minute_part f) * 60 + worth (second_part f) }
 
 -- "At a time field digits come before day and range"; before both, a number of more than 40 bits is outside the field's set
-unfoldable pub read_time : ℕ → ℕ → Timed
+unfoldable pub read_time : ℕ → ℕ → Result Moment Refusal
 read_time f at =
-    cond (leb (2 ^ 40) f) (Refused (OutsideSet at))
-    (cond (not (is_decimal f)) (Refused (DigitAboveNine at))
-    (cond (not (possible f)) (Refused (ImpossibleDay at))
-    (At (moment_of f))))
+    cond (leb (2 ^ 40) f) (Err (OutsideSet at))
+    (cond (not (is_decimal f)) (Err (DigitAboveNine at))
+    (cond (not (possible f)) (Err (ImpossibleDay at))
+    (Ok (moment_of f))))
 
 -- "We take 40 one bits"
 abbrev pub live_mark : ℕ
 live_mark = 2 ^ 40 - 1
 
 -- what a time says at the end field
-abbrev pub as_end : Timed → EndTimed
-as_end (At m) = EndAt m
-as_end (Refused r) = EndRefused r
+abbrev pub as_end : Result Moment Refusal → Result (Option Moment) Refusal
+as_end (Ok m) = Ok (Some m)
+as_end (Err r) = Err r
 
 -- "The live mark is tried first and only at the end field"
-unfoldable pub read_end : ℕ → ℕ → EndTimed
-read_end f at = cond (eqb f live_mark) Live (as_end (read_time f at))
+unfoldable pub read_end : ℕ → ℕ → Result (Option Moment) Refusal
+read_end f at = cond (eqb f live_mark) (Ok None) (as_end (read_time f at))
 
 -- "a day and a second of it; 20 for a day out of range or a second above 86,399"
 unfoldable pub is_instant : Moment → Bool
@@ -85,8 +80,8 @@ field_of m =
     + two_digits (m.second % 60)
 
 -- writers refuse at place 0
-unfoldable pub write_time : Moment → Fielded
-write_time m = cond (is_instant m) (Field (field_of m)) (NotFielded (ImpossibleDay 0))
+unfoldable pub write_time : Moment → Result ℕ Refusal
+write_time m = cond (is_instant m) (Ok (field_of m)) (Err (ImpossibleDay 0))
 
 -- the five bytes of a field, the high one first: of a larger number its low 40 bits
 unfoldable pub field_bytes : ℕ → List ℕ

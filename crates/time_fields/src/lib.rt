@@ -9,32 +9,10 @@ use ground_numbers::wide;
 use ground_refusal::Refusal;
 
 // A day by its number (MJD) and a second of it, UTC.
-#[derive(Clone, Copy)]
+#[derive(Clone, Copy, PartialEq, Eq, PartialOrd, Ord)]
 pub struct Moment {
     pub day: u32,
     pub second: u32,
-}
-
-// What a time field says.
-#[derive(Clone, Copy)]
-pub enum Timed {
-    At(Moment),
-    Refused(Refusal),
-}
-
-// What an end field says: it may be live.
-#[derive(Clone, Copy)]
-pub enum EndTimed {
-    At(Moment),
-    Live,
-    Refused(Refusal),
-}
-
-// A moment as a field of 40 bits.
-#[derive(Clone, Copy)]
-pub enum Fielded {
-    Field(u64),
-    Refused(Refusal),
 }
 
 // How a message stands at an instant.
@@ -43,7 +21,6 @@ pub enum Showing {
     Before,
     On,
     Ended,
-    Refused(Refusal),
 }
 
 // The first number that a field of 40 bits does not hold.
@@ -53,29 +30,25 @@ const ABOVE_FIELD: u64 = 0x100_0000_0000;
 const LIVE: u64 = 0xFF_FFFF_FFFF;
 
 // Whether a byte holds two decimal digits.
+#[tactic(auto, unfolding(crate::specs::Field::decimal_pair))]
 fn decimal_pair(pair: u64) -> bool
     ensures { result ≡ decimal_pair pair }
 {
-    if 9 < pair / 16 {
-        return false;
-    }
-    pair % 16 <= 9
+    pair / 16 <= 9 && pair % 16 <= 9
 }
 
 // Whether the six digits of a field are decimal, looked at where they stand.
+#[tactic(auto, unfolding(crate::specs::Field::is_decimal))]
 fn decimal_digits(field: u64) -> bool
     ensures { result ≡ is_decimal field }
 {
-    if !decimal_pair(field / 0x1_0000 % 256) {
-        return false;
-    }
-    if !decimal_pair(field / 256 % 256) {
-        return false;
-    }
-    decimal_pair(field % 256)
+    decimal_pair(field / 0x1_0000 % 256)
+        && decimal_pair(field / 256 % 256)
+        && decimal_pair(field % 256)
 }
 
 // What two digits in a byte are worth.
+#[tactic(auto, unfolding(crate::specs::Field::worth))]
 fn pair_worth(pair: u64) -> u64
     ensures { (result ≡ worth pair) × (result ≤ pair) }
 {
@@ -83,22 +56,18 @@ fn pair_worth(pair: u64) -> u64
 }
 
 // Whether a field of decimal digits is a day of the range and a time of day.
+#[tactic(auto, unfolding(crate::specs::Field::possible))]
 fn possible_time(field: u64) -> bool
     ensures { result ≡ possible field }
 {
-    if !time_days::in_range(field / 0x100_0000) {
-        return false;
-    }
-    if 23 < pair_worth(field / 0x1_0000 % 256) {
-        return false;
-    }
-    if 59 < pair_worth(field / 256 % 256) {
-        return false;
-    }
-    pair_worth(field % 256) <= 59
+    time_days::in_range(field / 0x100_0000)
+        && pair_worth(field / 0x1_0000 % 256) <= 23
+        && pair_worth(field / 256 % 256) <= 59
+        && pair_worth(field % 256) <= 59
 }
 
 // The moment that a field of 40 bits holds.
+#[tactic(auto, unfolding(crate::specs::Field::moment_of))]
 fn moment_of(field: u64) -> Moment
     requires { field < 2 ^ 40 }
     ensures { result ≡ moment_of field }
@@ -113,45 +82,43 @@ fn moment_of(field: u64) -> Moment
 }
 
 // The moment that a start field says. `at` is the place of a refusal.
-pub fn read_time(field: u64, at: usize) -> Timed
+#[tactic(auto, unfolding(crate::specs::Field::read_time))]
+pub fn read_time(field: u64, at: usize) -> Result<Moment, Refusal>
     ensures { result ≡ read_time field at }
 {
     if ABOVE_FIELD <= field {
-        return Timed::Refused(Refusal::OutsideSet(at));
+        return Err(Refusal::OutsideSet(at));
     }
     if !decimal_digits(field) {
-        return Timed::Refused(Refusal::DigitAboveNine(at));
+        return Err(Refusal::DigitAboveNine(at));
     }
     if !possible_time(field) {
-        return Timed::Refused(Refusal::ImpossibleDay(at));
+        return Err(Refusal::ImpossibleDay(at));
     }
-    Timed::At(moment_of(field))
+    Ok(moment_of(field))
 }
 
 // The moment that an end field says, or that the message is live. `at` is the place of a refusal.
-pub fn read_end(field: u64, at: usize) -> EndTimed
+#[tactic(auto, unfolding(crate::specs::Field::read_end))]
+pub fn read_end(field: u64, at: usize) -> Result<Option<Moment>, Refusal>
     ensures { result ≡ read_end field at }
 {
     if field == LIVE {
-        return EndTimed::Live;
+        return Ok(None);
     }
-    match read_time(field, at) {
-        Timed::At(m) => EndTimed::At(m),
-        Timed::Refused(r) => EndTimed::Refused(r),
-    }
+    Ok(Some(read_time(field, at)?))
 }
 
 // Whether a moment has a day of the range and a second that a day has.
+#[tactic(auto, unfolding(crate::specs::Field::is_instant))]
 pub fn is_instant(m: Moment) -> bool
     ensures { result ≡ is_instant m }
 {
-    if !time_days::in_range(m.day as u64) {
-        return false;
-    }
-    m.second <= 86399
+    time_days::in_range(m.day as u64) && m.second <= 86399
 }
 
 // Two decimal digits as they stand in a byte.
+#[tactic(auto, unfolding(crate::specs::Field::two_digits))]
 fn two_digits(n: u32) -> u64
     ensures { (result ≡ two_digits n) × (result ≤ 2 * n) }
 {
@@ -160,6 +127,7 @@ fn two_digits(n: u32) -> u64
 }
 
 // The field of a moment: of 40 bits where that is an instant.
+#[tactic(auto, unfolding(crate::specs::Field::field_of))]
 fn field_of(m: Moment) -> u64
     ensures { result ≡ field_of m }
 {
@@ -170,16 +138,18 @@ fn field_of(m: Moment) -> u64
 }
 
 // A moment as a field.
-pub fn write_time(m: Moment) -> Fielded
+#[tactic(auto, unfolding(crate::specs::Field::write_time))]
+pub fn write_time(m: Moment) -> Result<u64, Refusal>
     ensures { result ≡ write_time m }
 {
-    if is_instant(m) {
-        return Fielded::Field(field_of(m));
+    if !is_instant(m) {
+        return Err(Refusal::ImpossibleDay(0));
     }
-    Fielded::Refused(Refusal::ImpossibleDay(0))
+    Ok(field_of(m))
 }
 
 // The five bytes of a field, the high one first; bits above 40 are left out.
+#[tactic(auto, unfolding(crate::specs::Field::field_bytes))]
 pub fn field_bytes(field: u64) -> [u8; 5]
     ensures { result ≡ field_bytes field }
 {
@@ -193,6 +163,7 @@ pub fn field_bytes(field: u64) -> [u8; 5]
 }
 
 // The field that five bytes hold.
+#[tactic(auto, unfolding(crate::specs::Field::bytes_field))]
 pub fn bytes_field(bytes: [u8; 5]) -> u64
     ensures { result ≡ bytes_field bytes }
 {
@@ -204,49 +175,41 @@ pub fn bytes_field(bytes: [u8; 5]) -> u64
 }
 
 // Whether one moment comes before another.
+#[tactic(auto, unfolding(crate::specs::Showing::earlier))]
 pub fn is_earlier(a: Moment, b: Moment) -> bool
     ensures { result ≡ earlier a b }
 {
-    if a.day == b.day {
-        return a.second < b.second;
-    }
-    a.day < b.day
+    a < b
 }
 
 // How a message with a good start stands at the present moment.
-fn shown_by(start: Moment, end: EndTimed, present: Moment) -> Showing
+#[tactic(auto, unfolding(crate::specs::Showing::shown_by))]
+fn shown_by(
+    start: Moment,
+    end: Result<Option<Moment>, Refusal>,
+    present: Moment,
+) -> Result<Showing, Refusal>
     ensures { result ≡ shown_by start end present }
 {
+    let end = end?;
+    if is_earlier(present, start) {
+        return Ok(Showing::Before);
+    }
     match end {
-        EndTimed::Refused(r) => Showing::Refused(r),
-        EndTimed::Live => {
-            if is_earlier(present, start) {
-                return Showing::Before;
-            }
-            Showing::On
-        }
-        EndTimed::At(e) => {
-            if is_earlier(present, start) {
-                return Showing::Before;
-            }
-            if is_earlier(present, e) {
-                return Showing::On;
-            }
-            Showing::Ended
-        }
+        Some(e) if !is_earlier(present, e) => Ok(Showing::Ended),
+        _ => Ok(Showing::On),
     }
 }
 
 // How a message with these start and end fields stands at a second of a day, both UTC.
-pub fn at_instant(start: u64, end: u64, day: u32, second: u32) -> Showing
+#[tactic(auto, unfolding(crate::specs::Showing::showing, crate::specs::Showing::shown_from))]
+pub fn at_instant(start: u64, end: u64, day: u32, second: u32) -> Result<Showing, Refusal>
     ensures { result ≡ showing start end (record { day = day; second = second }) }
 {
     let present = Moment { day, second };
     if !is_instant(present) {
-        return Showing::Refused(Refusal::ImpossibleDay(0));
+        return Err(Refusal::ImpossibleDay(0));
     }
-    match read_time(start, 0) {
-        Timed::Refused(r) => Showing::Refused(r),
-        Timed::At(from) => shown_by(from, read_end(end, 0), present),
-    }
+    let from = read_time(start, 0)?;
+    shown_by(from, read_end(end, 0), present)
 }

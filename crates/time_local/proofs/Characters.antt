@@ -1,5 +1,6 @@
 -- Text and numbers are one: each local time that the form has room for is read from its characters, and each formed text is the characters of its numbers.
 use mathlib.Core.Path.{◌≡◌, refl, sym, ap, ◌∙◌}
+use Rattle.std.specs.Prelude.{Ok}
 use mathlib.Core.Bool.{Bool, true, false, ◌&&◌}
 use mathlib.Core.List.{List, [], ◌∷◌}
 use Prim.Native.Nat.{ℕ, zero, suc, ◌+◌, ◌-◌, ◌*◌, ◌/◌, ◌%◌, ◌≤◌, ◌<◌}
@@ -9,7 +10,6 @@ use lib.Dec.{eqb}
 use lib.IntN.{ℤ}
 use lib.ListN.{length, get_or, drop, drop_of_length-le}
 use lib.Seq.{drop-cons}
-use Rattle.time_fields.specs.declared.Fielded.TheVariants.{Field}
 use Rattle.ground_choices.proofs.Tests.{and_of}
 use Rattle.time_offset.specs.Offset.{is_offset}
 use Rattle.time_local.specs.declared.LocalTime.{LocalTime}
@@ -136,12 +136,12 @@ module _ (s : List ℕ) (e : formed form s ≡ true) where
       ∷ tens_two s 17 p.second i ∷ units_two s 17 p.second i ∷ [])
 
 -- an accepted text is the characters of a local time, and the field gives that local time back
-pub text_accepted : (s : List ℕ) (offset : ℤ) (f : ℕ) → read_text s offset ≡ Field f → IsText s offset f
+pub text_accepted : (s : List ℕ) (offset : ℤ) (f : ℕ) → read_text s offset ≡ Ok f → IsText s offset f
 text_accepted s offset f e = by (is_offset offset) refl
   where
     on : is_offset offset ≡ true → (b : Bool) → formed form s ≡ b → IsText s offset f
     on o true p =
-        let q : pack_of (typed s) offset ≡ Field f = sym (by_form s offset o p) ∙ e in
+        let q : pack_of (typed s) offset ≡ Ok f = sym (by_form s offset o p) ∙ e in
         record {
           time = typed s;
           typable = text_typable s p;

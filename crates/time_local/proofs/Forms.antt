@@ -1,20 +1,17 @@
 -- A text by its form: character after character, and what each then is.
 use mathlib.Core.Path.{◌≡◌, refl, ap, ◌∙◌}
+use Rattle.std.specs.Prelude.{Err}
 use mathlib.Core.Bool.{Bool, true, false, ◌&&◌, cond, and-false}
 use mathlib.Core.List.{List, [], ◌∷◌}
 use Prim.Native.Nat.{ℕ, zero, suc, ◌+◌, ◌≤◌, ◌<◌}
 use native.Mathlib.Nat.{le_of_suc-le-suc}
 use native.Mathlib.Numerals.{add-one}
 use native.Mathlib.Omega.{arith}
-use lib.Dec.{eqb}
-use borrow.Author.Tests.{eq-eqb, ne_eqb}
 use lib.IntN.{ℤ}
 use lib.ListN.{length, get_or, drop, drop_of_length-le}
 use lib.Seq.{drop-cons}
 use Rattle.ground_refusal.specs.declared.Refusal.TheVariants.{OutsideSet, NotOfTheForm}
-use Rattle.time_fields.specs.declared.Fielded.TheVariants.{Refused}
 use Rattle.ground_choices.proofs.Tests.{both}
-use Rattle.ground_numbers.specs.Characters.{is_digit}
 use Rattle.ground_numbers.proofs.Ranges.{digit_within}
 use Rattle.time_offset.specs.Offset.{is_offset}
 use Rattle.time_local.specs.Clock.{pack_of}
@@ -38,17 +35,6 @@ turn fs s i h k = rw (add-one i, drop-cons fs i 0 h, drop-cons s i 0 k)
 pub at_end : (fs s : List ℕ) (i : ℕ) → length fs ≤ i → length s ≤ i → formed (drop i fs) (drop i s) ≡ true
 unfolding formed
 at_end fs s i h k = rw (drop_of_length-le fs h, drop_of_length-le s k)
-
--- ---- one character
-
-module _ (f c : ℕ) where
-  pub any_digit : f ≡ 48 → fits f c ≡ is_digit c
-  unfolding fits
-  any_digit e = simp (eq-eqb _ _ e)
-
-  pub own_byte : (f ≡ 48 → ⊥) → fits f c ≡ eqb c f
-  unfolding fits
-  own_byte n = simp (ne_eqb _ _ n)
 
 -- ---- what a formed text has at each place
 
@@ -103,13 +89,13 @@ module _ (s : List ℕ) (e : formed form s ≡ true) where
 -- ---- 19 for the offset comes first, then 24
 
 module _ (s : List ℕ) (offset : ℤ) where
-  pub no_offset : is_offset offset ≡ false → read_text s offset ≡ Refused (OutsideSet 0)
+  pub no_offset : is_offset offset ≡ false → read_text s offset ≡ Err (OutsideSet 0)
   unfolding read_text
   no_offset o = simp o
 
   pub by_form : {t : Bool} → is_offset offset ≡ true → formed form s ≡ t
-      → read_text s offset ≡ cond t (pack_of (typed s) offset) (Refused NotOfTheForm)
+      → read_text s offset ≡ cond t (pack_of (typed s) offset) (Err NotOfTheForm)
   unfolding read_text
   by_form o e =
-      ap (λ (u : Bool). cond u (cond (formed form s) (pack_of (typed s) offset) (Refused NotOfTheForm)) (Refused (OutsideSet 0))) o
-      ∙ ap (λ (u : Bool). cond u (pack_of (typed s) offset) (Refused NotOfTheForm)) e
+      ap (λ (u : Bool). cond u (cond (formed form s) (pack_of (typed s) offset) (Err NotOfTheForm)) (Err (OutsideSet 0))) o
+      ∙ ap (λ (u : Bool). cond u (pack_of (typed s) offset) (Err NotOfTheForm)) e

@@ -1,11 +1,11 @@
 -- Document 01's worked texts and times, in one theorem about the definitions.
 use mathlib.Core.Path.{◌≡◌, refl}
+use Rattle.std.specs.Prelude.{Ok, Err}
 use mathlib.Core.List.{List, [], ◌∷◌}
 use Prim.Native.Nat.{ℕ}
 use lib.IntN.{pos}
 use Rattle.ground_refusal.specs.declared.Refusal.TheVariants.{OutsideSet, ImpossibleDay, NotOfTheForm}
 use Rattle.time_days.specs.Calendar.{leap, month_length, is_date, months_from, year_of, month_of, days_of, month_start, day_number, in_range, has_day, day_of}
-use Rattle.time_fields.specs.declared.Fielded.TheVariants.{Field, Refused}
 use Rattle.time_fields.specs.Field.{two_digits, is_instant, field_of, write_time}
 use Rattle.time_offset.specs.Offset.{floor_div, floor_mod, is_offset, timed_at, minute_moved, day_moved, second_moved, moved, to_utc}
 use Rattle.time_local.specs.declared.LocalTime.{LocalTime}
@@ -32,14 +32,14 @@ abbrev local : ℕ → ℕ → ℕ → ℕ → ℕ → ℕ → LocalTime
 local y m d h n s = record { year = y; month = m; day = d; hour = h; minute = n; second = s }
 
 pub values :
-    (read_text third_november (pos 480) ≡ Field 0xECC8234500)
-    × (read_text third_november (pos 0) ≡ Field 0xECC9074500)
-    × (read_text thirteenth_november (pos 0) ≡ Field 0xECD3000000)
-    × (read_text month_thirteen (pos 0) ≡ Refused (ImpossibleDay 0))
-    × (read_text short (pos 0) ≡ Refused NotOfTheForm)
-    × (read_text short (pos 841) ≡ Refused (OutsideSet 0))
-    × (pack_of (local 1900 3 1 0 0 0) (pos 480) ≡ Refused (ImpossibleDay 0))
-    × (pack_of (local 1900 3 1 8 0 0) (pos 480) ≡ Field 0x3AE7000000)
-    × (pack_of (local 2024 11 3 24 0 0) (pos 0) ≡ Refused (ImpossibleDay 0))
+    (read_text third_november (pos 480) ≡ Ok 0xECC8234500)
+    × (read_text third_november (pos 0) ≡ Ok 0xECC9074500)
+    × (read_text thirteenth_november (pos 0) ≡ Ok 0xECD3000000)
+    × (read_text month_thirteen (pos 0) ≡ Err (ImpossibleDay 0))
+    × (read_text short (pos 0) ≡ Err NotOfTheForm)
+    × (read_text short (pos 841) ≡ Err (OutsideSet 0))
+    × (pack_of (local 1900 3 1 0 0 0) (pos 480) ≡ Err (ImpossibleDay 0))
+    × (pack_of (local 1900 3 1 8 0 0) (pos 480) ≡ Ok 0x3AE7000000)
+    × (pack_of (local 2024 11 3 24 0 0) (pos 0) ≡ Err (ImpossibleDay 0))
 unfolding leap month_length is_date months_from year_of month_of days_of month_start day_number in_range has_day day_of two_digits is_instant field_of write_time floor_div floor_mod is_offset timed_at minute_moved day_moved second_moved moved to_utc is_clock second_of on_day local_moment written packed_at pack_of form fits formed two typed read_text
 values = (refl, refl, refl, refl, refl, refl, refl, refl, refl)

@@ -1,14 +1,12 @@
 -- What a reader has to believe of date text: `dd/mm/yyyy hh:mm:ss`, day first, character by character.
-use Rattle.std.specs.Prelude.{◌≡◌, Bool, true, false, ◌&&◌, cond, List, [], ◌∷◌, ℕ, ◌+◌, ◌-◌, ◌*◌, ◌/◌, ◌%◌, ◌≤◌, ◌<◌, eqb, ℤ, length, get_or}
+use Rattle.std.specs.Prelude.{◌≡◌, Bool, true, false, ◌&&◌, cond, List, [], ◌∷◌, ℕ, ◌+◌, ◌-◌, ◌*◌, ◌/◌, ◌%◌, ◌≤◌, ◌<◌, eqb, ℤ, length, get_or, Result, Ok, Err}
+use Rattle.ground_refusal.specs.declared.Refusal.{Refusal}
 use Rattle.ground_numbers.specs.Characters.{is_digit, colon}
 use Rattle.ground_refusal.specs.declared.Refusal.TheVariants.{OutsideSet, ImpossibleDay, NotOfTheForm}
-use Rattle.time_fields.specs.declared.Fielded.{Fielded}
-use Rattle.time_fields.specs.declared.Fielded.TheVariants.{Field, Refused}
 use Rattle.time_offset.specs.Offset.{is_offset}
 use Rattle.time_local.specs.declared.LocalTime.{LocalTime}
-use Rattle.time_local.specs.declared.TextField.{TextField}
-use Rattle.time_local.specs.declared.TextField.TheVariants.{Field as Read, OtherOffset, OtherForm, Impossible}
-use Rattle.time_local.specs.declared.Unpacked.TheVariants.{At}
+use Rattle.time_local.specs.declared.TextFault.{TextFault}
+use Rattle.time_local.specs.declared.TextFault.TheVariants.{OtherOffset, OtherForm, Impossible}
 use Rattle.time_local.specs.Clock.{pack_of, unpack_of}
 
 -- the characters that are no digits, beside the colon
@@ -61,16 +59,16 @@ typed s =
     }
 
 -- "Order: 19 (offset), 24, 20"
-unfoldable pub read_text : List ℕ → ℤ → Fielded
+unfoldable pub read_text : List ℕ → ℤ → Result ℕ Refusal
 read_text s offset =
-    cond (is_offset offset) (cond (formed form s) (pack_of (typed s) offset) (Refused NotOfTheForm)) (Refused (OutsideSet 0))
+    cond (is_offset offset) (cond (formed form s) (pack_of (typed s) offset) (Err NotOfTheForm)) (Err (OutsideSet 0))
 
 -- the answer of reading a text: a field, or one of these three
-unfoldable pub read_as : TextField → Fielded
-read_as (Read field) = Field field
-read_as OtherOffset = Refused (OutsideSet 0)
-read_as OtherForm = Refused NotOfTheForm
-read_as Impossible = Refused (ImpossibleDay 0)
+unfoldable pub read_as : Result ℕ TextFault → Result ℕ Refusal
+read_as (Ok field) = Ok field
+read_as (Err OtherOffset) = Err (OutsideSet 0)
+read_as (Err OtherForm) = Err NotOfTheForm
+read_as (Err Impossible) = Err (ImpossibleDay 0)
 
 -- ---- the characters of a local time
 
@@ -105,5 +103,5 @@ pub record IsText (s : List ℕ) (offset : ℤ) (field : ℕ) : Type 0 where
   pub time : LocalTime
   pub typable : Typable time
   pub characters : s ≡ text_of time
-  pub packs : pack_of time offset ≡ Field field
-  pub unpacks : unpack_of field offset ≡ At time
+  pub packs : pack_of time offset ≡ Ok field
+  pub unpacks : unpack_of field offset ≡ Ok time

@@ -7,8 +7,7 @@ ghost use Rattle.time_local.specs.Clock.{is_clock, local_moment, written, pack_o
 ghost use Rattle.time_local.specs.Text.{form, fits, formed, TwoDigits, two, typed, read_text, read_as};
 
 use ground_refusal::Refusal;
-use time_days::{DateAnswer, DayAnswer};
-use time_fields::{Fielded, Moment, Timed};
+use time_fields::Moment;
 
 // A date and a time of day, as clocks at the offset show them.
 #[derive(Clone, Copy)]
@@ -21,140 +20,104 @@ pub struct LocalTime {
     pub second: u32,
 }
 
-// The UTC field of a local time at an offset of the range, or that there is none: 20 is the only refusal there. No refusal
-// stands in it, for a field that shares its bytes with one is written in pieces, and whoever reads it whole has to wait.
+// Why a text has no UTC field at an offset. A Refusal does not stand in its place: a field that shares its bytes with one is written in pieces, and whoever
+// reads it whole has to wait.
 #[derive(Clone, Copy)]
-enum UtcField {
-    Field(u64),
-    Impossible,
-}
-
-// The UTC field of a text at an offset, or which refusal it has; for the same reason none stands in it.
-#[derive(Clone, Copy)]
-enum TextField {
-    Field(u64),
+enum TextFault {
     OtherOffset,
     OtherForm,
     Impossible,
 }
 
-// What a field says at an offset.
-#[derive(Clone, Copy)]
-pub enum Unpacked {
-    At(LocalTime),
-    Refused(Refusal),
-}
-
 // Whether a time of day is one: at most 23, 59, 59.
-#[tactic(auto, using(crate::proofs::Clocks::late_hour, crate::proofs::Clocks::late_minute, crate::proofs::Clocks::by_second))]
+#[tactic(auto, unfolding(crate::specs::Clock::is_clock))]
 fn is_clock(t: LocalTime) -> bool
     ensures { result ≡ is_clock t }
 {
-    if 23 < t.hour {
-        return false;
-    }
-    if 59 < t.minute {
-        return false;
-    }
-    t.second <= 59
+    t.hour <= 23 && t.minute <= 59 && t.second <= 59
 }
 
 // The moment of a local time, by local days.
-fn local_moment(t: LocalTime) -> Timed
+#[tactic(auto, unfolding(crate::specs::Clock::local_moment, crate::specs::Clock::on_day, crate::specs::Clock::second_of))]
+fn local_moment(t: LocalTime) -> Result<Moment, Refusal>
     ensures { result ≡ local_moment t }
 {
-    match time_days::day_of(t.year, t.month, t.day) {
-        DayAnswer::Refused(r) => Timed::Refused(r),
-        DayAnswer::Day(day) => {
-            if !is_clock(t) {
-                return Timed::Refused(Refusal::ImpossibleDay(0));
-            }
-            Timed::At(Moment {
-                day,
-                second: t.hour * 3600 + t.minute * 60 + t.second,
-            })
-        }
+    let day = time_days::day_of(t.year, t.month, t.day)?;
+    if !is_clock(t) {
+        return Err(Refusal::ImpossibleDay(0));
     }
+    Ok(Moment {
+        day,
+        second: t.hour * 3600 + t.minute * 60 + t.second,
+    })
 }
 
 // The UTC field of a local moment.
-fn field_at(local: Moment, offset: i32) -> Fielded
+#[tactic(auto, unfolding(crate::specs::Clock::written))]
+fn field_at(local: Moment, offset: i32) -> Result<u64, Refusal>
     ensures { result ≡ written (to_utc local offset) }
 {
-    match time_offset::to_utc(local, offset) {
-        Timed::At(utc) => time_fields::write_time(utc),
-        Timed::Refused(r) => Fielded::Refused(r),
-    }
+    time_fields::write_time(time_offset::to_utc(local, offset)?)
 }
 
-// The UTC field of a local time at an offset of the range.
-fn packed(t: LocalTime, offset: i32) -> UtcField
+// The UTC field of a local time at an offset of the range, or none: 20 is the only refusal there, and is left out as TextFault leaves them out.
+#[tactic(auto, unfolding(crate::specs::Clock::packed_as, crate::specs::Clock::pack_of, crate::specs::Clock::packed_at, crate::specs::Clock::written))]
+fn packed(t: LocalTime, offset: i32) -> Option<u64>
     requires { is_offset offset ≡ true }
     ensures { packed_as result ≡ pack_of t offset }
 {
-    match local_moment(t) {
-        Timed::At(local) => match field_at(local, offset) {
-            Fielded::Field(field) => UtcField::Field(field),
-            Fielded::Refused(_why) => UtcField::Impossible,
-        },
-        Timed::Refused(_why) => UtcField::Impossible,
-    }
+    let local = local_moment(t).ok()?;
+    field_at(local, offset).ok()
 }
 
 // The UTC field of a local time.
-pub fn pack(t: LocalTime, offset: i32) -> Fielded
+#[tactic(auto, unfolding(crate::specs::Clock::pack_of, crate::specs::Clock::packed_as))]
+pub fn pack(t: LocalTime, offset: i32) -> Result<u64, Refusal>
     ensures { result ≡ pack_of t offset }
 {
     if !time_offset::permitted(offset) {
-        return Fielded::Refused(Refusal::OutsideSet(0));
+        return Err(Refusal::OutsideSet(0));
     }
-    match packed(t, offset) {
-        UtcField::Field(field) => Fielded::Field(field),
-        UtcField::Impossible => Fielded::Refused(Refusal::ImpossibleDay(0)),
-    }
+    packed(t, offset).ok_or(Refusal::ImpossibleDay(0))
 }
 
 // The date and the time of a local moment.
-fn date_at(local: Moment) -> Unpacked
-    ensures { result ≡ dated (Timed.At local) }
+#[tactic(auto, unfolding(crate::specs::Clock::dated, crate::specs::Clock::at_second))]
+fn date_at(local: Moment) -> Result<LocalTime, Refusal>
+    ensures { result ≡ dated (Ok local) }
 {
-    match time_days::date_of(local.day) {
-        DateAnswer::On(date) => Unpacked::At(LocalTime {
-            year: date.year,
-            month: date.month,
-            day: date.day,
-            hour: local.second / 3600,
-            minute: local.second / 60 % 60,
-            second: local.second % 60,
-        }),
-        DateAnswer::Refused(r) => Unpacked::Refused(r),
-    }
+    let date = time_days::date_of(local.day)?;
+    Ok(LocalTime {
+        year: date.year,
+        month: date.month,
+        day: date.day,
+        hour: local.second / 3600,
+        minute: local.second / 60 % 60,
+        second: local.second % 60,
+    })
 }
 
 // The local time of a UTC moment.
-fn local_at(utc: Moment, offset: i32) -> Unpacked
+#[tactic(auto, unfolding(crate::specs::Clock::dated))]
+fn local_at(utc: Moment, offset: i32) -> Result<LocalTime, Refusal>
     ensures { result ≡ dated (to_local utc offset) }
 {
-    match time_offset::to_local(utc, offset) {
-        Timed::At(local) => date_at(local),
-        Timed::Refused(r) => Unpacked::Refused(r),
-    }
+    date_at(time_offset::to_local(utc, offset)?)
 }
 
 // The local time that a UTC field says.
-pub fn unpack(field: u64, offset: i32) -> Unpacked
+#[tactic(auto, unfolding(crate::specs::Clock::unpack_of, crate::specs::Clock::unpacked_at))]
+pub fn unpack(field: u64, offset: i32) -> Result<LocalTime, Refusal>
     ensures { result ≡ unpack_of field offset }
 {
     if !time_offset::permitted(offset) {
-        return Unpacked::Refused(Refusal::OutsideSet(0));
+        return Err(Refusal::OutsideSet(0));
     }
-    match time_fields::read_time(field, 0) {
-        Timed::At(utc) => local_at(utc, offset),
-        Timed::Refused(r) => Unpacked::Refused(r),
-    }
+    local_at(time_fields::read_time(field, 0)?, offset)
 }
 
 // Whether a byte is what the form has in its place: any digit for a 0, else the form's own byte.
+#[tactic(auto, unfolding(crate::specs::Text::fits))]
 fn fitting(form: u8, byte: u8) -> bool
     ensures { result ≡ fits form byte }
 {
@@ -171,17 +134,16 @@ fn of_form(form: &[u8], text: &[u8]) -> bool
     if form.len() != text.len() {
         return false;
     }
-    let mut i = 0;
-    while i < form.len() {
-        if !fitting(form[i], text[i]) {
+    for (i, f) in form.iter().enumerate() {
+        if !fitting(*f, text[i]) {
             return false;
         }
-        i += 1;
     }
     true
 }
 
 // What two digits of a text are worth.
+#[tactic(auto, unfolding(crate::specs::Text::two))]
 fn number_at(text: &[u8], i: usize) -> u32
     requires { TwoDigits text.now i }
     ensures { (result ≡ two text.now i) × (result < 100) }
@@ -190,6 +152,7 @@ fn number_at(text: &[u8], i: usize) -> u32
 }
 
 // The local time of a text of the form: day first.
+#[tactic(auto, unfolding(crate::specs::Text::typed))]
 fn time_of(text: &[u8]) -> LocalTime
     requires { formed form text.now ≡ true }
     ensures { result ≡ typed text.now }
@@ -205,30 +168,27 @@ fn time_of(text: &[u8]) -> LocalTime
 }
 
 // The UTC field of a local time in text: the offset is tested, then the form, then the day and the time.
-fn text_field(text: &[u8], offset: i32) -> TextField
+#[tactic(auto, unfolding(crate::specs::Text::read_as, crate::specs::Text::read_text, crate::specs::Text::form, crate::specs::Clock::packed_as))]
+fn text_field(text: &[u8], offset: i32) -> Result<u64, TextFault>
     ensures { read_as result ≡ read_text text.now offset }
 {
     if !time_offset::permitted(offset) {
-        return TextField::OtherOffset;
+        return Err(TextFault::OtherOffset);
     }
     if !of_form(b"00/00/0000 00:00:00", text) {
-        return TextField::OtherForm;
+        return Err(TextFault::OtherForm);
     }
-    let t = time_of(text);
-    match packed(t, offset) {
-        UtcField::Field(field) => TextField::Field(field),
-        UtcField::Impossible => TextField::Impossible,
-    }
+    packed(time_of(text), offset).ok_or(TextFault::Impossible)
 }
 
 // The UTC field of a local time in text, `dd/mm/yyyy hh:mm:ss`.
-pub fn read_text(text: &[u8], offset: i32) -> Fielded
+#[tactic(auto, unfolding(crate::specs::Text::read_as))]
+pub fn read_text(text: &[u8], offset: i32) -> Result<u64, Refusal>
     ensures { result ≡ read_text text.now offset }
 {
-    match text_field(text, offset) {
-        TextField::Field(field) => Fielded::Field(field),
-        TextField::OtherOffset => Fielded::Refused(Refusal::OutsideSet(0)),
-        TextField::OtherForm => Fielded::Refused(Refusal::NotOfTheForm),
-        TextField::Impossible => Fielded::Refused(Refusal::ImpossibleDay(0)),
-    }
+    text_field(text, offset).map_err(|fault| match fault {
+        TextFault::OtherOffset => Refusal::OutsideSet(0),
+        TextFault::OtherForm => Refusal::NotOfTheForm,
+        TextFault::Impossible => Refusal::ImpossibleDay(0),
+    })
 }

@@ -1,5 +1,7 @@
 -- Local time and UTC exactly: either direction answers the moment of the other, and refuses exactly where there is none.
 use mathlib.Core.Path.{◌≡◌, refl, sym, ap, ◌∙◌, subst}
+use Rattle.std.specs.Prelude.{Result, Ok, Err}
+use Rattle.ground_refusal.specs.declared.Refusal.{Refusal}
 use mathlib.Core.Bool.{Bool, true, false, cond}
 use mathlib.Core.Logic.{◌↔◌}
 use Prim.Native.Nat.{ℕ, ◌+◌, ◌/◌, ◌%◌}
@@ -7,8 +9,6 @@ use native.Mathlib.Omega.{arith}
 use lib.IntN.{ℤ, pos, negsuc, neg_ℤ, ◌+ℤ◌, +ℤ-neg_ℤ_cancel, -ℤ-+ℤ_cancel}
 use Rattle.ground_refusal.specs.declared.Refusal.TheVariants.{OutsideSet, ImpossibleDay}
 use Rattle.time_fields.specs.declared.Moment.{Moment}
-use Rattle.time_fields.specs.declared.Timed.{Timed}
-use Rattle.time_fields.specs.declared.Timed.TheVariants.{At, Refused}
 use Rattle.time_fields.specs.Field.{is_instant}
 use Rattle.time_fields.proofs.Instants.{instant}
 use Rattle.time_offset.specs.Offset.{floor_div, is_offset, minute_moved, day_moved, second_moved, moved, to_utc, to_local, minutes_of, IsLocal}
@@ -58,8 +58,8 @@ module _ (m n : Moment) (minutes : ℤ) where
 
 -- what a moment moved is answered: there is no third
 data Outcome (m : Moment) (minutes : ℤ) : Type 0 where
-  there : (n : Moment) → Later m n minutes → moved m minutes ≡ At n → Outcome m minutes
-  nowhere : moved m minutes ≡ Refused (ImpossibleDay 0) → Outcome m minutes
+  there : (n : Moment) → Later m n minutes → moved m minutes ≡ Ok n → Outcome m minutes
+  nowhere : moved m minutes ≡ Err (ImpossibleDay 0) → Outcome m minutes
 
 outcome : (m : Moment) (minutes : ℤ) → Outcome m minutes
 outcome m minutes = from (is_instant m) refl
@@ -77,39 +77,39 @@ outcome m minutes = from (is_instant m) refl
     from true a = on a (day_moved m minutes) refl
     from false a = nowhere (moved_outside m minutes a)
 
-moved_later : (m n : Moment) (minutes : ℤ) → moved m minutes ≡ At n → Later m n minutes
+moved_later : (m n : Moment) (minutes : ℤ) → moved m minutes ≡ Ok n → Later m n minutes
 moved_later m n minutes e = by (outcome m minutes)
   where
     by : Outcome m minutes → Later m n minutes
     by (there k l p) = let q : k ≡ n = cc in subst (λ (x : Moment). Later m x minutes) q l
     by (nowhere p) = let z : ◌≡◌ {A = ℕ} 0 1 = cc in absurd (omega arith)
 
-later_moved : (m n : Moment) (minutes : ℤ) → Later m n minutes → moved m minutes ≡ At n
+later_moved : (m n : Moment) (minutes : ℤ) → Later m n minutes → moved m minutes ≡ Ok n
 later_moved m n minutes l =
     let d = later_to m n minutes l in
     moved_to m minutes n.day l.from d.0 (ap (λ (s : ℕ). is_instant (arrived n.day s)) d.1 ∙ l.to)
-    ∙ ap (λ (s : ℕ). At (arrived n.day s)) d.1
+    ∙ ap (λ (s : ℕ). Ok (arrived n.day s)) d.1
 
 -- an answer that tests the offset and then moves is given exactly by the moment so many minutes later
-module _ (offset : ℤ) (m : Moment) (minutes : ℤ) (answer : Timed)
-    (is : answer ≡ cond (is_offset offset) (moved m minutes) (Refused (OutsideSet 0))) where
-  by : {t : Bool} → is_offset offset ≡ t → answer ≡ cond t (moved m minutes) (Refused (OutsideSet 0))
-  by o = is ∙ ap (λ (t : Bool). cond t (moved m minutes) (Refused (OutsideSet 0))) o
+module _ (offset : ℤ) (m : Moment) (minutes : ℤ) (answer : Result Moment Refusal)
+    (is : answer ≡ cond (is_offset offset) (moved m minutes) (Err (OutsideSet 0))) where
+  by : {t : Bool} → is_offset offset ≡ t → answer ≡ cond t (moved m minutes) (Err (OutsideSet 0))
+  by o = is ∙ ap (λ (t : Bool). cond t (moved m minutes) (Err (OutsideSet 0))) o
 
-  answers : {n : Moment} → is_offset offset ≡ true → Later m n minutes → answer ≡ At n
+  answers : {n : Moment} → is_offset offset ≡ true → Later m n minutes → answer ≡ Ok n
   answers {n} o l = by o ∙ later_moved m n minutes l
 
-  answers_only : {n : Moment} → answer ≡ At n → (is_offset offset ≡ true) × Later m n minutes
+  answers_only : {n : Moment} → answer ≡ Ok n → (is_offset offset ≡ true) × Later m n minutes
   answers_only {n} e = at (is_offset offset) refl
     where
       at : (t : Bool) → is_offset offset ≡ t → (is_offset offset ≡ true) × Later m n minutes
       at true o = (o, moved_later m n minutes (sym (by o) ∙ e))
       at false o = let z : ◌≡◌ {A = ℕ} 0 1 = cc (by o) in absurd (omega arith)
 
-  answers_none : is_offset offset ≡ true → ((n : Moment) → Later m n minutes → ⊥) → answer ≡ Refused (ImpossibleDay 0)
+  answers_none : is_offset offset ≡ true → ((n : Moment) → Later m n minutes → ⊥) → answer ≡ Err (ImpossibleDay 0)
   answers_none o none = at (outcome m minutes)
     where
-      at : Outcome m minutes → answer ≡ Refused (ImpossibleDay 0)
+      at : Outcome m minutes → answer ≡ Err (ImpossibleDay 0)
       at (there n l p) = absurd (none n l)
       at (nowhere p) = by o ∙ p
 
@@ -143,32 +143,32 @@ module _ (l u : Moment) (offset : ℤ) where
       }
 
   -- local to UTC answers exactly the UTC moment whose local one is given, and UTC to local exactly the local one
-  pub utc_exactly : (to_utc l offset ≡ At u) ↔ IsLocal l u offset
+  pub utc_exactly : (to_utc l offset ≡ Ok u) ↔ IsLocal l u offset
   utc_exactly = (
     λ e. let a = answers_only offset l (neg_ℤ offset) _ (utc_by l offset refl) e in is_local a.0 (later_back a.1),
     λ i. answers offset l (neg_ℤ offset) _ (utc_by l offset refl) i.offset_is (later_utc i),
   )
 
-  pub local_exactly : (to_local u offset ≡ At l) ↔ IsLocal l u offset
+  pub local_exactly : (to_local u offset ≡ Ok l) ↔ IsLocal l u offset
   local_exactly = (
     λ e. let a = answers_only offset u offset _ (local_by u offset refl) e in is_local a.0 a.1,
     λ i. answers offset u offset _ (local_by u offset refl) i.offset_is (later_local i),
   )
 
   -- there and back, for every moment and offset whose two days lie in range
-  pub utc_back : to_utc l offset ≡ At u → to_local u offset ≡ At l
+  pub utc_back : to_utc l offset ≡ Ok u → to_local u offset ≡ Ok l
   utc_back e = local_exactly.1 (utc_exactly.0 e)
 
-  pub local_back : to_local u offset ≡ At l → to_utc l offset ≡ At u
+  pub local_back : to_local u offset ≡ Ok l → to_utc l offset ≡ Ok u
   local_back e = utc_exactly.1 (local_exactly.0 e)
 
 -- at an offset, either direction refuses with 20 where there is no such moment
 pub utc_none : (l : Moment) (offset : ℤ) → is_offset offset ≡ true → ((u : Moment) → IsLocal l u offset → ⊥)
-    → to_utc l offset ≡ Refused (ImpossibleDay 0)
+    → to_utc l offset ≡ Err (ImpossibleDay 0)
 utc_none l offset o none =
     answers_none offset l (neg_ℤ offset) _ (utc_by l offset refl) o (λ u k. none u (is_local l u offset o (later_back l u offset k)))
 
 pub local_none : (u : Moment) (offset : ℤ) → is_offset offset ≡ true → ((l : Moment) → IsLocal l u offset → ⊥)
-    → to_local u offset ≡ Refused (ImpossibleDay 0)
+    → to_local u offset ≡ Err (ImpossibleDay 0)
 local_none u offset o none =
     answers_none offset u offset _ (local_by u offset refl) o (λ l k. none l (is_local l u offset o k))

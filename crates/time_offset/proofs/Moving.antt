@@ -1,5 +1,6 @@
 -- A moment moved by less than a day: where it comes to, and what is answered there.
 use mathlib.Core.Path.{◌≡◌, sym, ap, ◌∙◌}
+use Rattle.std.specs.Prelude.{Ok, Err}
 use mathlib.Core.Bool.{Bool, true, false, cond}
 use Prim.Native.Nat.{ℕ, ◌+◌, ◌-◌, ◌/◌, ◌^◌, ◌≤◌, ◌<◌}
 use native.Mathlib.Omega.{arith}
@@ -11,7 +12,6 @@ use mir.Val.{SFits, to_z, of_z}
 use mir.Facts.{to_z-of_z}
 use Rattle.ground_refusal.specs.declared.Refusal.TheVariants.{OutsideSet, ImpossibleDay}
 use Rattle.time_fields.specs.declared.Moment.{Moment}
-use Rattle.time_fields.specs.declared.Timed.TheVariants.{At, Refused}
 use Rattle.time_fields.specs.Field.{is_instant}
 use Rattle.ground_choices.proofs.Tests.{both}
 use Rattle.time_fields.proofs.Instants.{Instant}
@@ -42,14 +42,14 @@ offset_tested f p e = ap is_offset (sym (to_z-of_z f)) ∙ sym p ∙ e
 
 -- 19 comes first, either way
 pub utc_by : (local : Moment) (offset : ℤ) {t : Bool} → is_offset offset ≡ t
-    → to_utc local offset ≡ cond t (moved local (neg_ℤ offset)) (Refused (OutsideSet 0))
+    → to_utc local offset ≡ cond t (moved local (neg_ℤ offset)) (Err (OutsideSet 0))
 unfolding to_utc
-utc_by local offset e = ap (λ (u : Bool). cond u (moved local (neg_ℤ offset)) (Refused (OutsideSet 0))) e
+utc_by local offset e = ap (λ (u : Bool). cond u (moved local (neg_ℤ offset)) (Err (OutsideSet 0))) e
 
 pub local_by : (utc : Moment) (offset : ℤ) {t : Bool} → is_offset offset ≡ t
-    → to_local utc offset ≡ cond t (moved utc offset) (Refused (OutsideSet 0))
+    → to_local utc offset ≡ cond t (moved utc offset) (Err (OutsideSet 0))
 unfolding to_local
-local_by utc offset e = ap (λ (u : Bool). cond u (moved utc offset) (Refused (OutsideSet 0))) e
+local_by utc offset e = ap (λ (u : Bool). cond u (moved utc offset) (Err (OutsideSet 0))) e
 
 -- the day moved to, as a number from 0
 abbrev pub day_to : Moment → ℤ → ℕ
@@ -77,24 +77,24 @@ module _ (m : Moment) (minutes : ℤ) (i : Instant m) (short : mag minutes < 144
   day_small = omega (arith, days_size, parts (floor_div (minute_moved m minutes) 1440))
 
 -- what is answered: 20 where it starts outside the range or comes to be outside it
-pub moved_outside : (m : Moment) (minutes : ℤ) → is_instant m ≡ false → moved m minutes ≡ Refused (ImpossibleDay 0)
+pub moved_outside : (m : Moment) (minutes : ℤ) → is_instant m ≡ false → moved m minutes ≡ Err (ImpossibleDay 0)
 unfolding moved
 moved_outside m minutes e =
-    ap (λ (t : Bool). cond t (timed_at (day_moved m minutes) (second_moved m minutes)) (Refused (ImpossibleDay 0))) e
+    ap (λ (t : Bool). cond t (timed_at (day_moved m minutes) (second_moved m minutes)) (Err (ImpossibleDay 0))) e
 
 module _ (m : Moment) (minutes : ℤ) where
   moved_at : (z : ℤ) → is_instant m ≡ true → day_moved m minutes ≡ z → moved m minutes ≡ timed_at z (second_moved m minutes)
   unfolding moved
   moved_at z a e =
-      ap (λ (t : Bool). cond t (timed_at (day_moved m minutes) (second_moved m minutes)) (Refused (ImpossibleDay 0))) a
+      ap (λ (t : Bool). cond t (timed_at (day_moved m minutes) (second_moved m minutes)) (Err (ImpossibleDay 0))) a
       ∙ ap (λ (y : ℤ). timed_at y (second_moved m minutes)) e
 
-  pub moved_before : (d : ℕ) → is_instant m ≡ true → day_moved m minutes ≡ negsuc d → moved m minutes ≡ Refused (ImpossibleDay 0)
+  pub moved_before : (d : ℕ) → is_instant m ≡ true → day_moved m minutes ≡ negsuc d → moved m minutes ≡ Err (ImpossibleDay 0)
   unfolding timed_at
   moved_before d a e = moved_at (negsuc d) a e
 
   pub moved_to : (d : ℕ) {t : Bool} → is_instant m ≡ true → day_moved m minutes ≡ pos d → is_instant (arrived d (second_moved m minutes)) ≡ t
-      → moved m minutes ≡ cond t (At (arrived d (second_moved m minutes))) (Refused (ImpossibleDay 0))
+      → moved m minutes ≡ cond t (Ok (arrived d (second_moved m minutes))) (Err (ImpossibleDay 0))
   unfolding timed_at
   moved_to d a e b =
-      moved_at (pos d) a e ∙ ap (λ (u : Bool). cond u (At (arrived d (second_moved m minutes))) (Refused (ImpossibleDay 0))) b
+      moved_at (pos d) a e ∙ ap (λ (u : Bool). cond u (Ok (arrived d (second_moved m minutes))) (Err (ImpossibleDay 0))) b

@@ -6,7 +6,7 @@ ghost use Rattle.std.specs.Int.Signed.{mag};
 ghost use Rattle.time_offset.specs.Offset.{floor_div, floor_mod, is_offset, moved, to_utc, to_local};
 
 use ground_refusal::Refusal;
-use time_fields::{Moment, Timed};
+use time_fields::Moment;
 
 // Minutes as days and a minute of the day.
 #[derive(Clone, Copy)]
@@ -33,12 +33,12 @@ fn floor(minutes: i32) -> Floored
 }
 
 // The moment so many minutes later, or earlier for a number below 0: less than a day either way.
-fn later(m: Moment, minutes: i32) -> Timed
+fn later(m: Moment, minutes: i32) -> Result<Moment, Refusal>
     requires { mag minutes < 1440 }
     ensures { result ≡ moved m minutes }
 {
     if !time_fields::is_instant(m) {
-        return Timed::Refused(Refusal::ImpossibleDay(0));
+        return Err(Refusal::ImpossibleDay(0));
     }
     let carried = floor((m.second / 60) as i32 + minutes);
     let to = Moment {
@@ -46,9 +46,9 @@ fn later(m: Moment, minutes: i32) -> Timed
         second: carried.minute * 60 + m.second % 60,
     };
     if !time_fields::is_instant(to) {
-        return Timed::Refused(Refusal::ImpossibleDay(0));
+        return Err(Refusal::ImpossibleDay(0));
     }
-    Timed::At(to)
+    Ok(to)
 }
 
 // Whether an offset is one of −720 to +840 minutes, east positive.
@@ -56,28 +56,27 @@ fn later(m: Moment, minutes: i32) -> Timed
 pub fn permitted(offset: i32) -> bool
     ensures { result ≡ is_offset offset }
 {
-    if offset < -720 {
-        return false;
-    }
-    offset <= 840
+    -720 <= offset && offset <= 840
 }
 
 // The UTC moment of a local one: less the offset.
-pub fn to_utc(local: Moment, offset: i32) -> Timed
+#[tactic(auto, using(crate::proofs::Moving::offset_short), unfolding(crate::specs::Offset::to_utc))]
+pub fn to_utc(local: Moment, offset: i32) -> Result<Moment, Refusal>
     ensures { result ≡ to_utc local offset }
 {
     if !permitted(offset) {
-        return Timed::Refused(Refusal::OutsideSet(0));
+        return Err(Refusal::OutsideSet(0));
     }
     later(local, -offset)
 }
 
 // The local moment of a UTC one: with the offset added.
-pub fn to_local(utc: Moment, offset: i32) -> Timed
+#[tactic(auto, using(crate::proofs::Moving::offset_short), unfolding(crate::specs::Offset::to_local))]
+pub fn to_local(utc: Moment, offset: i32) -> Result<Moment, Refusal>
     ensures { result ≡ to_local utc offset }
 {
     if !permitted(offset) {
-        return Timed::Refused(Refusal::OutsideSet(0));
+        return Err(Refusal::OutsideSet(0));
     }
     later(utc, offset)
 }

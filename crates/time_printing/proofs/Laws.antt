@@ -1,5 +1,7 @@
 -- What is typed prints as it was typed, and nothing but a live end prints as the word live.
 use Prim.Native.Nat.{ℕ}
+use Rattle.std.specs.Prelude.{Result, Ok, Err}
+use Rattle.time_local.specs.declared.LocalTime.{LocalTime}
 use mathlib.Core.Bool.{Bool, true, false}
 use mathlib.Core.List.{List}
 use mathlib.Core.Path.{◌≡◌, refl, sym, ap, ◌∙◌}
@@ -8,21 +10,17 @@ use borrow.Author.Tests.{eqb-true, eqb-false}
 use lib.Dec.{eqb}
 use lib.IntN.{ℤ}
 use lib.ListN.{length}
+use Rattle.ground_refusal.proofs.Exits.{ok_pair_inj}
 use Rattle.ground_refusal.specs.declared.Refusal.{Refusal}
 use Rattle.ground_refusal.specs.declared.Refusal.TheVariants.{NotOfTheForm}
 use Rattle.time_fields.specs.Field.{live_mark, decimal_pair, is_decimal, read_time}
-use Rattle.time_fields.specs.declared.Fielded.{Fielded}
-use Rattle.time_fields.specs.declared.Fielded.TheVariants.{Field, Refused as NotFielded}
 use Rattle.time_offset.specs.Offset.{is_offset}
 use Rattle.time_local.specs.Clock.{unpacked_at, unpack_of}
 use Rattle.time_local.specs.Text.{form, fits, formed, read_text, text_of}
-use Rattle.time_local.specs.declared.Unpacked.{Unpacked}
-use Rattle.time_local.specs.declared.Unpacked.TheVariants.{At, Refused as NotUnpacked}
 use Rattle.time_local.proofs.Characters.{reads_text, text_accepted}
 use Rattle.time_local.proofs.Clocks.{unpack_by}
 use Rattle.time_local.proofs.Forms.{no_offset, by_form}
 use Rattle.time_local.proofs.RoundTrip.{pack_unpacked}
-use Rattle.time_printing.specs.declared.TypedTimes.TheVariants.{Fields}
 use Rattle.time_printing.specs.Printing.{live_text, refuses, prints, local_text, start_text, end_text}
 use Rattle.time_printing.specs.Typing.{end_typed, with_end, together, typed_times}
 use Rattle.time_printing.specs.Promised.{PrintsAsTyped}
@@ -37,19 +35,19 @@ not_printed e = absurd (let z : ◌≡◌ {A = ℕ} 0 1 = cc in omega arith)
 -- ---- a start
 
 module _ (offset : ℤ) (field : ℕ) where
-  pub typed_prints : (s : List ℕ) → read_text s offset ≡ Field field → start_text field offset ≡ prints s
+  pub typed_prints : (s : List ℕ) → read_text s offset ≡ Ok field → start_text field offset ≡ prints s
   typed_prints s e =
       let i = text_accepted s offset field e in
       start_at field offset i.time i.unpacks ∙ ap prints (sym i.characters)
 
   -- what is printed is the characters of the local time that the field unpacks to
-  printed_time : (s : List ℕ) (u : Unpacked) → unpack_of field offset ≡ u → local_text u ≡ prints s → read_text s offset ≡ Field field
+  printed_time : (s : List ℕ) (u : Result LocalTime Refusal) → unpack_of field offset ≡ u → local_text u ≡ prints s → read_text s offset ≡ Ok field
   unfolding local_text
-  printed_time s (At t) q e =
+  printed_time s (Ok t) q e =
       ap (λ x. read_text x offset) (sym (prints_same e)) ∙ reads_text t (unpacked_typable field offset t q) offset ∙ pack_unpacked t offset field q
-  printed_time s (NotUnpacked r) q e = not_printed e
+  printed_time s (Err r) q e = not_printed e
 
-  pub printed_reads : (s : List ℕ) → start_text field offset ≡ prints s → read_text s offset ≡ Field field
+  pub printed_reads : (s : List ℕ) → start_text field offset ≡ prints s → read_text s offset ≡ Ok field
   unfolding start_text
   printed_reads s e = printed_time s (unpack_of field offset) refl e
 
@@ -63,7 +61,7 @@ no_start offset s e = by (is_offset offset) refl
     by false o = not_printed (sym (ap local_text (unpack_by live_mark offset o)) ∙ e)
 
 -- no text of the form is the word live
-not_live : (offset : ℤ) (field : ℕ) → read_text live_text offset ≡ Field field → ⊥
+not_live : (offset : ℤ) (field : ℕ) → read_text live_text offset ≡ Ok field → ⊥
 unfolding live_text text_of
 not_live offset field e =
     let i = text_accepted live_text offset field e in
@@ -73,7 +71,7 @@ not_live offset field e =
 -- ---- an end
 
 module _ (offset : ℤ) (field : ℕ) where
-  pub typed_prints_end : (s : List ℕ) → read_text s offset ≡ Field field → end_text field offset ≡ prints s
+  pub typed_prints_end : (s : List ℕ) → read_text s offset ≡ Ok field → end_text field offset ≡ prints s
   typed_prints_end s e = by (is_offset offset) refl
     where
       by : (b : Bool) → is_offset offset ≡ b → end_text field offset ≡ prints s
@@ -100,7 +98,7 @@ module _ (offset : ℤ) (field : ℕ) where
 
 -- ---- both
 
-pub live_typed : (live : Bool) (s : List ℕ) (offset : ℤ) → live ≡ true → end_typed live s offset ≡ Field live_mark
+pub live_typed : (live : Bool) (s : List ℕ) (offset : ℤ) → live ≡ true → end_typed live s offset ≡ Ok live_mark
 unfolding end_typed
 live_typed live s offset e = rw e
 
@@ -108,26 +106,26 @@ pub text_typed : (live : Bool) (s : List ℕ) (offset : ℤ) → live ≡ false 
 unfolding end_typed
 text_typed live s offset e = rw e
 
-pub typed_as : (start end : List ℕ) (live : Bool) (offset : ℤ) (x y : Fielded) → read_text start offset ≡ x → end_typed live end offset ≡ y
+pub typed_as : (start end : List ℕ) (live : Bool) (offset : ℤ) (x y : Result ℕ Refusal) → read_text start offset ≡ x → end_typed live end offset ≡ y
     → typed_times start live end offset ≡ together x y
 unfolding typed_times
 typed_as start end live offset x y e f = rw (e, f)
 
 -- both fields come of the texts that were typed
-both_fields : (x y : Fielded) (a b : ℕ) → together x y ≡ Fields a b → (x ≡ Field a) × (y ≡ Field b)
+both_fields : (x y : Result ℕ Refusal) (a b : ℕ) → together x y ≡ Ok (a, b) → (x ≡ Ok a) × (y ≡ Ok b)
 unfolding together with_end
-both_fields (Field x) (Field y) a b e = (let p : x ≡ a = cc in ap Field p, let q : y ≡ b = cc in ap Field q)
-both_fields (Field x) (NotFielded r) a b e = absurd (let z : ◌≡◌ {A = ℕ} 0 1 = cc in omega arith)
-both_fields (NotFielded r) y a b e = absurd (let z : ◌≡◌ {A = ℕ} 0 1 = cc in omega arith)
+both_fields (Ok x) (Ok y) a b e = let p = ok_pair_inj e in (ap Ok p.0, ap Ok p.1)
+both_fields (Ok x) (Err r) a b e = absurd (let z : ◌≡◌ {A = ℕ} 0 1 = cc in omega arith)
+both_fields (Err r) y a b e = absurd (let z : ◌≡◌ {A = ℕ} 0 1 = cc in omega arith)
 
-pub typed_both : (start end : List ℕ) (live : Bool) (offset : ℤ) (a b : ℕ) → typed_times start live end offset ≡ Fields a b
-    → (read_text start offset ≡ Field a) × (end_typed live end offset ≡ Field b)
+pub typed_both : (start end : List ℕ) (live : Bool) (offset : ℤ) (a b : ℕ) → typed_times start live end offset ≡ Ok (a, b)
+    → (read_text start offset ≡ Ok a) × (end_typed live end offset ≡ Ok b)
 unfolding typed_times
 typed_both start end live offset a b e = both_fields (read_text start offset) (end_typed live end offset) a b e
 
 -- ---- the promise
 
-live_not_typed : (offset : ℤ) → is_offset offset ≡ true → read_text live_text offset ≡ NotFielded NotOfTheForm
+live_not_typed : (offset : ℤ) → is_offset offset ≡ true → read_text live_text offset ≡ Err NotOfTheForm
 unfolding live_text formed form fits
 live_not_typed offset o = by_form live_text offset o refl
 

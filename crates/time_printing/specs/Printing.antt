@@ -1,5 +1,6 @@
 -- What a reader has to believe of printed times: the characters of a start and of an end, day first at an offset, and the refusals in their order.
-use Rattle.std.specs.Prelude.{List, [], ◌∷◌, ℕ, ltb, eqb, ℤ, length, if◌then◌else◌}
+use Rattle.std.specs.Prelude.{List, [], ◌∷◌, ℕ, ltb, eqb, ℤ, length, if◌then◌else◌, Result, Ok, Err}
+use Rattle.time_local.specs.declared.LocalTime.{LocalTime}
 use Rattle.ground_placing.specs.Placed.{placed}
 use Rattle.ground_refusal.specs.declared.Refusal.{Refusal}
 use Rattle.ground_refusal.specs.declared.Refusal.TheVariants.{OutsideSet, OutputTooSmall}
@@ -7,10 +8,6 @@ use Rattle.time_fields.specs.Field.{live_mark}
 use Rattle.time_offset.specs.Offset.{is_offset}
 use Rattle.time_local.specs.Clock.{unpack_of}
 use Rattle.time_local.specs.Text.{text_of}
-use Rattle.time_local.specs.declared.Unpacked.{Unpacked}
-use Rattle.time_local.specs.declared.Unpacked.TheVariants.{At, Refused as NotUnpacked}
-use Rattle.time_printing.specs.declared.Printed.{Printed}
-use Rattle.time_printing.specs.declared.Printed.TheVariants.{Characters, Refused}
 
 -- ---- the characters
 
@@ -24,9 +21,9 @@ pub data Verdict : Type 0 where
   prints : List ℕ → Verdict
 
 -- "a time is also printed as day-first local text"
-unfoldable pub local_text : Unpacked → Verdict
-local_text (At t) = prints (text_of t)
-local_text (NotUnpacked r) = refuses r
+unfoldable pub local_text : Result LocalTime Refusal → Verdict
+local_text (Ok t) = prints (text_of t)
+local_text (Err r) = refuses r
 
 -- a start at an offset: 19 (offset), then the field's own refusals, 18 before 20, then 20 for the local day, as it is unpacked
 unfoldable pub start_text : ℕ → ℤ → Verdict
@@ -46,9 +43,9 @@ fitting room (refuses r) = refuses r
 fitting room (prints s) = if ltb room (length s) then refuses OutputTooSmall else prints s
 
 -- the answer: how many characters are printed, or the refusal
-unfoldable pub answer_by : Verdict → Printed
-answer_by (refuses r) = Refused r
-answer_by (prints s) = Characters (length s)
+unfoldable pub answer_by : Verdict → Result ℕ Refusal
+answer_by (refuses r) = Err r
+answer_by (prints s) = Ok (length s)
 
 -- the characters stand at the start of the output, and its bytes after them stay; a refusal "writes no byte"
 unfoldable pub output_by : Verdict → List ℕ → List ℕ
@@ -56,7 +53,7 @@ output_by (refuses r) out = out
 output_by (prints s) out = placed out 0 s
 
 -- the answer for a verdict, and the output as the call leaves it
-abbrev pub printed_of : Verdict → List ℕ → Printed
+abbrev pub printed_of : Verdict → List ℕ → Result ℕ Refusal
 printed_of v out = answer_by (fitting (length out) v)
 
 abbrev pub output_of : Verdict → List ℕ → List ℕ

@@ -6,7 +6,6 @@ use Rattle.body_asking.proofs.Answers.{needed, not_needed}
 use native.Mathlib.Omega.{arith}
 use lib.ListN.{length}
 use borrow.Author.Tests.{leb-true}
-use borrow.Author.Rules.{rules}
 use Rattle.body_asking.proofs.number_in.Goals as goal
 
 pub overflow_add-at : goal.overflow_add-at

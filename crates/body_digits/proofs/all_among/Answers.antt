@@ -2,12 +2,8 @@
 use Prim.Native.Nat.{◌-◌}
 use mathlib.Core.Path.{◌≡◌, refl}
 use mathlib.Core.Bool.{◌&&◌}
-use lib.ListN.{take, drop}
-use lib.Dec.{leb}
-use Rattle.body_formats.specs.Format.{every}
 use Rattle.body_formats.proofs.Strings.{every_start, every_done, bytes_below, bytes_above, bytes_next}
 use native.Mathlib.Omega.{arith}
-use borrow.Author.Rules.{rules}
 use Rattle.body_digits.proofs.all_among.Goals as goal
 
 pub loop-k-init : goal.loop-k-init

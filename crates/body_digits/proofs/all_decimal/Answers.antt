@@ -5,7 +5,7 @@ use mathlib.Core.Bool.{true}
 use native.Mathlib.Omega.{arith}
 use borrow.Author.Tests.{not-true, not-false}
 use Rattle.body_formats.specs.Format.{halves, decimal}
-use Rattle.body_digits.proofs.Digits.{digits_at, digits_fail, digits_further, digits_last}
+use Rattle.body_digits.proofs.Digits.{digits_fail, digits_further, digits_last}
 use Rattle.body_digits.proofs.all_decimal.Goals as goal
 
 pub loop-j-init : goal.loop-j-init

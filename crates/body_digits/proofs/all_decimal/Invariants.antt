@@ -1,11 +1,8 @@
 -- `body_digits::all_decimal` meets its contract: the bytes so far pass, and the last eight decide; which of them were tested before does not matter.
 use Prim.Native.Nat.{◌-◌, ◌≤◌}
-use mathlib.Core.Path.{◌≡◌, refl, sym, ◌∙◌}
+use mathlib.Core.Path.{◌≡◌, ◌∙◌}
 use mathlib.Core.Bool.{true}
-use native.Mathlib.Omega.{arith}
-use borrow.Author.Tests.{not-true, not-false}
-use Rattle.body_formats.specs.Format.{halves, decimal}
-use Rattle.body_digits.proofs.Digits.{digits_at, digits_fail, digits_further, digits_last}
+use Rattle.body_digits.proofs.Digits.{digits_at}
 use Rattle.body_digits.proofs.all_decimal.Given as goal
 
 abbrev pub invariant-loop-j : goal.invariant-loop-j

@@ -3,7 +3,6 @@ use Prim.Native.Nat.{◌/◌, ◌%◌}
 use mathlib.Core.Path.{refl, ap}
 use Rattle.body_formats.proofs.Strings.{digit_none, digit_low, digit_high}
 use native.Mathlib.Omega.{arith}
-use borrow.Author.Rules.{rules}
 use Rattle.body_digits.proofs.digit_of.Goals as goal
 
 pub returns-then-n-k : goal.returns-then-n-k

@@ -1,5 +1,4 @@
 -- `body_digits::one` meets its contract: a byte below 160 has a high digit below 10.
-use borrow.Author.Rules.{rules}
 use native.Mathlib.Omega.{arith}
 use Rattle.body_digits.proofs.Digits.{digits_one}
 use Rattle.body_digits.proofs.one.Goals as goal

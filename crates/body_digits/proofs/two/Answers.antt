@@ -1,7 +1,6 @@
 -- `body_digits::two` meets its contract: a part is its two halves.
 use mathlib.Core.Path.{◌∙◌, sym, ap₂}
 use mathlib.Core.Bool.{◌&&◌}
-use borrow.Author.Rules.{rules}
 use Rattle.body_digits.proofs.Digits.{digits_join}
 use Rattle.body_digits.proofs.two.Goals as goal
 

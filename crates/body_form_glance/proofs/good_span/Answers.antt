@@ -1,5 +1,4 @@
 -- `body_form_glance::good_span` meets its contract: where the start lies in the pool, what is left of the pool is compared.
-use borrow.Author.Rules.{rules}
 use Rattle.body_form_glance.proofs.Forms.{past_start, after_start}
 use Rattle.body_form_glance.proofs.good_span.Goals as goal
 

@@ -1,7 +1,6 @@
 -- `body_form_glance::resource_list` meets its contract: the count is one byte, its entries stand on the tape, and each is a resource.
 use mathlib.Core.Path.{refl}
 use native.Mathlib.Omega.{arith}
-use borrow.Author.Rules.{rules}
 use Rattle.body_form_glance.proofs.Rows.{none_listed, all_listed}
 use Rattle.body_form_glance.proofs.resource_list.Goals as goal
 

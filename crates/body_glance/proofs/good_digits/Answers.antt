@@ -1,7 +1,6 @@
 -- `body_glance::good_digits` meets its contract: the first byte has the reserved bits and a digit, and the others have two each.
 use mathlib.Core.Path.{sym, ◌∙◌}
 use native.Mathlib.Omega.{arith}
-use borrow.Author.Rules.{rules}
 use Rattle.body_glance.proofs.Leaves.{not_good, digits_good}
 use Rattle.body_glance.proofs.good_digits.Goals as goal
 

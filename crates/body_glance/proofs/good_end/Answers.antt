@@ -1,6 +1,4 @@
 -- `body_glance::good_end` meets its contract: a time is an end, and so are five bytes of ones.
-use native.Mathlib.Omega.{arith}
-use borrow.Author.Rules.{rules}
 use borrow.Author.Tests.{eqb-true}
 use Rattle.ground_choices.proofs.Tests.{both}
 use Rattle.body_glance.proofs.Leaves.{end_good, live_good}

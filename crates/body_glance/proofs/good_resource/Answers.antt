@@ -2,8 +2,6 @@
 use Prim.Native.Nat.{◌+◌}
 use mathlib.Core.Path.{sym, ◌∙◌}
 use native.Mathlib.Omega.{arith}
-use borrow.Author.Rules.{rules}
-use borrow.Author.Tests.{not-false}
 use Rattle.body_digits.proofs.Digits.{eleven}
 use Rattle.body_glance.proofs.Leaves.{not_good, digits_good}
 use Rattle.body_glance.proofs.good_resource.Goals as goal
@@ -21,4 +19,4 @@ pub returns : goal.returns
 returns c e = let given = c.args in
     digits_good _ _ 11 (omega arith) (omega arith) (omega arith)
     (eleven given.s.now (given.p + 1) (given.p + 4) (omega arith)
-    (sym c.eight.ensures ∙ not-false _ c.if-not-eight.false-raw) (sym c.eight-2.ensures ∙ e))
+    (sym c.eight.ensures ∙ c.if-not-eight.false) (sym c.eight-2.ensures ∙ e))

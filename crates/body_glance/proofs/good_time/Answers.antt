@@ -1,7 +1,6 @@
 -- `body_glance::good_time` meets its contract: its tests are what is asked of the five bytes of a time.
 use Prim.Native.Nat.{◌+◌, ◌*◌}
 use native.Mathlib.Omega.{arith}
-use borrow.Author.Rules.{rules}
 use Rattle.body_glance.proofs.Leaves.{timely, time_good}
 use Rattle.body_glance.proofs.good_time.Goals as goal
 

@@ -1,7 +1,6 @@
 -- `body_identifier::digits_worth` meets its contract: ten times the high digit and the low one.
 use mathlib.Core.Path.{refl}
 use native.Mathlib.Omega.{arith}
-use borrow.Author.Rules.{rules}
 use Rattle.time_fields.specs.Field.{worth}
 use Rattle.body_identifier.proofs.digits_worth.Goals as goal
 

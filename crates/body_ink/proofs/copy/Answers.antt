@@ -1,6 +1,5 @@
 -- `body_ink::copy` meets its contract: the span is lent, and copied.
 use mathlib.Core.Path.{ap, ◌∙◌}
-use borrow.Author.Rules.{rules}
 use Rattle.ground_placing.specs.Placed.{placed}
 use Rattle.body_ink.proofs.Strings.{span_end}
 use Rattle.body_ink.proofs.copy.Goals as goal

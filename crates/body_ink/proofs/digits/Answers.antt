@@ -2,7 +2,6 @@
 use Prim.Native.Nat.{◌+◌, ◌%◌}
 use mathlib.Core.Path.{ap}
 use native.Mathlib.Omega.{arith}
-use borrow.Author.Rules.{rules}
 use Rattle.body_ink.proofs.Strings.{digits_ready, digits_inked}
 use Rattle.body_ink.proofs.digits.Goals as goal
 

@@ -1,7 +1,6 @@
 -- `body_ink::part` meets its contract: the length is written, and after it the bytes of the pool.
 use mathlib.Core.Path.{refl}
 use native.Mathlib.Omega.{arith}
-use borrow.Author.Rules.{rules}
 use Rattle.body_ink.proofs.Strings.{part_ready, part_inked}
 use Rattle.body_ink.proofs.part.Goals as goal
 

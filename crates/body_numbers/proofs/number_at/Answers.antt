@@ -1,7 +1,6 @@
 -- `body_numbers::number_at` meets its contract: a number of one byte is the byte, and one of more is read as such.
 use mathlib.Core.Path.{◌≡◌, sym, ap, ◌∙◌}
 use native.Mathlib.Omega.{arith}
-use borrow.Author.Rules.{rules}
 use Rattle.body_formats.specs.Format.{number_at}
 use Rattle.body_numbers.proofs.Numbers.{number_one}
 use Rattle.body_numbers.proofs.number_at.Goals as goal

@@ -1,18 +1,17 @@
--- `body_numbers::read_number` meets its contract: its tests are those of a number that passes the body, passes its part, or stands in both.
-use mathlib.Core.Path.{refl}
-use Rattle.body_formats.proofs.Readers.{number_14, number_15, number_is}
-use native.Mathlib.Omega.{arith}
-use borrow.Author.Rules.{rules}
+-- `body_numbers::read_number` meets its contract: a number that ends in the body and in its part stands there.
+use mathlib.Core.Path.{sym, ◌∙◌}
+use Rattle.ground_refusal.proofs.Exits.{passed_on}
+use Rattle.body_formats.proofs.Readers.{number_is}
+use Rattle.body_formats.proofs.Strings.{end_in}
+use Rattle.body_numbers.proofs.Numbers.{number_no}
 use Rattle.body_numbers.proofs.read_number.Goals as goal
 
-pub returns-then-s-w : goal.returns-then-s-w
-returns-then-s-w c = number_14 _ _ _ _ (omega arith)
+pub number_at-requires : goal.number_at-requires
+number_at-requires c = ((end_in _ _ _ _ _ (sym c.in_ok-q.was ∙ c.field_end.ensures)).1, c.requires)
 
-pub returns-then-s-w-2 : goal.returns-then-s-w-2
-returns-then-s-w-2 c = number_14 _ _ _ _ (omega arith)
-
-pub returns-then-l-p : goal.returns-then-l-p
-returns-then-l-p c = number_15 _ _ _ _ (omega arith) (omega arith)
+pub returns-in_err-q : goal.returns-in_err-q
+returns-in_err-q c = passed_on c.from_residual.ensures ∙ number_no _ _ _ _ _ (sym c.in_err-q.was ∙ c.field_end.ensures)
 
 pub returns : goal.returns
-returns c = number_is _ _ _ _ (omega arith) (omega arith) _ _ c.number_at.ensures refl
+returns c = let e = end_in _ _ _ _ _ (sym c.in_ok-q.was ∙ c.field_end.ensures) in
+    number_is _ _ _ _ e.1 e.2 _ _ c.number_at.ensures e.0

@@ -1,6 +1,5 @@
 -- `body_numbers::three_or_four_bytes` meets its contract: two bytes are a number of two, and each further byte counts by 256.
 use native.Mathlib.Omega.{arith}
-use borrow.Author.Rules.{rules}
 use Rattle.body_numbers.proofs.Numbers.{number_three, number_four}
 use Rattle.body_numbers.proofs.three_or_four_bytes.Goals as goal
 

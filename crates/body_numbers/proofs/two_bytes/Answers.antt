@@ -1,6 +1,5 @@
 -- `body_numbers::two_bytes` meets its contract: its bytes count by 256.
 use native.Mathlib.Omega.{arith}
-use borrow.Author.Rules.{rules}
 use Rattle.body_numbers.proofs.Numbers.{number_two}
 use Rattle.body_numbers.proofs.two_bytes.Goals as goal
 

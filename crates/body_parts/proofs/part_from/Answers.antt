@@ -1,7 +1,6 @@
 -- `body_parts::part_from` meets its contract: its tests are those of a part that passes the body, passes the part around it, or lies in both.
 use Rattle.body_formats.proofs.Readers.{part_14, part_15, part_of_lem, part_faulty}
 use native.Mathlib.Omega.{arith}
-use borrow.Author.Rules.{rules}
 use Rattle.body_parts.proofs.part_from.Goals as goal
 
 pub returns-then-s-q : goal.returns-then-s-q

@@ -1,13 +1,8 @@
--- `body_pen::pen_resources` meets its contract: each turn goes past one more, the first refusal ends them, and the turns are as many as the
-use mathlib.Core.Path.{sym, ◌∙◌}
-use native.Mathlib.Omega.{arith}
-use Rattle.body_formats.specs.Resource.{resource}
-use Rattle.body_pen.proofs.Lists.{Underway, list_start, list_pen, times_turn, times_stop, times_done}
-use borrow.Author.Rules.{rules}
+-- `body_pen::pen_resources` meets its contract: each turn goes past one more, and the turns are as many as the count says.
+use Rattle.body_formats.specs.Resource.{resource, resources}
+use Rattle.body_pen.specs.Penned.{penned}
+use Rattle.body_pen.proofs.Lists.{Underway}
 use Rattle.body_pen.proofs.pen_resources.Given as goal
 
-abbrev pub invariant-loop-left : goal.invariant-loop-left
-invariant-loop-left l = Underway resource l.pool l.tape l.initial.left l.initial.pen l.left l.pen
-
-abbrev pub decreases-loop-left : goal.decreases-loop-left
-decreases-loop-left l = l.left
+abbrev pub invariant-loop : goal.invariant-loop
+invariant-loop l = Underway resource l.pool l.tape (penned resources l.pool l.tape l.fn.x) l.n l.counter l.past

@@ -1,7 +1,6 @@
 -- `body_pen::span_at` meets its contract: its tests are those of two entries and of a span that lies in the pool.
 use Rattle.body_pen.proofs.Leaves.{span_short, span_outside, span_there}
 use native.Mathlib.Omega.{arith}
-use borrow.Author.Rules.{rules}
 use Rattle.body_pen.proofs.span_at.Goals as goal
 
 pub returns-then-tape-lt2 : goal.returns-then-tape-lt2

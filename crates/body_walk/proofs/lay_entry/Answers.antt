@@ -1,6 +1,5 @@
 -- `body_walk::lay_entry` meets its contract: where the entry fits it is stored at its place, and else the tape stays.
 use native.Mathlib.Omega.{arith}
-use borrow.Author.Rules.{rules}
 use Rattle.body_walk.proofs.Leaves.{laid_one, laid_not, laid_dry}
 use Rattle.body_walk.proofs.lay_entry.Goals as goal
 

@@ -1,8 +1,9 @@
--- `body_walk::told` meets its contract: a number that is there is told, and a refusal as 0.
-use mathlib.Core.Path.{sym, ap}
-use borrow.Author.Rules.{rules}
-use Rattle.body_walk.specs.Entries.{number_worth}
+-- `body_walk::told` meets its contract: a number that is there has one entry and is told, and a refusal has none.
+use Rattle.body_walk.proofs.Leaves.{told_none, told_one}
 use Rattle.body_walk.proofs.told.Goals as goal
 
-pub returns-in-Refused : goal.returns-in-Refused
-returns-in-Refused c = record { past = c.past_number-walk.ensures; value = sym (ap number_worth c.in-Refused.is) }
+pub returns-in_err-v : goal.returns-in_err-v
+returns-in_err-v c = told_none c.in_err-v.was c.from_residual.ensures
+
+pub returns : goal.returns
+returns c = told_one c.in_ok-v.was c.less.ensures c.lay_entry.ensures

@@ -1,17 +1,16 @@
 -- `body_walk::walk_among` meets its contract: the number read is judged as the format does.
 use mathlib.Core.Path.{ap, ◌∙◌}
-use borrow.Author.Rules.{rules}
 use Rattle.body_formats.specs.Answers.{number_among}
 use Rattle.body_formats.proofs.Bits.{number_is_count, number_among_lem}
-use Rattle.body_walk.proofs.Pairs.{stays}
+use Rattle.body_walk.proofs.Pairs.{left}
 use Rattle.body_walk.proofs.Leaves.{number_leaf, only_one, number_one}
 use Rattle.body_walk.proofs.walk_among.Goals as goal
 
-pub returns-in-Refused : goal.returns-in-Refused
-returns-in-Refused c = stays c.in-Refused.is
+pub returns-in_err-p : goal.returns-in_err-p
+returns-in_err-p c = left c.from_residual.ensures c.in_err-p.was
 
-pub returns-in-At : goal.returns-in-At
-returns-in-At c = number_leaf _ (only_one _ _ (number_one _)) _ _ _ _ _ _ _ c.in-At.is _
+pub returns : goal.returns
+returns c = number_leaf _ (only_one _ _ (number_one _)) _ _ _ _ _ _ _ c.in_ok-p.was _
     (c.among.ensures
     ∙ ap (number_among _ _ _)
     (c.read_number-n.ensures ∙ number_is_count _ _ _ _ (λ i. (c.type_inv.s i).fits))

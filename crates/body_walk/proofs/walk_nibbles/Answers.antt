@@ -1,25 +1,20 @@
 -- `body_walk::walk_nibbles` meets its contract: one byte holds both, and each is judged.
-use mathlib.Core.Path.{sym, ◌∙◌}
-use borrow.Author.Rules.{rules}
-use Rattle.body_walk.proofs.Pairs.{stays}
-use Rattle.body_walk.proofs.Leaves.{nibbles_no, high_out, low_out, both_in}
+use mathlib.Core.Path.{sym, ap₂, ◌∙◌}
+use mathlib.Core.Bool.{◌&&◌}
+use Rattle.body_walk.proofs.Pairs.{left, exits}
+use Rattle.body_walk.proofs.Leaves.{nibbles_no, either_out, both_in}
 use Rattle.body_walk.proofs.walk_nibbles.Goals as goal
 
-pub returns-then-within-2 : goal.returns-then-within-2
-returns-then-within-2 c = both_in _ _ _ _ _ _ _ _ _ c.in-At.is _ _ (sym c.in-Is.is ∙ c.read_number.ensures)
-    (sym c.within.ensures ∙ c.if-within.true) (sym c.within-then-within.ensures ∙ c.if-within-2.true) _ _ c.less.ensures
-    c.lay_two.ensures
+pub returns-in_err-p : goal.returns-in_err-p
+returns-in_err-p c = left c.from_residual.ensures c.in_err-p.was
 
-pub returns-in-Refused : goal.returns-in-Refused
-returns-in-Refused c = stays c.in-Refused.is
+pub returns-in_err-v : goal.returns-in_err-v
+returns-in_err-v c = exits c.from_residual-in_err-v.ensures (nibbles_no _ _ _ _ _ _ _ _ _ c.in_ok-p.was _ (sym c.in_err-v.was ∙ c.read_number.ensures))
 
-pub returns-in-Refused-read_number : goal.returns-in-Refused-read_number
-returns-in-Refused-read_number c = nibbles_no _ _ _ _ _ _ _ _ _ c.in-At.is _ (sym c.in-Refused-read_number.is ∙ c.read_number.ensures)
+pub returns-then-not-within : goal.returns-then-not-within
+returns-then-not-within c = either_out _ _ _ _ _ _ _ _ _ c.in_ok-p.was _ _ (sym c.in_ok-v.was ∙ c.read_number.ensures)
+    (ap₂ ◌&&◌ (sym c.within.ensures) (sym c.within-2.ensures) ∙ c.if-not-within.true)
 
-pub returns-else-within-2 : goal.returns-else-within-2
-returns-else-within-2 c = low_out _ _ _ _ _ _ _ _ _ c.in-At.is _ _ (sym c.in-Is.is ∙ c.read_number.ensures)
-    (sym c.within.ensures ∙ c.if-within.true) (sym c.within-then-within.ensures ∙ c.if-within-2.false)
-
-pub returns-else-within : goal.returns-else-within
-returns-else-within c = high_out _ _ _ _ _ _ _ _ _ c.in-At.is _ _ (sym c.in-Is.is ∙ c.read_number.ensures)
-    (sym c.within.ensures ∙ c.if-within.false)
+pub returns : goal.returns
+returns c = both_in _ _ _ _ _ _ _ _ _ c.in_ok-p.was _ _ (sym c.in_ok-v.was ∙ c.read_number.ensures)
+    (ap₂ ◌&&◌ (sym c.within.ensures) (sym c.within-2.ensures) ∙ c.if-not-within.false) _ _ c.less.ensures c.lay_two.ensures

@@ -1,6 +1,5 @@
 -- `certificate_fields::authorization` meets its contract: the list begins the body.
 use Rattle.certificate_fields.specs.Asked.{authorization_part}
-use borrow.Author.Rules.{rules}
 use Rattle.certificate_fields.proofs.authorization.Goals as goal
 
 pub returns : goal.returns

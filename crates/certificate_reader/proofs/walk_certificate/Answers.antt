@@ -1,6 +1,5 @@
 -- `certificate_reader::walk_certificate` meets its contract: the three fields walked one after the other, under their names, and no byte left.
 use mathlib.Core.Path.{refl}
-use borrow.Author.Rules.{rules}
 use Rattle.ground_refusal.specs.declared.Refusal.TheVariants.{LeftOver}
 use Rattle.body_formats.proofs.Parts.{followed_lawful, opaque_lawful}
 use Rattle.body_walk.proofs.Pairs.{pair, view_walk, exact_walk}

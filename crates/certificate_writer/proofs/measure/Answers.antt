@@ -1,5 +1,4 @@
 -- `certificate_writer::measure` meets its contract: what a glance takes for good is laid out, and through any other form a pen goes.
-use borrow.Author.Rules.{rules}
 use Rattle.body_form_glance.proofs.Forms.{measured_laid}
 use Rattle.body_pen.proofs.Writers.{measured_is}
 use Rattle.certificate.specs.Certificate.{certificate}

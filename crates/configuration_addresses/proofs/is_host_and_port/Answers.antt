@@ -3,7 +3,6 @@ use mathlib.Core.Path.{◌∙◌}
 use Rattle.ground_choices.proofs.Tests.{unmet, met}
 use Rattle.configuration_addresses.proofs.Hosts.{host_empty, host_fails, host_named}
 use native.Mathlib.Omega.{arith}
-use borrow.Author.Rules.{rules}
 use Rattle.configuration_addresses.proofs.is_host_and_port.Goals as goal
 
 pub returns-then-n-lt1 : goal.returns-then-n-lt1

@@ -1,12 +1,10 @@
 -- `is_named` meets its contract: the bytes from here on go on a name as all do.
 use Prim.Native.Nat.{◌-◌}
 use mathlib.Core.Path.{◌≡◌, refl, ap, ◌∙◌}
-use lib.ListN.{take, drop}
 use Rattle.ground_choices.proofs.Tests.{unmet, met}
 use Rattle.configuration_addresses.specs.Address.{name_goes_on}
-use Rattle.configuration_addresses.proofs.Hosts.{part, whole_part, name_done, name_ends, name_fails, name_next}
+use Rattle.configuration_addresses.proofs.Hosts.{whole_part, name_done, name_ends, name_fails, name_next}
 use native.Mathlib.Omega.{arith}
-use borrow.Author.Rules.{rules}
 use Rattle.configuration_addresses.proofs.is_named.Goals as goal
 
 pub loop-k-init : goal.loop-k-init

@@ -1,11 +1,8 @@
 -- `is_port` meets its contract: the bytes from here on, after those already worth so much, are as they must be where all are.
 use Prim.Native.Nat.{◌-◌, ◌≤◌}
 use mathlib.Core.Path.{◌≡◌, refl}
-use lib.ListN.{take, drop}
-use Rattle.configuration_addresses.specs.Address.{is_port}
-use Rattle.configuration_addresses.proofs.Hosts.{part, port_left, port_empty, port_long, port_start, port_done, port_low, port_high, port_next, port_much}
+use Rattle.configuration_addresses.proofs.Hosts.{port_empty, port_long, port_start, port_done, port_low, port_high, port_next, port_much}
 use native.Mathlib.Omega.{arith}
-use borrow.Author.Rules.{rules}
 use Rattle.configuration_addresses.proofs.is_port.Goals as goal
 
 pub returns-then-n-lt1 : goal.returns-then-n-lt1

@@ -1,7 +1,6 @@
 -- `configuration_fields::code_digit` meets its contract: the resource stands where the address ends.
 use mathlib.Core.Path.{ap, ◌∙◌}
 use Rattle.configuration_fields.specs.Asked.{code_digit, digit_at}
-use borrow.Author.Rules.{rules}
 use Rattle.configuration_fields.proofs.code_digit.Goals as goal
 
 pub returns : goal.returns

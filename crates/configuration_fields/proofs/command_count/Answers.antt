@@ -1,6 +1,5 @@
 -- `configuration_fields::command_count` meets its contract: the count begins the body.
 use Rattle.configuration_fields.specs.Asked.{command_count}
-use borrow.Author.Rules.{rules}
 use Rattle.configuration_fields.proofs.command_count.Goals as goal
 
 pub returns : goal.returns

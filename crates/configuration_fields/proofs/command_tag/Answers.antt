@@ -1,7 +1,6 @@
 -- `configuration_fields::command_tag` meets its contract: it is asked for where the body has a byte for it, and is not refused for its value.
 use mathlib.Core.Path.{◌∙◌}
 use Rattle.configuration_fields.proofs.Answers.{tag_is, tag_none}
-use borrow.Author.Rules.{rules}
 use Rattle.configuration_fields.proofs.command_tag.Goals as goal
 
 pub returns-then-p-l : goal.returns-then-p-l

@@ -1,6 +1,5 @@
 -- `configuration_fields::parameter_count` meets its contract: it begins the content.
 use Rattle.configuration_fields.specs.Asked.{parameter_count}
-use borrow.Author.Rules.{rules}
 use Rattle.configuration_fields.proofs.parameter_count.Goals as goal
 
 pub returns : goal.returns

@@ -2,7 +2,6 @@
 use mathlib.Core.Path.{◌∙◌}
 use Rattle.configuration_fields.specs.Asked.{period}
 use Rattle.configuration_fields.proofs.Answers.{number_in}
-use borrow.Author.Rules.{rules}
 use Rattle.configuration_fields.proofs.period.Goals as goal
 
 pub returns : goal.returns

@@ -1,6 +1,5 @@
 -- `configuration_fields::return_kind` meets its contract: it is a byte of the content, in its set.
 use Rattle.configuration_fields.specs.Asked.{return_kind}
-use borrow.Author.Rules.{rules}
 use Rattle.configuration_fields.proofs.return_kind.Goals as goal
 
 pub returns : goal.returns

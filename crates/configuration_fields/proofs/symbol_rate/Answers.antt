@@ -2,7 +2,6 @@
 use mathlib.Core.Path.{◌∙◌}
 use Rattle.configuration_fields.specs.Asked.{symbol_rate}
 use Rattle.configuration_fields.proofs.Answers.{number_in}
-use borrow.Author.Rules.{rules}
 use Rattle.configuration_fields.proofs.symbol_rate.Goals as goal
 
 pub returns : goal.returns

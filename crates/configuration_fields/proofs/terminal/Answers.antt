@@ -1,7 +1,6 @@
 -- `configuration_fields::terminal` meets its contract: it stands at its place in the list.
 use mathlib.Core.Path.{ap, ◌∙◌}
 use Rattle.configuration_fields.specs.Asked.{terminal, resource_of}
-use borrow.Author.Rules.{rules}
 use Rattle.configuration_fields.proofs.terminal.Goals as goal
 
 pub returns : goal.returns

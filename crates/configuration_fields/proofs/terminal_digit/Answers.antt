@@ -1,7 +1,6 @@
 -- `configuration_fields::terminal_digit` meets its contract: the resource stands at its place in the list.
 use mathlib.Core.Path.{ap, ◌∙◌}
 use Rattle.configuration_fields.specs.Asked.{terminal_digit, digit_at}
-use borrow.Author.Rules.{rules}
 use Rattle.configuration_fields.proofs.terminal_digit.Goals as goal
 
 pub returns : goal.returns

@@ -4,7 +4,6 @@ use mathlib.Core.Path.{◌≡◌, sym, ap, ◌∙◌}
 use Rattle.configuration_fields.specs.Asked.{place_read, terminals_in}
 use Rattle.configuration_fields.proofs.Answers.{after_mapping, after_period, after_volume}
 use native.Mathlib.Omega.{arith}
-use borrow.Author.Rules.{rules}
 use Rattle.configuration_fields.proofs.terminals_in.Goals as goal
 
 pub returns-then-tag-eq3 : goal.returns-then-tag-eq3

@@ -1,6 +1,5 @@
 -- `configuration_fields::volume` meets its contract: it is a byte of the content, in its set.
 use Rattle.configuration_fields.specs.Asked.{volume}
-use borrow.Author.Rules.{rules}
 use Rattle.configuration_fields.proofs.volume.Goals as goal
 
 pub returns : goal.returns

@@ -1,17 +1,17 @@
 -- `content_fields::auxiliary_type` meets its contract: another variant is refused, and a named one asks with its width.
 use mathlib.Core.Path.{sym, ◌∙◌}
+use Rattle.ground_refusal.proofs.Exits.{passed_on}
 use Rattle.content_variant.proofs.Variant.{width_most}
 use Rattle.content_fields.proofs.Answers.{variant_type_no, variant_type_is}
 use Rattle.content_fields.proofs.Glance.{width_least}
-use borrow.Author.Rules.{rules}
 use Rattle.content_fields.proofs.auxiliary_type.Goals as goal
 
 pub type_wide-requires : goal.type_wide-requires
-type_wide-requires c = let width = sym c.in-Bytes.is ∙ c.width_of.ensures in
+type_wide-requires c = let width = sym c.in_ok-w.was ∙ c.width_of.ensures in
     (width_least _ _ width, width_most _ _ width)
 
-pub returns-in-Refused : goal.returns-in-Refused
-returns-in-Refused c = variant_type_no _ _ (sym c.in-Refused.is ∙ c.width_of.ensures) _ _ _ _
+pub returns-in_err-w : goal.returns-in_err-w
+returns-in_err-w c = passed_on c.from_residual.ensures ∙ variant_type_no _ _ (sym c.in_err-w.was ∙ c.width_of.ensures) _ _ _ _
 
-pub returns-in-Bytes : goal.returns-in-Bytes
-returns-in-Bytes c = c.type_wide.ensures ∙ variant_type_is _ _ (sym c.in-Bytes.is ∙ c.width_of.ensures) _ _ _ _
+pub returns : goal.returns
+returns c = c.type_wide.ensures ∙ variant_type_is _ _ (sym c.in_ok-w.was ∙ c.width_of.ensures) _ _ _ _

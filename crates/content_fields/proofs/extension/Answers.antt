@@ -1,5 +1,4 @@
 -- `content_fields::extension` meets its contract: the identifier begins the body.
-use borrow.Author.Rules.{rules}
 use Rattle.content_fields.specs.Asked.{extension}
 use Rattle.content_fields.proofs.extension.Goals as goal
 

@@ -1,6 +1,5 @@
 -- `content_fields::identifier` meets its contract: it begins the body.
 use Rattle.content_fields.specs.Asked.{identifier_part}
-use borrow.Author.Rules.{rules}
 use Rattle.content_fields.proofs.identifier.Goals as goal
 
 pub returns : goal.returns

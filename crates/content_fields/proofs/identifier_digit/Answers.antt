@@ -1,6 +1,5 @@
 -- `content_fields::identifier_digit` meets its contract: the identifier begins the body.
 use Rattle.content_fields.specs.Asked.{identifier_digit}
-use borrow.Author.Rules.{rules}
 use Rattle.content_fields.proofs.identifier_digit.Goals as goal
 
 pub returns : goal.returns

@@ -7,7 +7,6 @@ use Rattle.content_fields.specs.Asked.{letters_part}
 use native.Mathlib.Omega.{arith}
 use lib.ListN.{length}
 use borrow.Author.Tests.{leb-true}
-use borrow.Author.Rules.{rules}
 use Rattle.content_fields.proofs.letters.Goals as goal
 
 pub overflow_add-at : goal.overflow_add-at

@@ -2,7 +2,6 @@
 use mathlib.Core.Path.{ap, ◌∙◌}
 use Rattle.body_formats.specs.Answers.{number_among}
 use Rattle.body_formats.proofs.Bits.{number_among_lem}
-use borrow.Author.Rules.{rules}
 use Rattle.content_fields.proofs.number_among.Goals as goal
 
 pub returns : goal.returns

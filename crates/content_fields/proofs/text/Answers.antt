@@ -7,7 +7,6 @@ use Rattle.content_fields.specs.Asked.{text_in, text_part}
 use native.Mathlib.Omega.{arith}
 use lib.ListN.{length}
 use borrow.Author.Tests.{leb-true}
-use borrow.Author.Rules.{rules}
 use Rattle.content_fields.proofs.text.Goals as goal
 
 pub overflow_add-at : goal.overflow_add-at

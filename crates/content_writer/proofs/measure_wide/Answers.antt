@@ -1,5 +1,4 @@
 -- `content_writer::measure_wide` meets its contract: a pen goes through the whole form.
-use borrow.Author.Rules.{rules}
 use Rattle.body_pen.proofs.Writers.{measured_is}
 use Rattle.content_writer.proofs.measure_wide.Goals as goal
 

@@ -1,9 +1,7 @@
 -- `by_fours` meets its contract: the register is always that of the bytes passed, and the last bytes are passed by their nibbles.
 use Prim.Native.Nat.{◌-◌, ◌≤◌}
 use lib.ListN.{length}
-use native.Mathlib.Omega.{arith}
-use borrow.Author.Rules.{rules}
-use Rattle.crc.proofs.Walk.{Walk, walk_start, walk_four, walk_rest}
+use Rattle.crc.proofs.Walk.{Walk}
 use Rattle.crc.proofs.by_fours.Given as goal
 
 abbrev pub invariant-loop-i : goal.invariant-loop-i

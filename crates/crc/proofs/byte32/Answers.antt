@@ -1,5 +1,4 @@
 -- `byte32` meets its contract: its entry is the lookup of the high byte plus b.
-use borrow.Author.Rules.{rules}
 use Rattle.crc_register.proofs.Lookups.{lookups, crc_chunks_block}
 use Rattle.crc.proofs.byte32.Goals as goal
 

@@ -1,5 +1,4 @@
 -- `far16` meets its contract: its entries are the lookups of the four chunks of x, in the tables from 4 on.
-use borrow.Author.Rules.{rules}
 use Rattle.crc_register.proofs.Lookups.{lookups, crc_lookups}
 use Rattle.crc.proofs.far16.Goals as goal
 

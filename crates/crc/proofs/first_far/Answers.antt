@@ -1,5 +1,4 @@
 -- `first_far` meets its contract: its entries are the lookups of the four chunks of x, in the tables from 12 on.
-use borrow.Author.Rules.{rules}
 use Rattle.crc_register.proofs.Lookups.{lookups, crc_lookups}
 use Rattle.crc.proofs.first_far.Goals as goal
 

@@ -1,5 +1,4 @@
 -- `near` meets its contract: its entries are the lookups of the four chunks of x.
-use borrow.Author.Rules.{rules}
 use Rattle.crc_register.proofs.Lookups.{lookups, crc_chunks}
 use Rattle.crc.proofs.near.Goals as goal
 

@@ -1,5 +1,4 @@
 -- `nibble16` meets its contract: its entry is the lookup of the one chunk, the high nibble plus x.
-use borrow.Author.Rules.{rules}
 use Rattle.crc_register.proofs.Lookups.{lookups, crc_chunks_block}
 use Rattle.crc.proofs.nibble16.Goals as goal
 

@@ -1,5 +1,4 @@
 -- `second_far` meets its contract: its entries are the lookups of the four chunks of x, in the tables from 8 on.
-use borrow.Author.Rules.{rules}
 use Rattle.crc_register.proofs.Lookups.{lookups, crc_lookups}
 use Rattle.crc.proofs.second_far.Goals as goal
 

@@ -1,10 +1,8 @@
 -- `two_lanes` meets its contract: each turn takes eight bytes out of one lane and lets them wait in the other.
-use Prim.Native.Nat.{◌-◌, ◌≤◌}
-use lib.ListN.{length}
 use native.Mathlib.Omega.{arith}
 use borrow.Author.Rules.{rules}
-use Rattle.crc.specs.Lanes.{Read, apart}
-use Rattle.crc.proofs.Braid.{Apart, apart_start, far_turn, read_start}
+use Rattle.crc.specs.Lanes.{apart}
+use Rattle.crc.proofs.Braid.{apart_start, far_turn, read_start}
 use Rattle.crc.proofs.two_lanes.Goals as goal
 
 pub loop-i-init : goal.loop-i-init

@@ -1,10 +1,8 @@
 -- `two_lanes` meets its contract: each turn takes eight bytes out of one lane and lets them wait in the other.
 use Prim.Native.Nat.{◌-◌, ◌≤◌}
 use lib.ListN.{length}
-use native.Mathlib.Omega.{arith}
-use borrow.Author.Rules.{rules}
-use Rattle.crc.specs.Lanes.{Read, apart}
-use Rattle.crc.proofs.Braid.{Apart, apart_start, far_turn, read_start}
+use Rattle.crc.specs.Lanes.{Read}
+use Rattle.crc.proofs.Braid.{Apart}
 use Rattle.crc.proofs.two_lanes.Given as goal
 
 abbrev pub invariant-loop-i : goal.invariant-loop-i

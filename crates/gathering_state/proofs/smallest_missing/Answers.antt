@@ -1,15 +1,8 @@
--- `gathering_state::smallest_missing` meets its contract. The loop's invariant: the numbers before k are held, so the smallest missing one is k or stands after it.
-use Prim.Native.Nat.{◌-◌}
-use native.Mathlib.Omega.{arith}
-use Rattle.gathering_state.specs.Lists.{smallest_missing}
-use Rattle.gathering_state.proofs.Lists.{missing_end, missing_step}
+-- `gathering_state::smallest_missing` meets its contract: what the search finds, and else the length.
+use Rattle.std.proofs.Common.{◌∙◌, ap, length}
+use Rattle.std.specs.Prelude.{unwrap_or}
+use Rattle.gathering_state.proofs.Lists.{missing_found}
 use Rattle.gathering_state.proofs.smallest_missing.Goals as goal
 
-pub loop-k-init : goal.loop-k-init
-loop-k-init c = (omega arith, omega arith)
-
-pub loop-k-preserved : goal.loop-k-preserved
-loop-k-preserved c = (omega arith, missing_step _ _ c.loop-k.invariant.1 (omega arith) (omega arith))
-
-pub returns-after-loop-k : goal.returns-after-loop-k
-returns-after-loop-k c = missing_end _ _ c.loop-k.invariant.1 (omega arith)
+pub returns : goal.returns
+returns c = let s = c.args.s.now in c.unwrap_or.ensures ∙ ap (λ o. unwrap_or o (length s)) c.first_missing.ensures ∙ missing_found s

@@ -1,6 +1,5 @@
 -- `ground_copying::block` meets its contract: what is held begins with the bytes.
 use mathlib.Core.Path.{ap, ◌∙◌}
-use borrow.Author.Rules.{rules}
 use Rattle.ground_placing.specs.Placed.{placed}
 use Rattle.ground_copying.proofs.Pieces.{held_start}
 use Rattle.ground_copying.proofs.block.Goals as goal

@@ -1,13 +1,8 @@
 -- `ground_copying::copy_long` meets its contract: the bytes so far stand, and then the rest.
-use Prim.Native.Nat.{◌+◌, ◌-◌, ◌≤◌}
-use mathlib.Core.Path.{◌≡◌, refl, sym, ap, ◌∙◌}
+use Prim.Native.Nat.{◌-◌, ◌≤◌}
+use mathlib.Core.Path.{◌≡◌}
 use lib.ListN.{length, take}
-use lib.Seq.{take-length}
-use native.Mathlib.Omega.{arith}
-use borrow.Author.Rules.{rules}
 use Rattle.ground_placing.specs.Placed.{placed}
-use Rattle.ground_placing.proofs.Placing.{placed_none}
-use Rattle.ground_copying.proofs.Pieces.{turn}
 use Rattle.ground_copying.proofs.copy_long.Given as goal
 
 abbrev pub invariant-loop-i : goal.invariant-loop-i

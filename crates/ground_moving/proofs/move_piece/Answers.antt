@@ -1,7 +1,6 @@
 -- `ground_moving::move_piece` meets its contract: what is held are the bytes, before one of them is written.
 use mathlib.Core.Path.{ap, ◌∙◌}
 use native.Mathlib.Omega.{arith}
-use borrow.Author.Rules.{rules}
 use lib.ListN.{take, length-take}
 use Rattle.ground_placing.specs.Placed.{placed}
 use Rattle.ground_moving.proofs.Moving.{piece_held}

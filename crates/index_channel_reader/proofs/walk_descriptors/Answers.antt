@@ -1,24 +1,19 @@
 -- `index_channel_reader::walk_descriptors` meets its contract: into the part that the length counts, which they fill.
-use borrow.Author.Rules.{rules}
+use mathlib.Core.Path.{sym, ◌∙◌}
 use Rattle.body_formats.specs.Format.{length12}
 use Rattle.body_formats.proofs.Parts.{length12_counts}
-use Rattle.body_walk.proofs.Counts.{entered_inside, counted_walk}
+use Rattle.body_walk.proofs.Counts.{entered_inside, counted_walk, counted_stop}
 use Rattle.index.specs.Index.{descriptors}
 use Rattle.index.proofs.Lawful.{all_descriptors_filling}
 use Rattle.index_channel_reader.proofs.walk_descriptors.Goals as goal
 
-pub enter12-part-requires : goal.enter12-part-requires
+pub returns-in_err-p : goal.returns-in_err-p
 unfolding descriptors
-enter12-part-requires c = search rules
+returns-in_err-p c = counted_stop (length12_counts _) all_descriptors_filling c.in_err-p.was c.enter12.ensures c.from_residual.ensures
 
-pub walk_all_descriptors-requires : goal.walk_all_descriptors-requires
-unfolding descriptors
-walk_all_descriptors-requires c = entered_inside length12 _ _ _ c.enter12-part.ensures
-
-pub shape_of-tape : goal.shape_of-tape
-unfolding descriptors
-shape_of-tape c = search rules
+pub walk_each_descriptor-requires : goal.walk_each_descriptor-requires
+walk_each_descriptor-requires c = entered_inside length12 _ _ _ (sym c.in_ok-p.was ∙ c.enter12.ensures)
 
 pub returns : goal.returns
 unfolding descriptors
-returns c = counted_walk (length12_counts _) all_descriptors_filling c.enter12-part.ensures c.walk_all_descriptors.ensures
+returns c = counted_walk (length12_counts _) all_descriptors_filling (sym c.in_ok-p.was ∙ c.enter12.ensures) c.walk_each_descriptor.ensures

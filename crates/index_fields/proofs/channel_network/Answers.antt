@@ -1,6 +1,5 @@
 -- `index_fields::channel_network` meets its contract: it is that number of the channel.
 use Rattle.index_fields.specs.Asked.{channel_network}
-use borrow.Author.Rules.{rules}
 use Rattle.index_fields.proofs.channel_network.Goals as goal
 
 pub returns : goal.returns

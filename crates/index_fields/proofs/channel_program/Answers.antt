@@ -1,6 +1,5 @@
 -- `index_fields::channel_program` meets its contract: it is that number of the channel.
 use Rattle.index_fields.specs.Asked.{channel_program}
-use borrow.Author.Rules.{rules}
 use Rattle.index_fields.proofs.channel_program.Goals as goal
 
 pub returns : goal.returns

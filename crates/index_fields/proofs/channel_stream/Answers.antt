@@ -1,6 +1,5 @@
 -- `index_fields::channel_stream` meets its contract: it is that number of the channel.
 use Rattle.index_fields.specs.Asked.{channel_stream}
-use borrow.Author.Rules.{rules}
 use Rattle.index_fields.proofs.channel_stream.Goals as goal
 
 pub returns : goal.returns

@@ -7,7 +7,6 @@ use Rattle.index_fields.specs.Asked.{end}
 use native.Mathlib.Omega.{arith}
 use lib.ListN.{length}
 use borrow.Author.Tests.{leb-true}
-use borrow.Author.Rules.{rules}
 use Rattle.index_fields.proofs.end.Goals as goal
 
 pub overflow_add-at : goal.overflow_add-at

@@ -5,7 +5,6 @@ use Rattle.index_fields.proofs.Answers.{identifier_digit_no, identifier_digit_is
 use native.Mathlib.Omega.{arith}
 use lib.ListN.{length}
 use borrow.Author.Tests.{leb-true}
-use borrow.Author.Rules.{rules}
 use Rattle.index_fields.proofs.identifier_digit.Goals as goal
 
 pub overflow_add-at : goal.overflow_add-at

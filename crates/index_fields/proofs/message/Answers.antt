@@ -1,6 +1,5 @@
 -- `index_fields::message` meets its contract: the list begins the body.
 use Rattle.index_fields.specs.Asked.{message_part}
-use borrow.Author.Rules.{rules}
 use Rattle.index_fields.proofs.message.Goals as goal
 
 pub returns : goal.returns

@@ -1,7 +1,6 @@
 -- `index_fields::network` meets its contract: it is a number of two bytes, none of which is refused for its value.
 use mathlib.Core.Path.{◌∙◌}
 use Rattle.index_fields.proofs.Answers.{network_is}
-use borrow.Author.Rules.{rules}
 use Rattle.index_fields.proofs.network.Goals as goal
 
 pub returns : goal.returns

@@ -1,6 +1,5 @@
 -- `index_fields::resource_count` meets its contract: it is a number of one byte.
 use Rattle.index_fields.specs.Asked.{resource_count}
-use borrow.Author.Rules.{rules}
 use Rattle.index_fields.proofs.resource_count.Goals as goal
 
 pub returns : goal.returns

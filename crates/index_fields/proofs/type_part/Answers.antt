@@ -7,7 +7,6 @@ use Rattle.index_fields.specs.Asked.{type_part}
 use native.Mathlib.Omega.{arith}
 use lib.ListN.{length}
 use borrow.Author.Tests.{leb-true}
-use borrow.Author.Rules.{rules}
 use Rattle.index_fields.proofs.type_part.Goals as goal
 
 pub overflow_add-at : goal.overflow_add-at

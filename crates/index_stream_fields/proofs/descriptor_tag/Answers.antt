@@ -1,6 +1,5 @@
 -- `index_stream_fields::descriptor_tag` meets its contract: it is the first byte.
 use Rattle.index_stream_fields.specs.Asked.{descriptor_tag}
-use borrow.Author.Rules.{rules}
 use Rattle.index_stream_fields.proofs.descriptor_tag.Goals as goal
 
 pub returns : goal.returns

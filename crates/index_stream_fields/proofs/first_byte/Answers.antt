@@ -2,7 +2,6 @@
 use mathlib.Core.Path.{sym, ap, ◌∙◌}
 use Rattle.body_formats.specs.Answers.{number_of, number_read}
 use native.Mathlib.Omega.{arith}
-use borrow.Author.Rules.{rules}
 use Rattle.body_asking.proofs.Answers.{count_number, needed, not_needed, in_part_lem}
 use Rattle.index_stream_fields.specs.Asked.{first_byte}
 use Rattle.index_stream_fields.proofs.first_byte.Goals as goal

@@ -4,7 +4,6 @@ use mathlib.Core.Bool.{false≢true}
 use native.Mathlib.Omega.{arith}
 use lib.ListN.{length}
 use borrow.Author.Tests.{leb-true}
-use borrow.Author.Rules.{rules}
 use Rattle.index_stream_fields.proofs.holds.Goals as goal
 
 pub returns-then-n-k : goal.returns-then-n-k

@@ -1,6 +1,5 @@
 -- `index_stream_fields::stream_type` meets its contract: it is the first byte.
 use Rattle.index_stream_fields.specs.Asked.{stream_type}
-use borrow.Author.Rules.{rules}
 use Rattle.index_stream_fields.proofs.stream_type.Goals as goal
 
 pub returns : goal.returns

@@ -1,5 +1,4 @@
 -- `index_writer::measure` meets its contract: a pen goes through the whole form.
-use borrow.Author.Rules.{rules}
 use Rattle.body_pen.proofs.Writers.{measured_is}
 use Rattle.index_writer.proofs.measure.Goals as goal
 

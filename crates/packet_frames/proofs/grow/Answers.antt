@@ -1,7 +1,6 @@
 -- `packet_frames::grow` meets its contract: nothing unfinished grows into nothing; else the section_length decides.
 use native.Mathlib.Omega.{arith}
 use Rattle.packet_frames.proofs.Growing.{grown_none, grown_frame}
-use borrow.Author.Rules.{rules}
 use Rattle.packet_frames.proofs.grow.Goals as goal
 
 pub returns-then-u-eq0 : goal.returns-then-u-eq0

@@ -1,7 +1,6 @@
 -- `packet_frames::joint` meets its contract: the byte stands in one or in the other.
 use native.Mathlib.Omega.{arith}
 use Rattle.packet_frames.proofs.Frames.{joint_left, joint_right}
-use borrow.Author.Rules.{rules}
 use Rattle.packet_frames.proofs.joint.Goals as goal
 
 pub returns-then-i-u : goal.returns-then-i-u

@@ -3,45 +3,16 @@ use native.Mathlib.Omega.{arith}
 use Rattle.ground_choices.proofs.Tests.{unmet, met}
 use Rattle.packet_memory.specs.State.{last_of}
 use Rattle.packet_memory.proofs.States.{going_nothing, going_gap, going_then}
-use borrow.Author.Rules.{rules}
 use Rattle.packet_memory.proofs.going_on.Goals as goal
 
 pub returns-then-not-known : goal.returns-then-not-known
 unfolding last_of
 returns-then-not-known c = going_nothing _ _ (unmet _ c.requires.1 c.if-not-known.true-raw)
 
-pub counter_of-requires : goal.counter_of-requires
-unfolding last_of
-counter_of-requires c = search rules
-
-pub slice_bounds-counter_of-count : goal.slice_bounds-counter_of-count
-unfolding last_of
-slice_bounds-counter_of-count c = search rules
-
-pub slice_bounds-counter_of-start : goal.slice_bounds-counter_of-start
-unfolding last_of
-slice_bounds-counter_of-start c = search rules
-
-pub slice_bounds-counter_of-end : goal.slice_bounds-counter_of-end
-unfolding last_of
-slice_bounds-counter_of-end c = search rules
-
-pub counter_of-requires-2 : goal.counter_of-requires-2
-unfolding last_of
-counter_of-requires-2 c = search rules
-
-pub overflow_add-counter_of : goal.overflow_add-counter_of
-unfolding last_of
-overflow_add-counter_of c = search rules
-
 pub returns-then-counter_of : goal.returns-then-counter_of
 unfolding last_of
 returns-then-counter_of c = going_gap _ _ (met _ c.requires.1 c.if-not-known.false-raw) c.requires.0 _ _ c.counter_of.ensures.0 c.counter_of-2.ensures.0
     (λ e. omega arith)
-
-pub kept_of-requires : goal.kept_of-requires
-unfolding last_of
-kept_of-requires c = search rules
 
 pub returns : goal.returns
 unfolding last_of

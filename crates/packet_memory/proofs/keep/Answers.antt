@@ -1,7 +1,5 @@
 -- `packet_memory::keep` meets its contract: the unfinished bytes, the mark and the packet make up the state.
-use native.Mathlib.Omega.{arith}
 use Rattle.packet_memory.proofs.Keeping.{state_stored}
-use borrow.Author.Rules.{rules}
 use Rattle.packet_memory.proofs.keep.Goals as goal
 
 pub returns : goal.returns

@@ -1,15 +1,11 @@
--- `packet_memory::put_mark` meets its contract: three stores, one after the other.
-use native.Mathlib.Omega.{arith}
-use lib.ListN.{length-set}
-use Rattle.packet_memory.proofs.Keeping.{mark_stores}
-use borrow.Author.Rules.{rules}
+-- `packet_memory::put_mark` meets its contract: the three bytes stand in one piece.
+use Prim.Native.Nat.{◌/◌, ◌%◌}
+use mathlib.Core.List.{[], ◌∷◌}
+use mathlib.Core.Path.{◌≡◌, sym, ◌∙◌}
+use Rattle.ground_placing.proofs.Placing.{placed_whole}
 use Rattle.packet_memory.proofs.put_mark.Goals as goal
 
-pub bounds-s-1 : goal.bounds-s-1
-bounds-s-1 c = simp length-set (omega arith)
-
-pub bounds-s-2 : goal.bounds-s-2
-bounds-s-2 c = simp length-set (omega arith)
-
 pub returns : goal.returns
-returns c = mark_stores _ _ (search rules)
+returns c = let k = c.args.kept in
+    let e : c.copy_from_slice.new.self ≡ 1 ∷ k / 256 % 256 ∷ k % 256 ∷ [] = c.copy_from_slice.ensures.after ∙ rw c.to_be_bytes-kept.ensures in
+    rw e (sym (placed_whole c.args.s.now (1 ∷ k / 256 % 256 ∷ k % 256 ∷ [])))

@@ -1,9 +1,8 @@
 -- `packet_plan::plan_of` meets its contract: the start indicator says which of the two it is.
-use mathlib.Core.Path.{◌≡◌, ap}
+use mathlib.Core.Path.{ap}
 use mathlib.Core.List.{List}
 use native.Mathlib.Omega.{arith}
 use Prim.Native.Nat.{ℕ, ◌+◌, ◌<◌}
-use lib.ListN.{length}
 use Rattle.ground_choices.proofs.Tests.{unmet, met}
 use Rattle.packet.specs.Sizes.{packet_bytes}
 use Rattle.packet.specs.Fields.{payload_at, pointed_at}

@@ -2,7 +2,6 @@
 use mathlib.Core.Path.{sym, ◌∙◌}
 use Rattle.packet.proofs.Judging.{carried}
 use Rattle.packet_reader.proofs.Calls.{carry_repeat, carry_read}
-use borrow.Author.Rules.{rules}
 use Rattle.packet_reader.proofs.carry.Goals as goal
 
 pub repeats-requires : goal.repeats-requires

@@ -3,7 +3,6 @@ use mathlib.Core.Path.{refl}
 use native.Mathlib.Omega.{arith}
 use Rattle.packet.proofs.Judging.{carried}
 use Rattle.packet_reader.proofs.Calls.{part_may, leaves, read_small, read_fits}
-use borrow.Author.Rules.{rules}
 use Rattle.packet_reader.proofs.read_on.Goals as goal
 
 pub plan_of-plan-requires : goal.plan_of-plan-requires

@@ -1,7 +1,6 @@
 -- `packet_writer::put_continuing` meets its contract: header, bytes and stuffing, one after the other.
 use mathlib.Core.Path.{refl}
 use Rattle.packet_writer.proofs.Laying.{laid_packet}
-use borrow.Author.Rules.{rules}
 use Rattle.packet_writer.proofs.put_continuing.Goals as goal
 
 pub returns : goal.returns

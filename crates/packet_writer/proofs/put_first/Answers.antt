@@ -1,7 +1,6 @@
 -- `packet_writer::put_first` meets its contract: header, pointer, bytes and stuffing, one after the other.
 use mathlib.Core.Path.{refl}
 use Rattle.packet_writer.proofs.Laying.{laid_first}
-use borrow.Author.Rules.{rules}
 use Rattle.packet_writer.proofs.put_first.Goals as goal
 
 pub returns : goal.returns

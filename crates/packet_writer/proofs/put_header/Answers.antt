@@ -1,18 +1,9 @@
--- `packet_writer::put_header` meets its contract: four stores, one after the other.
+-- `packet_writer::put_header` meets its contract: the four bytes stand in one piece.
+use mathlib.Core.Path.{◌∙◌}
 use native.Mathlib.Omega.{arith}
-use lib.ListN.{length-set}
-use Rattle.packet_writer.proofs.Laying.{header_stores}
-use borrow.Author.Rules.{rules}
+use Rattle.section_reader.proofs.Bytes.{placed_part}
+use Rattle.packet_writer.proofs.Laying.{header_is, header_length}
 use Rattle.packet_writer.proofs.put_header.Goals as goal
 
-pub bounds-out-at-2 : goal.bounds-out-at-2
-bounds-out-at-2 c = simp length-set (omega arith)
-
-pub bounds-out-at-3 : goal.bounds-out-at-3
-bounds-out-at-3 c = simp length-set (omega arith)
-
-pub bounds-out-at-4 : goal.bounds-out-at-4
-bounds-out-at-4 c = simp length-set (omega arith)
-
 pub returns : goal.returns
-returns c = header_stores _ _ _ _ _ c.start_byte.ensures (search rules)
+returns c = placed_part _ _ _ _ (c.copy_from_slice.ensures.after ∙ header_is _ _ _ c.start_byte.ensures) (omega (arith, header_length c.args.start c.args.counter))

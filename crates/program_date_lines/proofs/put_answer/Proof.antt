@@ -9,19 +9,19 @@ use Rattle.program_date_lines.proofs.put_answer.Statement.{statement}
 use Rattle.program_date_lines.proofs.put_answer.Tie as tie
 
 -- where the function began, from each of these places on
-begun_field : tie.In-Field → tie.Start
+begun_field : tie.In-Ok → tie.Start
 begun_field c = search
 
-begun_r : tie.In-Refused → tie.Start
+begun_r : tie.In-Err → tie.Start
 begun_r c = search
 
-field_text_lem : (c : tie.In-Field) → let start = begun_field c in time_answered start.args.text.now ≡ field_text c.in-Field.field
+field_text_lem : (c : tie.In-Ok) → let start = begun_field c in time_answered start.args.text.now ≡ field_text c.in-Ok.field
 unfolding time_answered begun_field
-field_text_lem c = ap time_text (sym c.before.read_text.ensures ∙ c.in-Field.is)
+field_text_lem c = ap time_text (sym c.before.read_text.ensures ∙ c.in-Ok.is)
 
-refused_text_lem : (c : tie.In-Refused) → let start = begun_r c in time_answered start.args.text.now ≡ refused_text c.in-Refused.r
+refused_text_lem : (c : tie.In-Err) → let start = begun_r c in time_answered start.args.text.now ≡ refused_text c.in-Err.r
 unfolding time_answered begun_r
-refused_text_lem c = ap time_text (sym c.before.read_text.ensures ∙ c.in-Refused.is)
+refused_text_lem c = ap time_text (sym c.before.read_text.ensures ∙ c.in-Err.is)
 
 pub put_answer_spec : {M : Type 1} → statement M
 unfolding begun_field begun_r
@@ -30,13 +30,13 @@ put_answer_spec =
     (tie.spec
     (λ c κs. search rules)
     (λ c. search rules)
-    (λ c κs. let field : tie.In-Field = search in
+    (λ c κs. let field : tie.In-Ok = search in
     let start : tie.Start = search in (
-      omega (arith, text_day start.args.text.now (sym field.before.read_text.ensures ∙ field.in-Field.is)),
+      omega (arith, text_day start.args.text.now (sym field.before.read_text.ensures ∙ field.in-Ok.is)),
       rw (field_text_lem field) at start.requires,
     ))
     (λ c. search rules)
-    (λ c κs. let start : tie.Start = search in let refused : tie.In-Refused = search in
+    (λ c κs. let start : tie.Start = search in let refused : tie.In-Err = search in
     rw (refused_text_lem refused) at start.requires)
     (λ c. search rules)
     (λ c. let put : tie.After-put_field = search in rw (field_text_lem (search)) put.put_field.ensures)

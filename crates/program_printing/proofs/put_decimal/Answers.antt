@@ -1,6 +1,5 @@
 -- `program_printing::put_decimal` meets its contract: it puts as many digits as the number has.
 use native.Mathlib.Omega.{arith}
-use borrow.Author.Rules.{rules}
 use Rattle.program_printing.specs.Characters.{places_of}
 use Rattle.program_printing.proofs.Digits.{digits_length}
 use Rattle.program_printing.proofs.put_decimal.Goals as goal

@@ -1,33 +1,31 @@
 -- `program_printing::put_digits` meets its contract: what stands, with the digits that are left placed on it, stays the same.
-use Prim.Native.Nat.{◌+◌, ◌≤◌}
+use Prim.Native.Nat.{suc, ◌+◌, ◌-◌}
 use mathlib.Core.Path.{◌≡◌, sym, ap, ◌∙◌}
 use native.Mathlib.Nat.{mod-lt}
 use native.Mathlib.Omega.{arith}
 use borrow.Author.Rules.{rules}
-use lib.ListN.{length}
-use Rattle.program_printing.specs.Characters.{digits_of}
-use Rattle.ground_placing.specs.Placed.{placed}
 use Rattle.program_printing.proofs.Digits.{digits_length, digits_turn, digits_done}
 use Rattle.program_printing.proofs.put_digits.Goals as goal
 
 pub digit-requires : goal.digit-requires
-digit-requires c = omega (arith, mod-lt c.loop-left.rest c.requires.0)
+digit-requires c = omega (arith, mod-lt c.loop-i.rest c.requires.0)
 
-pub loop-left-preserved : goal.loop-left-preserved
-loop-left-preserved c = let l = c.loop-left in
-    let a = c.args in (
-      search rules,
+pub loop-i-preserved : goal.loop-i-preserved
+loop-i-preserved c = let l = c.loop-i in
+    let a = c.args in
+    let k = a.width - (l.i + 1) in
+    let left : a.width - l.i ≡ suc k = omega arith in (
       search rules,
       rw c.digit.ensures
-          (sym (digits_turn l.out a.at a.base l.left l.rest c.loop-left-test.true (omega arith)) ∙ l.invariant.2),
+          (sym (digits_turn l.out a.at a.base k _ l.rest (omega arith) (omega arith)) ∙ (rw left at l.invariant.1)),
     )
 
 pub returns : goal.returns
-returns c = let l = c.loop-left in
+returns c = let l = c.loop-i in
     let a = c.args in
     let n = digits_length a.base a.width a.number in
     record {
       fits = omega (arith, n);
-      written = sym (digits_done l.out _ _ l.left l.rest (omega arith)) ∙ l.invariant.2;
+      written = sym (digits_done l.out _ _ _ l.rest (omega arith)) ∙ l.invariant.1;
       after = sym (ap (λ n. a.at + n) n);
     }

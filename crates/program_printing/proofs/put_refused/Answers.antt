@@ -1,5 +1,4 @@
 -- `program_printing::put_refused` meets its contract: the word and the number, one after the other.
-use borrow.Author.Rules.{rules}
 use Rattle.ground_refusal.specs.Numbers.{refusal_number}
 use Rattle.program_printing.specs.Characters.{ascii, decimal_of, refused_text}
 use Rattle.ground_placing.proofs.Putting.{room_first, put_room, put_then}

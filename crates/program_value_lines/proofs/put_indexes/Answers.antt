@@ -1,6 +1,5 @@
 -- `program_value_lines::put_indexes` meets its contract: a line for each body, one after the other.
 use mathlib.Core.List.{◌++◌}
-use borrow.Author.Rules.{rules}
 use Rattle.ground_placing.proofs.Putting.{room_first, put_room, put_then}
 use Rattle.program_value_lines.specs.Report.{three_line, two_line, four_line, index_lines}
 use Rattle.program_value_lines.proofs.put_indexes.Goals as goal

@@ -1,6 +1,5 @@
 -- `program_value_lines::put_line` meets its contract: the name, a colon, the answer and what document 01 says, one after the other.
 use mathlib.Core.List.{◌++◌}
-use borrow.Author.Rules.{rules}
 use Rattle.program_printing.specs.Characters.{ascii}
 use Rattle.ground_placing.proofs.Putting.{room_first, put_room, put_then}
 use Rattle.program_value_lines.specs.Report.{value_text, said_text, line_of}

@@ -1,6 +1,5 @@
 -- `program_value_lines::put_times` meets its contract: a line for the day and for each time, one after the other.
 use mathlib.Core.List.{◌++◌}
-use borrow.Author.Rules.{rules}
 use Rattle.ground_placing.proofs.Putting.{room_first, put_room, put_then}
 use Rattle.program_value_lines.specs.Report.{day_line, november_line, march_line, time_lines}
 use Rattle.program_value_lines.proofs.put_times.Goals as goal

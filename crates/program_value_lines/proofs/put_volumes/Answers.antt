@@ -1,5 +1,4 @@
 -- `program_value_lines::put_volumes` meets its contract: a line for each volume, one after the other.
-use borrow.Author.Rules.{rules}
 use Rattle.ground_placing.proofs.Putting.{room_first, put_room, put_then}
 use Rattle.program_value_lines.specs.Report.{full_line, above_line, volume_lines}
 use Rattle.program_value_lines.proofs.put_volumes.Goals as goal

@@ -1,21 +1,14 @@
 -- `rooms_count::rooms_free` meets its contract: what is not held of the rooms is free.
-use native.Mathlib.Omega.{arith}
-use Rattle.ground_choices.proofs.Tests.{unmet, met}
-use Rattle.rooms_count.proofs.Counting.{free_impossible, free_counted, held_few, held_most}
+use Rattle.std.proofs.Common.{sym, ◌∙◌}
+use Rattle.ground_refusal.proofs.Exits.{passed_on}
+use Rattle.rooms_count.proofs.Counting.{free_refused, free_counted, free_most}
 use Rattle.rooms_count.proofs.rooms_free.Goals as goal
 
-pub returns-then-not-possible : goal.returns-then-not-possible
-returns-then-not-possible c = free_impossible _ _ (unmet _ c.possible.ensures c.if-not-possible.true-raw)
-
-pub overflow_add-result : goal.overflow_add-result
-overflow_add-result c = let ok = met _ c.possible.ensures c.if-not-possible.false-raw in
-    let few = held_few _ _ ok _ _ c.held_rooms-first.ensures c.held_rooms-second.ensures in
-    omega arith
+pub returns-in_err-held : goal.returns-in_err-held
+returns-in_err-held c = passed_on c.from_residual.ensures ∙ free_refused _ _ _ (sym c.rooms_held.ensures ∙ c.in_err-held.was)
 
 pub overflow_sub-result : goal.overflow_sub-result
-overflow_sub-result c = let ok = met _ c.possible.ensures c.if-not-possible.false-raw in
-    held_most _ _ ok _ _ c.held_rooms-first.ensures c.held_rooms-second.ensures _ c.rooms_in-n.ensures.0
+overflow_sub-result c = free_most _ _ _ (sym c.rooms_held.ensures ∙ c.in_ok-held.was) _ c.rooms_in.ensures.0
 
 pub returns : goal.returns
-returns c = let ok = met _ c.possible.ensures c.if-not-possible.false-raw in
-    free_counted _ _ ok _ _ c.held_rooms-first.ensures c.held_rooms-second.ensures _ c.rooms_in-n.ensures.0
+returns c = free_counted _ _ _ (sym c.rooms_held.ensures ∙ c.in_ok-held.was) _ c.rooms_in.ensures.0

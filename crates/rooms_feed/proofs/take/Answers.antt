@@ -1,11 +1,10 @@
--- `rooms_feed::take` meets its contract: the payload is put, and the part changed at its number.
-use Rattle.rooms_feed.specs.Feeding.{with_room}
-use Rattle.gathering_state.specs.State.{with_section}
-use mathlib.Core.Path.{ap}
-use Prim.Native.Nat.{ℕ}
+-- `rooms_feed::take` meets its contract: the room lies in the store.
+use Rattle.std.proofs.Common.{arith}
 use Rattle.rooms_feed.proofs.take.Goals as goal
 
-pub returns : goal.returns
-unfolding with_room with_section
-returns c = let start = c.args in
-    (ap (λ (n : ℕ). with_room start.p start.k n start.room) c.put_payload-n.ensures.counted.0, c.put_payload-n.ensures.stored)
+pub put_payload-n-requires : goal.put_payload-n-requires
+put_payload-n-requires c =
+    let f = c.requires.0 in
+    let e = c.room_place.ensures in
+    let w = f.within in
+    (f.long, f.short, omega arith)

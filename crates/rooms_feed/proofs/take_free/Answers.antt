@@ -5,9 +5,9 @@ use Rattle.rooms_feed.proofs.take_free.Goals as goal
 pub returns-then-room-eq0 : goal.returns-then-room-eq0
 returns-then-room-eq0 c = takes_none _ _ _ _ _ _ _ _ c.free_room-room.ensures.0 c.if-room-eq0.true
 
-pub take-part-requires : goal.take-part-requires
-take-part-requires c = let pre = c.requires in
+pub take-requires : goal.take-requires
+take-requires c = let pre = c.requires in
     (free_fits _ _ _ pre.0 _ c.if-room-eq0.false c.free_room-room.ensures.1, pre.1, pre.2)
 
 pub returns : goal.returns
-returns c = takes_free _ _ _ _ _ _ _ _ c.free_room-room.ensures.0 c.if-room-eq0.false _ c.take-part.ensures.0 _ c.take-part.ensures.1
+returns c = takes_free _ _ _ _ _ _ _ _ c.free_room-room.ensures.0 c.if-room-eq0.false _ c.take.ensures.0 _ c.take.ensures.1

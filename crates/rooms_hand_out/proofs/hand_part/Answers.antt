@@ -1,16 +1,16 @@
--- `rooms_hand_out::hand_part` meets its contract: a table that is not complete is refused as its completeness says, and a whole one is handed on.
-use mathlib.Core.Path.{◌∙◌}
-use Rattle.gathering_state.specs.State.{lengths}
-use Rattle.gathering_hand_out.proofs.Handing.{completes}
+-- `rooms_hand_out::hand_part` meets its contract: the payloads of a whole table lie in their rooms.
+use Rattle.std.proofs.Common.{sym, ◌∙◌}
 use Rattle.rooms_hand_out.specs.Handing.{body_in}
-use Rattle.rooms_hand_out.proofs.Handing.{hands_refused, hands_complete}
+use Rattle.rooms_hand_out.proofs.Handing.{lengths_lie, hands_complete}
 use Rattle.rooms_hand_out.proofs.hand_part.Goals as goal
 
-pub returns-in-Refused : goal.returns-in-Refused
-unfolding lengths body_in
-returns-in-Refused c = hands_refused _ _ _ _ (completes _ _ _ c.numbers_of-numbers.ensures _ c.complete.ensures ∙ c.in-Refused.is)
+pub hand_held-requires : goal.hand_held-requires
+hand_held-requires c =
+    let e = c.lengths.ensures.held in
+    record { few = c.lengths.ensures.few; lie = λ k h. rw e (lengths_lie _ _ _ c.requires k (rw e at h)) }
 
-pub returns-in-Complete : goal.returns-in-Complete
-unfolding lengths body_in
-returns-in-Complete c = hands_complete _ _ _ (completes _ _ _ c.numbers_of-numbers.ensures _ c.complete.ensures ∙ c.in-Complete.is)
-    _ c.hand_first.ensures.0 _ c.hand_first.ensures.1
+pub returns : goal.returns
+unfolding body_in
+returns c =
+    let h = rw c.lengths.ensures.held at c.hand_held.ensures in
+    hands_complete _ _ _ (sym c.complete.ensures ∙ c.in_ok-complete.was) _ h.0 _ h.1

@@ -1,5 +1,4 @@
 -- `rooms_marks::first_unmarked` meets its contract: no room before r is free, so the first free one is r or stands after it.
-use Prim.Native.Nat.{◌-◌}
 use mathlib.Core.Path.{sym, ◌∙◌}
 use native.Mathlib.Omega.{arith}
 use Rattle.rooms_marks.proofs.Marking.{free_start, free_step, free_end}

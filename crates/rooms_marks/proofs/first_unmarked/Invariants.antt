@@ -6,6 +6,3 @@ use Rattle.rooms_marks.proofs.first_unmarked.Given as goal
 
 abbrev pub invariant-loop-r : goal.invariant-loop-r
 invariant-loop-r l = (1 ≤ l.r) × (l.r ≤ l.n + 1) × (free_mark l.marks 1 l.n ≡ free_mark l.marks l.r (l.n + 1 - l.r))
-
-abbrev pub decreases-loop-r : goal.decreases-loop-r
-decreases-loop-r l = l.n + 1 - l.r

@@ -1,5 +1,4 @@
 -- `rooms_marks::marked_once` meets its contract: no room before r is held twice, so all are held once if those from r on are.
-use Prim.Native.Nat.{◌-◌}
 use mathlib.Core.Path.{sym, ◌∙◌}
 use native.Mathlib.Omega.{arith}
 use Rattle.rooms_marks.proofs.Marking.{once_start, once_stop, once_step, once_end}

@@ -6,6 +6,3 @@ use Rattle.rooms_marks.proofs.marked_once.Given as goal
 
 abbrev pub invariant-loop-r : goal.invariant-loop-r
 invariant-loop-r l = (1 ≤ l.r) × (l.r ≤ l.n + 1) × (all_once l.marks 1 l.n ≡ all_once l.marks l.r (l.n + 1 - l.r))
-
-abbrev pub decreases-loop-r : goal.decreases-loop-r
-decreases-loop-r l = l.n + 1 - l.r

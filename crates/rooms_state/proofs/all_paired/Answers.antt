@@ -1,5 +1,4 @@
 -- `rooms_state::all_paired` meets its contract: those before i are paired, so all are if the rest is.
-use Prim.Native.Nat.{◌-◌}
 use mathlib.Core.Path.{refl, sym, ◌∙◌}
 use native.Mathlib.Omega.{arith}
 use borrow.Author.Tests.{not-true, not-false}

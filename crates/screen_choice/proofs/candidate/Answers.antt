@@ -1,6 +1,5 @@
 -- `screen_choice::candidate` meets its contract: level and start are the message's.
 use mathlib.Core.Path.{ap, ◌∙◌}
-use borrow.Author.Rules.{rules}
 use Rattle.screen_choice.specs.Walk.{worth_of, moment_said}
 use Rattle.screen_choice.proofs.Fields.{candidate_is}
 use Rattle.screen_choice.proofs.candidate.Goals as goal

@@ -1,6 +1,5 @@
 -- `screen_choice::is_timely` meets its contract: start and end are the message's, and the library says how they stand.
 use mathlib.Core.Path.{ap, ◌∙◌}
-use borrow.Author.Rules.{rules}
 use Rattle.screen_choice.specs.Walk.{worth_of}
 use Rattle.screen_choice.proofs.Fields.{timely}
 use Rattle.screen_choice.proofs.is_timely.Goals as goal

@@ -1,6 +1,5 @@
 -- `screen_choice::length_at` meets its contract: two bytes, the high one first.
 use native.Mathlib.Omega.{arith}
-use borrow.Author.Rules.{rules}
 use Rattle.screen_choice.proofs.length_at.Goals as goal
 
 pub returns : goal.returns

@@ -2,17 +2,12 @@
 use Prim.Native.Nat.{◌+◌, ◌-◌, ◌≤◌}
 use mathlib.Core.List.{List}
 use Prim.Native.Nat.{ℕ}
-use native.Mathlib.Omega.{arith}
-use borrow.Author.Rules.{rules}
 use Rattle.index.specs.Index.{Message}
 use Rattle.screen_choice.specs.Walk.{Tabled, Table}
-use Rattle.screen_choice.proofs.Messages.{room, length_is, stands, Underway, underway, walked, here, on}
+use Rattle.screen_choice.proofs.Messages.{Underway}
 use Rattle.screen_choice.proofs.walked.Given as goal
 
 abbrev pub invariant-loop-i : goal.invariant-loop-i
 invariant-loop-i l =
-    (l.i ≤ l.count) × Tabled l.s l.count l.own
-    × ((code : List ℕ) (ms : List Message) → Table l.s l.count l.own code ms → Underway l.s l.count code (record { day = l.day; second = l.second }) ms l.best l.p l.i)
-
-abbrev pub decreases-loop-i : goal.decreases-loop-i
-decreases-loop-i l = l.count - l.i
+    Tabled l.s l.count l.own
+    × ((code : List ℕ) (ms : List Message) → Table l.s l.count l.own code ms → Underway l.s l.count code l.present ms l.best l.p l.i)

@@ -1,10 +1,7 @@
 -- `screen_code::pack` meets its contract. The loop's invariant: the bytes before the i-th are the code's.
-use Prim.Native.Nat.{◌+◌, ◌-◌, ◌*◌, ◌≤◌, ◌<◌}
-use mathlib.Core.Path.{◌≡◌, refl, sym, ◌∙◌}
+use mathlib.Core.Path.{refl, sym, ◌∙◌}
 use native.Mathlib.Omega.{arith}
-use borrow.Author.Rules.{rules}
-use lib.ListN.{length, take, length-set}
-use Rattle.body_formats.specs.Resource.{resource}
+use lib.ListN.{length-set}
 use Rattle.screen_code.proofs.Same.{code_long}
 use Rattle.screen_code.proofs.Printed.{put_first, first_byte, next_byte, put_next, put_all}
 use Rattle.screen_code.proofs.pack.Goals as goal
@@ -14,7 +11,7 @@ bounds-code-0 c = omega (arith, code_long _ c.requires)
 
 pub loop-i-init : goal.loop-i-init
 loop-i-init c = let pre = c.requires in
-    (omega arith, omega arith, refl, put_first _ pre _ (c.pair.ensures ∙ sym (first_byte _ pre)))
+    (refl, put_first _ pre _ (c.pair.ensures ∙ sym (first_byte _ pre)))
 
 pub bounds-code-i : goal.bounds-code-i
 bounds-code-i c = omega (arith, code_long _ c.requires)
@@ -25,12 +22,10 @@ bounds-code-i-in-loop-i c = omega (arith, code_long _ c.requires)
 pub loop-i-preserved : goal.loop-i-preserved
 loop-i-preserved c = let pre = c.requires in
     let l = c.loop-i in (
-      omega arith,
-      omega arith,
-      simp length-set l.invariant.2,
-      put_next _ pre _ l.i l.invariant.2 l.invariant.3 _ (omega arith) (c.pair-in-loop-i.ensures ∙ sym (next_byte _ pre l.i l.invariant.0 (omega arith))),
+      simp length-set l.invariant.0,
+      put_next _ pre _ l.i l.invariant.0 l.invariant.1 _ (omega arith) (c.pair-in-loop-i.ensures ∙ sym (next_byte _ pre l.i (omega arith) (omega arith))),
     )
 
 pub returns : goal.returns
 returns c = let l = c.loop-i in
-    put_all _ c.requires _ l.i l.invariant.2 l.invariant.3 (omega arith)
+    put_all _ c.requires _ l.i l.invariant.0 l.invariant.1 (omega arith)

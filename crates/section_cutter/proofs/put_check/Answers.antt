@@ -1,18 +1,10 @@
--- `section_cutter::put_check` meets its contract: its four stores are the number's four bytes, laid one after the other.
+-- `section_cutter::put_check` meets its contract: the number's four bytes stand in one piece.
+use mathlib.Core.Path.{sym, ap, ◌∙◌}
 use native.Mathlib.Omega.{arith}
-use borrow.Author.Rules.{rules}
-use lib.ListN.{length-set}
-use Rattle.section_reader.proofs.Bytes.{stored_four}
+use lib.ListN.{length}
+use Rattle.section_reader.proofs.Bytes.{four_bytes, placed_part}
 use Rattle.section_cutter.proofs.put_check.Goals as goal
 
-pub bounds-out-at-2 : goal.bounds-out-at-2
-bounds-out-at-2 c = simp length-set (omega arith)
-
-pub bounds-out-at-3 : goal.bounds-out-at-3
-bounds-out-at-3 c = simp length-set (omega arith)
-
-pub bounds-out-at-4 : goal.bounds-out-at-4
-bounds-out-at-4 c = simp length-set (omega arith)
-
 pub returns : goal.returns
-returns c = stored_four _ _ _ (search rules)
+returns c = let four = four_bytes c.args.check in
+    placed_part _ _ _ _ (c.copy_from_slice.ensures.after ∙ c.to_be_bytes.ensures ∙ sym four) (omega (arith, ap length four))

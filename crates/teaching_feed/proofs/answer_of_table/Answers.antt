@@ -1,6 +1,5 @@
 -- `teaching_feed::answer_of_table` meets its contract: each way out is one of the account's answers to a section of its table.
 use mathlib.Core.Path.{sym, ◌∙◌}
-use Rattle.ground_choices.proofs.Tests.{met, unmet}
 use Rattle.teaching_questions.proofs.Saying.{payload_part}
 use Rattle.teaching_feed.proofs.Answering.{table_clash, table_spoiled, table_again, table_new}
 use Rattle.teaching_feed.proofs.answer_of_table.Goals as goal
@@ -10,12 +9,12 @@ returns-then-differs_from_one c = table_clash _ _ _ _ (payload_part _) _ c.diffe
 
 pub returns-then-not-agree : goal.returns-then-not-agree
 returns-then-not-agree c = table_spoiled _ _ _ _ (payload_part _) _ c.differs_from_one.ensures c.if-differs_from_one.false
-    (unmet c.agree.result c.agree.ensures c.if-not-agree.true-raw)
+    (sym c.agree.ensures ∙ c.if-not-agree.true)
 
 pub returns-then-has_come : goal.returns-then-has_come
 returns-then-has_come c = table_again _ _ _ _ (payload_part _) _ c.differs_from_one.ensures c.if-differs_from_one.false
-    (met c.agree.result c.agree.ensures c.if-not-agree.false-raw) (sym c.has_come.ensures ∙ c.if-has_come.true)
+    (sym c.agree.ensures ∙ c.if-not-agree.false) (sym c.has_come.ensures ∙ c.if-has_come.true)
 
 pub returns : goal.returns
 returns c = table_new _ _ _ _ (payload_part _) _ c.differs_from_one.ensures c.if-differs_from_one.false
-    (met c.agree.result c.agree.ensures c.if-not-agree.false-raw) (sym c.has_come.ensures ∙ c.if-has_come.false)
+    (sym c.agree.ensures ∙ c.if-not-agree.false) (sym c.has_come.ensures ∙ c.if-has_come.false)

@@ -1,16 +1,11 @@
--- `teaching_hand_out::heading` meets its contract: what is in use is no whole rows, or what is kept answers.
-use mathlib.Core.Path.{sym}
-use borrow.Author.Rules.{rules}
-use lib.Seq.{length-take-le}
-use Rattle.ground_choices.proofs.Tests.{met, unmet}
-use Rattle.teaching_hand_out.proofs.Telling.{within_buffer, heading_12, heading_kept_lem}
+-- `teaching_hand_out::heading` meets its contract: it is the fixed table's.
+use mathlib.Core.Path.{◌∙◌}
+use Rattle.ground_refusal.proofs.Exits.{passed_on}
+use Rattle.teaching_hand_out.proofs.Telling.{heading_begun}
 use Rattle.teaching_hand_out.proofs.heading.Goals as goal
 
-pub returns-then-not-in_use : goal.returns-then-not-in_use
-returns-then-not-in_use c = heading_12 _ _ _ (unmet c.in_use.result c.in_use.ensures c.if-not-in_use.true-raw)
-
-pub slice_bounds-heading_kept-end : goal.slice_bounds-heading_kept-end
-slice_bounds-heading_kept-end c = sym (length-take-le _ _ (within_buffer _ _ 0 (met c.in_use.result c.in_use.ensures c.if-not-in_use.false-raw)))
+pub returns-in_err-t : goal.returns-in_err-t
+returns-in_err-t c = passed_on c.from_residual.ensures ∙ c.in_err-t.ensures.heading
 
 pub returns : goal.returns
-returns c = heading_kept_lem _ _ _ (met c.in_use.result c.in_use.ensures c.if-not-in_use.false-raw) _ c.heading_kept.ensures
+returns c = heading_begun _ _ _ _ _ c.in_ok-t.ensures

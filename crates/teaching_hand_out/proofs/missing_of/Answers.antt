@@ -1,6 +1,5 @@
 -- `teaching_hand_out::missing_of` meets its contract: both numbers are those of what stands before the first contradiction.
 use mathlib.Core.Path.{sym}
-use borrow.Author.Rules.{rules}
 use lib.Seq.{length-take-le}
 use Rattle.teaching_hand_out.proofs.Telling.{lacking_is}
 use Rattle.teaching_hand_out.proofs.missing_of.Goals as goal

@@ -1,25 +1,18 @@
 -- `teaching_questions::agree` meets its contract: those still to come agree if all do, until one is found that contradicts a later one.
-use Prim.Native.Nat.{◌-◌}
-use mathlib.Core.Path.{refl, sym, ◌∙◌}
-use native.Mathlib.Omega.{arith}
-use Rattle.teaching_questions.proofs.Agreeing.{agree_end, agree_clash, agree_on}
+use mathlib.Core.Path.{refl}
+use Rattle.teaching_questions.proofs.Walking.{agree_clash, agree_on, agree_end}
 use Rattle.teaching_questions.proofs.agree.Goals as goal
 
-pub loop-t-init : goal.loop-t-init
-loop-t-init c = (omega arith, refl)
+pub loop-x-init : goal.loop-x-init
+loop-x-init c = refl
 
-pub row_end-end-requires : goal.row_end-end-requires
-row_end-end-requires c = sym c.row_begins.ensures ∙ c.loop-t-test.true
+pub returns-then-differs_from_one : goal.returns-then-differs_from_one
+returns-then-differs_from_one c =
+    agree_clash _ _ _ _ _ c.in-Some.ensures.steps c.differs_from_one.ensures c.loop-x.invariant c.if-differs_from_one.true
 
-pub returns-then-contradicts_one : goal.returns-then-contradicts_one
-returns-then-contradicts_one c = let here = c.loop-t in
-    let begins = sym c.row_begins.ensures ∙ c.loop-t-test.true in
-    agree_clash _ _ here.at here.invariant.1 begins _ c.row_end-end.ensures _ c.contradicts_one.ensures c.if-contradicts_one.true
-
-pub loop-t-preserved : goal.loop-t-preserved
-loop-t-preserved c = let here = c.loop-t in
-    let begins = sym c.row_begins.ensures ∙ c.loop-t-test.true in
-    (omega arith, agree_on _ _ here.at here.invariant.1 begins _ c.row_end-end.ensures _ c.contradicts_one.ensures c.if-contradicts_one.false)
+pub loop-x-preserved : goal.loop-x-preserved
+loop-x-preserved c =
+    agree_on _ _ _ _ _ c.in-Some.ensures.steps c.differs_from_one.ensures c.loop-x.invariant c.if-differs_from_one.false
 
 pub returns : goal.returns
-returns c = let here = c.loop-t in agree_end _ _ here.at here.invariant.1 (sym c.row_begins.ensures ∙ c.loop-t-test.false)
+returns c = agree_end _ _ c.in_default.ensures.steps.0 c.loop-x.invariant

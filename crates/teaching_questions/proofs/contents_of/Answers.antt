@@ -1,34 +1,28 @@
--- `teaching_questions::contents_of` meets its contract: those still to come have the contents that all have, until a section of the number is found.
-use Prim.Native.Nat.{◌-◌}
-use mathlib.Core.Path.{refl, sym, ◌∙◌}
+-- `teaching_questions::contents_of` meets its contract: they are those of the first section of the number.
+use mathlib.Core.Path.{refl, sym, ap, ◌∙◌}
 use native.Mathlib.Omega.{arith}
-use Rattle.gathering_account.specs.Account.{contents_of}
-use Rattle.teaching_questions.proofs.Contents.{contents_end, contents_on, contents_found, long}
+use lib.Dec.{eqb}
+use lib.ListN.{length}
+use Rattle.std.specs.Option.{option_map}
+use Rattle.std.proofs.Common.{rules, tests}
+use Rattle.std.proofs.lemmas.Iterator.Consumers.{YieldsList-from_first}
+use Rattle.std.proofs.lemmas.Iterator.Search.{find_from_yields_List}
+use Rattle.teaching_rows.specs.Rows.{strings_in}
+use Rattle.teaching_questions.specs.Questions.{carried, sections_left}
+use Rattle.teaching_questions.proofs.Walking.{contents_held, contents_find, contents_short}
 use Rattle.teaching_questions.proofs.contents_of.Goals as goal
 
-pub loop-t-init : goal.loop-t-init
-loop-t-init c = (omega arith, refl)
-
-pub row_end-end-requires : goal.row_end-end-requires
-row_end-end-requires c = sym c.row_begins.ensures ∙ c.loop-t-test.true
-
-pub overflow_add-result : goal.overflow_add-result
-overflow_add-result c = let here = c.loop-t in
-    let begins = sym c.row_begins.ensures ∙ c.loop-t-test.true in
-    omega (arith, long _ _ _ here.at here.invariant.1 begins _ c.row_end-end.ensures _ c.is_number.ensures c.if-is_number.true)
-
-pub overflow_sub-result : goal.overflow_sub-result
-overflow_sub-result c = omega (arith, c.row_end-end.ensures.is)
-
-pub returns-then-is_number : goal.returns-then-is_number
-returns-then-is_number c = let here = c.loop-t in
-    let begins = sym c.row_begins.ensures ∙ c.loop-t-test.true in
-    contents_found _ _ _ here.at here.invariant.1 begins _ c.row_end-end.ensures _ c.is_number.ensures c.if-is_number.true
-
-pub loop-t-preserved : goal.loop-t-preserved
-loop-t-preserved c = let here = c.loop-t in
-    let begins = sym c.row_begins.ensures ∙ c.loop-t-test.true in
-    (omega arith, contents_on _ _ _ here.at here.invariant.1 begins _ c.row_end-end.ensures _ c.is_number.ensures c.if-is_number.false)
+pub returns-in_default : goal.returns-in_default
+returns-in_default c =
+    let first =
+    find_from_yields_List (λ x. eqb x.number c.args.k) c.find.new.self _ c.find.result c.find.ensures.ran
+    (YieldsList-from_first carried sections_left _ refl) (λ x b q k. search (rules, tests)) in
+    (ap (λ o. contents_held (option_map carried o)) (sym c.in_default.is) ∙ ap contents_held first ∙ contents_find c.args.k _, omega arith)
 
 pub returns : goal.returns
-returns c = let here = c.loop-t in contents_end _ _ _ here.at here.invariant.1 (sym c.row_begins.ensures ∙ c.loop-t-test.false)
+returns c =
+    let first =
+    find_from_yields_List (λ x. eqb x.number c.args.k) c.find.new.self _ c.find.result c.find.ensures.ran
+    (YieldsList-from_first carried sections_left _ refl) (λ x b q k. search (rules, tests)) in
+    let is = ap (λ o. contents_held (option_map carried o)) (sym c.in-Some.is) ∙ ap contents_held first ∙ contents_find c.args.k _ in
+    (is, omega (arith, ap length is, contents_short c.args.t c.args.k (strings_in c.args.rows.now)))

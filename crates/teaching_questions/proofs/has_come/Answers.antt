@@ -1,26 +1,15 @@
--- `teaching_questions::has_come` meets its contract: what is still to come tells what all tell, until a section of the number is found.
-use Prim.Native.Nat.{◌-◌}
-use mathlib.Core.Path.{refl, sym, ◌∙◌}
-use native.Mathlib.Omega.{arith}
-use Rattle.teaching_questions.proofs.Walking.{some_present, some_end, some_found, some_on}
+-- `teaching_questions::has_come` meets its contract: some section has the number.
+use mathlib.Core.Path.{refl, ◌∙◌}
+use lib.Dec.{eqb}
+use Rattle.std.proofs.Common.{rules, tests}
+use Rattle.std.proofs.lemmas.Iterator.Consumers.{YieldsList-from_first}
+use Rattle.std.proofs.lemmas.Iterator.Search.{any_from_yields_List}
+use Rattle.teaching_questions.specs.Questions.{carried, sections_left}
+use Rattle.teaching_questions.proofs.Walking.{present_any}
 use Rattle.teaching_questions.proofs.has_come.Goals as goal
 
-pub loop-t-init : goal.loop-t-init
-loop-t-init c = (omega arith, refl)
-
-pub row_end-end-requires : goal.row_end-end-requires
-row_end-end-requires c = sym c.row_begins.ensures ∙ c.loop-t-test.true
-
-pub returns-then-is_number : goal.returns-then-is_number
-returns-then-is_number c = let begins = sym c.row_begins.ensures ∙ c.loop-t-test.true in
-    some_found (some_present _) _ _ _ c.loop-t.invariant.1 begins _ c.row_end-end.ensures _ c.is_number.ensures c.if-is_number.true
-
-pub loop-t-preserved : goal.loop-t-preserved
-loop-t-preserved c = let begins = sym c.row_begins.ensures ∙ c.loop-t-test.true in (
-  omega arith,
-  some_on (some_present _) _ _ _ c.loop-t.invariant.1 begins _ c.row_end-end.ensures _ c.is_number.ensures c.if-is_number.false,
-)
-
 pub returns : goal.returns
-returns c = let here = c.loop-t in
-    some_end (some_present _) _ _ here.at here.invariant.1 (sym c.row_begins.ensures ∙ c.loop-t-test.false)
+returns c =
+    any_from_yields_List (λ x. eqb x.number c.args.k) c.any.new.self _ c.any.result c.any.ensures.ran (YieldsList-from_first carried sections_left _ refl)
+    (λ x b q k. search (rules, tests))
+    ∙ present_any _ _

@@ -3,10 +3,10 @@ use Rattle.teaching_table.proofs.Taking.{begins_first, begins_newer, table_versi
 use Rattle.teaching_table.proofs.begins.Goals as goal
 
 pub is_newer-requires : goal.is_newer-requires
-is_newer-requires c = (table_versioned _ _ _ c.in-Table.is c.requires.0, c.requires.1)
+is_newer-requires c = (table_versioned _ _ _ c.in-Some.is c.requires.0, c.requires.1)
 
-pub returns-in-Nothing : goal.returns-in-Nothing
-returns-in-Nothing c = begins_first _ _ c.in-Nothing.is
+pub returns-in-None : goal.returns-in-None
+returns-in-None c = begins_first _ _ c.in-None.is
 
-pub returns-in-Table : goal.returns-in-Table
-returns-in-Table c = begins_newer _ _ _ _ c.in-Table.is _ c.is_newer.ensures
+pub returns-in-Some : goal.returns-in-Some
+returns-in-Some c = begins_newer _ _ _ _ c.in-Some.is _ c.is_newer.ensures

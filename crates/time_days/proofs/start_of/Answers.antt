@@ -1,5 +1,4 @@
 -- `start_of` meets its contract: the table holds the start of each month, and an entry fits the wider number.
-use borrow.Author.Rules.{rules}
 use native.Mathlib.Omega.{arith}
 use Rattle.time_days.proofs.Months.{start_last, start_le}
 use Rattle.time_days.proofs.start_of.Goals as goal

@@ -1,7 +1,4 @@
 -- `time_local::time_of` meets its contract: it takes each number from the place that the definition names.
-use borrow.Author.Rules.{rules}
-use Prim.Native.Nat.{◌+◌, ◌*◌}
-use Rattle.time_local.specs.Text.{typed}
 use Rattle.time_local.proofs.Forms.{places}
 use Rattle.time_local.proofs.time_of.Goals as goal
 
@@ -25,15 +22,3 @@ number_at-requires-6 c = (places _ c.requires).minute
 
 pub number_at-requires-7 : goal.number_at-requires-7
 number_at-requires-7 c = (places _ c.requires).second
-
-pub returns : goal.returns
-unfolding typed
-returns c = λ i.
-    record {
-      year = c.number_at-3.ensures.0 i * 100 + c.number_at-4.ensures.0 i;
-      month = c.number_at-2.ensures.0 i;
-      day = c.number_at.ensures.0 i;
-      hour = c.number_at-5.ensures.0 i;
-      minute = c.number_at-6.ensures.0 i;
-      second = c.number_at-7.ensures.0 i;
-    }

@@ -1,5 +1,6 @@
 -- `time_offset::later` meets its contract: its signed steps are known as the definition's numbers, and it tests both moments as the definition does.
 use borrow.Author.Rules.{rules}
+use Rattle.std.specs.Prelude.{Ok, Err}
 use borrow.Author.Tests.{not-true, not-false}
 use mathlib.Core.Path.{◌≡◌, sym, ap, ◌∙◌}
 use mathlib.Core.Bool.{Bool, true, cond}
@@ -12,7 +13,6 @@ use mir.Val.{SFits, to_z, of_z}
 use mir.Facts.{to_z-of_z, to_z_pos}
 use Rattle.ground_refusal.specs.declared.Refusal.TheVariants.{ImpossibleDay}
 use Rattle.time_fields.specs.declared.Moment.{Moment}
-use Rattle.time_fields.specs.declared.Timed.TheVariants.{At, Refused}
 use Rattle.time_fields.specs.Field.{is_instant}
 use Rattle.ground_choices.proofs.Tests.{met, unmet}
 use Rattle.time_fields.proofs.Instants.{Instant, instant}
@@ -90,10 +90,10 @@ module _ (c : tie.After-floor-carried) where
 
   -- what is answered, by the second test
   answer : {r t : Bool} → r ≡ is_instant (to start.args.m c.floor-carried.result) → r ≡ t
-      → cond t (At (to start.args.m c.floor-carried.result)) (Refused (ImpossibleDay 0)) ≡ moved start.args.m start.args.minutes
+      → cond t (Ok (to start.args.m c.floor-carried.result)) (Err (ImpossibleDay 0)) ≡ moved start.args.m start.args.minutes
   answer {t = t} p e =
       let i = here (search) in
-      ap (λ (m : Moment). cond t (At m) (Refused (ImpossibleDay 0))) there.is
+      ap (λ (m : Moment). cond t (Ok m) (Err (ImpossibleDay 0))) there.is
       ∙ sym (moved_to _ _ _ i.0 (day_to_lem _ _ i.1 start.requires) (ap is_instant (sym there.is) ∙ sym p ∙ e))
 
 pub later_spec : {M : Type 1} → statement M

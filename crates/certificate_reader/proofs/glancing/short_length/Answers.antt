@@ -1,7 +1,6 @@
 -- `certificate_reader::glancing::short_length` meets its contract: a length of one byte is the byte, and one of two is read as such.
 use mathlib.Core.Path.{◌≡◌, sym, ap, ◌∙◌}
 use native.Mathlib.Omega.{arith}
-use borrow.Author.Rules.{rules}
 use Rattle.body_formats.specs.Format.{number_at}
 use Rattle.certificate_reader.proofs.Glances.{length_one}
 use Rattle.certificate_reader.proofs.glancing.short_length.Goals as goal

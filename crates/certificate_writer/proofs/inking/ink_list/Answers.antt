@@ -1,13 +1,11 @@
 -- `certificate_writer::inking::ink_list` meets its contract: a count, and as many parts as it says.
-use mathlib.Core.Path.{◌≡◌, refl}
-use lib.ListN.{length}
+use mathlib.Core.Path.{refl}
 use native.Mathlib.Omega.{arith}
 use borrow.Author.Rules.{rules}
-use Rattle.body_formats.specs.Format.{opaque}
 use Rattle.body_ink.proofs.Pairs.{moved}
 use Rattle.body_ink.proofs.Numbers.{a_count, numeral_ready, numeral_inked}
 use Rattle.body_ink.proofs.Strings.{part_ready}
-use Rattle.body_ink.proofs.Lists.{Underway, list_count, list_ready, list_inked, times_start, times_next, times_turn, times_done}
+use Rattle.body_ink.proofs.Lists.{list_count, list_ready, list_inked, times_start, times_next, times_turn, times_done}
 use Rattle.certificate_writer.proofs.inking.ink_list.Goals as goal
 
 pub offset_bounds-tape-k : goal.offset_bounds-tape-k
@@ -19,23 +17,20 @@ bounds-tape-k c = omega (arith, numeral_ready (a_count 1) (list_count (a_count 1
 pub number-requires : goal.number-requires
 number-requires c = omega (arith, numeral_ready (a_count 1) (list_count (a_count 1) _ c.requires))
 
-pub overflow_add-past : goal.overflow_add-past
-overflow_add-past c = omega (arith, numeral_ready (a_count 1) (list_count (a_count 1) _ c.requires))
+pub overflow_add-past-2 : goal.overflow_add-past-2
+overflow_add-past-2 c = omega (arith, numeral_ready (a_count 1) (list_count (a_count 1) _ c.requires))
 
-pub overflow_add-entry : goal.overflow_add-entry
-overflow_add-entry c = omega (arith, numeral_ready (a_count 1) (list_count (a_count 1) _ c.requires))
+pub loop-init : goal.loop-init
+loop-init c = times_start (moved (list_ready (a_count 1) _ c.requires) refl refl (search rules))
 
-pub loop-left-init : goal.loop-left-init
-loop-left-init c = (refl, times_start (moved (list_ready (a_count 1) _ c.requires) refl refl (search rules)))
+pub part-requires : goal.part-requires
+part-requires c = times_next c.loop.invariant c.loop-test.true
 
-pub part-past-requires : goal.part-past-requires
-part-past-requires c = times_next c.loop-left.invariant.1 c.loop-left-test.true
+pub overflow_add-past-in-loop : goal.overflow_add-past-in-loop
+overflow_add-past-in-loop c = omega (arith, part_ready _ (times_next c.loop.invariant c.loop-test.true))
 
-pub overflow_add-entry-in-loop-left : goal.overflow_add-entry-in-loop-left
-overflow_add-entry-in-loop-left c = omega (arith, part_ready _ (times_next c.loop-left.invariant.1 c.loop-left-test.true))
-
-pub loop-left-preserved : goal.loop-left-preserved
-loop-left-preserved c = (search rules, times_turn c.loop-left.invariant.1 c.loop-left-test.true c.part-past.ensures)
+pub loop-preserved : goal.loop-preserved
+loop-preserved c = times_turn c.loop.invariant c.loop-test.true c.part.ensures
 
 pub returns : goal.returns
-returns c = list_inked (a_count 1) _ (numeral_inked (a_count 1) c.number.ensures refl refl) (times_done c.loop-left.invariant.1 (omega arith))
+returns c = list_inked (a_count 1) _ (numeral_inked (a_count 1) c.number.ensures refl refl) (times_done c.loop.invariant c.loop-test.false)

@@ -1,6 +1,5 @@
 -- `configuration_reader::glancing::good_clock` meets its contract: its three numbers are a time of day.
 use mathlib.Core.Path.{sym, ◌∙◌}
-use borrow.Author.Rules.{rules}
 use Rattle.configuration_reader.proofs.Glances.{clock_good}
 use Rattle.configuration_reader.proofs.glancing.good_clock.Goals as goal
 

@@ -1,7 +1,5 @@
 -- `configuration_reader::glancing::good_date` meets its contract: its three numbers are a day.
 use mathlib.Core.Path.{sym, ◌∙◌}
-use native.Mathlib.Omega.{arith}
-use borrow.Author.Rules.{rules}
 use Rattle.configuration_reader.proofs.Glances.{date_good}
 use Rattle.configuration_reader.proofs.glancing.good_date.Goals as goal
 

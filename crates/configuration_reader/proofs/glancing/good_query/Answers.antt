@@ -1,6 +1,5 @@
 -- `configuration_reader::glancing::good_query` meets its contract: the terminals after its parameters fill the content.
 use native.Mathlib.Omega.{arith}
-use borrow.Author.Rules.{rules}
 use Rattle.body_glance.proofs.Leaves.{not_good}
 use Rattle.configuration_reader.proofs.Glances.{query_good}
 use Rattle.configuration_reader.proofs.glancing.good_query.Goals as goal

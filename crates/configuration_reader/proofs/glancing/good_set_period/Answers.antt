@@ -1,6 +1,5 @@
 -- `configuration_reader::glancing::good_set_period` meets its contract: the terminals after its period fill the content.
 use native.Mathlib.Omega.{arith}
-use borrow.Author.Rules.{rules}
 use Rattle.body_glance.proofs.Leaves.{not_good}
 use Rattle.configuration_reader.proofs.Glances.{set_period_good}
 use Rattle.configuration_reader.proofs.glancing.good_set_period.Goals as goal

@@ -1,7 +1,6 @@
 -- `configuration_reader::glancing::good_set_return` meets its contract: the kind says which address follows it, and the terminals after that fill the content.
 use native.Mathlib.Omega.{arith}
-use borrow.Author.Rules.{rules}
-use Rattle.ground_choices.proofs.Tests.{met}
+use mathlib.Core.Path.{sym, ◌∙◌}
 use Rattle.body_glance.proofs.Leaves.{not_good}
 use Rattle.configuration_reader.proofs.Glances.{set_return_good}
 use Rattle.configuration_reader.proofs.glancing.good_set_return.Goals as goal
@@ -26,5 +25,5 @@ returns-then-not-is_address c = not_good
 
 pub returns : goal.returns
 returns c e = set_return_good (omega arith) (λ i. (c.type_inv.s i).fits) c.wide-kind.ensures.0 c.if-kind-lt1.false
-    c.if-kind-gt3.false c.wide-long.ensures.0 (omega arith) (met _ c.length_fits.ensures c.if-not-length_fits.false-raw)
-    (met _ c.is_address.ensures c.if-not-is_address.false-raw) (c.good_terminals.ensures e)
+    c.if-kind-gt3.false c.wide-long.ensures.0 (omega arith) (sym c.length_fits.ensures ∙ c.if-not-length_fits.false)
+    (sym c.is_address.ensures ∙ c.if-not-is_address.false) (c.good_terminals.ensures e)

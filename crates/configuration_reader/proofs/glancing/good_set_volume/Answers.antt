@@ -1,6 +1,5 @@
 -- `configuration_reader::glancing::good_set_volume` meets its contract: its volume is at most 100, and the terminals after it fill the content.
 use native.Mathlib.Omega.{arith}
-use borrow.Author.Rules.{rules}
 use Rattle.body_glance.proofs.Leaves.{not_good}
 use Rattle.configuration_reader.proofs.Glances.{set_volume_good}
 use Rattle.configuration_reader.proofs.glancing.good_set_volume.Goals as goal

@@ -1,6 +1,5 @@
 -- `configuration_reader::glancing::good_terminals` meets its contract: the count says how many resources fill the content, and they are good.
 use native.Mathlib.Omega.{arith}
-use borrow.Author.Rules.{rules}
 use Rattle.body_glance.proofs.Leaves.{not_good}
 use Rattle.configuration_reader.proofs.Glances.{terminals_good}
 use Rattle.configuration_reader.proofs.glancing.good_terminals.Goals as goal

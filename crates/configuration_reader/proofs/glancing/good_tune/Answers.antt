@@ -1,6 +1,5 @@
 -- `configuration_reader::glancing::good_tune` meets its contract: its mapping is one of six, and the terminals after it fill the content.
 use native.Mathlib.Omega.{arith}
-use borrow.Author.Rules.{rules}
 use Rattle.configuration_reader.proofs.Glances.{tune_good}
 use Rattle.configuration_reader.proofs.glancing.good_tune.Goals as goal
 

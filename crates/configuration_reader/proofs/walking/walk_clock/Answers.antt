@@ -2,36 +2,25 @@
 use mathlib.Core.Path.{refl}
 use mathlib.Core.Bool.{◌&&◌}
 use lib.Dec.{leb}
-use borrow.Author.Rules.{rules}
 use Rattle.configuration.specs.Configuration.{clock}
-use Rattle.configuration_reader.proofs.ClockWalks.{three_walk}
+use Rattle.configuration_reader.proofs.ClockWalks.{first_stop, second_stop, third_stop, three_walk}
 use Rattle.configuration_reader.proofs.walking.walk_clock.Goals as goal
 
-pub walk_count-hour-requires : goal.walk_count-hour-requires
+pub returns-in_err-a : goal.returns-in_err-a
 unfolding clock
-walk_count-hour-requires c = search rules
+returns-in_err-a c = first_stop 1 (λ hour minute c. leb hour 23 && (leb minute 59 && leb c 59)) (λ z at. refl) c.in_err-a.was c.from_residual.ensures c.walk_count.ensures
 
-pub walk_count-minute-requires : goal.walk_count-minute-requires
+pub returns-in_err-b : goal.returns-in_err-b
 unfolding clock
-walk_count-minute-requires c = search rules
+returns-in_err-b c = second_stop 1 (λ hour minute c. leb hour 23 && (leb minute 59 && leb c 59)) (λ z at. refl) c.in_ok-a.was c.walk_count.ensures
+    c.in_err-b.was c.from_residual-in_err-b.ensures c.walk_count-2.ensures
 
-pub walk_count-second-requires : goal.walk_count-second-requires
+pub returns-in_err-c : goal.returns-in_err-c
 unfolding clock
-walk_count-second-requires c = search rules
-
-pub is_time-requires : goal.is_time-requires
-unfolding clock
-is_time-requires c = search rules
-
-pub possible-requires : goal.possible-requires
-unfolding clock
-possible-requires c = search rules
-
-pub shape_of-tape : goal.shape_of-tape
-unfolding clock
-shape_of-tape c = search rules
+returns-in_err-c c = third_stop 1 (λ hour minute c. leb hour 23 && (leb minute 59 && leb c 59)) (λ z at. refl) c.in_ok-a.was c.walk_count.ensures
+    c.in_ok-b.was c.walk_count-2.ensures c.in_err-c.was c.from_residual-in_err-c.ensures c.walk_count-3.ensures
 
 pub returns : goal.returns
 unfolding clock
-returns c = three_walk 1 (λ hour minute c. leb hour 23 && (leb minute 59 && leb c 59)) (λ z at. refl) _
-    c.walk_count-hour.ensures c.walk_count-minute.ensures c.walk_count-second.ensures c.is_time.ensures c.possible.ensures
+returns c = three_walk 1 (λ hour minute c. leb hour 23 && (leb minute 59 && leb c 59)) (λ z at. refl) c.in_ok-a.was c.walk_count.ensures
+    c.in_ok-b.was c.walk_count-2.ensures c.in_ok-c.was c.walk_count-3.ensures c.is_time.ensures c.possible.ensures

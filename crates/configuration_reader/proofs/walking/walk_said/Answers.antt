@@ -1,102 +1,38 @@
 -- `configuration_reader::walking::walk_said` meets its contract: the tag decides which fields the content has, as in the definition.
-use borrow.Author.Rules.{rules}
+use native.Mathlib.Omega.{arith}
 use Rattle.configuration.specs.Configuration.{order_of, said}
 use Rattle.configuration_reader.proofs.Commands.{by_tag, by_other}
 use Rattle.configuration_reader.proofs.walking.walk_said.Goals as goal
 
-pub walk_set_clock-requires : goal.walk_set_clock-requires
+pub returns-in-1 : goal.returns-in-1
 unfolding order_of said
-walk_set_clock-requires c = search rules
+returns-in-1 c = by_tag _ 1 c.in-1.is c.walk_set_clock.ensures
 
-pub shape_of-tape-then-tag-eq1 : goal.shape_of-tape-then-tag-eq1
+pub returns-in-2 : goal.returns-in-2
 unfolding order_of said
-shape_of-tape-then-tag-eq1 c = search rules
+returns-in-2 c = by_tag _ 2 c.in-2.is c.walk_set_code.ensures
 
-pub returns-then-tag-eq1 : goal.returns-then-tag-eq1
+pub returns-in-3 : goal.returns-in-3
 unfolding order_of said
-returns-then-tag-eq1 c = by_tag _ 1 c.if-tag-eq1.true c.walk_set_clock.ensures
+returns-in-3 c = by_tag _ 3 c.in-3.is c.walk_tune.ensures
 
-pub walk_set_code-requires : goal.walk_set_code-requires
+pub returns-in-4 : goal.returns-in-4
 unfolding order_of said
-walk_set_code-requires c = search rules
+returns-in-4 c = by_tag _ 4 c.in-4.is c.walk_set_return.ensures
 
-pub shape_of-tape-then-tag-eq2 : goal.shape_of-tape-then-tag-eq2
+pub returns-in-5 : goal.returns-in-5
 unfolding order_of said
-shape_of-tape-then-tag-eq2 c = search rules
+returns-in-5 c = by_tag _ 5 c.in-5.is c.walk_set_period.ensures
 
-pub returns-then-tag-eq2 : goal.returns-then-tag-eq2
+pub returns-in-6 : goal.returns-in-6
 unfolding order_of said
-returns-then-tag-eq2 c = by_tag _ 2 c.if-tag-eq2.true c.walk_set_code.ensures
+returns-in-6 c = by_tag _ 6 c.in-6.is c.walk_set_volume.ensures
 
-pub walk_tune-requires : goal.walk_tune-requires
+pub returns-in-7 : goal.returns-in-7
 unfolding order_of said
-walk_tune-requires c = search rules
+returns-in-7 c = by_tag _ 7 c.in-7.is c.walk_query.ensures
 
-pub shape_of-tape-then-tag-eq3 : goal.shape_of-tape-then-tag-eq3
+pub returns-in_default : goal.returns-in_default
 unfolding order_of said
-shape_of-tape-then-tag-eq3 c = search rules
-
-pub returns-then-tag-eq3 : goal.returns-then-tag-eq3
-unfolding order_of said
-returns-then-tag-eq3 c = by_tag _ 3 c.if-tag-eq3.true c.walk_tune.ensures
-
-pub walk_set_return-requires : goal.walk_set_return-requires
-unfolding order_of said
-walk_set_return-requires c = search rules
-
-pub shape_of-tape-then-tag-eq4 : goal.shape_of-tape-then-tag-eq4
-unfolding order_of said
-shape_of-tape-then-tag-eq4 c = search rules
-
-pub returns-then-tag-eq4 : goal.returns-then-tag-eq4
-unfolding order_of said
-returns-then-tag-eq4 c = by_tag _ 4 c.if-tag-eq4.true c.walk_set_return.ensures
-
-pub walk_set_period-requires : goal.walk_set_period-requires
-unfolding order_of said
-walk_set_period-requires c = search rules
-
-pub shape_of-tape-then-tag-eq5 : goal.shape_of-tape-then-tag-eq5
-unfolding order_of said
-shape_of-tape-then-tag-eq5 c = search rules
-
-pub returns-then-tag-eq5 : goal.returns-then-tag-eq5
-unfolding order_of said
-returns-then-tag-eq5 c = by_tag _ 5 c.if-tag-eq5.true c.walk_set_period.ensures
-
-pub walk_set_volume-requires : goal.walk_set_volume-requires
-unfolding order_of said
-walk_set_volume-requires c = search rules
-
-pub shape_of-tape-then-tag-eq6 : goal.shape_of-tape-then-tag-eq6
-unfolding order_of said
-shape_of-tape-then-tag-eq6 c = search rules
-
-pub returns-then-tag-eq6 : goal.returns-then-tag-eq6
-unfolding order_of said
-returns-then-tag-eq6 c = by_tag _ 6 c.if-tag-eq6.true c.walk_set_volume.ensures
-
-pub walk_query-requires : goal.walk_query-requires
-unfolding order_of said
-walk_query-requires c = search rules
-
-pub shape_of-tape-then-tag-eq7 : goal.shape_of-tape-then-tag-eq7
-unfolding order_of said
-shape_of-tape-then-tag-eq7 c = search rules
-
-pub returns-then-tag-eq7 : goal.returns-then-tag-eq7
-unfolding order_of said
-returns-then-tag-eq7 c = by_tag _ 7 c.if-tag-eq7.true c.walk_query.ensures
-
-pub walk_rest-requires : goal.walk_rest-requires
-unfolding order_of said
-walk_rest-requires c = search rules
-
-pub shape_of-tape : goal.shape_of-tape
-unfolding order_of said
-shape_of-tape c = search rules
-
-pub returns : goal.returns
-unfolding order_of said
-returns c = by_other _ c.if-tag-eq1.false c.if-tag-eq2.false c.if-tag-eq3.false c.if-tag-eq4.false
-    c.if-tag-eq5.false c.if-tag-eq6.false c.if-tag-eq7.false c.walk_rest.ensures
+returns-in_default c = by_other c.args.tag (λ e. omega arith) (λ e. omega arith) (λ e. omega arith) (λ e. omega arith) (λ e. omega arith) (λ e. omega arith) (λ e. omega arith)
+    c.walk_rest.ensures

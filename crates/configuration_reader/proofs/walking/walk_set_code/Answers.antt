@@ -1,5 +1,4 @@
 -- `configuration_reader::walking::walk_set_code` meets its contract: a part, a resource, and no byte left.
-use borrow.Author.Rules.{rules}
 use Rattle.ground_refusal.specs.declared.Refusal.TheVariants.{PastPart}
 use Rattle.body_formats.specs.Resource.{resource_pairs}
 use Rattle.body_formats.proofs.Leaves.{digits_lawful}
@@ -7,22 +6,6 @@ use Rattle.body_formats.proofs.Parts.{opaque_lawful}
 use Rattle.body_walk.proofs.Pairs.{pair, exact_walk}
 use Rattle.configuration.specs.Configuration.{said}
 use Rattle.configuration_reader.proofs.walking.walk_set_code.Goals as goal
-
-pub walk_part-a-requires : goal.walk_part-a-requires
-unfolding said
-walk_part-a-requires c = search rules
-
-pub walk_digits-b-requires : goal.walk_digits-b-requires
-unfolding said
-walk_digits-b-requires c = search rules
-
-pub leave-requires : goal.leave-requires
-unfolding said
-leave-requires c = search rules
-
-pub shape_of-tape : goal.shape_of-tape
-unfolding said
-shape_of-tape c = search rules
 
 pub returns : goal.returns
 unfolding said

@@ -1,23 +1,10 @@
 -- `configuration_reader::walking::walk_set_period` meets its contract: a number, and the terminals after it fill the content.
-use borrow.Author.Rules.{rules}
 use Rattle.ground_refusal.specs.declared.Refusal.TheVariants.{PastPart}
 use Rattle.body_formats.proofs.Parts.{number_lawful}
 use Rattle.body_walk.proofs.Pairs.{exact_pair}
 use Rattle.configuration.specs.Configuration.{said}
 use Rattle.configuration.proofs.Lawful.{terminals_lawful}
 use Rattle.configuration_reader.proofs.walking.walk_set_period.Goals as goal
-
-pub walk_number-a-requires : goal.walk_number-a-requires
-unfolding said
-walk_number-a-requires c = search rules
-
-pub walk_terminals-requires : goal.walk_terminals-requires
-unfolding said
-walk_terminals-requires c = search rules
-
-pub shape_of-tape : goal.shape_of-tape
-unfolding said
-shape_of-tape c = search rules
 
 pub returns : goal.returns
 unfolding said

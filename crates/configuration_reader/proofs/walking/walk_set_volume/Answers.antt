@@ -1,5 +1,4 @@
 -- `configuration_reader::walking::walk_set_volume` meets its contract: a number of a stated set, and the terminals after it fill the content.
-use borrow.Author.Rules.{rules}
 use Rattle.ground_refusal.specs.declared.Refusal.TheVariants.{PastPart}
 use Rattle.body_formats.specs.Format.{number}
 use Rattle.body_formats.proofs.Bits.{among_lawful}
@@ -8,18 +7,6 @@ use Rattle.body_walk.proofs.Pairs.{exact_pair}
 use Rattle.configuration.specs.Configuration.{said}
 use Rattle.configuration.proofs.Lawful.{terminals_lawful}
 use Rattle.configuration_reader.proofs.walking.walk_set_volume.Goals as goal
-
-pub walk_among-a-requires : goal.walk_among-a-requires
-unfolding said
-walk_among-a-requires c = search rules
-
-pub walk_terminals-requires : goal.walk_terminals-requires
-unfolding said
-walk_terminals-requires c = search rules
-
-pub shape_of-tape : goal.shape_of-tape
-unfolding said
-shape_of-tape c = search rules
 
 pub returns : goal.returns
 unfolding said

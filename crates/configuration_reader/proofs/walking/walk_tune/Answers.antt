@@ -1,5 +1,4 @@
 -- `configuration_reader::walking::walk_tune` meets its contract: its fields one after the other, the last of which fills the content.
-use borrow.Author.Rules.{rules}
 use Rattle.ground_refusal.specs.declared.Refusal.TheVariants.{PastPart}
 use Rattle.body_formats.specs.Format.{◌▷◌, number, among}
 use Rattle.body_formats.proofs.Classes.{Lawful}
@@ -19,26 +18,6 @@ from_mapping = followed_lawful _ _ mapping_lawful (λ a. terminals_lawful)
 
 from_rate : Lawful (number 4 ▷ (among 0 5 (number 1) ▷ terminals))
 from_rate = followed_lawful _ _ (number_lawful 4) (λ a. from_mapping)
-
-pub walk_number-a-requires : goal.walk_number-a-requires
-unfolding said
-walk_number-a-requires c = search rules
-
-pub walk_number-b-requires : goal.walk_number-b-requires
-unfolding said
-walk_number-b-requires c = search rules
-
-pub walk_among-c-requires : goal.walk_among-c-requires
-unfolding said
-walk_among-c-requires c = search rules
-
-pub walk_terminals-requires : goal.walk_terminals-requires
-unfolding said
-walk_terminals-requires c = search rules
-
-pub shape_of-tape : goal.shape_of-tape
-unfolding said
-shape_of-tape c = search rules
 
 pub returns : goal.returns
 unfolding said

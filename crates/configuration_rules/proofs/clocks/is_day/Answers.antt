@@ -1,5 +1,4 @@
 -- `configuration_rules::clocks::is_day` meets its contract: of a date that fits its fields `time_dates` says it, and no other has a day.
-use borrow.Author.Rules.{rules}
 use Rattle.configuration_rules.proofs.Dated.{year_too_large, month_too_large, day_too_large}
 use Rattle.configuration_rules.proofs.clocks.is_day.Goals as goal
 

@@ -1,7 +1,6 @@
 -- `configuration_writer::glancing::see_query` meets its contract: so many parameters are bytes, and terminals follow them.
 use mathlib.Core.Path.{refl}
 use native.Mathlib.Omega.{arith}
-use borrow.Author.Rules.{rules}
 use borrow.Author.Tests.{not-false}
 use Rattle.body_form_glance.proofs.Forms.{none_seen}
 use Rattle.configuration_writer.proofs.Glances.{seen_list, query_laid}

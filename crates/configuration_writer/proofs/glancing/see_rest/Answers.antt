@@ -1,7 +1,6 @@
 -- `configuration_writer::glancing::see_rest` meets its contract: a span of at most 65,535 bytes lies in the pool.
 use mathlib.Core.Path.{refl}
 use native.Mathlib.Omega.{arith}
-use borrow.Author.Rules.{rules}
 use borrow.Author.Tests.{leb-true}
 use Rattle.body_form_glance.proofs.Forms.{none_seen, lays_rest}
 use Rattle.configuration_writer.proofs.Glances.{seen_to}

@@ -1,7 +1,6 @@
 -- `configuration_writer::glancing::see_set_clock` meets its contract: its day and its time are possible, and so fit their fields.
 use mathlib.Core.Path.{refl}
 use native.Mathlib.Omega.{arith}
-use borrow.Author.Rules.{rules}
 use Rattle.body_form_glance.proofs.Forms.{none_seen}
 use Rattle.configuration_writer.proofs.Glances.{seen_to, date_laid, clock_laid, set_clock_laid}
 use Rattle.ground_choices.proofs.Tests.{met}

@@ -1,7 +1,6 @@
 -- `configuration_writer::glancing::see_set_code` meets its contract: an address of at most 255 bytes lies in the pool, and a resource after it.
 use mathlib.Core.Path.{refl}
 use native.Mathlib.Omega.{arith}
-use borrow.Author.Rules.{rules}
 use borrow.Author.Tests.{leb-true}
 use borrow.Author.Tests.{not-false}
 use Rattle.body_form_glance.proofs.Forms.{none_seen}

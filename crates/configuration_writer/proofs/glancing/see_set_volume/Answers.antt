@@ -1,6 +1,5 @@
 -- `configuration_writer::glancing::see_set_volume` meets its contract: its number is at most 100, and terminals follow it.
 use native.Mathlib.Omega.{arith}
-use borrow.Author.Rules.{rules}
 use Rattle.body_form_glance.proofs.Forms.{none_seen}
 use Rattle.configuration_writer.proofs.Glances.{seen_list, set_volume_laid}
 use Rattle.configuration_writer.proofs.glancing.see_set_volume.Goals as goal

@@ -1,6 +1,5 @@
 -- `configuration_writer::glancing::see_tune` meets its contract: its numbers fit their fields, and terminals follow them.
 use native.Mathlib.Omega.{arith}
-use borrow.Author.Rules.{rules}
 use Rattle.body_form_glance.proofs.Forms.{none_seen}
 use Rattle.configuration_writer.proofs.Glances.{seen_list, tune_laid}
 use Rattle.configuration_writer.proofs.glancing.see_tune.Goals as goal

@@ -1,17 +1,7 @@
 -- `configuration_writer::inking::ink_parameters` meets its contract: their count, and as many of them as it says.
-use mathlib.Core.Path.{◌≡◌, refl}
-use lib.ListN.{length}
-use native.Mathlib.Omega.{arith}
-use borrow.Author.Rules.{rules}
 use Rattle.body_formats.specs.Format.{number}
-use Rattle.body_ink.proofs.Pairs.{moved}
-use Rattle.body_ink.proofs.Numbers.{a_count, a_number, numeral_ready, numeral_inked}
-use Rattle.body_ink.proofs.Lists.{Underway, list_count, list_ready, list_inked, times_start, times_next, times_turn, times_done}
+use Rattle.body_ink.proofs.Lists.{Underway}
 use Rattle.configuration_writer.proofs.inking.ink_parameters.Given as goal
 
-abbrev pub invariant-loop-left : goal.invariant-loop-left
-invariant-loop-left l =
-    (length l.out ≡ length l.initial.out) × Underway (number 1) l.pool l.tape l.initial.left l.initial.past l.initial.entry l.initial.out l.left l.past l.entry l.out
-
-abbrev pub decreases-loop-left : goal.decreases-loop-left
-decreases-loop-left l = l.left
+abbrev pub invariant-loop : goal.invariant-loop
+invariant-loop l = Underway (number 1) l.pool l.tape l.n l.initial.past.at l.initial.past.entry l.initial.out l.counter l.past.at l.past.entry l.out

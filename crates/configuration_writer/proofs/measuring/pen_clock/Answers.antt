@@ -1,43 +1,38 @@
 -- `configuration_writer::measuring::pen_clock` meets its contract: past its numbers, the time that they say is judged.
 use mathlib.Core.Path.{sym, ap, ◌∙◌}
-use borrow.Author.Rules.{rules}
 use Rattle.ground_refusal.specs.declared.Refusal.TheVariants.{ImpossibleDay}
+use Rattle.ground_refusal.proofs.Exits.{passed_on}
 use Rattle.body_formats.specs.Reading.{unless}
+use Rattle.body_pen.proofs.Leaves.{stopped}
 use Rattle.configuration.specs.Configuration.{clock}
-use Rattle.configuration_writer.proofs.Judged.{clock_fault, three_fine, three_faulty}
+use Rattle.configuration_writer.proofs.Judged.{clock_fault, first_stopped, second_stopped, third_stopped, three_fine, three_faulty}
 use Rattle.configuration_writer.proofs.measuring.pen_clock.Goals as goal
 
-pub pen_count-hour-requires : goal.pen_count-hour-requires
+pub returns-in_err-size : goal.returns-in_err-size
 unfolding clock
-pen_count-hour-requires c = search rules
+returns-in_err-size c pool = passed_on c.from_residual.ensures ∙ stopped _ pool _ _ _ c.in_err-size.was
 
-pub pen_count-minute-requires : goal.pen_count-minute-requires
+pub returns-in_err-a : goal.returns-in_err-a
 unfolding clock
-pen_count-minute-requires c = search rules
+returns-in_err-a c pool = passed_on c.from_residual-in_err-a.ensures ∙ first_stopped clock_fault _ _ _ pool _ _ _ (sym c.in_err-a.was ∙ c.pen_count.ensures pool)
 
-pub pen_count-second-requires : goal.pen_count-second-requires
+pub returns-in_err-b : goal.returns-in_err-b
 unfolding clock
-pen_count-second-requires c = search rules
+returns-in_err-b c pool = passed_on c.from_residual-in_err-b.ensures
+    ∙ second_stopped clock_fault _ _ _ pool _ _ _ _ (sym c.in_ok-a.was ∙ c.pen_count.ensures pool) _ (sym c.in_err-b.was ∙ c.pen_count-2.ensures pool)
 
-pub is_time-requires : goal.is_time-requires
+pub returns-in_err-c : goal.returns-in_err-c
 unfolding clock
-is_time-requires c = search rules
+returns-in_err-c c pool = passed_on c.from_residual-in_err-c.ensures
+    ∙ third_stopped clock_fault _ _ _ pool _ _ _ _ (sym c.in_ok-a.was ∙ c.pen_count.ensures pool) _ _ (sym c.in_ok-b.was ∙ c.pen_count-2.ensures pool) _
+    (sym c.in_err-c.was ∙ c.pen_count-3.ensures pool)
 
 pub returns-then-is_time : goal.returns-then-is_time
 unfolding clock
-returns-then-is_time c pool = three_fine clock_fault (c.pen_count-hour.ensures pool) (c.pen_count-minute.ensures pool) (c.pen_count-second.ensures pool)
+returns-then-is_time c pool = three_fine clock_fault _ _ _ pool _ _ _ _ (sym c.in_ok-a.was ∙ c.pen_count.ensures pool) _ _ (sym c.in_ok-b.was ∙ c.pen_count-2.ensures pool) _ _ (sym c.in_ok-c.was ∙ c.pen_count-3.ensures pool)
     (λ at. ap (λ b. unless b (ImpossibleDay at)) (sym c.is_time.ensures ∙ c.if-is_time.true))
-
-pub entry-requires : goal.entry-requires
-unfolding clock
-entry-requires c = search rules
-
-pub refuse-requires : goal.refuse-requires
-unfolding clock
-refuse-requires c = search rules
 
 pub returns : goal.returns
 unfolding clock
-returns c pool = c.refuse.ensures
-    ∙ three_faulty clock_fault (c.pen_count-hour.ensures pool) (c.pen_count-minute.ensures pool) (c.pen_count-second.ensures pool) ImpossibleDay
-    (λ at. ap (λ b. unless b (ImpossibleDay at)) (sym c.is_time.ensures ∙ c.if-is_time.false)) _ c.entry.ensures
+returns c pool = three_faulty clock_fault _ _ _ pool _ _ _ _ (sym c.in_ok-a.was ∙ c.pen_count.ensures pool) _ _ (sym c.in_ok-b.was ∙ c.pen_count-2.ensures pool) _ _ (sym c.in_ok-c.was ∙ c.pen_count-3.ensures pool) ImpossibleDay
+    (λ at. ap (λ b. unless b (ImpossibleDay at)) (sym c.is_time.ensures ∙ c.if-is_time.false)) _ _ c.in_ok-size.was

@@ -1,27 +1,21 @@
 -- `configuration_writer::measuring::pen_command` meets its contract: its tag, its length, what it says by the tag, and then what the length may be.
-use borrow.Author.Rules.{rules}
+use mathlib.Core.Path.{sym, ◌∙◌}
+use Rattle.ground_refusal.proofs.Exits.{passed_on}
 use Rattle.body_formats.specs.Format.{least_of, counted}
 use Rattle.body_pen.proofs.Lengths.{least_pen}
-use Rattle.body_pen.proofs.Pairs.{after_number}
+use Rattle.body_pen.proofs.Pairs.{after_number, number_stopped}
 use Rattle.configuration.specs.Configuration.{order_of, said, least, command}
 use Rattle.configuration_writer.proofs.measuring.pen_command.Goals as goal
 
-pub pen_told-tag-requires : goal.pen_told-tag-requires
+pub returns-in_err-a : goal.returns-in_err-a
 unfolding command
-pen_told-tag-requires c = search rules
-
-pub gap-b-requires : goal.gap-b-requires
-unfolding command
-gap-b-requires c = search rules
-
-pub pen_said-c-requires : goal.pen_said-c-requires
-unfolding command
-pen_said-c-requires c = search rules
-
-pub close-requires : goal.close-requires
-unfolding command
-close-requires c = search rules
+returns-in_err-a c = passed_on c.from_residual.ensures
+    ∙ number_stopped _ (λ tag. counted (least_of 2 (least tag)) (said (order_of tag))) _ _ _ _ (sym c.in_err-a.was ∙ c.pen_told.ensures _)
 
 pub returns : goal.returns
 unfolding command
-returns c = rw (after_number (λ tag. counted (least_of 2 (least tag)) (said (order_of tag))) (c.pen_told-tag.ensures _), least_pen) (cc)
+returns c =
+    rw (
+      after_number _ (λ tag. counted (least_of 2 (least tag)) (said (order_of tag))) _ _ _ _ _ (sym c.in_ok-a.was ∙ c.pen_told.ensures c.args.pool.now),
+      least_pen,
+    ) (cc)

@@ -1,15 +1,9 @@
--- `configuration_writer::measuring::pen_parameters` meets its contract: each turn goes past one more, the first refusal ends them, and the
-use mathlib.Core.Path.{sym, ◌∙◌}
-use mathlib.Core.List.{List}
-use Prim.Native.Nat.{ℕ}
-use native.Mathlib.Omega.{arith}
-use borrow.Author.Rules.{rules}
-use Rattle.body_pen.proofs.Lists.{Underway, list_start, list_pen, times_turn, times_stop, times_done}
-use Rattle.body_formats.specs.Format.{number}
+-- `configuration_writer::measuring::pen_parameters` meets its contract: each turn goes past one more, and the turns are as many as the count says.
+use Rattle.std.specs.Prelude.{ℕ, List}
+use Rattle.body_formats.specs.Format.{count, number, list_of}
+use Rattle.body_pen.specs.Penned.{penned}
+use Rattle.body_pen.proofs.Lists.{Underway}
 use Rattle.configuration_writer.proofs.measuring.pen_parameters.Given as goal
 
-abbrev pub invariant-loop-left : goal.invariant-loop-left
-invariant-loop-left l = (pool : List ℕ) → Underway (number 1) pool l.tape l.initial.left l.initial.pen l.left l.pen
-
-abbrev pub decreases-loop-left : goal.decreases-loop-left
-decreases-loop-left l = l.left
+abbrev pub invariant-loop : goal.invariant-loop
+invariant-loop l = (pool : List ℕ) → Underway (number 1) pool l.tape (penned (list_of (count 1) (number 1)) pool l.tape l.fn.x) l.n l.counter l.past

@@ -1,8 +1,6 @@
 -- `content_reader::glancing::good_language` meets its contract: its fields one after the other, each from where the lengths before it end.
 use mathlib.Core.Path.{sym, ◌∙◌}
 use native.Mathlib.Omega.{arith}
-use borrow.Author.Rules.{rules}
-use borrow.Author.Tests.{not-false}
 use Rattle.body_glance.proofs.Leaves.{not_good}
 use Rattle.content_reader.proofs.Glances.{reads_fields}
 use Rattle.content_reader.proofs.glancing.good_language.Goals as goal
@@ -27,5 +25,5 @@ returns-then-l-at c = not_good
 
 pub returns : goal.returns
 returns c e = reads_fields _ _ _ (λ i. (c.type_inv.s i).fits) _ _ _
-    (sym c.all_among.ensures ∙ not-false _ c.if-not-all_among.false-raw) (omega arith) (omega arith)
+    (sym c.all_among.ensures ∙ c.if-not-all_among.false) (omega arith) (omega arith)
     c.two_bytes-text.ensures.0 c.wide-agency.ensures.0 (c.good_auxiliaries.ensures e)

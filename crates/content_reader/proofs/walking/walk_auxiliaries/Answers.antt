@@ -1,27 +1,28 @@
--- `content_reader::walking::walk_auxiliaries` meets its contract: the count, and so many auxiliary files.
+-- `content_reader::walking::walk_auxiliaries` meets its contract: a count, and so many auxiliary files; those still to come make the whole.
 use native.Mathlib.Omega.{arith}
 use borrow.Author.Rules.{rules}
-use Rattle.body_formats.specs.Format.{reserved}
+use Rattle.body_formats.specs.Format.{among, reserved}
+use Rattle.body_formats.proofs.Classes.{Lawful}
 use Rattle.body_formats.proofs.Leaves.{reserved_lawful}
 use Rattle.body_formats.proofs.Bits.{among_lawful}
-use Rattle.body_walk.proofs.Counts.{list_walk}
-use Rattle.content.specs.Content.{auxiliaries}
+use Rattle.content.specs.Content.{auxiliary, auxiliaries}
 use Rattle.content.proofs.Lawful.{auxiliary_lawful}
+use Rattle.body_walk.proofs.Counts.{times_start, times_turn, times_done, list_walk, list_stop}
 use Rattle.content_reader.proofs.walking.walk_auxiliaries.Goals as goal
 
-pub walk_reserved_among-files-requires : goal.walk_reserved_among-files-requires
-unfolding auxiliaries
-walk_reserved_among-files-requires c = search rules
+count_lawful : Lawful (among 0 2 (reserved 4 0))
+count_lawful = among_lawful 0 2 (reserved 4 0) (reserved_lawful 4 0 (omega arith))
 
-pub walk_all_auxiliaries-requires : goal.walk_all_auxiliaries-requires
+pub returns-in_err-first : goal.returns-in_err-first
 unfolding auxiliaries
-walk_all_auxiliaries-requires c = search rules
+returns-in_err-first c = list_stop count_lawful (auxiliary_lawful _) c.in_err-first.was c.from_residual.ensures c.walk_reserved_among.ensures
 
-pub shape_of-tape : goal.shape_of-tape
-unfolding auxiliaries
-shape_of-tape c = search rules
+pub loop-i-init : goal.loop-i-init
+loop-i-init c = times_start (auxiliary _) _
+
+pub loop-i-preserved : goal.loop-i-preserved
+loop-i-preserved c = times_turn (auxiliary _) _ _ (auxiliary_lawful _) (omega arith) c.loop-i.invariant c.walk_auxiliary-at.ensures (search rules)
 
 pub returns : goal.returns
 unfolding auxiliaries
-returns c = list_walk (among_lawful 0 2 (reserved 4 0) (reserved_lawful 4 0 (omega arith))) (auxiliary_lawful _)
-    c.walk_reserved_among-files.ensures c.walk_all_auxiliaries.ensures
+returns c = list_walk count_lawful (auxiliary_lawful _) c.in_ok-first.was c.walk_reserved_among.ensures (times_done (auxiliary _) _ _ (omega arith) c.loop-i.invariant)

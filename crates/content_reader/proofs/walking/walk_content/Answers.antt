@@ -2,7 +2,6 @@
 use Prim.Native.Nat.{ℕ}
 use mathlib.Core.Path.{refl}
 use native.Mathlib.Omega.{arith}
-use borrow.Author.Rules.{rules}
 use Rattle.ground_refusal.specs.declared.Refusal.TheVariants.{LeftOver}
 use Rattle.body_formats.specs.Format.{◌▷◌, among, reserved, list_of, opaque}
 use Rattle.body_formats.proofs.Classes.{Lawful}
@@ -12,7 +11,6 @@ use Rattle.body_formats.proofs.Bits.{among_lawful}
 use Rattle.body_formats.proofs.Parts.{followed_lawful, opaque_lawful}
 use Rattle.body_formats.proofs.Lists.{list_lawful}
 use Rattle.body_walk.proofs.Pairs.{pair, view_walk, exact_walk}
-use Rattle.body_walk.proofs.Counts.{list_walk}
 use Rattle.content.specs.Content.{language, fields, content}
 use Rattle.content.proofs.Lawful.{language_lawful}
 use Rattle.content_reader.proofs.walking.walk_content.Goals as goal
@@ -27,36 +25,11 @@ languages_lawful w = list_lawful (language w) (language_lawful w) _ count_lawful
 from_languages : (w : ℕ) → Lawful (list_of (among 1 5 (reserved 4 0)) (language w) ▷ opaque 2)
 from_languages w = followed_lawful _ _ (languages_lawful w) (λ a. opaque_lawful 2)
 
-pub walk_identifier-a-requires : goal.walk_identifier-a-requires
-unfolding content fields
-walk_identifier-a-requires c = search rules
-
-pub walk_reserved_among-languages-requires : goal.walk_reserved_among-languages-requires
-unfolding content fields
-walk_reserved_among-languages-requires c = search rules
-
-pub walk_all_languages-b-requires : goal.walk_all_languages-b-requires
-unfolding content fields
-walk_all_languages-b-requires c = search rules
-
-pub walk_part-c-requires : goal.walk_part-c-requires
-unfolding content fields
-walk_part-c-requires c = search rules
-
-pub finish-requires : goal.finish-requires
-unfolding content fields
-finish-requires c = search rules
-
-pub shape_of-tape : goal.shape_of-tape
-unfolding content fields
-shape_of-tape c = search rules
-
 pub returns : goal.returns
 unfolding content fields
 returns c = exact_walk LeftOver
     (view_walk _ _ (λ a. refl)
     (pair identifier_lawful (from_languages _).formal c.walk_identifier-a.ensures
     (pair (languages_lawful _) (opaque_lawful 2).formal
-    (list_walk count_lawful (language_lawful _) c.walk_reserved_among-languages.ensures c.walk_all_languages-b.ensures)
-    c.walk_part-c.ensures)))
+    c.walk_languages-b.ensures c.walk_part-c.ensures)))
     c.finish.ensures

@@ -1,12 +1,11 @@
 -- `content_writer::inking::ink_auxiliaries` meets its contract: their count, and as many of them as it says.
-use mathlib.Core.Path.{◌≡◌, refl}
-use lib.ListN.{length}
+use mathlib.Core.Path.{refl}
 use native.Mathlib.Omega.{arith}
 use borrow.Author.Rules.{rules}
 use Rattle.body_ink.proofs.Pairs.{moved}
 use Rattle.body_ink.proofs.Numbers.{numeral_inked}
-use Rattle.body_ink.proofs.Lists.{Underway, list_ready, list_inked, times_start, times_next, times_turn, times_done}
-use Rattle.content.specs.Content.{auxiliary, auxiliaries}
+use Rattle.body_ink.proofs.Lists.{list_ready, list_inked, times_start, times_next, times_turn, times_done}
+use Rattle.content.specs.Content.{auxiliaries}
 use Rattle.content_writer.proofs.Inkings.{files_count, auxiliary_entries, count_ready}
 use Rattle.content_writer.proofs.inking.ink_auxiliaries.Goals as goal
 
@@ -30,38 +29,26 @@ pub overflow_add-past : goal.overflow_add-past
 unfolding auxiliaries
 overflow_add-past c = omega (arith, count_ready 0 2 _ c.requires)
 
-pub overflow_add-entry : goal.overflow_add-entry
+pub overflow_add-past-2 : goal.overflow_add-past-2
 unfolding auxiliaries
-overflow_add-entry c = omega (arith, count_ready 0 2 _ c.requires)
+overflow_add-past-2 c = omega (arith, count_ready 0 2 _ c.requires)
 
-pub loop-left-init : goal.loop-left-init
+pub loop-init : goal.loop-init
 unfolding auxiliaries
-loop-left-init c = (refl, times_start (moved (list_ready files_count _ c.requires) refl refl (search rules)))
+loop-init c = times_start (moved (list_ready files_count _ c.requires) refl refl (search rules))
 
-pub ink_auxiliary-past-requires : goal.ink_auxiliary-past-requires
+pub ink_auxiliary-requires : goal.ink_auxiliary-requires
 unfolding auxiliaries
-ink_auxiliary-past-requires c = times_next c.loop-left.invariant.1 c.loop-left-test.true
+ink_auxiliary-requires c = times_next c.loop.invariant c.loop-test.true
 
-pub overflow_add-entry-in-loop-left : goal.overflow_add-entry-in-loop-left
+pub overflow_add-past-in-loop : goal.overflow_add-past-in-loop
 unfolding auxiliaries
-overflow_add-entry-in-loop-left c = omega (arith, auxiliary_entries _ (times_next c.loop-left.invariant.1 c.loop-left-test.true))
+overflow_add-past-in-loop c = omega (arith, auxiliary_entries _ (times_next c.loop.invariant c.loop-test.true))
 
-pub overflow_sub-left : goal.overflow_sub-left
+pub loop-preserved : goal.loop-preserved
 unfolding auxiliaries
-overflow_sub-left c = search rules
-
-pub loop-left-smaller : goal.loop-left-smaller
-unfolding auxiliaries
-loop-left-smaller c = search rules
-
-pub loop-left-preserved : goal.loop-left-preserved
-unfolding auxiliaries
-loop-left-preserved c = (search rules, times_turn c.loop-left.invariant.1 c.loop-left-test.true c.ink_auxiliary-past.ensures)
-
-pub shape_of-out : goal.shape_of-out
-unfolding auxiliaries
-shape_of-out c = search rules
+loop-preserved c = times_turn c.loop.invariant c.loop-test.true c.ink_auxiliary.ensures
 
 pub returns : goal.returns
 unfolding auxiliaries
-returns c = list_inked files_count _ (numeral_inked files_count c.number.ensures refl refl) (times_done c.loop-left.invariant.1 (omega arith))
+returns c = list_inked files_count _ (numeral_inked files_count c.number.ensures refl refl) (times_done c.loop.invariant c.loop-test.false)

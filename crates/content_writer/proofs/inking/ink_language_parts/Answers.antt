@@ -1,7 +1,6 @@
 -- `content_writer::inking::ink_language_parts` meets its contract: one after the other.
 use mathlib.Core.Path.{refl}
 use native.Mathlib.Omega.{arith}
-use borrow.Author.Rules.{rules}
 use Rattle.body_ink.proofs.Pairs.{moved, ended, first, second, pair_inked}
 use Rattle.body_ink.proofs.Strings.{part_ready}
 use Rattle.content_writer.proofs.inking.ink_language_parts.Goals as goal

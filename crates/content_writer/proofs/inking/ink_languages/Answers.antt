@@ -1,12 +1,10 @@
 -- `content_writer::inking::ink_languages` meets its contract: their count, and as many of them as it says.
-use mathlib.Core.Path.{◌≡◌, refl}
-use lib.ListN.{length}
+use mathlib.Core.Path.{refl}
 use native.Mathlib.Omega.{arith}
 use borrow.Author.Rules.{rules}
 use Rattle.body_ink.proofs.Pairs.{moved}
 use Rattle.body_ink.proofs.Numbers.{numeral_inked}
-use Rattle.body_ink.proofs.Lists.{Underway, list_ready, list_inked, times_start, times_next, times_turn, times_done}
-use Rattle.content.specs.Content.{language}
+use Rattle.body_ink.proofs.Lists.{list_ready, list_inked, times_start, times_next, times_turn, times_done}
 use Rattle.content_writer.proofs.Inkings.{languages_count, count_ready}
 use Rattle.content_writer.proofs.inking.ink_languages.Goals as goal
 
@@ -25,17 +23,17 @@ number-requires c = omega (arith, count_ready 1 5 _ c.requires)
 pub overflow_add-past : goal.overflow_add-past
 overflow_add-past c = omega (arith, count_ready 1 5 _ c.requires)
 
-pub overflow_add-entry : goal.overflow_add-entry
-overflow_add-entry c = omega (arith, count_ready 1 5 _ c.requires)
+pub overflow_add-past-2 : goal.overflow_add-past-2
+overflow_add-past-2 c = omega (arith, count_ready 1 5 _ c.requires)
 
-pub loop-left-init : goal.loop-left-init
-loop-left-init c = (refl, times_start (moved (list_ready languages_count _ c.requires) refl refl (search rules)))
+pub loop-init : goal.loop-init
+loop-init c = times_start (moved (list_ready languages_count _ c.requires) refl refl (search rules))
 
-pub ink_language-next-requires : goal.ink_language-next-requires
-ink_language-next-requires c = times_next c.loop-left.invariant.1 c.loop-left-test.true
+pub ink_language-past-requires : goal.ink_language-past-requires
+ink_language-past-requires c = times_next c.loop.invariant c.loop-test.true
 
-pub loop-left-preserved : goal.loop-left-preserved
-loop-left-preserved c = (search rules, times_turn c.loop-left.invariant.1 c.loop-left-test.true c.ink_language-next.ensures)
+pub loop-preserved : goal.loop-preserved
+loop-preserved c = times_turn c.loop.invariant c.loop-test.true c.ink_language-past.ensures
 
 pub returns : goal.returns
-returns c = list_inked languages_count _ (numeral_inked languages_count c.number.ensures refl refl) (times_done c.loop-left.invariant.1 (omega arith))
+returns c = list_inked languages_count _ (numeral_inked languages_count c.number.ensures refl refl) (times_done c.loop.invariant c.loop-test.false)

@@ -1,48 +1,28 @@
--- `content_writer::measuring::pen_auxiliaries` meets its contract: each turn goes past one more, the first refusal ends them, and the
+-- `content_writer::measuring::pen_auxiliaries` meets its contract: each turn goes past one more, the first refusal ends them, and the turns are as many as the
+-- count says.
 use mathlib.Core.Path.{sym, ◌∙◌}
-use native.Mathlib.Omega.{arith}
-use borrow.Author.Rules.{rules}
-use Rattle.body_pen.proofs.Lists.{Underway, list_start, list_pen, times_turn, times_stop, times_done}
-use Rattle.content.specs.Content.{auxiliary, auxiliaries}
+use Rattle.ground_refusal.proofs.Exits.{passed_on}
+use Rattle.body_pen.proofs.Lists.{list_start, list_stop, times_turn, times_stop, times_done}
+use Rattle.content.specs.Content.{auxiliaries}
 use Rattle.content_writer.proofs.measuring.pen_auxiliaries.Goals as goal
 
-pub pen_reserved_among-things-requires : goal.pen_reserved_among-things-requires
+pub returns-in_err-past : goal.returns-in_err-past
 unfolding auxiliaries
-pen_reserved_among-things-requires c = search rules
+returns-in_err-past c = passed_on c.from_residual.ensures ∙ list_stop _ _ _ _ _ _ (sym c.in_err-past.was ∙ c.pen_reserved_among.ensures _)
 
-pub loop-left-init : goal.loop-left-init
+pub loop-init : goal.loop-init
 unfolding auxiliaries
-loop-left-init c = list_start (c.pen_reserved_among-things.ensures _)
+loop-init c = list_start _ _ _ _ (sym c.in_ok-past.was ∙ c.pen_reserved_among.ensures _)
 
-pub pen_auxiliary-requires : goal.pen_auxiliary-requires
+pub returns-in_err-past-2 : goal.returns-in_err-past-2
 unfolding auxiliaries
-pen_auxiliary-requires c = search rules
+returns-in_err-past-2 c = passed_on c.from_residual-in_err-past-2.ensures
+    ∙ times_stop c.loop.invariant c.loop-test.true c.pen_auxiliary.ensures c.in_err-past-2.was
 
-pub enum_known-r : goal.enum_known-r
+pub loop-preserved : goal.loop-preserved
 unfolding auxiliaries
-enum_known-r c = search rules
-
-pub returns-in-Refused : goal.returns-in-Refused
-unfolding auxiliaries
-returns-in-Refused c = times_stop c.loop-left.invariant c.loop-left-test.true c.pen_auxiliary.ensures _ c.in-Refused.is
-    ∙ sym (list_pen _ (c.pen_reserved_among-things.ensures _))
-
-pub enum_known-size : goal.enum_known-size
-unfolding auxiliaries
-enum_known-size c = search rules
-
-pub overflow_sub-left : goal.overflow_sub-left
-unfolding auxiliaries
-overflow_sub-left c = search rules
-
-pub loop-left-smaller : goal.loop-left-smaller
-unfolding auxiliaries
-loop-left-smaller c = search rules
-
-pub loop-left-preserved : goal.loop-left-preserved
-unfolding auxiliaries
-loop-left-preserved c = times_turn c.loop-left.invariant c.loop-left-test.true c.pen_auxiliary.ensures _ c.in-At.is
+loop-preserved c = times_turn c.loop.invariant c.loop-test.true c.pen_auxiliary.ensures c.in_ok-past-2.was
 
 pub returns : goal.returns
 unfolding auxiliaries
-returns c = times_done c.loop-left.invariant (omega arith) ∙ sym (list_pen _ (c.pen_reserved_among-things.ensures _))
+returns c = times_done c.loop.invariant c.loop-test.false

@@ -1,20 +1,22 @@
--- `content_writer::measuring::pen_languages` meets its contract: each turn goes past one more, the first refusal ends them, and the
+-- `content_writer::measuring::pen_languages` meets its contract: each turn goes past one more, the first refusal ends them, and the turns are as many as the
+-- count says.
 use mathlib.Core.Path.{sym, ◌∙◌}
-use native.Mathlib.Omega.{arith}
-use borrow.Author.Rules.{rules}
-use Rattle.body_pen.proofs.Lists.{Underway, list_start, list_pen, times_turn, times_stop, times_done}
-use Rattle.content.specs.Content.{language}
+use Rattle.ground_refusal.proofs.Exits.{passed_on}
+use Rattle.body_pen.proofs.Lists.{list_start, list_stop, times_turn, times_stop, times_done}
 use Rattle.content_writer.proofs.measuring.pen_languages.Goals as goal
 
-pub loop-left-init : goal.loop-left-init
-loop-left-init c = list_start (c.pen_reserved_among-things.ensures _)
+pub returns-in_err-past : goal.returns-in_err-past
+returns-in_err-past c = passed_on c.from_residual.ensures ∙ list_stop _ _ _ _ _ _ (sym c.in_err-past.was ∙ c.pen_reserved_among.ensures _)
 
-pub returns-in-Refused : goal.returns-in-Refused
-returns-in-Refused c = times_stop c.loop-left.invariant c.loop-left-test.true c.pen_language.ensures _ c.in-Refused.is
-    ∙ sym (list_pen _ (c.pen_reserved_among-things.ensures _))
+pub loop-init : goal.loop-init
+loop-init c = list_start _ _ _ _ (sym c.in_ok-past.was ∙ c.pen_reserved_among.ensures _)
 
-pub loop-left-preserved : goal.loop-left-preserved
-loop-left-preserved c = times_turn c.loop-left.invariant c.loop-left-test.true c.pen_language.ensures _ c.in-At.is
+pub returns-in_err-past-2 : goal.returns-in_err-past-2
+returns-in_err-past-2 c = passed_on c.from_residual-in_err-past-2.ensures
+    ∙ times_stop c.loop.invariant c.loop-test.true c.pen_language.ensures c.in_err-past-2.was
+
+pub loop-preserved : goal.loop-preserved
+loop-preserved c = times_turn c.loop.invariant c.loop-test.true c.pen_language.ensures c.in_ok-past-2.was
 
 pub returns : goal.returns
-returns c = times_done c.loop-left.invariant (omega arith) ∙ sym (list_pen _ (c.pen_reserved_among-things.ensures _))
+returns c = times_done c.loop.invariant c.loop-test.false

@@ -1,13 +1,9 @@
--- `content_writer::measuring::pen_languages` meets its contract: each turn goes past one more, the first refusal ends them, and the
-use mathlib.Core.Path.{sym, ◌∙◌}
-use native.Mathlib.Omega.{arith}
-use borrow.Author.Rules.{rules}
-use Rattle.body_pen.proofs.Lists.{Underway, list_start, list_pen, times_turn, times_stop, times_done}
+-- `content_writer::measuring::pen_languages` meets its contract: each turn goes past one more, and the turns are as many as the count says.
+use Rattle.body_formats.specs.Format.{among, reserved, list_of}
+use Rattle.body_pen.specs.Penned.{penned}
+use Rattle.body_pen.proofs.Lists.{Underway}
 use Rattle.content.specs.Content.{language}
 use Rattle.content_writer.proofs.measuring.pen_languages.Given as goal
 
-abbrev pub invariant-loop-left : goal.invariant-loop-left
-invariant-loop-left l = Underway (language l.w) l.pool l.tape l.initial.left l.initial.pen l.left l.pen
-
-abbrev pub decreases-loop-left : goal.decreases-loop-left
-decreases-loop-left l = l.left
+abbrev pub invariant-loop : goal.invariant-loop
+invariant-loop l = Underway (language l.w) l.pool l.tape (penned (list_of (among 1 5 (reserved 4 0)) (language l.w)) l.pool l.tape l.fn.x) l.n l.counter l.past

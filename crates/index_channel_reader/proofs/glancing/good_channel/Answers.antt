@@ -2,8 +2,6 @@
 use Prim.Native.Nat.{◌%◌}
 use mathlib.Core.Path.{refl}
 use native.Mathlib.Omega.{arith}
-use borrow.Author.Rules.{rules}
-use borrow.Author.Tests.{not-false}
 use Rattle.body_glance.proofs.Leaves.{not_good}
 use Rattle.index_channel_reader.proofs.Glances.{channel_good}
 use Rattle.index_channel_reader.proofs.glancing.good_channel.Goals as goal
@@ -29,5 +27,5 @@ returns-then-not-good_descriptors c = not_good
 pub returns : goal.returns
 returns c e = channel_good _ _ (λ i. (c.type_inv.s i).fits) (c.two_bytes-size.result % 1024) c.if-s-p-lt224.false
     (omega (arith, c.two_bytes-size.ensures.0)) (omega arith) refl
-    (c.good_descriptors.ensures (not-false _ c.if-not-good_descriptors.false-raw))
+    (c.good_descriptors.ensures c.if-not-good_descriptors.false)
     (omega (arith, c.two_bytes.ensures.0)) (c.good_streams.ensures e)

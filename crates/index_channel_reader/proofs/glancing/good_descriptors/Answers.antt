@@ -1,8 +1,7 @@
 -- `index_channel_reader::glancing::good_descriptors` meets its contract: each turn finds one descriptor, and what fills the rest makes the whole.
 use Prim.Native.Nat.{◌-◌, ◌≤◌}
 use native.Mathlib.Omega.{arith}
-use borrow.Author.Rules.{rules}
-use Rattle.body_glance.proofs.Runs.{Filling, filling_turn, filling_done}
+use Rattle.body_glance.proofs.Runs.{filling_turn, filling_done}
 use Rattle.body_glance.proofs.Leaves.{not_good}
 use Rattle.index.specs.Index.{descriptor}
 use Rattle.index_channel_reader.proofs.Glances.{descriptor_good}

@@ -1,5 +1,4 @@
 -- `index_channel_reader::glancing::good_flagged` meets its contract: after a flag 0 nothing is left, and after a flag 1 the channel ends at l.
-use borrow.Author.Rules.{rules}
 use borrow.Author.Tests.{eqb-true}
 use Rattle.body_glance.proofs.Leaves.{not_good}
 use Rattle.index_channel_reader.proofs.Glances.{flagged_off, flagged_on}

@@ -1,7 +1,6 @@
 -- `index_channel_reader::glancing::good_stream` meets its contract: its length counts the bytes up to l, and descriptors fill them.
 use mathlib.Core.Path.{sym, ◌∙◌}
 use native.Mathlib.Omega.{arith}
-use borrow.Author.Rules.{rules}
 use Rattle.body_glance.proofs.Leaves.{not_good}
 use Rattle.index_channel_reader.proofs.Glances.{stream_good}
 use Rattle.index_channel_reader.proofs.glancing.good_stream.Goals as goal

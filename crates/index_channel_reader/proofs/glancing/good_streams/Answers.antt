@@ -1,9 +1,7 @@
 -- `index_channel_reader::glancing::good_streams` meets its contract: each turn finds one stream, and what fills the rest makes the whole.
 use Prim.Native.Nat.{◌-◌, ◌≤◌}
 use native.Mathlib.Omega.{arith}
-use borrow.Author.Rules.{rules}
-use borrow.Author.Tests.{not-false}
-use Rattle.body_glance.proofs.Runs.{Filling, filling_turn, filling_done}
+use Rattle.body_glance.proofs.Runs.{filling_turn, filling_done}
 use Rattle.body_glance.proofs.Leaves.{not_good}
 use Rattle.index.specs.Index.{stream}
 use Rattle.index_channel_reader.proofs.glancing.good_streams.Goals as goal
@@ -22,7 +20,7 @@ returns-then-not-good_stream c = not_good
 
 pub loop-at-preserved : goal.loop-at-preserved
 loop-at-preserved c = (
-  filling_turn stream _ c.loop-at.invariant.0 (omega arith) (omega arith) (omega arith) (c.good_stream.ensures (not-false _ c.if-not-good_stream.false-raw)),
+  filling_turn stream _ c.loop-at.invariant.0 (omega arith) (omega arith) (omega arith) (c.good_stream.ensures c.if-not-good_stream.false),
   omega arith,
 )
 

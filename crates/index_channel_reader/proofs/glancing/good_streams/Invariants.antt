@@ -1,10 +1,6 @@
 -- `index_channel_reader::glancing::good_streams` meets its contract: each turn finds one stream, and what fills the rest makes the whole.
 use Prim.Native.Nat.{◌-◌, ◌≤◌}
-use native.Mathlib.Omega.{arith}
-use borrow.Author.Rules.{rules}
-use borrow.Author.Tests.{not-false}
-use Rattle.body_glance.proofs.Runs.{Filling, filling_turn, filling_done}
-use Rattle.body_glance.proofs.Leaves.{not_good}
+use Rattle.body_glance.proofs.Runs.{Filling}
 use Rattle.index.specs.Index.{stream}
 use Rattle.index_channel_reader.proofs.glancing.good_streams.Given as goal
 

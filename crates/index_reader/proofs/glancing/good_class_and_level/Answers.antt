@@ -1,5 +1,4 @@
 -- `index_reader::glancing::good_class_and_level` meets its contract: each half of the byte is tested.
-use borrow.Author.Rules.{rules}
 use borrow.Author.Tests.{leb-true}
 use Rattle.ground_choices.proofs.Tests.{both}
 use Rattle.body_glance.proofs.Finds.{reads_nibbles}

@@ -1,6 +1,4 @@
 -- `index_reader::glancing::good_message` meets its contract: its head is good, so many resources are as their count says, and what its flag says ends at l.
-use borrow.Author.Rules.{rules}
-use borrow.Author.Tests.{not-false}
 use Rattle.body_glance.proofs.Leaves.{not_good}
 use Rattle.index_reader.proofs.Glances.{fields_good}
 use Rattle.index_reader.proofs.glancing.good_message.Goals as goal
@@ -19,5 +17,5 @@ returns-then-not-good_resources c = not_good
 
 pub returns : goal.returns
 returns c e = fields_good _ _ (λ i. (c.type_inv.s i).fits) _ c.wide-resources.ensures.0
-    (c.good_head.ensures (not-false _ c.if-not-good_head.false-raw)) (c.good_resources.ensures (not-false _ c.if-not-good_resources.false-raw))
+    (c.good_head.ensures c.if-not-good_head.false) (c.good_resources.ensures c.if-not-good_resources.false)
     (c.good_flagged.ensures e)

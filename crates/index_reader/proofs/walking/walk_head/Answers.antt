@@ -1,5 +1,4 @@
 -- `index_reader::walking::walk_head` meets its contract: its fields one after the other.
-use borrow.Author.Rules.{rules}
 use Rattle.body_formats.specs.Format.{◌▷◌, number, bytes_among, nibbles_among}
 use Rattle.body_formats.specs.Time.{time, end_time}
 use Rattle.body_formats.proofs.Classes.{Lawful}
@@ -23,34 +22,6 @@ from_start = followed_lawful _ _ time_lawful (λ a. from_end)
 
 from_network : Lawful (number 2 ▷ (time ▷ (end_time ▷ (bytes_among 0 0x7F 5 ▷ nibbles_among 1 4))))
 from_network = followed_lawful _ _ (number_lawful 2) (λ a. from_start)
-
-pub walk_identifier-a-requires : goal.walk_identifier-a-requires
-unfolding head
-walk_identifier-a-requires c = search rules
-
-pub walk_number-b-requires : goal.walk_number-b-requires
-unfolding head
-walk_number-b-requires c = search rules
-
-pub walk_time-c-requires : goal.walk_time-c-requires
-unfolding head
-walk_time-c-requires c = search rules
-
-pub walk_end-d-requires : goal.walk_end-d-requires
-unfolding head
-walk_end-d-requires c = search rules
-
-pub walk_bytes-e-requires : goal.walk_bytes-e-requires
-unfolding head
-walk_bytes-e-requires c = search rules
-
-pub walk_nibbles-requires : goal.walk_nibbles-requires
-unfolding head
-walk_nibbles-requires c = search rules
-
-pub shape_of-tape : goal.shape_of-tape
-unfolding head
-shape_of-tape c = search rules
 
 pub returns : goal.returns
 unfolding head

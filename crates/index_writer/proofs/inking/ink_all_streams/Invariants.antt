@@ -1,15 +1,8 @@
 -- `index_writer::inking::ink_all_streams` meets its contract: as many as the tape says.
-use mathlib.Core.Path.{◌≡◌, refl}
-use lib.ListN.{length}
-use native.Mathlib.Omega.{arith}
-use borrow.Author.Rules.{rules}
-use Rattle.body_ink.proofs.Lists.{Underway, many_count, many_ready, many_inked, times_start, times_next, times_turn, times_done}
+use Rattle.std.specs.Prelude.{get_or}
+use Rattle.body_ink.proofs.Lists.{Underway}
 use Rattle.index.specs.Index.{stream}
 use Rattle.index_writer.proofs.inking.ink_all_streams.Given as goal
 
-abbrev pub invariant-loop-left : goal.invariant-loop-left
-invariant-loop-left l =
-    (length l.out ≡ length l.initial.out) × Underway stream l.pool l.tape l.initial.left l.initial.past l.initial.entry l.initial.out l.left l.past l.entry l.out
-
-abbrev pub decreases-loop-left : goal.decreases-loop-left
-decreases-loop-left l = l.left
+abbrev pub invariant-loop : goal.invariant-loop
+invariant-loop l = Underway stream l.pool l.tape (get_or l.tape l.k 0) l.initial.past.at l.initial.past.entry l.initial.out l.counter l.past.at l.past.entry l.out

@@ -1,5 +1,4 @@
 -- `index_writer::inking::ink_channel_parts` meets its contract: one after the other.
-use borrow.Author.Rules.{rules}
 use Rattle.body_ink.proofs.Pairs.{first, second, pair_inked}
 use Rattle.index_writer.proofs.inking.ink_channel_parts.Goals as goal
 

@@ -1,13 +1,9 @@
--- `index_writer::measuring::pen_all_descriptors` meets its contract: each turn goes past one more, the first refusal ends them, and the
-use mathlib.Core.Path.{sym, ◌∙◌}
-use native.Mathlib.Omega.{arith}
-use borrow.Author.Rules.{rules}
-use Rattle.body_pen.proofs.Lists.{Underway, list_start, many_pen, times_turn, times_stop, times_done}
+-- `index_writer::measuring::pen_all_descriptors` meets its contract: each turn goes past one more, and the turns are as many as the tape says.
+use Rattle.body_formats.specs.Format.{many}
+use Rattle.body_pen.specs.Penned.{penned}
+use Rattle.body_pen.proofs.Lists.{Underway}
 use Rattle.index.specs.Index.{descriptor}
 use Rattle.index_writer.proofs.measuring.pen_all_descriptors.Given as goal
 
-abbrev pub invariant-loop-left : goal.invariant-loop-left
-invariant-loop-left l = Underway descriptor l.pool l.tape l.initial.left l.initial.pen l.left l.pen
-
-abbrev pub decreases-loop-left : goal.decreases-loop-left
-decreases-loop-left l = l.left
+abbrev pub invariant-loop : goal.invariant-loop
+invariant-loop g l = Underway descriptor l.pool l.tape (penned (many descriptor) l.pool l.tape l.fn.x) l.n l.counter l.past

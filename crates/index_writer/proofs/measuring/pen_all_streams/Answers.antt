@@ -1,20 +1,22 @@
--- `index_writer::measuring::pen_all_streams` meets its contract: each turn goes past one more, the first refusal ends them, and the
+-- `index_writer::measuring::pen_all_streams` meets its contract: each turn goes past one more, the first refusal ends them, and the turns are as many as the
+-- tape says.
 use mathlib.Core.Path.{sym, ◌∙◌}
-use native.Mathlib.Omega.{arith}
-use borrow.Author.Rules.{rules}
-use Rattle.body_pen.proofs.Lists.{Underway, list_start, many_pen, times_turn, times_stop, times_done}
-use Rattle.index.specs.Index.{stream}
+use Rattle.ground_refusal.proofs.Exits.{passed_on}
+use Rattle.body_pen.proofs.Lists.{many_start, many_stop, times_turn, times_stop, times_done}
 use Rattle.index_writer.proofs.measuring.pen_all_streams.Goals as goal
 
-pub loop-left-init : goal.loop-left-init
-loop-left-init c = list_start (c.take_count-things.ensures _)
+pub returns-in_err-past : goal.returns-in_err-past
+returns-in_err-past c = passed_on c.from_residual.ensures ∙ many_stop _ _ _ _ _ (sym c.in_err-past.was ∙ c.take_count.ensures _)
 
-pub returns-in-Refused : goal.returns-in-Refused
-returns-in-Refused c = times_stop c.loop-left.invariant c.loop-left-test.true c.pen_stream.ensures _ c.in-Refused.is
-    ∙ sym (many_pen _ (c.take_count-things.ensures _))
+pub loop-init : goal.loop-init
+loop-init c = many_start _ _ _ (sym c.in_ok-past.was ∙ c.take_count.ensures _)
 
-pub loop-left-preserved : goal.loop-left-preserved
-loop-left-preserved c = times_turn c.loop-left.invariant c.loop-left-test.true c.pen_stream.ensures _ c.in-At.is
+pub returns-in_err-past-2 : goal.returns-in_err-past-2
+returns-in_err-past-2 c = passed_on c.from_residual-in_err-past-2.ensures
+    ∙ times_stop c.loop.invariant c.loop-test.true c.pen_stream.ensures c.in_err-past-2.was
+
+pub loop-preserved : goal.loop-preserved
+loop-preserved c = times_turn c.loop.invariant c.loop-test.true c.pen_stream.ensures c.in_ok-past-2.was
 
 pub returns : goal.returns
-returns c = times_done c.loop-left.invariant (omega arith) ∙ sym (many_pen _ (c.take_count-things.ensures _))
+returns c = times_done c.loop.invariant c.loop-test.false

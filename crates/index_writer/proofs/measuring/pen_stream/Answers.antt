@@ -1,22 +1,19 @@
 -- `index_writer::measuring::pen_stream` meets its contract: its fields one after the other, under their names.
-use borrow.Author.Rules.{rules}
-use Rattle.body_pen.proofs.Pairs.{pair_pen, view_pen}
+use mathlib.Core.Path.{sym, ◌∙◌}
+use Rattle.ground_refusal.proofs.Exits.{passed_on}
+use Rattle.body_pen.proofs.Leaves.{stopped}
+use Rattle.body_pen.proofs.Pairs.{pair_pen, view_pen, told_pen, untold_pen}
 use Rattle.index.specs.Index.{stream_fields, stream}
 use Rattle.index_writer.proofs.measuring.pen_stream.Goals as goal
 
-pub pen_number-a-requires : goal.pen_number-a-requires
+pub returns-in_err-b : goal.returns-in_err-b
 unfolding stream stream_fields
-pen_number-a-requires c = search rules
-
-pub pen_reserved-pid-requires : goal.pen_reserved-pid-requires
-unfolding stream stream_fields
-pen_reserved-pid-requires c = search rules
-
-pub pen_descriptors-requires : goal.pen_descriptors-requires
-unfolding stream stream_fields
-pen_descriptors-requires c = search rules
+returns-in_err-b c = let pool = c.args.pool.now in
+    passed_on c.from_residual.ensures
+    ∙ simp (view_pen, pair_pen)
+    (stopped _ _ _ _ _ (cc (c.pen_number-a.ensures pool, untold_pen _ pool _ _ _ (sym c.in_err-b.was ∙ c.pen_reserved.ensures pool))))
 
 pub returns : goal.returns
 unfolding stream stream_fields
 returns c = let pool = c.args.pool.now in
-    simp (view_pen, pair_pen) (cc (c.pen_number-a.ensures pool, (c.pen_reserved-pid.ensures pool).past))
+    simp (view_pen, pair_pen) (cc (c.pen_number-a.ensures pool, told_pen _ pool _ _ _ _ (sym c.in_ok-b.was ∙ c.pen_reserved.ensures pool)))

@@ -1,0 +1,11 @@
+-- `index_stream_fields::descriptors_in` meets its contract: those that lie behind and those from here on are all.
+use Prim.Native.Nat.{◌-◌}
+use Rattle.index.specs.Index.{descriptor}
+use Rattle.index_stream_fields.proofs.Counting.{Counted}
+use Rattle.index_stream_fields.proofs.descriptors_in.Given as goal
+
+abbrev pub invariant-loop-at : goal.invariant-loop-at
+invariant-loop-at l = Counted descriptor l.s l.l l.p l.m l.at
+
+abbrev pub decreases-loop-at : goal.decreases-loop-at
+decreases-loop-at l = l.l - l.at

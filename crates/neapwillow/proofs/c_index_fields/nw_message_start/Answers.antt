@@ -1,8 +1,0 @@
--- `neapwillow::nw_message_start` meets its contract: the inner answer, packed.
-use mathlib.Core.Path.{ap, ◌∙◌}
-use borrow.Author.Rules.{rules}
-use Rattle.c_answers.specs.Answers.{number_answer}
-use Rattle.neapwillow.proofs.c_index_fields.nw_message_start.Goals as goal
-
-pub returns : goal.returns
-returns c = c.number_answer.ensures ∙ ap number_answer c.start.ensures
