@@ -1,16 +1,13 @@
 -- Laws of the lists behind a gathering: each loop's step and end, and what each definition says of single elements.
 use Prim.Native.Nat.{ℕ, zero, suc, ◌+◌, ◌-◌, ◌*◌, ◌≤◌, ◌<◌, min, max}
 use mathlib.Core.Path.{◌≡◌, refl, ◌∙◌, ap, ap₂}
-use mathlib.Core.Bool.{Bool, true, false, not, cond}
 use mathlib.Core.List.{List, [], ◌∷◌}
 use native.Mathlib.Numerals.{add-one}
+use native.Mathlib.Nat.{add-zero}
 use native.Mathlib.Omega.{arith}
-use borrow.Author.Tests.{ne_eqb, ltb-false}
-use lib.Dec.{eqb, ltb}
+use borrow.Author.Tests.{eq-eqb, ne_eqb}
 use lib.ListN.{length, get_or, set, take, drop, replicate, length-drop, length-set, drop_of_length-le}
 use lib.Seq.{drop-cons, length-take-le}
-use Rattle.std.specs.Prelude.{Some, None, unwrap_or, position, nat_eq, if◌then◌else◌}
-use Rattle.std.specs.List.{position_or_len}
 use Rattle.gathering_state.specs.Lists.{greatest, smallest_missing, total, held_count, part}
 
 -- ---- the greatest
@@ -67,35 +64,19 @@ zeros_at (suc n) (suc i) = zeros_at n i
 
 -- ---- the smallest missing number
 
-missing_most : (s : List ℕ) → smallest_missing s ≤ length s
+-- a missing number is the smallest from there on
+pub missing_stop : (s : List ℕ) (k : ℕ) → k < length s → get_or s k 0 ≡ 0 → smallest_missing (drop k s) ≡ 0
 unfolding smallest_missing
-missing_most [] = omega arith
-missing_most (n ∷ ns) = go (eqb n 0) (missing_most ns)
-  where
-    go : (b : Bool) → smallest_missing ns ≤ length ns → (if b then 0 else suc (smallest_missing ns)) ≤ suc (length ns)
-    go true a = omega arith
-    go false a = omega arith
+missing_stop s k h t = rw (drop-cons s k 0 h, eq-eqb (get_or s k 0) 0 t)
 
-missing_first : (s : List ℕ) → position_or_len (λ n. nat_eq n 0) s ≡ smallest_missing s
-unfolding smallest_missing
-missing_first [] = refl
-missing_first (n ∷ ns) = go (eqb n 0) (missing_first ns)
-  where
-    go : (b : Bool) → position_or_len (λ n. nat_eq n 0) ns ≡ smallest_missing ns
-        → cond (not b) (1 + position_or_len (λ n. nat_eq n 0) ns) 0 ≡ (if b then 0 else suc (smallest_missing ns))
-    go true a = refl
-    go false a = omega arith
+module _ (s : List ℕ) (k : ℕ) (e : smallest_missing s ≡ k + smallest_missing (drop k s)) where
+  pub missing_end : length s ≤ k → k ≡ smallest_missing s
+  unfolding smallest_missing
+  missing_end h = rw (e, drop_of_length-le s h, add-zero)
 
--- it is what the search for a 0 finds, and else the length
-pub missing_found : (s : List ℕ) → unwrap_or (position (λ n. nat_eq n 0) s) (length s) ≡ smallest_missing s
-missing_found s = let f = missing_first s in let m = missing_most s in found _ (length s) (omega arith) ∙ f
-  where
-    found : (i l : ℕ) → i ≤ l → unwrap_or (cond (ltb i l) (Some i) None) l ≡ i
-    found i l h = go (ltb i l) refl
-      where
-        go : (b : Bool) → ltb i l ≡ b → unwrap_or (cond b (Some i) None) l ≡ i
-        go true e = refl
-        go false e = let f = ltb-false i l e in omega arith
+  pub missing_step : k < length s → (get_or s k 0 ≡ 0 → ⊥) → smallest_missing s ≡ (k + 1) + smallest_missing (drop (k + 1) s)
+  unfolding smallest_missing
+  missing_step h t = e ∙ rw (drop-cons s k 0 h, ne_eqb (get_or s k 0) 0 t, add-one) (omega arith)
 
 -- every number is held: none is missing
 pub missing_none : (s : List ℕ) → ((i : ℕ) → i < length s → get_or s i 0 ≡ 0 → ⊥) → smallest_missing s ≡ length s

@@ -204,6 +204,26 @@ begun_seen g most held bytes above v = same _ _ there back
     same false true f h = h refl
     same false false f h = refl
 
+-- the tests of its other numbers, and of what the pass tells alone: the first are asked before the pass
+abbrev pub of_table_by : Gathering → Bool
+of_table_by g = is_kind g.kind && leb g.version 31 && leb g.spoiled 1
+
+abbrev pub lengths_by : Gathering → ℕ → ℕ → ℕ → ℕ → Bool
+lengths_by g most held bytes above =
+    eqb above 0 && not (eqb most 0) && leb most 4085 && eqb (g.missing + held) (g.last + 1) && eqb g.bytes bytes
+
+pub begun_told : (g : Gathering) (most held bytes above : ℕ) → Surveyed g.held (g.last + 1) most held bytes above → of_table_by g ≡ true
+    → lengths_by g most held bytes above ≡ is_begun g
+begun_told g most held bytes above v e =
+    ap (λ t. t && eqb above 0 && not (eqb most 0) && leb most 4085 && eqb (g.missing + held) (g.last + 1) && eqb g.bytes bytes) (sym e)
+    ∙ begun_seen g most held bytes above v
+
+pub begun_not : (g : Gathering) → of_table_by g ≡ false → false ≡ is_begun g
+unfolding is_begun
+begun_not g e =
+    ap (λ t. t && ltb 0 (greatest g.held) && eqb (greatest (drop (g.last + 1) g.held)) 0 && leb (greatest g.held) 4085
+    && eqb g.missing (g.last + 1 - held_count (lengths g)) && eqb g.bytes (total (lengths g))) (sym e)
+
 -- ---- possible states
 
 zero_no_kind : (k : ℕ) → k ≡ 0 → is_kind k ≡ true → ⊥

@@ -1,7 +1,7 @@
 // The state of a gathering, and the small functions on it and on its store that feeding and handing out rest on.
 #![tactic(auto)]
 
-ghost use Rattle.std.specs.Prelude.{◌≡◌, ◌+◌, ◌-◌, ◌<◌, ◌≤◌, ◌==◌, ◌&&◌, not, nat_le, min, max, length, position};
+ghost use Rattle.std.specs.Prelude.{◌≡◌, ◌+◌, ◌-◌, ◌<◌, ◌≤◌, ◌==◌, ◌&&◌, not, nat_le, min, max, length, drop};
 ghost use Rattle.ground_numbers.specs.Sizes.{payload_most, version_most, body_most};
 ghost use Rattle.section_reader.specs.Section.{is_kind};
 ghost use Rattle.gathering_state.specs.Lists.{greatest, smallest_missing, total, held_count, Surveyed};
@@ -55,13 +55,15 @@ fn larger(a: u16, b: u16) -> u16
     if a < b { b } else { a }
 }
 
-// The greatest of some lengths. This loop and the next have no branch, so that they run on many lengths at once.
-fn greatest_of(s: &[u16]) -> u16
-    ensures { result ≡ greatest s.now }
+// The greatest of the lengths from index `from` on. This loop and the next have no branch, so that they run on many lengths at once. By a number: over a
+// slice that begins at `from` LLVM doesn't see how many turns there are.
+fn greatest_from(s: &[u16], from: usize) -> u16
+    requires { from ≤ length s.now }
+    ensures { result ≡ greatest (drop from s.now) }
 {
     let mut most: u16 = 0;
-    for n in s {
-        most = larger(most, *n);
+    for i in from..s.len() {
+        most = larger(most, s[i]);
     }
     most
 }
@@ -96,21 +98,22 @@ fn survey_of(s: &[u16], count: usize) -> Survey
 {
     Survey {
         table: tally_of(&s[..count]),
-        above: greatest_of(&s[count..]),
+        above: greatest_from(s, count),
     }
-}
-
-fn first_missing(s: &[u16]) -> Option<usize>
-    ensures { result ≡ position (λ n. n == 0) s.now }
-{
-    s.iter().position(|n| *n == 0)
 }
 
 // The smallest number that is not held: "The search for a missing number stops at the first one found."
 pub fn smallest_missing(s: &[u16]) -> usize
     ensures { result ≡ smallest_missing s.now }
 {
-    first_missing(s).unwrap_or(s.len())
+    let mut smallest = s.len();
+    for k in 0..s.len() {
+        if s[k] == 0 {
+            smallest = k;
+            break;
+        }
+    }
+    smallest
 }
 
 // The payload's length that a held length stands for.
@@ -162,29 +165,34 @@ fn is_fresh(g: &Gathering) -> bool
         && g.version == 0
         && g.last == 0
         && g.spoiled == 0
-        && greatest_of(&g.held) == 0
+        && greatest_from(&g.held, 0) == 0
         && g.missing == 0
         && g.bytes == 0
 }
 
-// The tests of a begun state, by what the pass over its lengths tells.
+// The tests of a begun state's lengths and counts, by what the pass over its lengths tells.
 fn is_begun_by(g: &Gathering, seen: Survey) -> bool
-    ensures { result ≡ (is_kind g.now.kind && nat_le g.now.version version_most && nat_le g.now.spoiled 1 && seen.above == 0 && not (seen.table.most == 0) && nat_le seen.table.most (payload_most + 1) && g.now.missing + seen.table.held == g.now.last + 1 && g.now.bytes == seen.table.bytes) }
+    ensures { result ≡ (seen.above == 0 && not (seen.table.most == 0) && nat_le seen.table.most (payload_most + 1) && g.now.missing + seen.table.held == g.now.last + 1 && g.now.bytes == seen.table.bytes) }
 {
-    section_reader::is_kind(g.kind as u32)
-        && g.version as u32 <= VERSION_MOST
-        && g.spoiled <= 1
-        && seen.above == 0
+    seen.above == 0
         && seen.table.most != 0
         && seen.table.most as usize <= PAYLOAD_MOST + 1
         && g.missing as usize + seen.table.held as usize == g.last as usize + 1
         && g.bytes == seen.table.bytes
 }
 
+// The tests of its other numbers.
+fn is_of_table(g: &Gathering) -> bool
+    ensures { result ≡ (is_kind g.now.kind && nat_le g.now.version version_most && nat_le g.now.spoiled 1) }
+{
+    section_reader::is_kind(g.kind as u32) && g.version as u32 <= VERSION_MOST && g.spoiled <= 1
+}
+
+// What these rule out is refused without a pass over the lengths.
 fn is_begun(g: &Gathering) -> bool
     ensures { result ≡ is_begun g.now }
 {
-    is_begun_by(g, survey_of(&g.held, g.last as usize + 1))
+    is_of_table(g) && is_begun_by(g, survey_of(&g.held, g.last as usize + 1))
 }
 
 // Is it a state that a gathering can be in?
