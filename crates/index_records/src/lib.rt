@@ -1,7 +1,7 @@
 // The index reader in the form that document 01 names: "messages are laid in a lent list of message records".
 #![tactic(auto)]
 
-ghost use Rattle.std.specs.Prelude.{◌≡◌, ◌<◌, ◌≤◌, ◌^◌, length};
+ghost use Rattle.std.specs.Prelude.{◌≡◌, ◌<◌, ◌≤◌, ◌^◌, length, set};
 ghost use Rattle.index_records.specs.Records.{body_recorded, recorded};
 ghost use Rattle.index_records.specs.Steps.{standing, placed_at, Planned};
 
@@ -67,6 +67,14 @@ fn planned(kind: u32, s: &[u8], room: usize) -> Step
     Ok(n)
 }
 
+// One record is laid in the lent list.
+fn store(list: &mut [Record], i: usize, r: Record)
+    requires { i < length list.old }
+    ensures { list.new ≡ set list.old i r }
+{
+    list[i] = r;
+}
+
 // How many messages the body has, their records laid in the list; or why it is refused, and the list stays.
 pub fn read(kind: u32, s: &[u8], list: &mut [Record]) -> Step
     ensures { (result ≡ body_recorded kind s.now (length list.old)) × (list.new ≡ recorded kind s.now list.old) }
@@ -75,7 +83,7 @@ pub fn read(kind: u32, s: &[u8], list: &mut [Record]) -> Step
     let mut at: usize = 1;
     for i in 0..n {
         let (message, next) = record_at(s, at);
-        list[i] = message;
+        store(list, i, message);
         at = next;
     }
     Ok(n)

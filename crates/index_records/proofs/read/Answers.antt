@@ -18,7 +18,7 @@ loop-i-preserved c =
     let i = c.loop-i.i in
     let n = c.in_ok-n.n in
     let e : n - i ≡ suc (n - (i + 1)) = omega arith in
-    rw c.record_at-next.ensures (sym (laid_turn c.args.s.now c.loop-i.list c.loop-i.at i (n - i) (n - (i + 1)) e) ∙ c.loop-i.invariant)
+    rw (c.store.ensures, c.record_at-next.ensures) (sym (laid_turn c.args.s.now c.loop-i.list c.loop-i.at i (n - i) (n - (i + 1)) e) ∙ c.loop-i.invariant)
 
 pub returns : goal.returns
 returns c =
