@@ -3,3 +3,4 @@ pub mod Saying
 pub mod Walking
 pub mod Undisputed
 pub mod Missing
+pub mod Standing

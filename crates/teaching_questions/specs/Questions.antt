@@ -1,5 +1,5 @@
 -- What a reader has to believe of the questions that the slow gathering asks of its kept strings: each is one of the account of these strings.
-use Rattle.std.specs.Prelude.{ℕ, zero, suc, ◌+◌, ◌≤◌, ◌≡◌, Bool, false, List, [], ◌∷◌, length, take, if◌then◌else◌, Option, Some, None}
+use Rattle.std.specs.Prelude.{ℕ, zero, suc, ◌+◌, ◌≤◌, ◌≡◌, Bool, false, List, [], ◌∷◌, length, take, drop, if◌then◌else◌, Option, Some, None}
 use Rattle.section_reader.specs.declared.Heading.{Heading}
 use Rattle.gathering_account.specs.Account.{Heard, nothing, good_current, heard, Section as Carried}
 use Rattle.gathering_account.specs.Latest.{section_of_table, sections_of_table}
@@ -53,3 +53,11 @@ absent_from k (suc n) S = if present k S then absent_from (suc k) n S else k
 unfoldable pub absent_count : ℕ → List Carried → ℕ
 absent_count zero S = 0
 absent_count (suc n) S = absent_count n S + (if present n S then 0 else 1)
+
+-- ---- contents
+
+-- these bytes stand in the rows, from the place `at` on
+pub record StandsIn (rows part : List ℕ) : Type 0 where
+  pub at : ℕ
+  pub within : at + length part ≤ length rows
+  pub are : take (length part) (drop at rows) ≡ part

@@ -8,7 +8,7 @@ ghost use Rattle.teaching_rows.specs.Rows.{strings_in};
 ghost use Rattle.gathering_account.specs.Account.{heard, contents_of};
 ghost use Rattle.gathering_account.specs.Latest.{section_of_table, sections_of_table};
 ghost use Rattle.gathering_account.specs.Answering.{present, differs, agreeing};
-ghost use Rattle.teaching_questions.specs.Questions.{said, section, clashes, Undisputed, absent_from, absent_count, carried, sections_left};
+ghost use Rattle.teaching_questions.specs.Questions.{said, section, clashes, Undisputed, absent_from, absent_count, carried, sections_left, StandsIn};
 
 use section_reader::Heading;
 
@@ -124,9 +124,10 @@ pub fn first_contradiction(rows: &[u8], t: Heading) -> usize
     rows.len() - rest.len()
 }
 
-// The contents of number k: empty, if it has not come.
+// The contents of number k, where they stand in the rows: empty, if it has not come.
 pub fn contents_of(rows: &[u8], t: Heading, k: u8) -> &[u8]
-    ensures { (result.now ≡ contents_of k (sections_of_table t (strings_in rows.now))) × (length result.now ≤ payload_most) }
+    ensures { (result.now ≡ contents_of k (sections_of_table t (strings_in rows.now))) × (length result.now ≤ payload_most) ×
+        StandsIn rows.now result.now }
 {
     let Some(x) = Sections { table: t, rows }.find(|x| x.number == k) else {
         return &rows[..0];
