@@ -300,7 +300,7 @@ nw_answer nw_times_read_text(const uint8_t *start, size_t n, const uint8_t *end,
 enum nw_kind { NW_CONFIGURATION = 0xFB, NW_CERTIFICATE = 0xFC, NW_INDEX = 0xFD, NW_CONTENT = 0xFE };
 
 /* Judges any byte string. Value: the heading; the payload is the n - 12 bytes from s + 8 on. Refusals 1
- * to 7, in this order. A section that is not current is good all the same. Stack: 176 bytes. */
+ * to 7, in this order. A section that is not current is good all the same. Stack: 112 bytes. */
 nw_heading nw_section_read(const uint8_t *s, size_t n);
 
 /* The stated length of the section that begins at s, where n bytes are at hand: so many are
@@ -361,7 +361,7 @@ static inline nw_run nw_run_at(const uint32_t *list, size_t i)
  * A capture of good sections is gone over once. The worst, in which each byte begins a section that
  * only fails its check, costs a check of up to 4,096 bytes at each byte: no more than 2^28 steps, and
  * twice that where out or list have less room than the macros above tell.
- * Stack: 288 bytes. */
+ * Stack: 192 bytes. */
 nw_salvaged nw_salvage(const uint8_t *capture, size_t n, uint8_t *out, size_t room, uint32_t *list,
                        size_t numbers);
 
@@ -388,7 +388,7 @@ nw_salvaged nw_salvage(const uint8_t *capture, size_t n, uint8_t *out, size_t ro
  * ring of 16. Value: the bytes written, NW_PACKED_BYTES(n); bytes of out after them stay. The next
  * section's counter is (counter + value / NW_PACKET_BYTES) % 16. Refusals, in this order, with nothing
  * written: 1 to 7, as nw_section_read; 19, a counter above 15; 21, out is too small.
- * Stack: 320 bytes. */
+ * Stack: 240 bytes. */
 nw_answer nw_packet_pack(const uint8_t *section, size_t n, uint32_t counter, uint8_t *out, size_t room);
 
 /* Takes one packet, and writes the sections that it completes at the start of out, one right after the
@@ -456,7 +456,7 @@ typedef struct nw_gathering {
  * its number, or the gathering is spoiled already. A refused call changes nothing, 8 and 10 for a newer
  * version neither, but that 11 for a contradiction spoils the gathering, which keeps its counts: make the
  * state fresh to begin again, or wait for a newer version. While nothing is begun, and for a newer
- * version's section, there is no 9 and no 11. Stack: 1,312 bytes. */
+ * version's section, there is no 9 and no 11. Stack: 1,216 bytes. */
 nw_answer nw_gathering_feed(nw_gathering *g, uint8_t *store, size_t store_bytes, const uint8_t *s,
                             size_t n);
 enum nw_fed { NW_FED_TAKEN = 0, NW_FED_HELD_ALREADY = 1 };
@@ -466,7 +466,7 @@ enum nw_fed { NW_FED_TAKEN = 0, NW_FED_HELD_ALREADY = 1 };
  * held and no contradiction was fed. Refusals, in this order, with nothing written: 12, not a
  * possible state; 13, nothing is begun (place 0); 10, the store is too short; 11, spoiled; 13, with
  * the smallest missing number as its place; 21, out is too small: g->bytes are enough, and no body is
- * longer than NW_MOST_BODY bytes. Stack: 656 bytes. */
+ * longer than NW_MOST_BODY bytes. Stack: 672 bytes. */
 nw_answer nw_gathering_hand_out(const nw_gathering *g, const uint8_t *store, size_t store_bytes,
                                 uint8_t *out, size_t out_bytes);
 
@@ -615,7 +615,7 @@ nw_answer nw_networks_free_rooms(const nw_networks *x, size_t store_bytes);
  * order: 37, the buffer has no room for NW_TAUGHT_BYTES(n) bytes after those in use, whatever they
  * are; 12, the bytes in use are no whole rows; then as nw_gathering_feed with a store of
  * store_bytes bytes: 1 to 7, 8, 9, 10, 11. With 37 and 12 nothing is kept and nothing changes: from
- * the first 37 on the quick gathering may know more. used is never NULL. Stack: 592 bytes. */
+ * the first 37 on the quick gathering may know more. used is never NULL. Stack: 544 bytes. */
 nw_answer nw_teaching_feed(uint8_t *buffer, size_t room, size_t *used, size_t store_bytes,
                            const uint8_t *s, size_t n);
 
@@ -625,20 +625,20 @@ nw_answer nw_teaching_feed(uint8_t *buffer, size_t room, size_t *used, size_t st
  * no whole rows; 13, nothing is begun (place 0); 11, two payloads of one number differ; 13, with
  * the smallest missing number as its place; 21, out is too small: no body is longer than
  * NW_MOST_BODY bytes. There is no 37, and no 10, since a table that found no room never began.
- * Stack: 480 bytes. */
+ * Stack: 576 bytes. */
 nw_answer nw_teaching_hand_out(const uint8_t *buffer, size_t room, size_t used, size_t store_bytes,
                                uint8_t *out, size_t out_bytes);
 
 /* The heading of the section that began the table: of the latest takeover, and of the first section
  * taken where there was none. Its kind, extension, version and last number are the quick state's.
- * Refusals: 12, the bytes in use are no whole rows; 13, nothing is begun (place 0). Stack: 352
+ * Refusals: 12, the bytes in use are no whole rows; 13, nothing is begun (place 0). Stack: 272
  * bytes. */
 nw_heading nw_teaching_heading(const uint8_t *buffer, size_t room, size_t used, size_t store_bytes);
 
 /* Value: how many of the table's last + 1 sections are missing, as the quick state's field missing
  * has it. Of a spoiled table only what came before the first contradiction counts. Which number is
  * the smallest is told by nw_teaching_hand_out. Refusals: 12, the bytes in use are no whole rows;
- * 13, nothing is begun (place 0), where the quick state has 0. Stack: 496 bytes. */
+ * 13, nothing is begun (place 0), where the quick state has 0. Stack: 480 bytes. */
 nw_answer nw_teaching_missing(const uint8_t *buffer, size_t room, size_t used, size_t store_bytes);
 
 /* ---- Forms ------------------------------------------------------------------------------------
@@ -1231,7 +1231,7 @@ nw_part nw_command_content(const uint8_t *body, size_t n, size_t at);
 nw_answer nw_command_clock_year(const uint8_t *body, size_t n, size_t at);
 nw_answer nw_command_clock_month(const uint8_t *body, size_t n, size_t at);
 nw_answer nw_command_clock_day(const uint8_t *body, size_t n, size_t at);
-/* Stack: 208 bytes. */
+/* Stack: 192 bytes. */
 nw_answer nw_command_clock_hour(const uint8_t *body, size_t n, size_t at);
 nw_answer nw_command_clock_minute(const uint8_t *body, size_t n, size_t at);
 nw_answer nw_command_clock_second(const uint8_t *body, size_t n, size_t at);

@@ -263,7 +263,7 @@ def faults(found, stated, page):
 PLANTED = [
     ('neapwillow', 'body_identifier::read_identifier', 35, 'the digits of an identifier, laid out by its reader',
      ['nw_message_identifier', 'nw_content_identifier']),
-    ('neapwillow', 'gathering_verdict::decide', 524, 'a second copy of the state', ['nw_gathering_feed']),
+    ('neapwillow', 'gathering_state::possible', 524, 'a second copy of the state', ['nw_gathering_feed']),
     ('neapwillow', 'gathering_hand_out::complete', 524, 'a second copy of the state', ['nw_gathering_hand_out', 'nw_gathering_pack']),
     ('neapwillow_rooms', 'rooms_feed::take_free', 1036, "a second copy of a network's part", ['nw_networks_feed']),
     ('neapwillow_screen', 'screen_choice::walked', 255 * 24, 'a list of messages', ['nw_screen_choose']),

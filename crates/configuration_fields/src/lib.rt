@@ -382,7 +382,8 @@ fn terminals_in(s: &[u8], l: usize, q: usize, tag: u64) -> Place
     after_parameters(s, l, q)
 }
 
-// Where their list begins, or why it does not.
+// Where their list begins, or why it does not. Few commands come here: laid into list_begin it would take registers from those that don't.
+#[inline(never)]
 fn terminals_at(s: &[u8], p: usize) -> Place
     ensures { result ≡ place_read (terminals_at s.now p) }
 {
@@ -475,7 +476,8 @@ fn list_place(s: &[u8], p: usize) -> Option<usize>
     list_in(s, l, p + 3, wide(s[p]))
 }
 
-// Where their list begins: nearly every command that is asked for is good.
+// Where their list begins: nearly every command that is asked for is good. Laid into its callers, it answers in registers.
+#[inline(always)]
 fn list_begin(s: &[u8], p: usize) -> Place
     ensures { result ≡ place_read (terminals_at s.now p) }
 {

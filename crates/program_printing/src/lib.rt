@@ -62,7 +62,8 @@ pub fn put_bytes(out: &mut [u8], at: usize, bytes: &[u8]) -> usize
     at + bytes.len()
 }
 
-// Puts the word and the number of a refusal.
+// Puts the word and the number of a refusal. Laid into its callers: a report may have nothing but refused lines.
+#[inline]
 pub fn put_refused(out: &mut [u8], at: usize, r: Refusal) -> usize
     requires { at + length (refused_text r) ≤ length out.old }
     ensures { Put out.old at (refused_text r) out.new result }

@@ -1,15 +1,14 @@
 -- Laws of counting in lists: a room more, no rooms, and all rooms together.
 use Prim.Native.Nat.{ℕ, zero, suc, ◌+◌, ◌≤◌, ◌<◌}
-use mathlib.Core.Path.{◌≡◌, refl, sym}
-use mathlib.Core.Bool.{Bool, true, false, cond}
+use mathlib.Core.Path.{◌≡◌, refl}
 use mathlib.Core.List.{List, [], ◌∷◌}
 use mathlib.Core.Logic.{◌⊎◌, inl, inr, ⊎_elim}
+use native.Mathlib.Numerals.{add-one}
 use native.Mathlib.Omega.{arith}
 use borrow.Author.Tests.{eq-eqb, ne_eqb, eqb-true, eqb-false}
 use lib.Dec.{eqb}
-use lib.ListN.{length, get_or, set, replicate}
-use Rattle.std.specs.Prelude.{count_by, nat_eq, not}
-use Rattle.std.proofs.lemmas.List.Recursion.{is_count_by}
+use lib.ListN.{length, get_or, set, replicate, drop, drop_of_length-le}
+use lib.Seq.{drop-cons}
 use Rattle.rooms_marks.proofs.Tests.{Seen, yes_is, no_is, seen}
 use Rattle.rooms_marks.specs.Rooms.{count, held_rooms, uses, free_rooms}
 
@@ -176,11 +175,15 @@ pub held_and_free : (n : ℕ) (ps qs : List ℕ) → ((k : ℕ) → get_or ps k 
     → held_rooms ps + held_rooms qs + free_rooms n ps qs ≡ n
 held_and_free n ps qs f g once = let a = uses_sum n ps qs f g in let b = held_or_free n ps qs once in omega arith
 
--- counting those that are not 0
-pub held_counted : (s : List ℕ) → count_by (λ r. not (nat_eq r 0)) s ≡ held_rooms s
-unfolding held_rooms
-held_counted s = sym (is_count_by held_rooms (λ r. not (nat_eq r 0)) refl (λ x xs. one x xs (eqb x 0) refl) s)
-  where
-    one : (x : ℕ) (xs : List ℕ) (b : Bool) → eqb x 0 ≡ b → held_rooms (x ∷ xs) ≡ cond (not (eqb x 0)) (1 + held_rooms xs) (held_rooms xs)
-    one x xs true e = rw e
-    one x xs false e = rw e (omega arith)
+-- ---- how many are held, one at a time
+
+module _ (s : List ℕ) (i : ℕ) where
+  pub held_step : i < length s → (get_or s i 0 ≡ 0 → ⊥) → held_rooms (drop i s) ≡ suc (held_rooms (drop (i + 1) s))
+  held_step h e = rw (add-one, drop-cons s i 0 h) (held_here (get_or s i 0) (drop (suc i) s) e)
+
+  pub held_skip : i < length s → get_or s i 0 ≡ 0 → held_rooms (drop i s) ≡ held_rooms (drop (i + 1) s)
+  held_skip h e = rw (add-one, drop-cons s i 0 h) (held_later (get_or s i 0) (drop (suc i) s) e)
+
+  pub held_end : length s ≤ i → held_rooms (drop i s) ≡ 0
+  unfolding held_rooms
+  held_end h = rw (drop_of_length-le s h)

@@ -5,15 +5,15 @@ use mathlib.Core.Bool.{Bool, true, false}
 use mathlib.Core.List.{List, [], ◌∷◌, ◌++◌}
 use mathlib.Core.Path.{◌≡◌, refl, sym, ap, ◌∙◌}
 use native.Mathlib.Nat.{add-zero}
+use native.Mathlib.Numerals.{towards_suc}
 use native.Mathlib.Omega.{arith}
 use borrow.Author.Tests.{ne_eqb}
-use borrow.Rule.Slice.PartMut.{put_mid}
-use lib.ListN.{length, take, drop, length-append, length-drop, drop_of_length-le}
+use lib.ListN.{length, take, drop, set, length-append, length-drop, drop_of_length-le}
 use lib.Seq.{length-take-le, drop-drop}
 use Rattle.crc.specs.Crc.{digit}
 use Rattle.ground_placing.specs.Placed.{placed}
 use Rattle.ground_placing.specs.Put.{Put}
-use Rattle.section_reader.proofs.Bytes.{placed_part}
+use Rattle.ground_placing.proofs.Placing.{stored}
 use Rattle.ground_placing.proofs.Putting.{put_none}
 use Rattle.salvage.specs.Reading.{stated, begins, good_length, gap, Next, Piece, pieces, sections_of}
 use Rattle.salvage.specs.Runs.{Run, runs_from, runs_of, run_at, numbers_of}
@@ -65,14 +65,15 @@ three_numbers k at n h = ap length (numbers_some k at n h)
 pub put_no_run : (d : List ℕ) (k : Bool) (at first size : ℕ) → size ≡ 0 → at ≤ length d → Put d at (numbers_of (run_at k first size)) d at
 put_no_run d k at first size e h = rw (e, numbers_none k first) (put_none d at h)
 
-pub put_a_run : (d : List ℕ) (k : Bool) (at first size n : ℕ) {t : List ℕ} → (size ≡ 0 → ⊥) → at + length (numbers_of (run_at k first size)) ≤ length d
-    → t ≡ digit k ∷ first ∷ size ∷ [] → n ≡ 3 → Put d at (numbers_of (run_at k first size)) (put_mid at n d t) (at + 3)
-put_a_run d k at first size n some room is e =
-    let m = numbers_some k first size some in
+pub put_a_run : (d : List ℕ) (k : Bool) (at first size mark : ℕ) → (size ≡ 0 → ⊥) → mark ≡ digit k → at + length (numbers_of (run_at k first size)) ≤ length d
+    → Put d at (numbers_of (run_at k first size)) (set (set (set d at mark) (at + 1) first) (at + 2) size) (at + 3)
+put_a_run d k at first size mark some e room =
+    let n = numbers_some k first size some in
+    let l = ap length n in
     record {
       fits = room;
-      written = placed_part d at n (numbers_of (run_at k first size)) (is ∙ sym m) (omega (arith, ap length m));
-      after = omega (arith, ap length m);
+      written = rw (n, e) (simp towards_suc (stored d at (digit k ∷ first ∷ size ∷ []) (omega arith)));
+      after = omega arith;
     }
 
 -- a section put, as a part of the capture

@@ -97,7 +97,8 @@ fn measure(s: &[u8]) -> Tally
 
 // ---- writing
 
-// Puts the numbers of a run of so many bytes, if there are any, at a place of the list, and answers the place after them.
+// Puts the numbers of a run of so many bytes, if there are any, at a place of the list, and answers the place after them. One by one: copied in one piece
+// they made the salvage program keep a list on its stack, 121 KB, that it never reads.
 fn put_run(list: &mut [u32], at: usize, kept: bool, first: usize, size: usize) -> usize
     requires { (first + size ≤ capture_most) × (at + length (numbers_of (run_at kept first size)) ≤ length list.old) }
     ensures { Put list.old at (numbers_of (run_at kept first size)) list.new result }
@@ -105,10 +106,10 @@ fn put_run(list: &mut [u32], at: usize, kept: bool, first: usize, size: usize) -
     if size == 0 {
         return at;
     }
-    let end = at + RUN;
-    let numbers: [u32; 3] = [u32::from(kept), first as u32, size as u32];
-    list[at..end].copy_from_slice(&numbers);
-    end
+    list[at] = u32::from(kept);
+    list[at + 1] = first as u32;
+    list[at + 2] = size as u32;
+    at + RUN
 }
 
 // Writes the sections at the start of out and the numbers of the runs at the start of list; both have room.

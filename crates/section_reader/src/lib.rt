@@ -75,7 +75,8 @@ fn heading_of(s: &[u8]) -> Heading
     }
 }
 
-// The judgement of any byte string: refusals 1 to 7, in this order.
+// The judgement of any byte string: refusals 1 to 7, in this order. Laid into its callers, as one that salvages asks it at each byte that it skips.
+#[inline]
 #[tactic(auto, unfolding(crate::specs::Section::read_section), using(ground_numbers::proofs::Ranges::within_known))]
 pub fn read_section(s: &[u8]) -> Result<(Heading, usize), Refusal>
     ensures { result ≡ read_section s.now }
