@@ -103,6 +103,7 @@ fn survey_of(s: &[u16], count: usize) -> Survey
 }
 
 // The smallest number that is not held: "The search for a missing number stops at the first one found."
+#[tactic(auto, using(crate::proofs::Lists::missing_stop))]
 pub fn smallest_missing(s: &[u16]) -> usize
     ensures { result ≡ smallest_missing s.now }
 {

